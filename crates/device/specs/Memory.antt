@@ -1,0 +1,18 @@
+-- What is seen of the sources and sinks in memory.
+use Rattle.std.specs.Prelude.{ℕ, Option, Some, nat_le, length, drop, vec_len}
+use Rattle.device.specs.Device.{Seen, Written}
+use Rattle.device.specs.declared.memory.TrySource.{TrySource}
+use Rattle.device.specs.declared.memory.TrySink.{TrySink}
+
+abbrev pub source_seen : TrySource → Seen
+source_seen s = record { left = Some (drop s.at s.bytes.now); pulled = s.at; failed = s.failures; ended = nat_le (length s.bytes.now) s.at }
+
+abbrev pub sink_written : TrySink → Written
+sink_written s = record { bytes = Some s.bytes.items; count = vec_len s.bytes; failed = s.failures }
+
+-- how many bytes come or go before each call fails, where there is such a number
+abbrev pub source_limit : TrySource → Option ℕ
+source_limit s = s.fails_after
+
+abbrev pub sink_limit : TrySink → Option ℕ
+sink_limit s = s.fails_after

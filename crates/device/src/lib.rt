@@ -1,0 +1,15 @@
+//! Sources and sinks of bytes, whose contracts see the bytes and each failure.
+#![tactic(auto)]
+
+mod adapters;
+mod count;
+mod memory;
+mod sink;
+mod source;
+#[cfg(test)]
+mod tests;
+
+pub use adapters::{OfRead, OfWrite};
+pub use memory::{TrySink, TrySource};
+pub use sink::{Sink, push_all};
+pub use source::{Device, Source};

@@ -1,0 +1,93 @@
+-- The records of short texts and the folds of some lines, by computation (RFC 2849, notes 2, 5 and 6).
+use Rattle.std.specs.Prelude.{◌≡◌, ℕ, Bool, true, false, List, [], ◌∷◌, ◌++◌, codes, replicate, refl}
+use Rattle.ldif_lines.specs.Records.{Raw, continuation, joined, joined_block, body_of, body_of_block, with_first, records_from, records}
+use Rattle.ldif_lines.specs.Folding.{folded, written_blocks}
+
+abbrev raw : ℕ → Bool → List (List ℕ) → Raw
+raw line first lines = record { line = line; first = first; lines = lines }
+
+-- a line with its end
+abbrev ended : List ℕ → List ℕ
+ended line = line ++ 10 ∷ []
+
+-- a line with a carriage return before its end
+abbrev returned : List ℕ → List ℕ
+returned line = line ++ 13 ∷ 10 ∷ []
+
+-- a text of nothing, and one of empty lines
+no_text : records (ended [] ++ returned []) ≡ []
+unfolding records_from with_first body_of_block body_of joined_block joined continuation
+no_text = refl
+
+-- the last line may lack its end
+one_record : records (ended (codes "dn: x") ++ codes "cn: a") ≡ raw 1 true (codes "dn: x" ∷ codes "cn: a" ∷ []) ∷ []
+unfolding records_from with_first body_of_block body_of joined_block joined continuation
+one_record = refl
+
+-- further empty lines are skipped
+two_records : records (returned (codes "dn: x") ++ returned [] ++ returned [] ++ ended (codes "dn: y")) ≡ raw 1 true (codes "dn: x" ∷ []) ∷ raw 4 false (codes "dn: y" ∷ []) ∷ []
+unfolding records_from with_first body_of_block body_of joined_block joined continuation
+two_records = refl
+
+-- one carriage return goes with a line feed, and no other
+inner_return : records (13 ∷ 97 ∷ 13 ∷ 13 ∷ 10 ∷ []) ≡ raw 1 true ((13 ∷ 97 ∷ 13 ∷ []) ∷ []) ∷ []
+unfolding records_from with_first body_of_block body_of joined_block joined continuation
+inner_return = refl
+
+-- a line of one carriage return isn't empty
+only_returns : records (ended (codes "dn: x") ++ returned (13 ∷ []) ++ 13 ∷ []) ≡ raw 1 true (codes "dn: x" ∷ (13 ∷ []) ∷ (13 ∷ []) ∷ []) ∷ []
+unfolding records_from with_first body_of_block body_of joined_block joined continuation
+only_returns = refl
+
+-- a continuation loses its space and no more
+fold : records (ended (codes "cn: a") ++ ended (codes " b") ++ ended (codes "  c")) ≡ raw 1 true (codes "cn: ab c" ∷ []) ∷ []
+unfolding records_from with_first body_of_block body_of joined_block joined continuation
+fold = refl
+
+-- a line of spaces is a continuation, and ends no record
+spaces : records (ended (codes "cn: a") ++ ended (codes " ") ++ ended (codes "  ") ++ ended (codes "sn: b")) ≡ raw 1 true (codes "cn: a " ∷ codes "sn: b" ∷ []) ∷ []
+unfolding records_from with_first body_of_block body_of joined_block joined continuation
+spaces = refl
+
+-- a block's first line stays as it is, and is continued
+stray : records (ended (codes " x") ++ ended (codes " y") ++ ended (codes "cn: a")) ≡ raw 1 true (codes " xy" ∷ codes "cn: a" ∷ []) ∷ []
+unfolding records_from with_first body_of_block body_of joined_block joined continuation
+stray = refl
+
+-- a record's number is that of its first line that is kept
+comment : records (ended (codes "#c") ++ ended (codes " d") ++ ended (codes "dn: x")) ≡ raw 3 true (codes "dn: x" ∷ []) ∷ []
+unfolding records_from with_first body_of_block body_of joined_block joined continuation
+comment = refl
+
+-- the continuations of a comment go with it, and not to the line before it
+comment_within : records (ended (codes "cn: a") ++ ended (codes "#c") ++ ended (codes " b") ++ ended (codes "sn: d")) ≡ raw 1 true (codes "cn: a" ∷ codes "sn: d" ∷ []) ∷ []
+unfolding records_from with_first body_of_block body_of joined_block joined continuation
+comment_within = refl
+
+-- a block of comments is no record, and so not the first
+comments_alone : records (ended (codes "#c") ++ ended [] ++ ended (codes " x") ++ ended [] ++ ended (codes "#d") ++ ended (codes " y")) ≡ raw 3 true (codes " x" ∷ []) ∷ []
+unfolding records_from with_first body_of_block body_of joined_block joined continuation
+comments_alone = refl
+
+-- `#` begins a comment at the front of a line alone
+inner_hash : records (ended (codes "a#b") ++ ended (codes " #c")) ≡ raw 1 true (codes "a#b#c" ∷ []) ∷ []
+unfolding records_from with_first body_of_block body_of joined_block joined continuation
+inner_hash = refl
+
+-- a line of 76 bytes is not folded
+whole : folded 76 (replicate 76 97) ≡ ended (replicate 76 97)
+unfolding folded
+whole = refl
+
+-- 76 bytes, then a space and at most 75
+folds : folded 76 (replicate 152 97) ≡ ended (replicate 76 97) ++ ended (32 ∷ replicate 75 97) ++ ended (32 ∷ 97 ∷ [])
+unfolding folded
+folds = refl
+
+empty_line : folded 76 [] ≡ ended []
+unfolding folded
+empty_line = refl
+
+written : written_blocks ((codes "dn: x" ∷ codes "cn: a" ∷ []) ∷ (codes "dn: y" ∷ []) ∷ []) ≡ ended (codes "dn: x") ++ ended (codes "cn: a") ++ ended [] ++ ended (codes "dn: y") ++ ended []
+unfolding folded
+written = refl

@@ -1,0 +1,48 @@
+-- How lines are written: folded to at most 76 bytes (RFC 2849, note 2), each record with an empty line behind it.
+use Rattle.std.specs.Prelude.{◌≡◌, ℕ, zero, suc, Bool, true, false, not, ◌&&◌, ◌==◌, List, [], ◌∷◌, ◌++◌}
+use Rattle.std.specs.List.{flat_map, list_all, AllByRecursion}
+use Rattle.ldif_lines.specs.Records.{Raw}
+
+-- a line that is folded, with room for so many bytes before the first fold: each further piece is a space and at most 75 bytes
+unfoldable pub folded : ℕ → List ℕ → List ℕ
+folded room [] = 10 ∷ []
+folded zero (b ∷ bs) = 10 ∷ 32 ∷ b ∷ folded 74 bs
+folded (suc room) (b ∷ bs) = b ∷ folded room bs
+
+abbrev pub written_block : List (List ℕ) → List ℕ
+written_block block = flat_map (folded 76) block ++ 10 ∷ []
+
+abbrev pub written_blocks : List (List (List ℕ)) → List ℕ
+written_blocks blocks = flat_map written_block blocks
+
+-- what may stand within a line: neither a line feed nor a carriage return
+abbrev pub is_line_byte : ℕ → Bool
+is_line_byte b = not (b == 10) && not (b == 13)
+
+-- there is a first byte, and it makes the line neither a continuation nor a comment
+abbrev pub begins_line : List ℕ → Bool
+begins_line [] = false
+begins_line (b ∷ bs) = not (b == 32) && not (b == 35)
+
+-- a line that can be written
+pub record IsWritable (line : List ℕ) : Type 0 where
+  pub begins : begins_line line ≡ true
+  pub bytes : list_all is_line_byte line ≡ true
+
+-- the lines of one record: at least one
+abbrev pub AreWritable : List (List ℕ) → Type 0
+AreWritable [] = ⊥
+AreWritable (l ∷ ls) = AllByRecursion IsWritable (l ∷ ls)
+
+-- ---- what is read of them: records up to the numbers of their lines
+
+abbrev pub raw_lines : Raw → List (List ℕ)
+raw_lines r = r.lines
+
+abbrev pub raw_block : Raw → Bool × List (List ℕ)
+raw_block r = (r.first, r.lines)
+
+-- the first of these blocks is the text's first record, and no other is
+unfoldable pub with_first_flag : Bool → List (List (List ℕ)) → List (Bool × List (List ℕ))
+with_first_flag first [] = []
+with_first_flag first (b ∷ bs) = (first, b) ∷ with_first_flag false bs

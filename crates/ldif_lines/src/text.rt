@@ -1,0 +1,121 @@
+//! The records of a text.
+
+ghost use Rattle.std.specs.Prelude.{◌≡◌, ◌<◌, ◌≤◌, ◌+◌, ◌-◌, ◌^◌, ◌∷◌, [], true, false, length, drop, IfOk, IfSome, MatchOption};
+ghost use Rattle.ldif_lines.specs.Records.{records_from};
+ghost use Rattle.ldif_lines.specs.View.{view, texts};
+
+use crate::draft::Draft;
+use crate::line::split_line;
+use crate::raw_record::RawRecord;
+use std::alloc::{AllocError, Global};
+
+/// A record, and where the text goes on behind it.
+#[derive(Drop)]
+struct Found {
+    record: RawRecord,
+    at: usize,
+    /// How many lines come before that place.
+    before: u64,
+}
+
+fn finished(draft: Draft, first: bool, at: usize, before: u64) -> Found
+    ensures record { view result.record ≡ record { line = draft.line; first = first; lines = texts draft.lines.items } }
+    ensures at { result.at ≡ at }
+    ensures before { result.before ≡ before }
+{
+    let record = RawRecord {
+        line: draft.line,
+        first,
+        lines: draft.lines,
+    };
+    Found { record, at, before }
+}
+
+/// The first record from a place on, which has so many lines before it.
+fn record_from(
+    alloc: Global,
+    text: &[u8],
+    at: usize,
+    before: u64,
+    first: bool,
+) -> Result<Option<Found>, AllocError>
+    requires in_range { at ≤ length text.now }
+    requires counted { before ≤ at }
+    ensures record { IfOk result (λ found. MatchOption found
+        (records_from first (before + 1) (drop at text.now) ≡ [])
+        (λ f. records_from first (before + 1) (drop at text.now) ≡ view f.record ∷ records_from false (f.before + 1) (drop f.at text.now))) }
+    ensures place { IfOk result (λ found. IfSome found (λ f. (at < f.at) × (f.at ≤ length text.now) × (f.before ≤ f.at))) }
+{
+    let mut draft = Draft {
+        line: 0,
+        in_comment: false,
+        lines: Vec::new(alloc),
+    };
+    let mut end = at;
+    let mut count = before;
+    'lines: while end < text.len() {
+        let (line, len) = split_line(&text[end..]);
+        end += len;
+        count += 1;
+        if !line.is_empty() {
+            draft.add(alloc, count, line)?;
+        } else if draft.lines.is_empty() {
+            draft.in_comment = false;
+        } else {
+            return Ok(Some(finished(draft, first, end, count)));
+        }
+    }
+    if draft.lines.is_empty() {
+        return Ok(None);
+    }
+    Ok(Some(finished(draft, first, end, count)))
+}
+
+/// A text, and how far it was read.
+#[derive(Drop)]
+pub struct Text {
+    bytes: Vec<u8>,
+    at: usize,
+    /// How many lines come before that place.
+    before: u64,
+    /// Whether no record was read yet.
+    first: bool,
+    ghost in_range: { at ≤ length bytes.items },
+    ghost counted: { before ≤ at },
+}
+
+impl Text {
+    ghost use Rattle.ldif_lines.specs.Reader.{text_records};
+
+    pub fn new(bytes: Vec<u8>) -> Text
+        ensures bytes { result.bytes ≡ bytes }
+        ensures at { result.at ≡ 0 }
+        ensures before { result.before ≡ 0 }
+        ensures first { result.first ≡ true }
+    {
+        Text {
+            bytes,
+            at: 0,
+            before: 0,
+            first: true,
+        }
+    }
+
+    /// The next record, or `None` where no record is left.
+    pub fn next_record(&mut self, alloc: Global) -> Result<Option<RawRecord>, AllocError>
+        ensures record { IfOk result (λ found. MatchOption found
+            ((text_records self.old ≡ []) × (text_records self.new ≡ []))
+            (λ r. text_records self.old ≡ view r ∷ text_records self.new)) }
+        ensures falls { IfOk result (λ found. IfSome found (λ _. length self.new.bytes.items - self.new.at < length self.old.bytes.items - self.old.at)) }
+    {
+        match record_from(alloc, &self.bytes, self.at, self.before, self.first)? {
+            None => Ok(None),
+            Some(found) => {
+                self.at = found.at;
+                self.before = found.before;
+                self.first = false;
+                Ok(Some(found.record))
+            }
+        }
+    }
+}

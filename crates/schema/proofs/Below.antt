@@ -1,0 +1,35 @@
+-- RDNs below the suffix, as the code takes them off.
+use Rattle.std.proofs.Common.{◌≡◌, Bool, true, false, cond, List, [], ◌∷◌, length, map, drop, Result, Ok, Err, refl, sym, ap, ◌∙◌}
+use Rattle.std.specs.Prelude.{◌&&◌, if◌then◌else◌}
+use Rattle.std.specs.Ordering.{is_eq}
+use Rattle.schema.specs.declared.types.AttributeType.{AttributeType}
+use Rattle.schema.specs.declared.code.Code.{Code}
+use Rattle.schema.specs.declared.code.Code.TheVariants.{NoSuchObject}
+use Rattle.schema.specs.Paths.{Steps, step_cmp, begins}
+use Rattle.schema.specs.Rdns.{Parts, step_of}
+use Rattle.schema.specs.Rules.{below}
+
+abbrev answer : Bool → List Parts → Result (List Parts) Code
+answer b rs = if b then Ok rs else Err NoSuchObject
+
+chosen : (a b : Bool) (rs : List Parts) → cond a (answer b rs) (Err NoSuchObject) ≡ answer (a && b) rs
+chosen true b rs = refl
+chosen false b rs = refl
+
+pub below_begins : (types : List AttributeType) (ss rs : List Parts) → below types ss rs ≡ (if begins (map (step_of types) ss) (map (step_of types) rs) then Ok (drop (length ss) rs) else Err NoSuchObject)
+unfolding below
+below_begins types [] rs = refl
+below_begins types (s ∷ ss) [] = refl
+below_begins types (s ∷ ss) (r ∷ rs) =
+    ap (λ (x : Result (List Parts) Code). cond (is_eq (step_cmp (step_of types s) (step_of types r))) x (Err NoSuchObject)) (below_begins types ss rs)
+    ∙ chosen (is_eq (step_cmp (step_of types s) (step_of types r))) (begins (map (step_of types) ss) (map (step_of types) rs)) (drop (length ss) rs)
+
+module _ (types : List AttributeType) (ss rs : List Parts) (keys : Steps) (b : Bool) (seen : keys ≡ map (step_of types) rs) (test : b ≡ begins (map (step_of types) ss) keys) where
+  by_test : below types ss rs ≡ answer b (drop (length ss) rs)
+  by_test = below_begins types ss rs ∙ ap (λ (x : Steps). answer (begins (map (step_of types) ss) x) (drop (length ss) rs)) (sym seen) ∙ ap (λ x. answer x (drop (length ss) rs)) (sym test)
+
+  pub isnt_below : b ≡ false → below types ss rs ≡ Err NoSuchObject
+  isnt_below off = by_test ∙ ap (λ x. answer x (drop (length ss) rs)) off
+
+  pub is_below : b ≡ true → below types ss rs ≡ Ok (drop (length ss) rs)
+  is_below on = by_test ∙ ap (λ x. answer x (drop (length ss) rs)) on

@@ -1,0 +1,16 @@
+pub mod Spaces
+pub mod Texts
+pub mod Beginnings
+pub mod Loop
+pub mod Below
+pub mod Named
+pub mod Orders
+pub mod TextBytes
+pub mod Spelled
+pub mod Locating
+pub mod Found
+pub mod Groups
+pub mod Through
+pub mod Ends
+pub mod Numbered
+pub mod Whole

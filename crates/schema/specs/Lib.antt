@@ -1,0 +1,14 @@
+pub mod Codes
+pub mod Types
+pub mod Values
+pub mod Paths
+pub mod Rdns
+pub mod Names
+pub mod Rules
+pub mod Gaps
+pub mod Gives
+pub mod Each
+pub mod ConfFaults
+pub mod Configurations
+pub mod Reads
+pub mod Keys

@@ -1,0 +1,53 @@
+-- RDNs with their types known (RFC 4512, 2.3.2), and what they come to in a path.
+use Rattle.std.specs.Prelude.{◌≡◌, ℕ, Bool, true, not, ◌&&◌, ◌||◌, ◌==◌, nat_eq, nat_lt, if◌then◌else◌, List, [], ◌∷◌, map, length, slice_index, ◌-◌}
+use Rattle.std.specs.List.{list_all, AllByRecursion, IsDistinct}
+use Rattle.std.specs.Char.{is_ascii_alphanumeric}
+use Rattle.schema.specs.declared.types.AttributeType.{AttributeType}
+use Rattle.schema.specs.Types.{is_known}
+use Rattle.schema.specs.Values.{is_valid_at, norm_at}
+use Rattle.schema.specs.Paths.{Pair, Step}
+
+-- a type's number and a value as written
+abbrev pub Part : Type 0
+Part = ℕ × List ℕ
+
+-- an RDN: its parts in the order written
+abbrev pub Parts : Type 0
+Parts = List Part
+
+-- a pair among others, by type number
+unfoldable pub put_pair : Pair → Step → Step
+put_pair p [] = p ∷ []
+put_pair p (q ∷ qs) = if nat_lt q.0 p.0 then q ∷ put_pair p qs else p ∷ q ∷ qs
+
+-- the step of a path that an RDN gives
+unfoldable pub step_of : List AttributeType → Parts → Step
+step_of types [] = []
+step_of types (p ∷ ps) = put_pair (p.0, norm_at types p.0 p.1) (step_of types ps)
+
+-- ---- which values a name can have, in this profile: letters, digits, `-`, `_`, `.` and inner spaces, at least one byte
+
+abbrev pub is_plain_byte : ℕ → Bool
+is_plain_byte b = is_ascii_alphanumeric b || b == 45 || b == 95 || b == 46
+
+abbrev pub is_inner_byte : ℕ → Bool
+is_inner_byte b = is_plain_byte b || b == 32
+
+abbrev pub is_plain_value : List ℕ → Bool
+is_plain_value v = not (length v == 0) && list_all is_inner_byte v && is_plain_byte (slice_index v 0) && is_plain_byte (slice_index v (length v - 1))
+
+-- ---- what holds of an RDN
+
+abbrev pub type_in : Part → ℕ
+type_in p = p.0
+
+pub record IsPart (types : List AttributeType) (p : Part) : Type 0 where
+  pub known : is_known types p.0 ≡ true
+  pub valid : is_valid_at types p.0 p.1 ≡ true
+  pub plain : is_plain_value p.1 ≡ true
+
+-- its parts are good, no two of one type; in this profile there is one
+pub record IsRdn (types : List AttributeType) (r : Parts) : Type 0 where
+  pub parts : AllByRecursion (IsPart types) r
+  pub types_apart : IsDistinct nat_eq (map type_in r)
+  pub one : length r ≡ 1

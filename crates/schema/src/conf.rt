@@ -1,0 +1,127 @@
+//! A configuration, and what it says of types, values and names.
+
+ghost use Rattle.std.specs.Prelude.{◌≡◌, ◌<◌, ◌≤◌, IfSome, length};
+ghost use Rattle.schema.specs.Types.{type_of, name_of, type_at};
+ghost use Rattle.schema.specs.Values.{is_valid_at, norm_at};
+ghost use Rattle.schema.specs.Gives.{Makes};
+
+use crate::locate::TypedName;
+use crate::normal::normal_form;
+use crate::path::{Rdn, RdnKey};
+use crate::types::{AttributeType, TypeId, type_at, type_of};
+use crate::value::{Value, ValueFault, is_valid};
+use lists::{Bytes, Sequence};
+use std::alloc::Global;
+use std::marker::Model;
+
+/// The configuration of a directory. A contract sees it as its rules.
+#[derive(Debug, Drop)]
+pub struct Conf {
+    types: Sequence<AttributeType>,
+    suffix: Sequence<Rdn>,
+    // what the suffix's RDNs come to, from the root of the tree down
+    pub(crate) root_keys: Sequence<RdnKey>,
+}
+
+impl Model for Conf {
+    ghost use Rattle.std.specs.Prelude.{◌≡◌, map, reverse};
+    ghost use Rattle.schema.specs.Rules.{Rules, IsRules};
+    ghost use Rattle.schema.specs.Rdns.{step_of};
+
+    ghost Value = { Rules };
+
+    ghost view = { λ c. record { types = c.types; suffix = c.suffix } };
+
+    ghost invariant = { λ c. (IsRules (record { types = c.types; suffix = c.suffix })) × (c.root_keys ≡ map (step_of c.types) (reverse c.suffix)) };
+}
+
+impl Conf {
+    ghost use Rattle.schema.specs.Rules.{IsRules, root_rdn};
+    ghost use Rattle.schema.specs.Keys.{KeysFit};
+
+    pub(crate) fn new(types: Vec<AttributeType>, suffix: TypedName) -> Conf
+        requires rules { IsRules (record { types = types.items; suffix = suffix.rdns.items }) }
+        requires keys { KeysFit types.items suffix }
+        ensures { result ≡ record { types = types.items; suffix = suffix.rdns.items } }
+    {
+        let TypedName { rdns, mut keys } = suffix;
+        keys.reverse();
+        Conf {
+            types: Sequence::from_vec(types),
+            suffix: Sequence::from_vec(rdns),
+            root_keys: Sequence::from_vec(keys),
+        }
+    }
+
+    /// What holds of every configuration.
+    pub fn rules_hold(&self)
+        ensures { IsRules self.now }
+    {
+        let _ = &self.types;
+    }
+
+    /// Its attribute types, each at its number.
+    pub fn types(&self) -> &[AttributeType]
+        ensures types { result.now ≡ self.now.types }
+        ensures few { length result.now ≤ 65535 }
+    {
+        self.types.as_slice()
+    }
+
+    /// The number of the type with this name or OID, without ASCII case.
+    pub fn type_of(&self, name: &[u8]) -> Option<TypeId>
+        ensures place { result ≡ type_of self.now.types name.now }
+        ensures known { IfSome result (λ t. t < length self.now.types) }
+    {
+        type_of(self.types(), name)
+    }
+
+    fn at(&self, t: TypeId) -> &AttributeType
+        requires { t < length self.now.types }
+        ensures { result.now ≡ type_at self.now.types t }
+    {
+        type_at(self.types(), t)
+    }
+
+    /// The RDN of the suffix's own entry.
+    pub fn suffix_rdn(&self) -> &Rdn
+        ensures { result.now ≡ root_rdn self.now }
+    {
+        match self.suffix.as_slice() {
+            [first, ..] => first,
+            [] => unreachable!(),
+        }
+    }
+
+    /// The name that a type is printed by.
+    pub fn name_of(&self, t: TypeId) -> &[u8]
+        requires { t < length self.now.types }
+        ensures { result.now ≡ name_of self.now.types t }
+    {
+        self.at(t).printed_name()
+    }
+
+    /// Whether an entry has at most one value of a type.
+    pub fn is_single_value(&self, t: TypeId) -> bool
+        requires { t < length self.now.types }
+        ensures { result ≡ (type_at self.now.types t).single_value }
+    {
+        self.at(t).single_value
+    }
+
+    /// The value of these bytes under a type.
+    pub fn make_value(&self, alloc: Global, t: TypeId, raw: &[u8]) -> Result<Value, ValueFault>
+        requires { t < length self.now.types }
+        ensures { Makes result (is_valid_at self.now.types t raw.now) (λ v. v ≡ record { raw = raw.now; norm = norm_at self.now.types t raw.now }) }
+    {
+        let kind = self.at(t);
+        if !is_valid(kind.syntax, raw) {
+            return Err(ValueFault::Invalid);
+        }
+        let norm = normal_form(alloc, kind.family, raw)?;
+        Ok(Value {
+            raw: Bytes::from_slice(alloc, raw)?,
+            norm: Bytes::from_vec(norm),
+        })
+    }
+}
