@@ -62,6 +62,7 @@ pub struct Reader<'a, S: Source, T: Drop = Text> {
     alloc: Global,
     pulled: bool,
     failed: bool,
+    ghost fits: { pulled ≡ true → (S.seen source.now).pulled < 2 ^ 64 },
 }
 
 impl<S: Source, T: Drop> Drop for Reader<'_, S, T> {
@@ -85,12 +86,13 @@ impl<'a, S: Source> Reader<'a, S> {
     ghost use Rattle.ldif_lines.specs.Reader.{Takes, IsEnd, source_of, is_failed, records_left, bytes_left};
 
     /// A reader of the records of what is left of `source`.
-    #[tactic(auto, unfolding(crate::specs::Reader::records_left))]
+    #[tactic(auto, unfolding(crate::specs::Reader::records_left, crate::specs::Reader::bytes_left))]
     pub fn new(alloc: Global, source: &'a mut S) -> Reader<'a, S>
         ensures same_reference { result.source.ghost_name ≡ source.entry.ghost_name }
         ensures source { source_of result ≡ source.old }
         ensures records { records_left S.seen result ≡ option_map records (S.seen source.old).left }
         ensures fresh { is_failed result ≡ false }
+        ensures bound { bytes_left S.seen result ≤ 2 ^ 64 }
     {
         Reader {
             source,
@@ -112,6 +114,7 @@ impl<'a, S: Source> Reader<'a, S> {
         ensures record { IfOk result (λ o. IfSome o (λ r. Takes (records_left S.seen self.old) (records_left S.seen self.new) (view r ∷ []))) }
         ensures end { result ≡ Ok None → IsEnd (records_left S.seen self.old) × IsEnd (records_left S.seen self.new) }
         ensures falls { IfOk result (λ o. IfSome o (λ _. bytes_left S.seen self.new < bytes_left S.seen self.old)) }
+        ensures more { IfOk result (λ o. IfSome o (λ _. 0 < bytes_left S.seen self.new)) }
         ensures going { OnOk result ((S.seen (source_of self.new)).failed ≡ (S.seen (source_of self.old)).failed) }
         ensures device { result ≡ Err ReadFault.Device → (S.seen (source_of self.new)).failed ≡ (S.seen (source_of self.old)).failed + 1 }
         ensures memory { result ≡ Err ReadFault.OutOfMemory → (S.seen (source_of self.new)).failed ≡ (S.seen (source_of self.old)).failed }

@@ -83,6 +83,13 @@ impl Conf {
         type_at(self.types(), t)
     }
 
+    /// The suffix's RDNs, its own entry's first.
+    pub fn suffix(&self) -> &[Rdn]
+        ensures { result.now ≡ self.now.suffix }
+    {
+        self.suffix.as_slice()
+    }
+
     /// The RDN of the suffix's own entry.
     pub fn suffix_rdn(&self) -> &Rdn
         ensures { result.now ≡ root_rdn self.now }

@@ -1,0 +1,16 @@
+pub mod Colon
+pub mod Ends
+pub mod Each
+pub mod Blocks
+pub mod ControlLines
+pub mod Folds
+pub mod WrittenLines
+pub mod WrittenContents
+pub mod Inverted
+pub mod Spaces
+pub mod DecodedBytes
+pub mod ValueForms
+pub mod ControlForms
+pub mod ChangeForms
+pub mod RecordForms
+pub mod EarliestLine

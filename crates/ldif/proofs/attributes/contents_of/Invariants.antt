@@ -1,0 +1,8 @@
+use Rattle.std.proofs.Common.{◌≡◌, drop}
+use Rattle.ldif.specs.Reading.{texts, each}
+use Rattle.ldif.specs.Reading.{content_line}
+use Rattle.ldif.proofs.Each.{with_front}
+use Rattle.ldif.proofs.attributes.contents_of.Given as goal
+
+abbrev pub invariant-loop-line : goal.invariant-loop-line
+invariant-loop-line l = with_front l.attrs.items (each content_line (texts (drop l.line-index l.lines))) ≡ each content_line (texts l.lines)

@@ -1,0 +1,10 @@
+use Rattle.std.proofs.Common.{◌≡◌, length}
+use Rattle.ldif.specs.Reading.{texts, each, block, blocks}
+use Rattle.ldif.proofs.Each.{with_front}
+use Rattle.ldif.proofs.modify.mods_of.Given as goal
+
+abbrev pub invariant-walk : goal.invariant-walk
+invariant-walk l = with_front l.mods (each block (blocks (texts l.rest))) ≡ each block (blocks (texts l.lines))
+
+abbrev pub decreases-walk : goal.decreases-walk
+decreases-walk l = length l.rest

@@ -1,0 +1,9 @@
+pub mod Gives
+pub mod Faults
+pub mod Line
+pub mod Controls
+pub mod Reading
+pub mod Writing
+pub mod Contents
+pub mod Forms
+pub mod Earliest

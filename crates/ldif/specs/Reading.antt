@@ -1,0 +1,173 @@
+-- A record, by the forms that its list of lines may have, or the fault of its earliest line that has one
+-- (RFC 2849, "Formal Syntax Definition of LDIF").
+use Rattle.std.specs.Prelude.{ℕ, Bool, true, false, if◌then◌else◌, List, [], ◌∷◌, map, Option, Some, None, Result, Ok, Err, codes}
+use Rattle.std.specs.Global.{Vec}
+use Rattle.std.specs.List.{onto_first}
+use Rattle.std.specs.Str.{bytes_eq}
+use Rattle.ldif.specs.declared.fault.Fault.{Fault}
+use Rattle.ldif.specs.declared.fault.Fault.TheVariants.{DnMissing, Version, ColonMissing, ChangetypeUnknown, OtherAttribute, PartMissing, StrayLine, ChangetypeMissing, ChangetypeInContent, Word}
+use Rattle.ldif.specs.declared.record.Attr.{Attr}
+use Rattle.ldif.specs.declared.record.Control.{Control}
+use Rattle.ldif.specs.declared.record.Mod.{Mod}
+use Rattle.ldif.specs.declared.record.Op.{Op}
+use Rattle.ldif.specs.declared.record.Op.TheVariants as ops
+use Rattle.ldif.specs.declared.record.Mode.{Mode}
+use Rattle.ldif.specs.declared.record.Mode.TheVariants.{Content, Changes}
+use Rattle.ldif.specs.declared.record.Record.{Record}
+use Rattle.ldif.specs.declared.record.Record.TheVariants as records
+use Rattle.ldif.specs.Gives.{◌>>=◌}
+use Rattle.ldif.specs.Line.{value_line, same_name, is_word, without_end}
+use Rattle.ldif.specs.Controls.{control_of}
+
+abbrev pub items_of : Vec ℕ → List ℕ
+items_of v = v.items
+
+abbrev pub texts : List (Vec ℕ) → List (List ℕ)
+texts vs = map items_of vs
+
+-- what each reads as, or the fault of the first that has one
+unfoldable pub each : {X Y : Type 0} → (X → Result Y Fault) → List X → Result (List Y) Fault
+each read [] = Ok []
+each read (x ∷ xs) = do
+  y ← read x
+  ys ← each read xs
+  Ok (y ∷ ys)
+
+-- an attribute line of a content record
+unfoldable pub content_line : List ℕ → Result Attr Fault
+content_line line = do
+  attr ← value_line line
+  if same_name attr.name (codes "changetype") then Err ChangetypeInContent else Ok attr
+
+-- ---- parts of a record: each takes lines from the front, and leaves the rest
+
+-- the value of a line of this keyword
+unfoldable pub part : List ℕ → List (List ℕ) → Result (List ℕ × List (List ℕ)) Fault
+part keyword [] = Err PartMissing
+part keyword (l ∷ ls) = do
+  attr ← value_line l
+  if same_name attr.name keyword then Ok (attr.value, ls) else Err PartMissing
+
+-- no further line
+unfoldable pub nothing_more : List (List ℕ) → Result (Unit {0}) Fault
+nothing_more [] = Ok tt
+nothing_more (l ∷ ls) = do
+  attr ← value_line l
+  Err StrayLine
+
+-- perhaps `newsuperior:`, and no further line
+unfoldable pub new_superior_of : List (List ℕ) → Result (Option (List ℕ)) Fault
+new_superior_of [] = Ok None
+new_superior_of (l ∷ ls) = do
+  attr ← value_line l
+  if same_name attr.name (codes "newsuperior") then (nothing_more ls >>= λ u. Ok (Some attr.value)) else Err StrayLine
+
+unfoldable pub flag_of : List ℕ → Result Bool Fault
+flag_of text =
+    if is_word text (codes "1") then Ok true
+    else if is_word text (codes "0") then Ok false
+    else Err Word
+
+unfoldable pub delete_old_of : List (List ℕ) → Result (Bool × List (List ℕ)) Fault
+delete_old_of ls = do
+  word ← part (codes "deleteoldrdn") ls
+  flag ← flag_of word.0
+  Ok (flag, word.1)
+
+-- the `control:` lines at the front
+unfoldable pub controls_of : List (List ℕ) → Result (List Control × List (List ℕ)) Fault
+controls_of [] = Ok ([], [])
+controls_of (l ∷ ls) = do
+  attr ← value_line l
+  if same_name attr.name (codes "control") then (do
+    control ← control_of attr.value
+    others ← controls_of ls
+    Ok (control ∷ others.0, others.1))
+      else Ok ([], l ∷ ls)
+
+-- ---- the blocks of a modify
+
+unfoldable pub is_dash : List ℕ → Bool
+is_dash line = bytes_eq (without_end line) (codes "-")
+
+-- each block's lines, up to its `-`, which the last may lack
+unfoldable pub blocks : List (List ℕ) → List (List (List ℕ))
+blocks [] = []
+blocks (l ∷ ls) = if is_dash l then [] ∷ blocks ls else onto_first l (blocks ls)
+
+unfoldable pub op_of : List ℕ → Result Op Fault
+op_of name =
+    if same_name name (codes "add") then Ok ops.Add
+    else if same_name name (codes "delete") then Ok ops.Delete
+    else if same_name name (codes "replace") then Ok ops.Replace
+    else Err StrayLine
+
+-- the value of a line of this attribute
+unfoldable pub value_under : List ℕ → List ℕ → Result (List ℕ) Fault
+value_under name line = do
+  attr ← value_line line
+  if same_name attr.name name then Ok attr.value else Err OtherAttribute
+
+-- a block begins with its operation, so a `-` in that place is a line without a colon
+unfoldable pub block : List (List ℕ) → Result Mod Fault
+block [] = Err ColonMissing
+block (l ∷ ls) = do
+  head ← value_line l
+  op ← op_of head.name
+  values ← each (value_under (without_end head.value)) ls
+  Ok (record { op = op; attr = without_end head.value; values = values })
+
+-- ---- records
+
+unfoldable pub renaming : List ℕ → List Control → List (List ℕ) → Result Record Fault
+renaming dn controls ls = do
+  newrdn ← part (codes "newrdn") ls
+  delete_old ← delete_old_of newrdn.1
+  new_superior ← new_superior_of delete_old.1
+  Ok (records.ModRdn dn controls newrdn.0 delete_old.0 new_superior)
+
+-- by the word of `changetype:`, and the lines after it
+unfoldable pub change : List ℕ → List Control → List ℕ → List (List ℕ) → Result Record Fault
+change dn controls word ls =
+    if is_word word (codes "add") then (each value_line ls >>= λ attrs. Ok (records.Add dn controls attrs))
+    else if is_word word (codes "delete") then (nothing_more ls >>= λ u. Ok (records.Delete dn controls))
+    else if is_word word (codes "modify") then (each block (blocks ls) >>= λ mods. Ok (records.Modify dn controls mods))
+    else if is_word word (codes "modrdn") then renaming dn controls ls
+    else if is_word word (codes "moddn") then renaming dn controls ls
+    else Err ChangetypeUnknown
+
+-- by the lines after the controls; add says that they may be attribute lines
+unfoldable pub after_controls : Bool → List ℕ → List Control → List (List ℕ) → Result Record Fault
+after_controls add dn controls [] = if add then Ok (records.Add dn controls []) else Err ChangetypeMissing
+after_controls add dn controls (l ∷ ls) = do
+  attr ← value_line l
+  if same_name attr.name (codes "changetype") then change dn controls attr.value ls
+      else if add then (each value_line (l ∷ ls) >>= λ attrs. Ok (records.Add dn controls attrs))
+      else Err ChangetypeMissing
+
+-- by the lines after `dn:`
+unfoldable pub body : Mode → List ℕ → List (List ℕ) → Result Record Fault
+body Content dn ls = each content_line ls >>= λ attrs. Ok (records.Content dn attrs)
+body (Changes add) dn ls = controls_of ls >>= λ c. after_controls add dn c.0 c.1
+
+unfoldable pub entry : Mode → List (List ℕ) → Result Record Fault
+entry mode [] = Err DnMissing
+entry mode (l ∷ ls) = do
+  attr ← value_line l
+  if same_name attr.name (codes "dn") then body mode attr.value ls else Err DnMissing
+
+unfoldable pub after_version : Mode → List (List ℕ) → Result Record Fault
+after_version mode [] = Ok records.Empty
+after_version mode (l ∷ ls) = entry mode (l ∷ ls)
+
+-- a text's first record, which may begin with `version:`
+unfoldable pub first_of_text : Mode → List (List ℕ) → Result Record Fault
+first_of_text mode [] = Err DnMissing
+first_of_text mode (l ∷ ls) = do
+  attr ← value_line l
+  if same_name attr.name (codes "version") then (if bytes_eq attr.value (codes "1") then after_version mode ls else Err Version)
+      else entry mode (l ∷ ls)
+
+-- what a record's lines read as; first says that it is its text's first record
+abbrev pub reading : Mode → Bool → List (List ℕ) → Result Record Fault
+reading mode first ls = if first then first_of_text mode ls else entry mode ls

@@ -1,0 +1,55 @@
+//! Attribute lines.
+
+ghost use Rattle.std.specs.Prelude.{◌≡◌};
+ghost use Rattle.ldif.specs.Gives.{Gives};
+ghost use Rattle.ldif.specs.Line.{value_line};
+ghost use Rattle.ldif.specs.Reading.{texts, content_line, each};
+
+use crate::fault::{Fault, LdifFault};
+use crate::line::value_line;
+use crate::record::Attr;
+use crate::word::same_name;
+use lists::{Bytes, Sequence};
+use std::alloc::Global;
+
+fn attribute_line(alloc: Global, line: &[u8]) -> Result<Attr, LdifFault>
+    ensures { Gives result (value_line line.now) }
+{
+    let (name, value) = value_line(alloc, line)?;
+    let name = Bytes::from_slice(alloc, name)?;
+    Ok(Attr { name, value })
+}
+
+#[tactic(auto, unfolding(crate::specs::Reading::content_line))]
+fn content_line(alloc: Global, line: &[u8]) -> Result<Attr, LdifFault>
+    ensures { Gives result (content_line line.now) }
+{
+    let (name, value) = value_line(alloc, line)?;
+    if same_name(name, b"changetype") {
+        return Err(LdifFault::Fault(Fault::ChangetypeInContent));
+    }
+    let name = Bytes::from_slice(alloc, name)?;
+    Ok(Attr { name, value })
+}
+
+/// The attributes of a content record.
+pub fn contents_of(alloc: Global, lines: &[Vec<u8>]) -> Result<Sequence<Attr>, LdifFault>
+    ensures { Gives result (each content_line (texts lines.now)) }
+{
+    let mut attrs = Vec::with_capacity(alloc, lines.len())?;
+    for line in lines {
+        attrs.push(content_line(alloc, line)?)?;
+    }
+    Ok(Sequence::from_vec(attrs))
+}
+
+/// The attributes of an add.
+pub fn attributes_of(alloc: Global, lines: &[Vec<u8>]) -> Result<Sequence<Attr>, LdifFault>
+    ensures { Gives result (each value_line (texts lines.now)) }
+{
+    let mut attrs = Vec::with_capacity(alloc, lines.len())?;
+    for line in lines {
+        attrs.push(attribute_line(alloc, line)?)?;
+    }
+    Ok(Sequence::from_vec(attrs))
+}

@@ -1,0 +1,50 @@
+//! What holds of the definitions.
+
+ghost use Rattle.std.specs.Prelude.{◌≡◌, ◌↔◌, Bool, List, ℕ, true, Ok, Err, map};
+ghost use Rattle.std.specs.List.{list_all, flat_map, AllByRecursion};
+ghost use Rattle.base64.specs.GeneralPurpose.{IsBytes};
+ghost use Rattle.ldif_lines.specs.Folding.{IsWritable};
+ghost use Rattle.ldif.specs.declared.fault.Fault.{Fault};
+ghost use Rattle.ldif.specs.declared.record.Attr.{Attr};
+ghost use Rattle.ldif.specs.declared.record.Mode.{Mode};
+ghost use Rattle.ldif.specs.declared.record.Mode.TheVariants.{Content};
+ghost use Rattle.ldif.specs.declared.record.Record.{Record};
+ghost use Rattle.ldif.specs.Earliest.{IsEarliest};
+ghost use Rattle.ldif.specs.Forms.{IsValueLine, IsRecord};
+ghost use Rattle.ldif.specs.Reading.{reading};
+ghost use Rattle.ldif.specs.Line.{value_line};
+ghost use Rattle.ldif.specs.Writing.{line_text};
+ghost use Rattle.ldif.specs.Contents.{is_byte, IsName, Written, IsWritten, write_content, readings, reading_of, as_record};
+
+/// The line of a name and a value can be written.
+pub fn line_texts_are_writable()
+    ensures { (name value : List ℕ) → IsName name → IsWritable (line_text name value) }
+{}
+
+/// The line of a name and a value says this name and this value.
+pub fn written_lines_are_read()
+    ensures { (name value : List ℕ) → IsName name → list_all is_byte value ≡ true → value_line (line_text name value) ≡ Ok (record { name = name; value = value }) }
+{}
+
+/// Content records that are written one after another are read back, one for each.
+pub fn written_contents_are_read()
+    ensures { (cs : List Written) → AllByRecursion IsWritten cs → map reading_of (readings Content (flat_map write_content cs)) ≡ map as_record cs }
+{
+    ldif_lines::written_blocks_are_read();
+}
+
+/// A line is read exactly where it has the form of a value line, and as the name and the value of that form.
+pub fn lines_have_forms()
+    ensures { (line : List ℕ) (attr : Attr) → IsBytes line → (value_line line ≡ Ok attr) ↔ IsValueLine line attr }
+{}
+
+/// Lines are read exactly where they have the form of a record, and as the record of that form.
+pub fn records_have_forms()
+    ensures { (mode : Mode) (first : Bool) (lines : List (List ℕ)) (found : Record) → AllByRecursion IsBytes lines
+        → (reading mode first lines ≡ Ok found) ↔ IsRecord mode first lines found }
+{}
+
+/// Lines that are no record have the fault of their earliest line that has one, whatever stands behind it.
+pub fn earliest_line_answers()
+    ensures { (mode : Mode) (first : Bool) (lines : List (List ℕ)) (fault : Fault) → reading mode first lines ≡ Err fault → IsEarliest (reading mode first) lines fault }
+{}

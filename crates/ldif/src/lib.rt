@@ -1,0 +1,28 @@
+//! Records of LDIF (RFC 2849): from the lines of a record to what it asks for, and lines that are written.
+#![tactic(auto)]
+
+mod attributes;
+mod changes;
+mod control;
+mod fault;
+mod laws;
+mod line;
+mod modify;
+mod read;
+mod record;
+mod word;
+mod write;
+
+pub use device::{Device, OfRead, OfWrite, Sink, Source, TrySink, TrySource};
+pub use fault::{Fault, LdifFault};
+pub use laws::{
+    earliest_line_answers, line_texts_are_writable, lines_have_forms, records_have_forms,
+    written_contents_are_read, written_lines_are_read,
+};
+pub use ldif_lines::{RawRecord, ReadFault, Reader};
+pub use read::read_record;
+pub use record::{Attr, Control, Mod, Mode, Op, Record};
+pub use write::{WriteFault, write_line};
+
+#[cfg(test)]
+mod tests;

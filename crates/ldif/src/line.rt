@@ -1,0 +1,98 @@
+//! Value lines.
+
+ghost use Rattle.std.specs.Prelude.{◌≡◌, ◌<◌, List, ℕ, position, length, IfSome};
+ghost use Rattle.ldif_lines.specs.Records.{begins_with};
+ghost use Rattle.ldif.specs.Gives.{Gives, GivesBy};
+ghost use Rattle.ldif.specs.Line.{without_front, without_end, decoded, form_of, is_colon, value_of, value_line};
+
+use crate::fault::{Fault, LdifFault};
+use base64::DecodeAllocError;
+use base64::engine::general_purpose::STANDARD;
+use lists::Bytes;
+use memchr::memchr;
+use std::alloc::Global;
+
+pub fn begins_with(line: &[u8], byte: u8) -> bool
+    ensures { result ≡ begins_with byte line.now }
+{
+    match line {
+        [] => false,
+        [first, ..] => *first == byte,
+    }
+}
+
+/// Skips the spaces at the front.
+pub fn without_front(text: &[u8]) -> &[u8]
+    ensures { result.now ≡ without_front text.now }
+{
+    let mut rest = text;
+    while let [b' ', after @ ..] = rest {
+        rest = after;
+    }
+    rest
+}
+
+/// Drops the spaces at the end.
+pub fn without_end(text: &[u8]) -> &[u8]
+    ensures { result.now ≡ without_end text.now }
+{
+    let mut len = text.len();
+    while len > 0 && text[len - 1] == b' ' {
+        len -= 1;
+    }
+    &text[..len]
+}
+
+#[tactic(auto, unfolding(crate::specs::Line::decoded))]
+fn decode(alloc: Global, text: &[u8]) -> Result<Bytes, LdifFault>
+    ensures { Gives result (decoded text.now) }
+{
+    match STANDARD.decode(alloc, text) {
+        Ok(bytes) => Ok(Bytes::from_vec(bytes)),
+        Err(DecodeAllocError::OutOfMemory) => Err(LdifFault::OutOfMemory),
+        Err(DecodeAllocError::DecodeError(_)) => Err(LdifFault::Fault(Fault::Base64)),
+    }
+}
+
+/// The value, by what stands after the first colon.
+#[tactic(auto, unfolding(crate::specs::Line::form_of))]
+pub fn form_of(alloc: Global, rest: &[u8]) -> Result<Bytes, LdifFault>
+    ensures { Gives result (form_of rest.now) }
+{
+    match rest {
+        [b':', text @ ..] => decode(alloc, without_end(without_front(text))),
+        [b'<', ..] => Err(LdifFault::Fault(Fault::Url)),
+        _ => Ok(Bytes::from_slice(alloc, without_front(rest))?),
+    }
+}
+
+fn colon_in(line: &[u8]) -> Option<usize>
+    ensures at { result ≡ position is_colon line.now }
+    ensures within { IfSome result (λ at. at < length line.now) }
+{
+    memchr(b':', line)
+}
+
+#[tactic(auto, unfolding(crate::specs::Line::value_of))]
+fn value_of(alloc: Global, line: &[u8]) -> Result<(&[u8], Bytes), LdifFault>
+    ensures { GivesBy (λ x. record { name = x.0.now; value = x.1 }) result (value_of line.now) }
+{
+    match colon_in(line) {
+        None | Some(0) => Err(LdifFault::Fault(Fault::ColonMissing)),
+        Some(at) => {
+            let value = form_of(alloc, &line[at + 1..])?;
+            Ok((&line[..at], value))
+        }
+    }
+}
+
+/// The name and the value of a line of a record.
+#[tactic(auto, unfolding(crate::specs::Line::value_line))]
+pub fn value_line(alloc: Global, line: &[u8]) -> Result<(&[u8], Bytes), LdifFault>
+    ensures { GivesBy (λ x. record { name = x.0.now; value = x.1 }) result (value_line line.now) }
+{
+    match line {
+        [b' ', ..] => Err(LdifFault::Fault(Fault::Continuation)),
+        _ => value_of(alloc, line),
+    }
+}

@@ -1,0 +1,123 @@
+//! Records from their lines.
+
+ghost use Rattle.std.specs.Prelude.{◌≡◌, ◌<◌, ◌∷◌, length};
+ghost use Rattle.ldif.specs.Gives.{Gives, GivesBy};
+ghost use Rattle.ldif.specs.Reading.{texts, controls_of, body, entry, after_version, first_of_text, reading};
+
+use crate::attributes::contents_of;
+use crate::changes::after_controls;
+use crate::control::control_of;
+use crate::fault::{Fault, LdifFault};
+use crate::line::value_line;
+use crate::record::{Control, Mode, Record};
+use crate::word::same_name;
+use ldif_lines::RawRecord;
+use lists::{Bytes, Sequence};
+use std::alloc::Global;
+
+fn split_line(lines: &[Vec<u8>]) -> (&[u8], &[Vec<u8>])
+    requires { 0 < length lines.now }
+    ensures cut { texts lines.now ≡ result.0.now ∷ texts result.1.now }
+    ensures fewer { length result.1.now < length lines.now }
+{
+    match lines {
+        [line, rest @ ..] => (line.as_slice(), rest),
+        [] => unreachable!(),
+    }
+}
+
+/// The controls at the front, and the lines after them.
+fn controls_of<'a>(
+    alloc: Global,
+    lines: &'a [Vec<u8>],
+) -> Result<(Sequence<Control>, &'a [Vec<u8>]), LdifFault>
+    ensures { GivesBy (λ x. (x.0, texts x.1.now)) result (controls_of (texts lines.now)) }
+{
+    let mut controls = Sequence::new(alloc);
+    let mut rest = lines;
+    'walk: while !rest.is_empty() {
+        let (line, after) = split_line(rest);
+        let (name, value) = value_line(alloc, line)?;
+        if !same_name(name, b"control") {
+            return Ok((controls, rest));
+        }
+        controls.push(control_of(alloc, value.as_slice())?)?;
+        rest = after;
+    }
+    Ok((controls, rest))
+}
+
+#[tactic(auto, unfolding(crate::specs::Reading::body))]
+fn body(alloc: Global, mode: Mode, dn: Bytes, lines: &[Vec<u8>]) -> Result<Record, LdifFault>
+    ensures { Gives result (body mode dn (texts lines.now)) }
+{
+    match mode {
+        Mode::Content => {
+            let attrs = contents_of(alloc, lines)?;
+            Ok(Record::Content { dn, attrs })
+        }
+        Mode::Changes { add } => {
+            let (controls, rest) = controls_of(alloc, lines)?;
+            after_controls(alloc, add, dn, controls, rest)
+        }
+    }
+}
+
+#[tactic(auto, unfolding(crate::specs::Reading::entry))]
+fn entry(alloc: Global, mode: Mode, lines: &[Vec<u8>]) -> Result<Record, LdifFault>
+    ensures { Gives result (entry mode (texts lines.now)) }
+{
+    match lines {
+        [] => Err(LdifFault::Fault(Fault::DnMissing)),
+        [line, rest @ ..] => {
+            let (name, value) = value_line(alloc, line)?;
+            if !same_name(name, b"dn") {
+                return Err(LdifFault::Fault(Fault::DnMissing));
+            }
+            body(alloc, mode, value, rest)
+        }
+    }
+}
+
+#[tactic(auto, unfolding(crate::specs::Reading::after_version))]
+fn after_version(alloc: Global, mode: Mode, lines: &[Vec<u8>]) -> Result<Record, LdifFault>
+    ensures { Gives result (after_version mode (texts lines.now)) }
+{
+    match lines {
+        [] => Ok(Record::Empty),
+        [_, ..] => entry(alloc, mode, lines),
+    }
+}
+
+#[tactic(auto, unfolding(crate::specs::Reading::first_of_text))]
+fn first_of_text(alloc: Global, mode: Mode, lines: &[Vec<u8>]) -> Result<Record, LdifFault>
+    ensures { Gives result (first_of_text mode (texts lines.now)) }
+{
+    match lines {
+        [] => Err(LdifFault::Fault(Fault::DnMissing)),
+        [line, rest @ ..] => {
+            let (name, value) = value_line(alloc, line)?;
+            if !same_name(name, b"version") {
+                return entry(alloc, mode, lines);
+            }
+            if value.as_slice() != b"1".as_slice() {
+                return Err(LdifFault::Fault(Fault::Version));
+            }
+            after_version(alloc, mode, rest)
+        }
+    }
+}
+
+/// Reads a record from its lines (RFC 2849, "Formal Syntax Definition of LDIF").
+///
+/// The answer is what the record asks for, or the fault of its earliest line that has one; at one line `Continuation`,
+/// `ColonMissing`, `Url` and `Base64` come in this order and before any other. `OutOfMemory` says that memory ran out.
+pub fn read_record(alloc: Global, raw: &RawRecord, mode: Mode) -> Result<Record, LdifFault>
+    ensures { Gives result (reading mode raw.now.first (texts raw.now.lines.items)) }
+{
+    if raw.first {
+        first_of_text(alloc, mode, &raw.lines)
+    } else {
+        entry(alloc, mode, &raw.lines)
+    }
+}

@@ -1,0 +1,75 @@
+//! What a record asks for.
+
+use lists::{Bytes, Sequence};
+
+/// An attribute's name and one value of it, as a line has them.
+#[derive(Debug, Drop)]
+pub struct Attr {
+    pub name: Bytes,
+    pub value: Bytes,
+}
+
+/// What the records of a text are.
+#[derive(Clone, Copy, Debug, PartialEq, Eq)]
+pub enum Mode {
+    /// Entries.
+    Content,
+    /// Changes, where `add` says that a record without `changetype:` adds an entry.
+    Changes { add: bool },
+}
+
+/// A control that a change comes with (RFC 2849, "control").
+#[derive(Debug, Drop)]
+pub struct Control {
+    pub oid: Bytes,
+    pub critical: bool,
+    pub value: Option<Bytes>,
+}
+
+/// What a block of a modify does with its values.
+#[derive(Clone, Copy, Debug, PartialEq, Eq)]
+pub enum Op {
+    Add,
+    Delete,
+    Replace,
+}
+
+/// A block of a modify (RFC 2849, "mod-spec").
+#[derive(Debug, Drop)]
+pub struct Mod {
+    pub op: Op,
+    pub attr: Bytes,
+    pub values: Sequence<Bytes>,
+}
+
+/// A record (RFC 2849, "ldif-attrval-record" and "ldif-change-record").
+#[derive(Debug, Drop)]
+pub enum Record {
+    /// A version line alone.
+    Empty,
+    Content {
+        dn: Bytes,
+        attrs: Sequence<Attr>,
+    },
+    Add {
+        dn: Bytes,
+        controls: Sequence<Control>,
+        attrs: Sequence<Attr>,
+    },
+    Delete {
+        dn: Bytes,
+        controls: Sequence<Control>,
+    },
+    Modify {
+        dn: Bytes,
+        controls: Sequence<Control>,
+        mods: Sequence<Mod>,
+    },
+    ModRdn {
+        dn: Bytes,
+        controls: Sequence<Control>,
+        newrdn: Bytes,
+        delete_old: bool,
+        new_superior: Option<Bytes>,
+    },
+}

@@ -1,0 +1,4 @@
+mod cases;
+mod shown;
+mod texts;
+mod writing;

@@ -1,0 +1,17 @@
+pub mod Order
+pub mod Ancestors
+pub mod Rebuilt
+pub mod Pushed
+pub mod Adding
+pub mod Kept
+pub mod Nothing
+pub mod Views
+pub mod Stretch
+pub mod TreeLemmas
+pub mod StoredLemmas
+pub mod NormLemmas
+pub mod LineLemmas
+pub mod Children
+pub mod PlanLemmas
+pub mod NameLemmas
+pub mod Writable

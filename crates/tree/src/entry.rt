@@ -1,0 +1,52 @@
+//! Entries.
+
+ghost use Rattle.std.specs.Prelude.{◌≡◌};
+
+use indexmap::IndexMap;
+use indexmap::map::Iter;
+use lists::Sequence;
+use schema::{Rdn, TypeId, Value};
+use std::marker::Model;
+
+/// Attributes in order, each a type with its values in order.
+pub(crate) type Attributes = IndexMap<TypeId, Sequence<Value>>;
+
+/// An entry (RFC 4512, 2.2): its RDN as written, and its attributes in order, each with its values in order. A contract sees
+/// the RDN's parts, and the list of the types with their values.
+#[derive(Drop)]
+pub struct Entry {
+    rdn: Rdn,
+    attrs: IndexMap<TypeId, Sequence<Value>>,
+}
+
+impl Model for Entry {
+    ghost use Rattle.tree.specs.Stored.{Stored, stored_code};
+
+    ghost Value = { Stored };
+
+    ghost coded = { stored_code };
+
+    ghost view = { λ e. record { rdn = e.rdn; attrs = e.attrs.entries } };
+}
+
+impl Entry {
+    pub(crate) fn new(rdn: Rdn, attrs: Attributes) -> Entry
+        ensures { result ≡ record { rdn = rdn; attrs = attrs.entries } }
+    {
+        Entry { rdn, attrs }
+    }
+
+    /// Its RDN as written. That of the suffix's entry is as the configuration has it.
+    pub fn rdn(&self) -> &Rdn
+        ensures { result.now ≡ self.now.rdn }
+    {
+        &self.rdn
+    }
+
+    /// Each type with its values, in order.
+    pub fn attrs(&self) -> Iter<'_, TypeId, Sequence<Value>>
+        ensures { result ≡ self.now.attrs }
+    {
+        self.attrs.iter()
+    }
+}

@@ -1,0 +1,22 @@
+//! Entries, the tree of a directory, and what a record does to it.
+#![tactic(auto)]
+
+mod attributes;
+mod entry;
+mod laws;
+mod naming;
+mod planning;
+mod plans;
+mod range;
+mod refusal;
+mod tree;
+
+pub use entry::Entry;
+pub use laws::{
+    adding_keeps_a_directory, an_entry_adds_itself, empty_is_a_directory, own_content_is_written,
+};
+pub use planning::plan;
+pub use plans::Plan;
+pub use range::Below;
+pub use refusal::Refusal;
+pub use tree::Tree;
