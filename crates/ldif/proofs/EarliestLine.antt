@@ -336,7 +336,7 @@ no_place (b ∷ bs) h =
     let a = and_parts (is_no_colon b) (list_all is_no_colon bs) h in
     ap (λ (t : Bool). cond t (1 + prefix_len (λ x. not (is_colon x)) bs) 0) a.0 ∙ ap (λ (n : ℕ). 1 + n) (no_place bs a.1) ∙ omega arith
 
-no_colon : (xs : List ℕ) → list_all is_no_colon xs ≡ true → value_of xs ≡ Err ColonMissing
+pub no_colon : (xs : List ℕ) → list_all is_no_colon xs ≡ true → value_of xs ≡ Err ColonMissing
 unfolding value_of
 no_colon xs h =
     ap (λ (n : ℕ). value_at xs (cond (ltb n (length xs)) (Some n) None)) (no_place xs h)

@@ -14,3 +14,4 @@ pub mod ControlForms
 pub mod ChangeForms
 pub mod RecordForms
 pub mod EarliestLine
+pub mod LineFaults

@@ -9,7 +9,7 @@ ghost use Rattle.ldif.specs.declared.record.Attr.{Attr};
 ghost use Rattle.ldif.specs.declared.record.Mode.{Mode};
 ghost use Rattle.ldif.specs.declared.record.Mode.TheVariants.{Content};
 ghost use Rattle.ldif.specs.declared.record.Record.{Record};
-ghost use Rattle.ldif.specs.Earliest.{IsEarliest};
+ghost use Rattle.ldif.specs.Earliest.{IsEarliest, IsLineFault};
 ghost use Rattle.ldif.specs.Forms.{IsValueLine, IsRecord};
 ghost use Rattle.ldif.specs.Reading.{reading};
 ghost use Rattle.ldif.specs.Line.{value_line};
@@ -42,6 +42,11 @@ pub fn lines_have_forms()
 pub fn records_have_forms()
     ensures { (mode : Mode) (first : Bool) (lines : List (List ℕ)) (found : Record) → AllByRecursion IsBytes lines
         → (reading mode first lines ≡ Ok found) ↔ IsRecord mode first lines found }
+{}
+
+/// A line that has no such form has one of the four faults that a line has by itself: the first of them in their order.
+pub fn line_faults_have_forms()
+    ensures { (line : List ℕ) (fault : Fault) → IsBytes line → (value_line line ≡ Err fault) ↔ IsLineFault line fault }
 {}
 
 /// Lines that are no record have the fault of their earliest line that has one, whatever stands behind it.

@@ -1,0 +1,7 @@
+pub mod Records
+pub mod Whole
+pub mod Pieces
+pub mod EntryText
+pub mod LoadLaw
+pub mod DumpText
+pub mod LoadSteps

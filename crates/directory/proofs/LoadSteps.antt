@@ -1,0 +1,88 @@
+-- Loading one record after the other.
+use Rattle.std.proofs.Common.{◌≡◌, ℕ, inl, inr, false, List, [], ◌∷◌, ◌++◌, Option, Some, None, option_map, IfSome, refl, sym, ◌∙◌, ap, subst}
+use Rattle.std.specs.FinMap as finite
+use Rattle.ldif_lines.specs.Records.{Raw, records}
+use Rattle.ldif_lines.specs.Reader.{Takes}
+use Rattle.ldif.specs.declared.record.Mode.TheVariants.{Content}
+use Rattle.ldif.specs.Reading.{reading}
+use Rattle.schema.specs.Rules.{Rules}
+use Rattle.tree.specs.Directories.{Entries}
+use Rattle.directory.specs.Runs.{State, counted, outcome, after_records, loading, Loads}
+use Rattle.directory.specs.Steps.{ends}
+use Rattle.directory.specs.Loading.{is_refused, IsLoaded, Explains, loaded_after, IsUnderWay, LoadsAll, RefusesNext, LoadsUpTo, StopsAt}
+use Rattle.directory.specs.declared.loading.LoadFault.{LoadFault}
+use Rattle.directory.specs.declared.loading.LoadFault.TheVariants as faults
+use Rattle.directory.specs.declared.reason.Reason.{Reason}
+use Rattle.directory.specs.declared.reason.Outcome.{Outcome}
+use Rattle.directory.specs.declared.reason.Outcome.TheVariants.{Nothing, Accepted, Refused}
+use Rattle.directory.proofs.Records.{takes_nothing, takes_more, counted_entries, settled, ended_is, last_refused}
+use Rattle.directory.proofs.Whole.{after_text}
+
+keeps_refused : (s : State) (line : ℕ) (d : Entries) (out : Outcome) → is_refused out ≡ false → (counted false s line d out).refused ≡ s.refused
+keeps_refused s line d Nothing h = refl
+keeps_refused s line d Accepted h = refl
+keeps_refused s line d (Refused why) h = cc
+
+keeps_going : (s : State) (line : ℕ) (d : Entries) (out : Outcome) → is_refused out ≡ false → (counted false s line d out).ended ≡ false
+keeps_going s line d Nothing h = refl
+keeps_going s line d Accepted h = refl
+keeps_going s line d (Refused why) h = cc
+
+module _ (rules : Rules) (old : Entries) where
+  pub begins : (all : Option (List Raw)) → IsUnderWay rules old old all all
+  unfolding after_records
+  begins all = record { front = []; parts = takes_nothing all; entries = refl; refused = refl; going = refl }
+
+  module _ (now new : Entries) (all mid left : Option (List Raw)) (r : Raw) (h : IsUnderWay rules old now all mid) (taken : Takes mid left (r ∷ [])) where
+    abbrev o : Entries × Outcome
+    o = outcome rules Content now (reading Content r.first r.lines)
+
+    pub goes_on : IsLoaded o new → IsUnderWay rules old new all left
+    goes_on k =
+        let s : State = loaded_after rules old h.front in
+        let is : loaded_after rules old (h.front ++ r ∷ []) ≡ counted false s r.line o.0 o.1 = settled rules Content false old now h.front r h.going h.entries in
+        record {
+          front = h.front ++ r ∷ [];
+          parts = takes_more all mid left h.front (r ∷ []) h.parts taken;
+          entries = k.entries ∙ counted_entries false s r.line o.0 o.1 ∙ ap (λ (x : State). x.entries) (sym is);
+          refused = ap (λ (x : State). x.refused) is ∙ keeps_refused s r.line o.0 o.1 k.taken ∙ h.refused;
+          going = ap (λ (x : State). x.ended) is ∙ keeps_going s r.line o.0 o.1 k.taken;
+        }
+
+    refuses : (why : Reason) → o.1 ≡ Refused why → RefusesNext rules old all r.line why
+    refuses why is = record {
+      front = h.front ++ r ∷ [];
+      left = left;
+      parts = takes_more all mid left h.front (r ∷ []) h.parts taken;
+      refused = last_refused rules Content false old now h.front r h.going h.entries why is ∙ ap (λ xs. xs ++ (r.line, why) ∷ []) h.refused;
+      ended = ended_is rules Content false old now h.front r h.going h.entries ∙ ap (ends false) is;
+    }
+
+    pub stops : (f : LoadFault) → Explains f r.line o → LoadsUpTo f rules old all
+    stops faults.Read k = absurd k
+    stops faults.OutOfMemory k = tt
+    stops (faults.Refused at why) k = subst (λ n. RefusesNext rules old all n why) (sym k.0) (refuses why k.1)
+
+-- ---- a whole text
+
+module _ (rules : Rules) where
+  loads : (text : List ℕ) (now : Entries) → LoadsAll rules finite.empty now (Some (records text)) → Loads rules text now
+  loads text now h =
+      let is : loading rules text ≡ loaded_after rules finite.empty h.under_way.front = after_text rules Content false finite.empty text h.under_way.front h.left h.under_way.parts (inl h.over) in
+      record {
+        entries = h.under_way.entries ∙ ap (λ (x : State). x.entries) (sym is);
+        all = ap (λ (x : State). x.refused) is ∙ h.under_way.refused;
+      }
+
+  pub loads_of : (left : Option (List ℕ)) (all : Option (List Raw)) → all ≡ option_map records left → (now : Entries) → LoadsAll rules finite.empty now all → IfSome left (λ text. Loads rules text now)
+  loads_of None all is now h = tt
+  loads_of (Some text) all is now h = loads text now (subst (λ x. LoadsAll rules finite.empty now x) is h)
+
+  refused_at : (text : List ℕ) (line : ℕ) (why : Reason) → RefusesNext rules finite.empty (Some (records text)) line why → (loading rules text).refused ≡ (line, why) ∷ []
+  refused_at text line why h = ap (λ (x : State). x.refused) (after_text rules Content false finite.empty text h.front h.left h.parts (inr h.ended)) ∙ h.refused
+
+  pub stops_of : (left : Option (List ℕ)) (all : Option (List Raw)) → all ≡ option_map records left → (f : LoadFault) → LoadsUpTo f rules finite.empty all → IfSome left (λ text. StopsAt f rules text)
+  stops_of None all is f h = tt
+  stops_of (Some text) all is faults.Read h = tt
+  stops_of (Some text) all is faults.OutOfMemory h = tt
+  stops_of (Some text) all is (faults.Refused line why) h = refused_at text line why (subst (λ x. RefusesNext rules finite.empty x line why) is h)

@@ -1,0 +1,196 @@
+-- One record after the other: from where a run stands to where it stands next.
+use Rattle.std.proofs.Common.{◌≡◌, ℕ, ◌+◌, ◌≤◌, Bool, true, false, cond, List, [], ◌∷◌, ◌++◌, length, map, Option, Some, None, refl, sym, ◌∙◌, ap, subst, arith, append_assoc, length-append, inl, inr}
+use Rattle.std.specs.Prelude.{Result}
+use Rattle.std.specs.List.{fold}
+use Rattle.std.proofs.lemmas.List.{append-nil, map-append}
+use Rattle.std.proofs.lemmas.List.Sums.{fold_push}
+use Rattle.std.proofs.lemmas.Grind.{flat_map-append}
+use Rattle.device.specs.Device.{Written, Took}
+use Rattle.device.proofs.Taken.{took_none, took_more}
+use Rattle.ldif_lines.specs.Records.{Raw}
+use Rattle.ldif_lines.specs.Reader.{Takes, IsEnd}
+use Rattle.ldif.specs.declared.fault.Fault.{Fault}
+use Rattle.ldif.specs.declared.record.Record.{Record}
+use Rattle.ldif.specs.declared.record.Mode.{Mode}
+use Rattle.ldif.specs.Reading.{reading}
+use Rattle.schema.specs.Rules.{Rules}
+use Rattle.tree.specs.Directories.{Entries}
+use Rattle.directory.specs.Runs.{State, start, outcome, counted, take_up, step, after_records}
+use Rattle.directory.specs.Reports.{report, report_line}
+use Rattle.directory.specs.Steps.{counts_after, reported, ends, IsTaken, IsBrokenOff}
+use Rattle.directory.specs.Stands.{read_as, state_after, IsReached, Stands, Ran, BrokeOff}
+use Rattle.directory.specs.Faults.{Failures, AllButLast}
+use Rattle.directory.specs.declared.reason.Reason.{Reason}
+use Rattle.directory.specs.declared.reason.Outcome.{Outcome}
+use Rattle.directory.specs.declared.reason.Outcome.TheVariants.{Nothing, Accepted, Refused}
+use Rattle.directory.specs.declared.runs.Tally.{Tally}
+use Rattle.directory.specs.declared.runs.RunFault.{RunFault}
+use Rattle.directory.specs.declared.runs.RunFault.TheVariants as faults
+
+-- ---- the records that are left
+
+pub takes_nothing : {A : Type 0} (all : Option (List A)) → Takes all all []
+takes_nothing None = tt
+takes_nothing (Some xs) = refl
+
+pub takes_more : {A : Type 0} (all mid left : Option (List A)) (xs ys : List A) → Takes all mid xs → Takes mid left ys → Takes all left (xs ++ ys)
+takes_more None mid left xs ys h k = tt
+takes_more (Some all) None left xs ys h k = absurd h
+takes_more (Some all) (Some mid) None xs ys h k = absurd k
+takes_more (Some all) (Some mid) (Some left) xs ys h k = h ∙ ap (λ zs. xs ++ zs) k ∙ sym (append_assoc xs ys left)
+
+-- ---- one record more
+
+report_more : (refused : List (ℕ × Reason)) (r : ℕ × Reason) → report (refused ++ r ∷ []) ≡ report refused ++ report_line r
+report_more refused r = flat_map-append report_line refused (r ∷ []) ∙ ap (λ bs. report refused ++ bs) (append-nil (report_line r))
+
+pub counted_entries : (go_on : Bool) (s : State) (line : ℕ) (d : Entries) (out : Outcome) → d ≡ (counted go_on s line d out).entries
+counted_entries go_on s line d Nothing = refl
+counted_entries go_on s line d Accepted = refl
+counted_entries go_on s line d (Refused why) = refl
+
+counted_accepted : (go_on : Bool) (s : State) (line : ℕ) (d : Entries) (out : Outcome) (t : Tally) → t.accepted ≡ s.accepted → (counts_after out t).accepted ≡ (counted go_on s line d out).accepted
+counted_accepted go_on s line d Nothing t h = h
+counted_accepted go_on s line d Accepted t h = ap (λ n. n + 1) h
+counted_accepted go_on s line d (Refused why) t h = h
+
+counted_refused : (go_on : Bool) (s : State) (line : ℕ) (d : Entries) (out : Outcome) (t : Tally) → t.refused ≡ length s.refused → (counts_after out t).refused ≡ length (counted go_on s line d out).refused
+counted_refused go_on s line d Nothing t h = h
+counted_refused go_on s line d Accepted t h = h
+counted_refused go_on s line d (Refused why) t h = let l = length-append s.refused ((line, why) ∷ []) in omega (arith, l)
+
+counted_ended : (go_on : Bool) (s : State) (line : ℕ) (d : Entries) (out : Outcome) → (counted go_on s line d out).ended ≡ ends go_on out
+counted_ended go_on s line d Nothing = refl
+counted_ended go_on s line d Accepted = refl
+counted_ended go_on s line d (Refused why) = refl
+
+counted_report : (go_on : Bool) (s : State) (line : ℕ) (d : Entries) (out : Outcome) → report s.refused ++ reported line out ≡ report (counted go_on s line d out).refused
+counted_report go_on s line d Nothing = append-nil (report s.refused)
+counted_report go_on s line d Accepted = append-nil (report s.refused)
+counted_report go_on s line d (Refused why) = sym (report_more s.refused (line, why))
+
+module _ (rules : Rules) (mode : Mode) (go_on : Bool) (old : Entries) where
+  abbrev at : List Raw → State
+  at front = state_after rules mode go_on old front
+
+  pub step_going : (s : State) (r : ℕ × Result Record Fault) → s.ended ≡ false → step rules mode go_on s r ≡ take_up go_on s r.0 (outcome rules mode s.entries r.1)
+  unfolding step
+  step_going s r going = ap (λ b. cond b s (take_up go_on s r.0 (outcome rules mode s.entries r.1))) going
+
+  pub one_more : (front : List Raw) (r : Raw) → at (front ++ r ∷ []) ≡ step rules mode go_on (at front) (read_as mode r)
+  unfolding after_records
+  one_more front r =
+      ap (fold (step rules mode go_on) (start old)) (map-append (read_as mode) front (r ∷ [])) ∙ fold_push (step rules mode go_on) (start old) (map (read_as mode) front) (read_as mode r)
+
+  module _ (now : Entries) (front : List Raw) (r : Raw) (going : (at front).ended ≡ false) (here : now ≡ (at front).entries) where
+    abbrev o : Entries × Outcome
+    o = outcome rules mode now (reading mode r.first r.lines)
+
+    pub settled : at (front ++ r ∷ []) ≡ take_up go_on (at front) r.line o
+    settled = one_more front r ∙ step_going (at front) (read_as mode r) going ∙ ap (λ (d : Entries). take_up go_on (at front) r.line (outcome rules mode d (reading mode r.first r.lines))) (sym here)
+
+    module _ (all mid left : Option (List Raw)) (t t' : Tally) (new : Entries) (h : IsReached rules mode go_on old now all mid t front) (taken : Takes mid left (r ∷ [])) (entries : new ≡ o.0) (counts : t' ≡ counts_after o.1 t) where
+      reached_more : IsReached rules mode go_on old new all left t' (front ++ r ∷ [])
+      reached_more = record {
+        parts = takes_more all mid left front (r ∷ []) h.parts taken;
+        entries = entries ∙ counted_entries go_on (at front) r.line o.0 o.1 ∙ ap (λ (s : State). s.entries) (sym settled);
+        accepted = ap (λ (x : Tally). x.accepted) counts ∙ counted_accepted go_on (at front) r.line o.0 o.1 t h.accepted ∙ ap (λ (s : State). s.accepted) (sym settled);
+        refused = ap (λ (x : Tally). x.refused) counts ∙ counted_refused go_on (at front) r.line o.0 o.1 t h.refused ∙ ap (λ (s : State). length s.refused) (sym settled);
+      }
+
+    pub ended_is : (at (front ++ r ∷ [])).ended ≡ ends go_on o.1
+    ended_is = ap (λ (s : State). s.ended) settled ∙ counted_ended go_on (at front) r.line o.0 o.1
+
+    written_more : (a b c : Written) → Took a b (report (at front).refused) → Took b c (reported r.line o.1) → Took a c (report (at (front ++ r ∷ [])).refused)
+    written_more a b c h k = took_more a b c (report (at front).refused) (reported r.line o.1) (report (at (front ++ r ∷ [])).refused) h k (counted_report go_on (at front) r.line o.0 o.1 ∙ ap (λ (s : State). report s.refused) (sym settled))
+
+    pub last_refused : (why : Reason) → o.1 ≡ Refused why → (at (front ++ r ∷ [])).refused ≡ (at front).refused ++ (r.line, why) ∷ []
+    last_refused why is = ap (λ (s : State). s.refused) (settled ∙ ap (counted go_on (at front) r.line o.0) is)
+
+  -- ---- what the loop keeps
+
+  pub begins : (all : Option (List Raw)) (a : Written) → Stands rules mode go_on old old all all (record { accepted = 0; refused = 0 }) a a
+  unfolding after_records
+  begins all a = record {
+    front = [];
+    reached = record { parts = takes_nothing all; entries = refl; accepted = refl; refused = refl };
+    going = refl;
+    written = took_none a;
+  }
+
+  module _ (now new : Entries) (all mid left : Option (List Raw)) (t t' : Tally) (a b c : Written) (r : Raw) (h : Stands rules mode go_on old now all mid t a b) (taken : Takes mid left (r ∷ [])) where
+    pub goes_on : (ended : Bool) → IsTaken (outcome rules mode now (reading mode r.first r.lines)) go_on r.line new t t' b c ended → ended ≡ false → Stands rules mode go_on old new all left t' a c
+    goes_on ended k off = record {
+      front = h.front ++ r ∷ [];
+      reached = reached_more now h.front r h.going h.reached.entries all mid left t t' new h.reached taken k.entries k.counts;
+      going = ended_is now h.front r h.going h.reached.entries ∙ sym k.ended_is ∙ off;
+      written = written_more now h.front r h.going h.reached.entries a b c h.written k.written;
+    }
+
+    pub ends_there : (ended : Bool) → IsTaken (outcome rules mode now (reading mode r.first r.lines)) go_on r.line new t t' b c ended → ended ≡ true → Ran rules mode go_on old new all t' a c
+    ends_there ended k on = record {
+      front = h.front ++ r ∷ [];
+      left = left;
+      reached = reached_more now h.front r h.going h.reached.entries all mid left t t' new h.reached taken k.entries k.counts;
+      over = inr (ended_is now h.front r h.going h.reached.entries ∙ sym k.ended_is ∙ on);
+      written = written_more now h.front r h.going h.reached.entries a b c h.written k.written;
+    }
+
+    all_but_last : (why : Reason) → (outcome rules mode now (reading mode r.first r.lines)).1 ≡ Refused why → AllButLast (at (h.front ++ r ∷ [])).refused a b (r.line, why)
+    all_but_last why is = record {
+      before = (at h.front).refused;
+      are = last_refused now h.front r h.going h.reached.entries why is;
+      written = h.written;
+    }
+
+    pub breaks_off : (f : RunFault) → IsBrokenOff (outcome rules mode now (reading mode r.first r.lines)) r.line now new t b c f → BrokeOff rules mode go_on old new all f a c
+    breaks_off (faults.Read u) k = absurd k
+    breaks_off (faults.Write u) (why, k, broke) = record {
+      front = h.front ++ r ∷ [];
+      left = left;
+      reached = reached_more now h.front r h.going h.reached.entries all mid left t u new h.reached taken k.entries k.counts;
+      written = record { last = (r.line, why); mid = b; others = all_but_last why k.is; broke = broke };
+    }
+    breaks_off (faults.OutOfMemory u) (inl k) = record {
+      front = h.front;
+      left = mid;
+      reached = record {
+        parts = h.reached.parts;
+        entries = k.entries ∙ h.reached.entries;
+        accepted = ap (λ (x : Tally). x.accepted) k.counts ∙ h.reached.accepted;
+        refused = ap (λ (x : Tally). x.refused) k.counts ∙ h.reached.refused;
+      };
+      written = inl (subst (λ w. Took a w (report (at h.front).refused)) (sym k.written) h.written);
+    }
+    breaks_off (faults.OutOfMemory u) (inr (why, k, same)) = record {
+      front = h.front ++ r ∷ [];
+      left = left;
+      reached = reached_more now h.front r h.going h.reached.entries all mid left t u new h.reached taken k.entries k.counts;
+      written = inr (record { last = (r.line, why); others = subst (λ w. AllButLast (at (h.front ++ r ∷ [])).refused a w (r.line, why)) (sym same) (all_but_last why k.is) });
+    }
+
+  module _ (now : Entries) (all left : Option (List Raw)) (t : Tally) (a b : Written) (h : Stands rules mode go_on old now all left t a b) where
+    pub stops : IsEnd left → Ran rules mode go_on old now all t a b
+    stops over = record { front = h.front; left = left; reached = h.reached; over = inl over; written = h.written }
+
+    pub stops_reading : BrokeOff rules mode go_on old now all (faults.Read t) a b
+    stops_reading = record { front = h.front; left = left; reached = h.reached; written = h.written }
+
+    pub stops_wanting : BrokeOff rules mode go_on old now all (faults.OutOfMemory t) a b
+    stops_wanting = record { front = h.front; left = left; reached = h.reached; written = inl h.written }
+
+-- ---- counts
+
+pub counts_few : (out : Outcome) (t : Tally) → (counts_after out t).accepted + (counts_after out t).refused ≤ t.accepted + t.refused + 1
+counts_few Nothing t = omega arith
+counts_few Accepted t = omega arith
+counts_few (Refused why) t = omega arith
+
+pub took_failed : (line : ℕ) (o : Entries × Outcome) (go_on : Bool) (new : Entries) (t t' : Tally) (a b : Written) (ended : Bool) → IsTaken o go_on line new t t' a b ended → b.failed ≡ a.failed
+took_failed line o go_on new t t' a b ended k = k.written.failed
+
+pub broke_failed : (f : RunFault) (o : Entries × Outcome) (line : ℕ) (old new : Entries) (t : Tally) (a b : Written) (s s' w : ℕ) → IsBrokenOff o line old new t a b f → s' ≡ s → a.failed ≡ w → Failures f s s' w b.failed
+broke_failed (faults.Read u) o line old new t a b s s' w k same here = absurd k
+broke_failed (faults.Write u) o line old new t a b s s' w (why, k, broke) same here = (same, broke.failed ∙ ap (λ n. n + 1) here)
+broke_failed (faults.OutOfMemory u) o line old new t a b s s' w (inl k) same here = (same, ap (λ (x : Written). x.failed) k.written ∙ here)
+broke_failed (faults.OutOfMemory u) o line old new t a b s s' w (inr (why, k, is)) same here = (same, ap (λ (x : Written). x.failed) is ∙ here)

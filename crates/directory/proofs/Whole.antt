@@ -1,0 +1,93 @@
+-- What a run over the records of a text comes to.
+use Rattle.std.proofs.Common.{◌≡◌, ℕ, ◌⊎◌, inl, inr, Bool, true, cond, List, [], ◌∷◌, ◌++◌, length, map, Option, Some, None, option_map, IfOk, IfErr, IfSome, refl, sym, ◌∙◌, ap, subst}
+use Rattle.std.specs.Prelude.{Result, Ok, Err}
+use Rattle.std.specs.List.{fold}
+use Rattle.std.proofs.lemmas.List.{append-nil, map-append}
+use Rattle.std.proofs.lemmas.List.Sums.{fold-append}
+use Rattle.device.specs.Device.{Written, Took}
+use Rattle.ldif_lines.specs.Records.{Raw, records}
+use Rattle.ldif_lines.specs.Reader.{Takes, IsEnd}
+use Rattle.ldif.specs.declared.fault.Fault.{Fault}
+use Rattle.ldif.specs.declared.record.Record.{Record}
+use Rattle.ldif.specs.declared.record.Mode.{Mode}
+use Rattle.ldif.specs.Contents.{readings}
+use Rattle.schema.specs.Rules.{Rules}
+use Rattle.tree.specs.Directories.{Entries}
+use Rattle.directory.specs.Runs.{State, start, take_up, outcome, step, after, after_records}
+use Rattle.directory.specs.Stands.{read_as, state_after, Ran, BrokeOff}
+use Rattle.directory.specs.Faults.{Went, BrokenOff}
+use Rattle.directory.specs.Reports.{report}
+use Rattle.directory.specs.declared.runs.Tally.{Tally}
+use Rattle.directory.specs.declared.runs.RunFault.{RunFault}
+
+-- a text's records, each with its line and what it reads as
+readings_are : (mode : Mode) (text : List ℕ) → readings mode text ≡ map (read_as mode) (records text)
+unfolding readings
+readings_are mode text = refl
+
+module _ (rules : Rules) (mode : Mode) (go_on : Bool) (old : Entries) where
+  step_ended : (s : State) (r : ℕ × Result Record Fault) → s.ended ≡ true → step rules mode go_on s r ≡ s
+  unfolding step
+  step_ended s r over = ap (λ b. cond b s (take_up go_on s r.0 (outcome rules mode s.entries r.1))) over
+
+  ended_stays : (s : State) (rs : List (ℕ × Result Record Fault)) → s.ended ≡ true → fold (step rules mode go_on) s rs ≡ s
+  ended_stays s [] over = refl
+  ended_stays s (r ∷ rs) over = ap (λ x. fold (step rules mode go_on) x rs) (step_ended s r over) ∙ ended_stays s rs over
+
+  after_parts : (front left : List (ℕ × Result Record Fault)) → after_records rules mode go_on old (front ++ left) ≡ fold (step rules mode go_on) (after_records rules mode go_on old front) left
+  unfolding after_records
+  after_parts front left = fold-append (step rules mode go_on) (start old) front left
+
+  -- once all records were taken, or the run has ended, the rest changes nothing
+  pub after_all : (rs front : List Raw) (left : Option (List Raw)) → Takes (Some rs) left front → (IsEnd left ⊎ ((state_after rules mode go_on old front).ended ≡ true)) → after_records rules mode go_on old (map (read_as mode) rs) ≡ state_after rules mode go_on old front
+  after_all rs front None parts over = absurd parts
+  after_all rs front (Some left) parts (inl none) = ap (λ xs. after_records rules mode go_on old (map (read_as mode) xs)) (parts ∙ ap (λ ys. front ++ ys) none ∙ append-nil front)
+  after_all rs front (Some left) parts (inr ended) =
+      ap (λ xs. after_records rules mode go_on old (map (read_as mode) xs)) parts
+      ∙ ap (after_records rules mode go_on old) (map-append (read_as mode) front left)
+      ∙ after_parts (map (read_as mode) front) (map (read_as mode) left)
+      ∙ ended_stays (state_after rules mode go_on old front) (map (read_as mode) left) ended
+
+  pub after_text : (text : List ℕ) (front : List Raw) (left : Option (List Raw)) → Takes (Some (records text)) left front → (IsEnd left ⊎ ((state_after rules mode go_on old front).ended ≡ true)) → after rules mode go_on old text ≡ state_after rules mode go_on old front
+  after_text text front left parts over = ap (after_records rules mode go_on old) (readings_are mode text) ∙ after_all (records text) front left parts over
+
+  module _ (now : Entries) (a b : Written) where
+    went : (text : List ℕ) (t : Tally) → Ran rules mode go_on old now (Some (records text)) t a b → Went rules mode go_on old now text t a b
+    went text t h =
+        let is : state_after rules mode go_on old h.front ≡ after rules mode go_on old text = sym (after_text text h.front h.left h.reached.parts h.over) in
+        record {
+          entries = h.reached.entries ∙ ap (λ (s : State). s.entries) is;
+          accepted = h.reached.accepted ∙ ap (λ (s : State). s.accepted) is;
+          refused = h.reached.refused ∙ ap (λ (s : State). length s.refused) is;
+          written = subst (λ (s : State). Took a b (report s.refused)) is h.written;
+        }
+
+    others_of : Option (List Raw) → List (ℕ × Result Record Fault)
+    others_of None = []
+    others_of (Some left) = map (read_as mode) left
+
+    parts_of : (text : List ℕ) (front : List Raw) (left : Option (List Raw)) → Takes (Some (records text)) left front → readings mode text ≡ map (read_as mode) front ++ others_of left
+    unfolding others_of
+    parts_of text front None parts = absurd parts
+    parts_of text front (Some left) parts = readings_are mode text ∙ ap (map (read_as mode)) parts ∙ map-append (read_as mode) front left
+
+    broken : (text : List ℕ) (f : RunFault) → BrokeOff rules mode go_on old now (Some (records text)) f a b → BrokenOff rules mode go_on old now text f a b
+    broken text f h = record {
+      front = map (read_as mode) h.front;
+      others = others_of h.left;
+      parts = parts_of text h.front h.left h.reached.parts;
+      entries = h.reached.entries;
+      accepted = h.reached.accepted;
+      refused = h.reached.refused;
+      written = h.written;
+    }
+
+    pub went_of : (left : Option (List ℕ)) (all : Option (List Raw)) → all ≡ option_map records left → (answer : Result Tally RunFault) → IfOk answer (λ t. Ran rules mode go_on old now all t a b) → IfOk answer (λ t. IfSome left (λ text. Went rules mode go_on old now text t a b))
+    went_of left all is (Err f) h = tt
+    went_of None all is (Ok t) h = tt
+    went_of (Some text) all is (Ok t) h = went text t (subst (λ o. Ran rules mode go_on old now o t a b) is h)
+
+    pub broken_of : (left : Option (List ℕ)) (all : Option (List Raw)) → all ≡ option_map records left → (answer : Result Tally RunFault) → IfErr answer (λ f. BrokeOff rules mode go_on old now all f a b) → IfErr answer (λ f. IfSome left (λ text. BrokenOff rules mode go_on old now text f a b))
+    broken_of left all is (Ok t) h = tt
+    broken_of None all is (Err f) h = tt
+    broken_of (Some text) all is (Err f) h = broken text f (subst (λ o. BrokeOff rules mode go_on old now o f a b) is h)

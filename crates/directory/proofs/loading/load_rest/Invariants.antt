@@ -1,0 +1,16 @@
+use Rattle.std.proofs.Common.{◌≡◌, false}
+use Rattle.ldif_lines.specs.Reader.{source_of, is_failed, records_left, bytes_left}
+use Rattle.directory.specs.Loading.{IsUnderWay}
+use Rattle.directory.proofs.loading.load_rest.Given as goal
+
+abbrev pub invariant-records : goal.invariant-records
+invariant-records g l = record {
+  source_failures : (g.S.Source.seen (source_of l.reader)).failed ≡ (g.S.Source.seen (source_of l.fn.reader)).failed;
+  going : is_failed l.reader ≡ false;
+  same_reference : l.reader.source.ghost_name ≡ l.fn.reader.source.ghost_name;
+  rules : l.tree.rules ≡ l.fn.tree.rules;
+  under_way : IsUnderWay l.fn.tree.rules l.fn.tree.entries l.tree.entries (records_left g.S.Source.seen l.fn.reader) (records_left g.S.Source.seen l.reader);
+}
+
+abbrev pub decreases-records : goal.decreases-records
+decreases-records g l = bytes_left g.S.Source.seen l.reader

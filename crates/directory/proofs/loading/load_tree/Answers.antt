@@ -1,0 +1,20 @@
+use Rattle.std.proofs.Common.{subst}
+use Rattle.std.specs.FinMap as finite
+use Rattle.ldif_lines.specs.Reader.{records_left}
+use Rattle.schema.specs.Rules.{Rules}
+use Rattle.tree.specs.Directories.{Entries}
+use Rattle.directory.specs.Loading.{LoadsAll, LoadsUpTo}
+use Rattle.directory.proofs.LoadSteps.{loads_of, stops_of}
+use Rattle.directory.proofs.loading.load_tree.Goals as goal
+
+pub returns-in-Ok-clause-loads : goal.returns-in-Ok-clause-loads
+returns-in-Ok-clause-loads g c =
+    loads_of c.args.conf.now (g.S.Source.seen c.args.source.now).left (records_left g.S.Source.seen c.new-reader.result) c.new-reader.ensures.records c.load_rest.new.tree.entries
+    (subst (λ (rules : Rules). LoadsAll rules finite.empty c.load_rest.new.tree.entries (records_left g.S.Source.seen c.new-reader.result)) c.new-tree.ensures.rules
+    (subst (λ (d : Entries). LoadsAll c.new-tree.result.rules d c.load_rest.new.tree.entries (records_left g.S.Source.seen c.new-reader.result)) c.new-tree.ensures.empty c.in-Ok.ensures.loaded))
+
+pub returns-in-Err-clause-stops : goal.returns-in-Err-clause-stops
+returns-in-Err-clause-stops g c =
+    stops_of c.args.conf.now (g.S.Source.seen c.args.source.now).left (records_left g.S.Source.seen c.new-reader.result) c.new-reader.ensures.records c.in-Err.fault
+    (subst (λ (rules : Rules). LoadsUpTo c.in-Err.fault rules finite.empty (records_left g.S.Source.seen c.new-reader.result)) c.new-tree.ensures.rules
+    (subst (λ (d : Entries). LoadsUpTo c.in-Err.fault c.new-tree.result.rules d (records_left g.S.Source.seen c.new-reader.result)) c.new-tree.ensures.empty c.in-Err.ensures.stopped))

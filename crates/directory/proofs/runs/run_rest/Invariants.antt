@@ -1,0 +1,18 @@
+use Rattle.std.proofs.Common.{◌≡◌, ◌+◌, ◌^◌, ◌≤◌, false}
+use Rattle.ldif_lines.specs.Reader.{source_of, is_failed, records_left, bytes_left}
+use Rattle.directory.specs.Stands.{Stands}
+use Rattle.directory.proofs.runs.run_rest.Given as goal
+
+abbrev pub invariant-records : goal.invariant-records
+invariant-records g l = record {
+  source_failures : (g.S.Source.seen (source_of l.reader)).failed ≡ (g.S.Source.seen (source_of l.fn.reader)).failed;
+  sink_failures : (g.W.Sink.written l.sink).failed ≡ (g.W.Sink.written l.fn.sink).failed;
+  going : is_failed l.reader ≡ false;
+  same_reference : l.reader.source.ghost_name ≡ l.fn.reader.source.ghost_name;
+  rules : l.dir.rules ≡ l.fn.dir.rules;
+  stands : Stands l.fn.dir.rules l.mode l.go_on l.fn.dir.entries l.dir.entries (records_left g.S.Source.seen l.fn.reader) (records_left g.S.Source.seen l.reader) l.tally (g.W.Sink.written l.fn.sink) (g.W.Sink.written l.sink);
+  few : l.tally.accepted + l.tally.refused + bytes_left g.S.Source.seen l.reader ≤ 2 ^ 64;
+}
+
+abbrev pub decreases-records : goal.decreases-records
+decreases-records g l = bytes_left g.S.Source.seen l.reader

@@ -1,0 +1,54 @@
+-- What is written of a dump, piece by piece.
+use Rattle.std.specs.Prelude.{◌≡◌, ℕ, true, List, [], ◌∷◌, ◌++◌, Result, Ok, Err}
+use Rattle.std.specs.List.{flat_map}
+use Rattle.std.specs.FinMap as finite
+use Rattle.device.specs.Device.{Written, Took, Broke}
+use Rattle.ldif.specs.declared.record.Attr.{Attr}
+use Rattle.ldif.specs.declared.write.WriteFault.{WriteFault}
+use Rattle.ldif.specs.declared.write.WriteFault.TheVariants as faults
+use Rattle.ldif.specs.Contents.{written_attr, write_content}
+use Rattle.schema.specs.declared.types.AttributeType.{AttributeType}
+use Rattle.schema.specs.declared.value.Value.{Value}
+use Rattle.schema.specs.Paths.{Steps}
+use Rattle.schema.specs.Rules.{Rules}
+use Rattle.tree.specs.Directories.{Entries, content_at}
+use Rattle.tree.specs.Entries.{lines_of}
+use Rattle.tree.specs.Stored.{Stored, StoredAttribute, facts_of, attributes_of, IsMade}
+
+-- a beginning of the bytes was written, and these are left
+pub record SoFar (a b : Written) (whole rest : List ℕ) : Type 0 where
+  pub front : List ℕ
+  pub parts : whole ≡ front ++ rest
+  pub written : Took a b front
+
+pub record Begun (a b : Written) (whole : List ℕ) : Type 0 where
+  pub rest : List ℕ
+  pub so_far : SoFar a b whole rest
+
+-- the bytes were written, or as many as came before the fault
+abbrev pub Writes : Result (Unit {0}) WriteFault → Written → Written → List ℕ → Type 0
+Writes (Ok u) a b bytes = Took a b bytes
+Writes (Err faults.Device) a b bytes = Broke a b bytes
+Writes (Err faults.OutOfMemory) a b bytes = Begun a b bytes
+
+abbrev pub attr_of : List ℕ → Value → Attr
+attr_of name v = record { name = name; value = v.raw }
+
+-- the lines of values under one name
+abbrev pub values_text : List ℕ → List Value → List ℕ
+values_text name vs = flat_map (λ v. written_attr (attr_of name v)) vs
+
+-- the lines of attributes, and the empty line behind them
+abbrev pub attributes_text : List AttributeType → List StoredAttribute → List ℕ
+attributes_text types attrs = flat_map written_attr (lines_of types (attributes_of attrs)) ++ 10 ∷ []
+
+abbrev pub entry_text : Rules → Entries → Steps × Stored → List ℕ
+entry_text rules d e = write_content (content_at rules d e.0 (facts_of e.1))
+
+abbrev pub entries_text : Rules → Entries → List (Steps × Stored) → List ℕ
+entries_text rules d es = flat_map (entry_text rules d) es
+
+-- entries of a directory, as its tree stores them
+pub record IsThere (rules : Rules) (d : Entries) (e : Steps × Stored) : Type 0 where
+  pub there : finite.contains_key d e.0 ≡ true
+  pub made : IsMade rules.types e.1.attrs

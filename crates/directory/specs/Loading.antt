@@ -1,0 +1,72 @@
+-- What loading comes to.
+use Rattle.std.specs.Prelude.{◌≡◌, ℕ, ◌+◌, Bool, true, false, List, [], ◌∷◌, ⊤, Option}
+use Rattle.ldif_lines.specs.Records.{Raw}
+use Rattle.ldif_lines.specs.Reader.{Takes, IsEnd}
+use Rattle.ldif.specs.declared.record.Mode.TheVariants.{Content}
+use Rattle.schema.specs.Rules.{Rules}
+use Rattle.tree.specs.Directories.{Entries}
+use Rattle.directory.specs.Runs.{State, loading}
+use Rattle.directory.specs.Stands.{state_after}
+use Rattle.directory.specs.declared.loading.LoadFault.{LoadFault}
+use Rattle.directory.specs.declared.loading.LoadFault.TheVariants as faults
+use Rattle.directory.specs.declared.reason.Reason.{Reason}
+use Rattle.directory.specs.declared.reason.Outcome.{Outcome}
+use Rattle.directory.specs.declared.reason.Outcome.TheVariants.{Nothing, Accepted, Refused}
+
+-- the first record that is refused, and why; the other faults say nothing of the text
+abbrev pub StopsAt : LoadFault → Rules → List ℕ → Type 0
+StopsAt faults.Read rules text = ⊤
+StopsAt faults.OutOfMemory rules text = ⊤
+StopsAt (faults.Refused line why) rules text = (loading rules text).refused ≡ (line, why) ∷ []
+
+-- how often the source failed
+abbrev pub PullFailures : LoadFault → ℕ → ℕ → Type 0
+PullFailures faults.Read s s' = s' ≡ s + 1
+PullFailures faults.OutOfMemory s s' = s' ≡ s
+PullFailures (faults.Refused line why) s s' = s' ≡ s
+
+-- ---- one record
+
+abbrev pub is_refused : Outcome → Bool
+is_refused Nothing = false
+is_refused Accepted = false
+is_refused (Refused why) = true
+
+pub record IsLoaded (o : Entries × Outcome) (new : Entries) : Type 0 where
+  pub entries : new ≡ o.0
+  pub taken : is_refused o.1 ≡ false
+
+abbrev pub Explains : LoadFault → ℕ → Entries × Outcome → Type 0
+Explains faults.Read line o = ⊥
+Explains faults.OutOfMemory line o = ⊤
+Explains (faults.Refused at why) line o = (at ≡ line) × (o.1 ≡ Refused why)
+
+-- ---- one after the other
+
+abbrev pub loaded_after : Rules → Entries → List Raw → State
+loaded_after rules old front = state_after rules Content false old front
+
+-- these records were loaded
+pub record IsUnderWay (rules : Rules) (old now : Entries) (all left : Option (List Raw)) : Type 0 where
+  pub front : List Raw
+  pub parts : Takes all left front
+  pub entries : now ≡ (loaded_after rules old front).entries
+  pub refused : (loaded_after rules old front).refused ≡ []
+  pub going : (loaded_after rules old front).ended ≡ false
+
+pub record LoadsAll (rules : Rules) (old now : Entries) (all : Option (List Raw)) : Type 0 where
+  pub left : Option (List Raw)
+  pub under_way : IsUnderWay rules old now all left
+  pub over : IsEnd left
+
+pub record RefusesNext (rules : Rules) (old : Entries) (all : Option (List Raw)) (line : ℕ) (why : Reason) : Type 0 where
+  pub front : List Raw
+  pub left : Option (List Raw)
+  pub parts : Takes all left front
+  pub refused : (loaded_after rules old front).refused ≡ (line, why) ∷ []
+  pub ended : (loaded_after rules old front).ended ≡ true
+
+abbrev pub LoadsUpTo : LoadFault → Rules → Entries → Option (List Raw) → Type 0
+LoadsUpTo faults.Read rules old all = ⊤
+LoadsUpTo faults.OutOfMemory rules old all = ⊤
+LoadsUpTo (faults.Refused line why) rules old all = RefusesNext rules old all line why

@@ -1,0 +1,96 @@
+-- What the records of a text leave of a directory: each is carried out in turn, and one that is refused changes nothing.
+use Rattle.std.specs.Prelude.{◌≡◌, ℕ, ◌+◌, Bool, true, false, not, List, [], ◌∷◌, ◌++◌, Result, Ok, Err, if◌then◌else◌}
+use Rattle.std.specs.List.{fold, flat_map}
+use Rattle.std.specs.FinMap as finite
+use Rattle.ldif.specs.declared.fault.Fault.{Fault}
+use Rattle.ldif.specs.declared.record.Record.{Record}
+use Rattle.ldif.specs.declared.record.Record.TheVariants as records
+use Rattle.ldif.specs.declared.record.Mode.{Mode}
+use Rattle.ldif.specs.declared.record.Mode.TheVariants.{Content}
+use Rattle.ldif.specs.Contents.{Written, readings, write_content}
+use Rattle.schema.specs.declared.code.Code.{Code}
+use Rattle.schema.specs.Paths.{Steps}
+use Rattle.schema.specs.Rules.{Rules}
+use Rattle.tree.specs.Entries.{Facts}
+use Rattle.tree.specs.Directories.{Entries, content_at}
+use Rattle.tree.specs.Adds.{apply}
+use Rattle.directory.specs.declared.reason.Outcome.{Outcome}
+use Rattle.directory.specs.declared.reason.Outcome.TheVariants as outcomes
+use Rattle.directory.specs.declared.reason.Reason.{Reason}
+use Rattle.directory.specs.declared.reason.Reason.TheVariants as reasons
+
+-- where a run stands: the entries, how many records were accepted, the line and the reason of each refused one, and
+-- whether it has ended
+pub record State : Type 0 where
+  pub entries : Entries
+  pub accepted : ℕ
+  pub refused : List (ℕ × Reason)
+  pub ended : Bool
+
+abbrev pub start : Entries → State
+start d = record { entries = d; accepted = 0; refused = []; ended = false }
+
+-- ---- one record
+
+-- a version line by itself is an empty record, which isn't counted
+abbrev pub is_empty : Record → Bool
+is_empty records.Empty = true
+is_empty (records.Content dn attrs) = false
+is_empty (records.Add dn controls attrs) = false
+is_empty (records.Delete dn controls) = false
+is_empty (records.Modify dn controls mods) = false
+is_empty (records.ModRdn dn controls newrdn delete_old new_superior) = false
+
+abbrev pub of_change : Entries → Bool → Result Entries Code → Entries × Outcome
+of_change d empty (Ok next) = (next, if empty then outcomes.Nothing else outcomes.Accepted)
+of_change d empty (Err code) = (d, outcomes.Refused (reasons.Code code))
+
+-- the entries after what was read of a record, and what becomes of it
+unfoldable pub outcome : Rules → Mode → Entries → Result Record Fault → Entries × Outcome
+outcome rules mode d (Ok r) = of_change d (is_empty r) (apply rules mode d r)
+outcome rules mode d (Err fault) = (d, outcomes.Refused (reasons.Fault fault))
+
+-- a refused record ends the run, unless it goes on
+abbrev pub counted : Bool → State → ℕ → Entries → Outcome → State
+counted go_on s line d outcomes.Nothing = record { entries = d; accepted = s.accepted; refused = s.refused; ended = false }
+counted go_on s line d outcomes.Accepted = record { entries = d; accepted = s.accepted + 1; refused = s.refused; ended = false }
+counted go_on s line d (outcomes.Refused why) = record { entries = d; accepted = s.accepted; refused = s.refused ++ (line, why) ∷ []; ended = not go_on }
+
+abbrev pub take_up : Bool → State → ℕ → Entries × Outcome → State
+take_up go_on s line o = counted go_on s line o.0 o.1
+
+-- what was read of a record, with its line; after the end nothing changes
+unfoldable pub step : Rules → Mode → Bool → State → ℕ × Result Record Fault → State
+step rules mode go_on s r = if s.ended then s else take_up go_on s r.0 (outcome rules mode s.entries r.1)
+
+-- of the first records of a text
+unfoldable pub after_records : Rules → Mode → Bool → Entries → List (ℕ × Result Record Fault) → State
+after_records rules mode go_on d rs = fold (step rules mode go_on) (start d) rs
+
+-- of a whole text
+abbrev pub after : Rules → Mode → Bool → Entries → List ℕ → State
+after rules mode go_on d text = after_records rules mode go_on d (readings mode text)
+
+-- ---- the dump
+
+abbrev pub content_of : Rules → Entries → Steps × Facts → Written
+content_of rules d x = content_at rules d x.0 x.1
+
+-- each entry as a content record, in the order of paths
+unfoldable pub dump : Rules → Entries → List ℕ
+dump rules d = flat_map (λ x. write_content (content_of rules d x)) (finite.entries d)
+
+-- ---- loading
+
+-- a text of content records, from the directory with no entry
+abbrev pub loading : Rules → List ℕ → State
+loading rules text = after rules Content false finite.empty text
+
+-- no record is refused, and these are the entries
+pub record Loads (rules : Rules) (text : List ℕ) (d : Entries) : Type 0 where
+  pub entries : d ≡ (loading rules text).entries
+  pub all : (loading rules text).refused ≡ []
+
+-- the records of a dump leave the entries that were dumped, and none is refused
+abbrev pub LoadsBack : Rules → Entries → Type 0
+LoadsBack rules d = Loads rules (dump rules d) d

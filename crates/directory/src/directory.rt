@@ -1,0 +1,95 @@
+//! Directories.
+
+ghost use Rattle.std.specs.Prelude.{◌≡◌, IfOk, OnErr};
+ghost use Rattle.std.specs.FinMap as finite;
+ghost use Rattle.ldif_lines.specs.View.{texts};
+ghost use Rattle.ldif.specs.Reading.{reading};
+ghost use Rattle.tree.specs.Adds.{apply};
+ghost use Rattle.tree.specs.Gives.{Gives};
+ghost use Rattle.directory.specs.Runs.{outcome};
+
+use crate::applying::{apply_record, carry_out};
+use crate::reason::Outcome;
+use ldif::{Mode, RawRecord, Record};
+use schema::Conf;
+use std::alloc::{AllocError, Global};
+use std::marker::Model;
+use tree::{Refusal, Tree};
+
+/// A directory under a configuration. A contract sees its rules and its entries by their paths.
+#[derive(Drop)]
+pub struct Directory {
+    alloc: Global,
+    conf: Conf,
+    tree: Tree,
+}
+
+impl Model for Directory {
+    ghost use Rattle.std.specs.Prelude.{◌≡◌};
+    ghost use Rattle.tree.specs.Trees as trees;
+
+    ghost Value = { trees.Directory };
+
+    ghost coded = { trees.directory_code };
+
+    ghost view = { λ d. d.tree };
+
+    ghost invariant = { λ d. d.tree.rules ≡ d.conf };
+}
+
+impl Directory {
+    /// The directory with no entry. It can run out of memory.
+    pub fn new(alloc: Global, conf: Conf) -> Result<Directory, AllocError>
+        ensures rules { IfOk result (λ d. d.rules ≡ conf) }
+        ensures entries { IfOk result (λ d. d.entries ≡ finite.empty) }
+    {
+        let tree = Tree::new(alloc, &conf);
+        Ok(Directory { alloc, conf, tree })
+    }
+
+    /// The directory of a tree that was made with this configuration. It can run out of memory.
+    pub fn from_tree(alloc: Global, conf: Conf, tree: Tree) -> Result<Directory, AllocError>
+        requires { tree.rules ≡ conf }
+        ensures { IfOk result (λ d. d ≡ tree) }
+    {
+        Ok(Directory { alloc, conf, tree })
+    }
+
+    /// The configuration.
+    pub fn conf(&self) -> &Conf
+        ensures { result.now ≡ self.now.rules }
+    {
+        &self.conf
+    }
+
+    /// The entries.
+    pub fn tree(&self) -> &Tree
+        ensures { result.now ≡ self.now }
+    {
+        &self.tree
+    }
+
+    /// Carries out a record (RFC 4511, 4.6 to 4.9), or refuses it with the code of the first check that fails. A refusal,
+    /// also for want of memory, changes nothing.
+    pub fn apply(&mut self, asked: &Record, mode: Mode) -> Result<(), Refusal>
+        ensures rules { self.new.rules ≡ self.old.rules }
+        ensures gives { Gives (λ _. self.new.entries) result (apply self.old.rules mode self.old.entries asked.now) }
+        ensures err { OnErr result (self.new ≡ self.old) }
+    {
+        apply_record(self.alloc, &mut self.tree, &self.conf, asked, mode)
+    }
+
+    // Reads a record from its lines and carries it out.
+    pub(crate) fn carry_out(
+        &mut self,
+        alloc: Global,
+        raw: &RawRecord,
+        mode: Mode,
+    ) -> Result<Outcome, AllocError>
+        ensures rules { self.new.rules ≡ self.old.rules }
+        ensures outcome { IfOk result (λ o. outcome self.old.rules mode self.old.entries (reading mode raw.now.first (texts raw.now.lines.items)) ≡ (self.new.entries, o)) }
+        ensures err { OnErr result (self.new ≡ self.old) }
+    {
+        carry_out(alloc, &mut self.tree, &self.conf, raw, mode)
+    }
+}

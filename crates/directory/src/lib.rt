@@ -1,0 +1,16 @@
+//! A directory: records carried out in turn, the dump, and loading it.
+#![tactic(auto)]
+
+mod applying;
+mod directory;
+mod dump;
+mod laws;
+mod loading;
+mod reason;
+mod runs;
+
+pub use directory::Directory;
+pub use laws::loading_a_dump;
+pub use loading::{LoadFault, load, load_tree};
+pub use reason::Reason;
+pub use runs::{RunFault, Tally, run};

@@ -1,0 +1,112 @@
+//! Loading: a directory of the content records of a source.
+
+ghost use Rattle.std.specs.Prelude.{◌≡◌, ◌<◌, ◌-◌, ◌^◌, false, IfOk, IfErr, IfSome, OnOk};
+ghost use Rattle.ldif.specs.declared.record.Mode.TheVariants.{Content};
+ghost use Rattle.ldif.specs.Reading.{reading};
+ghost use Rattle.ldif_lines.specs.Reader.{source_of, is_failed, records_left};
+ghost use Rattle.ldif_lines.specs.View.{texts};
+ghost use Rattle.directory.specs.Runs.{outcome, Loads};
+ghost use Rattle.directory.specs.Loading.{IsLoaded, Explains, LoadsAll, LoadsUpTo, StopsAt, PullFailures};
+
+use crate::applying::carry_out;
+use crate::directory::Directory;
+use crate::reason::{Outcome, Reason};
+use device::Source;
+use ldif::{Mode, RawRecord, ReadFault, Reader};
+use schema::Conf;
+use std::alloc::Global;
+use tree::Tree;
+
+/// Why nothing was loaded.
+#[derive(Clone, Copy, Debug, PartialEq, Eq)]
+pub enum LoadFault {
+    /// The source failed.
+    Read,
+    OutOfMemory,
+    /// The record that begins on this line is refused.
+    Refused { line: u64, reason: Reason },
+}
+
+// one record
+fn load_record(
+    alloc: Global,
+    tree: &mut Tree,
+    conf: &Conf,
+    raw: &RawRecord,
+) -> Result<(), LoadFault>
+    requires { tree.old.rules ≡ conf.now }
+    ensures rules { tree.new.rules ≡ tree.old.rules }
+    ensures loaded { OnOk result (IsLoaded (outcome tree.old.rules Content tree.old.entries (reading Content raw.now.first (texts raw.now.lines.items))) tree.new.entries) }
+    ensures refused { IfErr result (λ f. Explains f raw.now.line (outcome tree.old.rules Content tree.old.entries (reading Content raw.now.first (texts raw.now.lines.items)))) }
+{
+    match carry_out(alloc, tree, conf, raw, Mode::Content) {
+        Ok(Outcome::Refused(reason)) => Err(LoadFault::Refused {
+            line: raw.line,
+            reason,
+        }),
+        Ok(_) => Ok(()),
+        Err(_) => Err(LoadFault::OutOfMemory),
+    }
+}
+
+// the rest of the records
+fn load_rest<S: Source>(
+    alloc: Global,
+    tree: &mut Tree,
+    conf: &Conf,
+    reader: &mut Reader<'_, S>,
+) -> Result<(), LoadFault>
+    requires made { tree.old.rules ≡ conf.now }
+    requires source { (S.seen (source_of reader.old)).failed < 2 ^ 64 - 1 }
+    requires going { is_failed reader.old ≡ false }
+    ensures same_reference { reader.new.source.ghost_name ≡ reader.old.source.ghost_name }
+    ensures rules { tree.new.rules ≡ tree.old.rules }
+    ensures loaded { OnOk result (LoadsAll tree.old.rules tree.old.entries tree.new.entries (records_left S.seen reader.old)) }
+    ensures stopped { IfErr result (λ f. LoadsUpTo f tree.old.rules tree.old.entries (records_left S.seen reader.old)) }
+    ensures pulls { OnOk result ((S.seen (source_of reader.new)).failed ≡ (S.seen (source_of reader.old)).failed) }
+    ensures failures { IfErr result (λ f. PullFailures f (S.seen (source_of reader.old)).failed (S.seen (source_of reader.new)).failed) }
+{
+    'records: loop {
+        match reader.next() {
+            Ok(Some(raw)) => load_record(alloc, tree, conf, &raw)?,
+            Ok(None) => return Ok(()),
+            Err(ReadFault::OutOfMemory) => return Err(LoadFault::OutOfMemory),
+            Err(_) => return Err(LoadFault::Read),
+        }
+    }
+}
+
+/// The tree of the content records of a source, under a configuration. The first record that is refused is answered with
+/// the number of its line and the reason.
+pub fn load_tree<S: Source>(alloc: Global, conf: &Conf, source: &mut S) -> Result<Tree, LoadFault>
+    requires { (S.seen source.old).failed < 2 ^ 64 - 1 }
+    ensures rules { IfOk result (λ t. t.rules ≡ conf.now) }
+    ensures loads { IfOk result (λ t. IfSome (S.seen source.old).left (λ text. Loads conf.now text t.entries)) }
+    ensures stops { IfErr result (λ f. IfSome (S.seen source.old).left (λ text. StopsAt f conf.now text)) }
+    ensures pulls { OnOk result ((S.seen source.new).failed ≡ (S.seen source.old).failed) }
+    ensures failures { IfErr result (λ f. PullFailures f (S.seen source.old).failed (S.seen source.new).failed) }
+{
+    let mut tree = Tree::new(alloc, conf);
+    let mut reader = Reader::new(alloc, source);
+    match load_rest(alloc, &mut tree, conf, &mut reader) {
+        Ok(()) => Ok(tree),
+        Err(fault) => Err(fault),
+    }
+}
+
+/// The directory of the content records of a source, under a configuration. The first record that is refused is answered
+/// with the number of its line and the reason.
+pub fn load<S: Source>(alloc: Global, conf: Conf, source: &mut S) -> Result<Directory, LoadFault>
+    requires { (S.seen source.old).failed < 2 ^ 64 - 1 }
+    ensures rules { IfOk result (λ d. d.rules ≡ conf) }
+    ensures loads { IfOk result (λ d. IfSome (S.seen source.old).left (λ text. Loads conf text d.entries)) }
+    ensures stops { IfErr result (λ f. IfSome (S.seen source.old).left (λ text. StopsAt f conf text)) }
+    ensures pulls { OnOk result ((S.seen source.new).failed ≡ (S.seen source.old).failed) }
+    ensures failures { IfErr result (λ f. PullFailures f (S.seen source.old).failed (S.seen source.new).failed) }
+{
+    let tree = load_tree(alloc, &conf, source)?;
+    match Directory::from_tree(alloc, conf, tree) {
+        Ok(dir) => Ok(dir),
+        Err(_) => Err(LoadFault::OutOfMemory),
+    }
+}

@@ -1,0 +1,156 @@
+//! Runs: the records of a source, carried out in turn, with a report of those that are refused.
+
+ghost use Rattle.std.specs.Prelude.{◌≡◌, ◌<◌, ◌≤◌, ◌+◌, ◌-◌, ◌^◌, ◌∷◌, [], false, IfOk, IfErr, IfSome, OnOk, OnErr, string_bytes, Err, ⊤};
+ghost use Rattle.device.specs.Device.{Took, Broke};
+ghost use Rattle.ldif_lines.specs.View.{texts};
+ghost use Rattle.ldif.specs.Reading.{reading};
+ghost use Rattle.directory.specs.Runs.{outcome};
+ghost use Rattle.directory.specs.Reports.{report_line};
+ghost use Rattle.directory.specs.Steps.{IsTaken, IsBrokenOff};
+ghost use Rattle.directory.specs.Stands.{Ran, BrokeOff};
+ghost use Rattle.directory.specs.Faults.{Went, BrokenOff, Failures};
+ghost use Rattle.ldif_lines.specs.Reader.{source_of, is_failed, records_left, bytes_left};
+
+use crate::directory::Directory;
+use crate::reason::{Outcome, Reason, report_line};
+use device::{Device, Sink, Source, push_all};
+use ldif::{Mode, RawRecord, ReadFault, Reader, WriteFault};
+use std::alloc::Global;
+
+/// How many records of a run were accepted, and how many were refused.
+#[derive(Clone, Copy, Debug, PartialEq, Eq)]
+pub struct Tally {
+    pub accepted: u64,
+    pub refused: u64,
+}
+
+/// Why a run was broken off, with the records that were carried out by then.
+#[derive(Clone, Copy, Debug, PartialEq, Eq)]
+pub enum RunFault {
+    /// The source failed.
+    Read(Tally),
+    /// The sink failed in the line of the last refused record.
+    Write(Tally),
+    OutOfMemory(Tally),
+}
+
+// the report line of a refused record
+fn write_report<W: Sink>(
+    alloc: Global,
+    sink: &mut W,
+    line: u64,
+    reason: Reason,
+) -> Result<(), WriteFault>
+    requires { (W.written sink.old).failed < 2 ^ 64 - 1 }
+    ensures ok { OnOk result (Took (W.written sink.old) (W.written sink.new) (report_line (line, reason))) }
+    ensures device { result ≡ Err WriteFault.Device → Broke (W.written sink.old) (W.written sink.new) (report_line (line, reason)) }
+    ensures memory { result ≡ Err WriteFault.OutOfMemory → W.written sink.new ≡ W.written sink.old }
+{
+    match report_line(alloc, line, reason) {
+        Ok(text) => match push_all(sink, text.as_bytes()) {
+            Ok(()) => Ok(()),
+            Err(Device) => Err(WriteFault::Device),
+        },
+        Err(_) => Err(WriteFault::OutOfMemory),
+    }
+}
+
+// one record; it answers whether the run has ended
+fn take_record<W: Sink>(
+    alloc: Global,
+    dir: &mut Directory,
+    raw: &RawRecord,
+    sink: &mut W,
+    mode: Mode,
+    go_on: bool,
+    tally: &mut Tally,
+) -> Result<bool, RunFault>
+    requires can_fail { (W.written sink.old).failed < 2 ^ 64 - 1 }
+    requires room { tally.old.accepted + tally.old.refused < 2 ^ 64 - 1 }
+    ensures rules { dir.new.rules ≡ dir.old.rules }
+    ensures taken { IfOk result (λ ended. IsTaken (outcome dir.old.rules mode dir.old.entries (reading mode raw.now.first (texts raw.now.lines.items))) go_on raw.now.line dir.new.entries tally.old tally.new (W.written sink.old) (W.written sink.new) ended) }
+    ensures broken { IfErr result (λ f. IsBrokenOff (outcome dir.old.rules mode dir.old.entries (reading mode raw.now.first (texts raw.now.lines.items))) raw.now.line dir.old.entries dir.new.entries tally.old (W.written sink.old) (W.written sink.new) f) }
+{
+    let Ok(outcome) = dir.carry_out(alloc, raw, mode) else {
+        return Err(RunFault::OutOfMemory(*tally));
+    };
+    match outcome {
+        Outcome::Nothing => Ok(false),
+        Outcome::Accepted => {
+            tally.accepted += 1;
+            Ok(false)
+        }
+        Outcome::Refused(reason) => {
+            tally.refused += 1;
+            match write_report(alloc, sink, raw.line, reason) {
+                Ok(()) => Ok(!go_on),
+                Err(WriteFault::Device) => Err(RunFault::Write(*tally)),
+                Err(WriteFault::OutOfMemory) => Err(RunFault::OutOfMemory(*tally)),
+            }
+        }
+    }
+}
+
+// the rest of the records
+fn run_rest<S: Source, W: Sink>(
+    alloc: Global,
+    dir: &mut Directory,
+    reader: &mut Reader<'_, S>,
+    sink: &mut W,
+    mode: Mode,
+    go_on: bool,
+) -> Result<Tally, RunFault>
+    requires source { (S.seen (source_of reader.old)).failed < 2 ^ 64 - 1 }
+    requires sink { (W.written sink.old).failed < 2 ^ 64 - 1 }
+    requires going { is_failed reader.old ≡ false }
+    requires bound { bytes_left S.seen reader.old ≤ 2 ^ 64 }
+    ensures same_reference { reader.new.source.ghost_name ≡ reader.old.source.ghost_name }
+    ensures rules { dir.new.rules ≡ dir.old.rules }
+    ensures ran { IfOk result (λ t. Ran dir.old.rules mode go_on dir.old.entries dir.new.entries (records_left S.seen reader.old) t (W.written sink.old) (W.written sink.new)) }
+    ensures broke { IfErr result (λ f. BrokeOff dir.old.rules mode go_on dir.old.entries dir.new.entries (records_left S.seen reader.old) f (W.written sink.old) (W.written sink.new)) }
+    ensures pulls { OnOk result ((S.seen (source_of reader.new)).failed ≡ (S.seen (source_of reader.old)).failed) }
+    ensures pushes { OnOk result ((W.written sink.new).failed ≡ (W.written sink.old).failed) }
+    ensures failures { IfErr result (λ f. Failures f (S.seen (source_of reader.old)).failed (S.seen (source_of reader.new)).failed (W.written sink.old).failed (W.written sink.new).failed) }
+{
+    let mut tally = Tally {
+        accepted: 0,
+        refused: 0,
+    };
+    'records: loop {
+        match reader.next() {
+            Ok(Some(raw)) => {
+                if take_record(alloc, dir, &raw, sink, mode, go_on, &mut tally)? {
+                    return Ok(tally);
+                }
+            }
+            Ok(None) => return Ok(tally),
+            Err(ReadFault::OutOfMemory) => return Err(RunFault::OutOfMemory(tally)),
+            Err(_) => return Err(RunFault::Read(tally)),
+        }
+    }
+}
+
+/// Carries out the records of a source in turn. For each that is refused, a line with the number of the line on which the
+/// record begins and the reason goes to the sink; the first one ends the run, unless it goes on.
+///
+/// A refused record changes nothing. A fault leaves the records that were carried out by then, and comes with their counts.
+pub fn run<S: Source, W: Sink>(
+    alloc: Global,
+    dir: &mut Directory,
+    source: &mut S,
+    sink: &mut W,
+    mode: Mode,
+    go_on: bool,
+) -> Result<Tally, RunFault>
+    requires source { (S.seen source.old).failed < 2 ^ 64 - 1 }
+    requires sink { (W.written sink.old).failed < 2 ^ 64 - 1 }
+    ensures rules { dir.new.rules ≡ dir.old.rules }
+    ensures went { IfOk result (λ t. IfSome (S.seen source.old).left (λ text. Went dir.old.rules mode go_on dir.old.entries dir.new.entries text t (W.written sink.old) (W.written sink.new))) }
+    ensures broken { IfErr result (λ f. IfSome (S.seen source.old).left (λ text. BrokenOff dir.old.rules mode go_on dir.old.entries dir.new.entries text f (W.written sink.old) (W.written sink.new))) }
+    ensures pulls { OnOk result ((S.seen source.new).failed ≡ (S.seen source.old).failed) }
+    ensures pushes { OnOk result ((W.written sink.new).failed ≡ (W.written sink.old).failed) }
+    ensures failures { IfErr result (λ f. Failures f (S.seen source.old).failed (S.seen source.new).failed (W.written sink.old).failed (W.written sink.new).failed) }
+{
+    let mut reader = Reader::new(alloc, source);
+    run_rest(alloc, dir, &mut reader, sink, mode, go_on)
+}
