@@ -9,6 +9,8 @@ mod planning;
 mod plans;
 mod range;
 mod refusal;
+#[cfg(test)]
+mod tests;
 mod tree;
 
 pub use entry::Entry;

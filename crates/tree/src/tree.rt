@@ -1,6 +1,6 @@
 //! The tree of a directory: a map from paths to entries.
 
-ghost use Rattle.std.specs.Prelude.{◌≡◌, IfSome, OnOk, OnErr, filter};
+ghost use Rattle.std.specs.Prelude.{◌≡◌, ◌↔◌, IsTrue, IfSome, OnOk, OnErr, filter};
 ghost use Rattle.std.specs.Option.{option_map};
 ghost use Rattle.std.specs.List.{AllByRecursion};
 ghost use Rattle.std.specs.FinMap as finite;
@@ -76,6 +76,13 @@ impl Tree {
         ensures { result ≡ finite.len self.now.entries }
     {
         self.by_path.len()
+    }
+
+    /// Whether there is no entry.
+    pub fn is_empty(&self) -> bool
+        ensures { IsTrue result ↔ (finite.len self.now.entries ≡ 0) }
+    {
+        self.len() == 0
     }
 
     /// Whether an entry stands directly below a path.
