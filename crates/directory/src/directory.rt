@@ -44,7 +44,7 @@ impl Directory {
         ensures entries { IfOk result (λ d. d.entries ≡ finite.empty) }
     {
         let tree = Tree::new(alloc, &conf);
-        Ok(Directory { alloc, conf, tree })
+        Directory::from_tree(alloc, conf, tree)
     }
 
     /// The directory of a tree that was made with this configuration. It can run out of memory.

@@ -1,0 +1,12 @@
+pub mod Octets
+pub mod Drafts
+pub mod Cutting
+pub mod Loop
+pub mod Runs
+pub mod Parts
+pub mod Wholes
+pub mod Named
+pub mod Spelled
+pub mod Ascii
+pub mod Good
+pub mod Writing

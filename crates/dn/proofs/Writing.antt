@@ -1,0 +1,53 @@
+-- The loops that write.
+use Rattle.std.proofs.Common.{◌≡◌, ℕ, suc, ◌+◌, ◌-◌, ◌<◌, ◌≤◌, Bool, false, eqb, List, [], ◌∷◌, ◌++◌, map, length, get_or, take, drop, refl, sym, ap, ◌∙◌, append_assoc, arith, add-one}
+use Rattle.std.specs.List.{flat_map, join_with_byte}
+use Rattle.std.proofs.lemmas.List.{append-nil, drop_more, drop_all, length-drop, take_all}
+use Rattle.std.proofs.lemmas.Bool.{eqb-true, false_from_ne_true}
+use Rattle.std.proofs.lemmas.Bool.Decides.{nat_tests}
+use Rattle.dn.specs.Writing.{is_nothing, written, text_from}
+
+-- ---- a value
+
+suc_is_no : (n : ℕ) → false ≡ eqb (suc n) 0
+suc_is_no n = sym (false_from_ne_true _ (λ h. absurd (let k = eqb-true _ _ h in omega arith)))
+
+last_at : (i n m : ℕ) → i < n → m ≡ n - (i + 1) → eqb (i + 1) n ≡ eqb m 0
+last_at i n m lt e = grind (arith, nat_tests)
+
+last_is : (xs : List ℕ) → is_nothing xs ≡ eqb (length xs) 0
+last_is [] = refl
+last_is (x ∷ xs) = suc_is_no (length xs)
+
+pub text_more : (out new value : List ℕ) (i b : ℕ) → i < length value → b ≡ get_or value i 0 → new ≡ out ++ written (eqb i 0) (eqb (i + 1) (length value)) b
+    → new ++ text_from (eqb (i + 1) 0) (drop (i + 1) value) ≡ out ++ text_from (eqb i 0) (drop i value)
+unfolding text_from
+text_more out new value i b lt is e =
+    let rest = drop (i + 1) value in
+    let split : drop i value ≡ b ∷ rest = drop_more value i 0 lt ∙ ap (λ (x : ℕ). x ∷ rest) (sym is) in
+    let last : eqb (i + 1) (length value) ≡ is_nothing rest = last_at i (length value) (length rest) lt (length-drop (i + 1) value) ∙ sym (last_is rest) in
+    let not_first : eqb (i + 1) 0 ≡ false = rw add-one (sym (suc_is_no i)) in
+    ap (λ (x : List ℕ). x ++ text_from (eqb (i + 1) 0) rest) e
+    ∙ ap (λ (f : Bool). (out ++ written (eqb i 0) (eqb (i + 1) (length value)) b) ++ text_from f rest) not_first
+    ∙ ap (λ (l : Bool). (out ++ written (eqb i 0) l b) ++ text_from false rest) last
+    ∙ append_assoc out (written (eqb i 0) (is_nothing rest) b) (text_from false rest)
+    ∙ ap (λ (bs : List ℕ). out ++ text_from (eqb i 0) bs) (sym split)
+
+pub text_done : (out value : List ℕ) (i : ℕ) (f : Bool) → length value ≤ i → out ++ text_from f (drop i value) ≡ out
+unfolding text_from
+text_done out value i f le = ap (λ (bs : List ℕ). out ++ text_from f bs) (drop_all i value le) ∙ append-nil out
+
+-- ---- texts joined
+
+joined_is : {X : Type 0} (sep : ℕ) (text : X → List ℕ) (x : X) (xs : List X) → join_with_byte sep (map text (x ∷ xs)) ≡ text x ++ flat_map (λ y. sep ∷ text y) xs
+joined_is sep text x [] = sym (append-nil (text x))
+joined_is sep text x (y ∷ ys) = ap (λ (bs : List ℕ). text x ++ sep ∷ bs) (joined_is sep text y ys)
+
+pub joined_rest : {X : Type 0} (sep : ℕ) (text : X → List ℕ) (xs : List X) (x : X) (start mid new : List ℕ) → 0 < length xs → x ≡ get_or xs 0 x → mid ≡ start ++ text x
+    → new ≡ mid ++ flat_map (λ y. sep ∷ text y) (take (length xs - 1) (drop 1 xs)) → new ≡ start ++ join_with_byte sep (map text xs)
+joined_rest sep text [] x start mid new lt first put more = absurd (omega arith)
+joined_rest {X} sep text (y ∷ ys) x start mid new lt first put more =
+    more
+    ∙ ap (λ (zs : List X). mid ++ flat_map (λ y. sep ∷ text y) zs) (take_all (length (y ∷ ys) - 1) ys (omega arith))
+    ∙ ap (λ (bs : List ℕ). bs ++ flat_map (λ y. sep ∷ text y) ys) (put ∙ ap (λ (z : X). start ++ text z) first)
+    ∙ append_assoc start (text y) (flat_map (λ y. sep ∷ text y) ys)
+    ∙ sym (ap (λ (bs : List ℕ). start ++ bs) (joined_is sep text y ys))

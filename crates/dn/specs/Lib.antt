@@ -1,0 +1,9 @@
+pub mod Names
+pub mod Spelling
+pub mod Reading
+pub mod Writing
+pub mod Cuts
+pub mod Drafts
+pub mod Gives
+pub mod Faults
+pub mod Examples

@@ -1,0 +1,88 @@
+-- Which text spells which name (RFC 4514, section 3; spaces may stand round types and values).
+use Rattle.std.specs.Prelude.{◌≡◌, ℕ, ◌+◌, ◌-◌, ◌*◌, Bool, true, false, not, ◌&&◌, ◌||◌, nat_le, ◌==◌, if◌then◌else◌, List, [], ◌∷◌, ◌++◌, map, replicate}
+use Rattle.dn.specs.declared.value.Octet.{Octet}
+use Rattle.dn.specs.Names.{Part, Parts, Rdns, is_type}
+
+-- ---- a value
+
+-- the bytes that stand for themselves: not NUL, `"`, `+`, `,`, `;`, `<`, `>`, `\`
+abbrev pub may_stand : ℕ → Bool
+may_stand b = not (b == 0 || b == 34 || b == 43 || b == 44 || b == 59 || b == 60 || b == 62 || b == 92)
+
+-- the bytes that a backslash takes as they are: space, `"`, `#`, `+`, `,`, `;`, `<`, `=`, `>`, `\`
+abbrev pub may_follow : ℕ → Bool
+may_follow b = b == 32 || b == 34 || b == 35 || b == 43 || b == 44 || b == 59 || b == 60 || b == 61 || b == 62 || b == 92
+
+abbrev pub is_between : ℕ → ℕ → ℕ → Bool
+is_between low high b = nat_le low b && nat_le b high
+
+-- a hexadecimal digit, in either case
+abbrev pub is_hex : ℕ → Bool
+is_hex b = is_between 48 57 b || is_between 65 70 b || is_between 97 102 b
+
+abbrev pub hex : ℕ → ℕ
+hex b = if nat_le b 57 then b - 48 else (if nat_le b 70 then b - 55 else b - 87)
+
+-- an octet of a value is a byte by itself, or an escape: a backslash and a byte, or a backslash and two digits
+abbrev pub IsOctet : Octet → List ℕ → Type 0
+IsOctet o [] = ⊥
+IsOctet o (b ∷ []) = (may_stand b ≡ true) × (o ≡ record { raw = true; byte = b })
+IsOctet o (s ∷ b ∷ []) = (s ≡ 92) × (may_follow b ≡ true) × (o ≡ record { raw = false; byte = b })
+IsOctet o (s ∷ b ∷ c ∷ []) = (s ≡ 92) × (is_hex b ≡ true) × (is_hex c ≡ true) × (o ≡ record { raw = false; byte = 16 * hex b + hex c })
+IsOctet o (s ∷ b ∷ c ∷ d ∷ bs) = ⊥
+
+abbrev pub AreOctets : List Octet → List ℕ → Type 0
+AreOctets [] text = text ≡ []
+AreOctets (o ∷ os) text = (front : List ℕ) × (rest : List ℕ) × IsOctet o front × (text ≡ front ++ rest) × AreOctets os rest
+
+abbrev pub is_raw_space : Octet → Bool
+is_raw_space o = o.raw && o.byte == 32
+
+-- the first is no raw space and no raw `#`
+abbrev pub begins_well : List Octet → Bool
+begins_well [] = true
+begins_well (o ∷ os) = not (o.raw && (o.byte == 32 || o.byte == 35))
+
+-- the last is no raw space
+abbrev pub ends_well : List Octet → Bool
+ends_well [] = true
+ends_well (o ∷ []) = not (is_raw_space o)
+ends_well (o ∷ p ∷ os) = ends_well (p ∷ os)
+
+abbrev pub byte_of : Octet → ℕ
+byte_of o = o.byte
+
+-- ---- a part, an RDN, a name
+
+abbrev pub spaces : ℕ → List ℕ
+spaces n = replicate n 32
+
+-- spaces, the type, spaces, `=`, spaces, the octets of the value, spaces
+pub record SpellsPart (text : List ℕ) (p : Part) : Type 0 where
+  pub before : ℕ
+  pub between : ℕ
+  pub after : ℕ
+  pub behind : ℕ
+  pub octets : List Octet
+  pub body : List ℕ
+  pub text_is : text ≡ spaces before ++ (p.0 ++ (spaces between ++ (61 ∷ (spaces after ++ (body ++ spaces behind)))))
+  pub type_is : is_type p.0 ≡ true
+  pub body_is : AreOctets octets body
+  pub begins : begins_well octets ≡ true
+  pub ends : ends_well octets ≡ true
+  pub value_is : p.1 ≡ map byte_of octets
+
+-- one text for each, and between each two this byte
+abbrev pub AreJoined : {X : Type 0} → (List ℕ → X → Type 0) → ℕ → List ℕ → List X → Type 0
+AreJoined Spelled sep text [] = ⊥
+AreJoined Spelled sep text (x ∷ []) = Spelled text x
+AreJoined Spelled sep text (x ∷ y ∷ ys) = (front : List ℕ) × (rest : List ℕ) × Spelled front x × (text ≡ front ++ sep ∷ rest) × AreJoined Spelled sep rest (y ∷ ys)
+
+-- parts joined by `+`
+abbrev pub SpellsRdn : List ℕ → Parts → Type 0
+SpellsRdn text r = AreJoined SpellsPart 43 text r
+
+-- spaces alone, or RDNs joined by `,`
+abbrev pub Spells : List ℕ → Rdns → Type 0
+Spells text [] = (n : ℕ) × (text ≡ spaces n)
+Spells text (r ∷ rs) = AreJoined SpellsRdn 44 text (r ∷ rs)

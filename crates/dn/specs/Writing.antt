@@ -1,0 +1,41 @@
+-- The one spelling of a name that is written.
+use Rattle.std.specs.Prelude.{ℕ, ◌+◌, ◌/◌, ◌%◌, Bool, true, false, not, ◌&&◌, ◌||◌, nat_lt, nat_le, ◌==◌, if◌then◌else◌, List, [], ◌∷◌, ◌++◌, map}
+use Rattle.std.specs.List.{join_with_byte}
+use Rattle.dn.specs.Names.{Part, Parts, Rdns}
+use Rattle.dn.specs.Spelling.{may_stand}
+
+-- an upper-case hexadecimal digit
+abbrev pub digit : ℕ → ℕ
+digit d = if nat_lt d 10 then d + 48 else d + 55
+
+abbrev pub is_nothing : List ℕ → Bool
+is_nothing [] = true
+is_nothing (b ∷ bs) = false
+
+-- a byte outside 32 to 126 is written as a pair of digits
+abbrev pub needs_pair : ℕ → Bool
+needs_pair b = nat_lt b 32 || nat_le 127 b
+
+-- a byte that stands for itself: a space neither first nor last, a number sign not first
+abbrev pub stands : Bool → Bool → ℕ → Bool
+stands first last b = may_stand b && not (b == 32 && (first || last)) && not (b == 35 && first)
+
+-- how a byte of a value is written, by whether it is the first and the last
+unfoldable pub written : Bool → Bool → ℕ → List ℕ
+written first last b = if needs_pair b then 92 ∷ digit (b / 16) ∷ digit (b % 16) ∷ [] else (if stands first last b then b ∷ [] else 92 ∷ b ∷ [])
+
+unfoldable pub text_from : Bool → List ℕ → List ℕ
+text_from first [] = []
+text_from first (b ∷ bs) = written first (is_nothing bs) b ++ text_from false bs
+
+abbrev pub value_text : List ℕ → List ℕ
+value_text value = text_from true value
+
+abbrev pub part_text : Part → List ℕ
+part_text p = p.0 ++ 61 ∷ value_text p.1
+
+abbrev pub rdn_text : Parts → List ℕ
+rdn_text r = join_with_byte 43 (map part_text r)
+
+unfoldable pub text_of : Rdns → List ℕ
+text_of n = join_with_byte 44 (map rdn_text n)

@@ -1,0 +1,196 @@
+//! Values as text.
+
+ghost use Rattle.std.specs.Prelude.{◌≡◌, ◌<◌, ◌&&◌, ◌==◌, [], take, IfOk, OnOk, IfSome, Some, None, if◌then◌else◌};
+ghost use Rattle.dn.specs.Spelling.{may_stand, may_follow, is_hex, hex};
+ghost use Rattle.dn.specs.Reading.{raw_fault, octets_from, step, begins_form, value_from, value_of};
+ghost use Rattle.dn.specs.Drafts.{draft_after, IsInRange};
+ghost use Rattle.dn.specs.Gives.{Gives};
+ghost use Rattle.dn.specs.declared.value.State.TheVariants as states;
+
+use crate::faults::{Fault, NameFault};
+use lists::Bytes;
+use std::alloc::{AllocError, Global};
+
+/// An octet of a value, and whether it stands in the text by itself.
+#[derive(Clone, Copy)]
+pub(crate) struct Octet {
+    raw: bool,
+    byte: u8,
+}
+
+/// What was read of an escape.
+#[derive(Clone, Copy)]
+enum State {
+    Plain,
+    Backslash,
+    HalfPair(u8),
+}
+
+pub(crate) fn may_stand(b: u8) -> bool
+    ensures { result ≡ may_stand b }
+{
+    !matches!(b, 0 | b'"' | b'+' | b',' | b';' | b'<' | b'>' | b'\\')
+}
+
+fn may_follow(b: u8) -> bool
+    ensures { result ≡ may_follow b }
+{
+    matches!(
+        b,
+        b' ' | b'"' | b'#' | b'+' | b',' | b';' | b'<' | b'=' | b'>' | b'\\'
+    )
+}
+
+fn hex(b: u8) -> Option<u8>
+    ensures value { result ≡ (if is_hex b then Some (hex b) else None) }
+    ensures digit { IfSome result (λ d. d < 16) }
+{
+    match b {
+        b'0'..=b'9' => Some(b - b'0'),
+        b'A'..=b'F' => Some(b - b'A' + 10),
+        b'a'..=b'f' => Some(b - b'a' + 10),
+        _ => None,
+    }
+}
+
+fn raw_fault(b: u8) -> Fault
+    ensures { result ≡ raw_fault b }
+{
+    if b == b';' {
+        Fault::FormNotSupported
+    } else {
+        Fault::NotEscaped
+    }
+}
+
+#[tactic(auto, unfolding(crate::specs::Reading::step))]
+fn step(state: State, byte: u8) -> Result<(State, Option<Octet>), Fault>
+    requires { IsInRange state }
+    ensures next { result ≡ step state byte }
+    ensures in_range { IfOk result (λ r. IsInRange r.0) }
+{
+    match state {
+        State::Plain => {
+            if may_stand(byte) {
+                Ok((State::Plain, Some(Octet { raw: true, byte })))
+            } else if byte == b'\\' {
+                Ok((State::Backslash, None))
+            } else {
+                Err(raw_fault(byte))
+            }
+        }
+        State::Backslash => {
+            if may_follow(byte) {
+                return Ok((State::Plain, Some(Octet { raw: false, byte })));
+            }
+            match hex(byte) {
+                Some(high) => Ok((State::HalfPair(high), None)),
+                None => Err(Fault::Escape),
+            }
+        }
+        State::HalfPair(high) => match hex(byte) {
+            Some(low) => Ok((
+                State::Plain,
+                Some(Octet {
+                    raw: false,
+                    byte: 16 * high + low,
+                }),
+            )),
+            None => Err(Fault::Escape),
+        },
+    }
+}
+
+/// The bytes of a value so far, and how many of them stay where it ends here.
+#[derive(Drop)]
+struct Draft {
+    bytes: Vec<u8>,
+    kept: usize,
+}
+
+fn kept_after(octet: Octet, kept: usize, len: usize) -> usize
+    ensures { result ≡ (if octet.raw && octet.byte == 32 then kept else len) }
+{
+    if octet.raw && octet.byte == b' ' {
+        kept
+    } else {
+        len
+    }
+}
+
+impl Draft {
+    fn new(alloc: Global, room: usize) -> Result<Draft, AllocError>
+        ensures bytes { IfOk result (λ d. d.bytes.items ≡ []) }
+        ensures kept { IfOk result (λ d. d.kept ≡ 0) }
+    {
+        Ok(Draft {
+            bytes: Vec::with_capacity(alloc, room)?,
+            kept: 0,
+        })
+    }
+
+    fn add(&mut self, octet: Octet) -> Result<(), AllocError>
+        ensures { OnOk result ((self.new.bytes.items, self.new.kept) ≡ draft_after self.old.bytes.items self.old.kept (Some octet)) }
+    {
+        self.bytes.push(octet.byte)?;
+        self.kept = kept_after(octet, self.kept, self.bytes.len());
+        Ok(())
+    }
+
+    fn add_any(&mut self, octet: Option<Octet>) -> Result<(), AllocError>
+        ensures { OnOk result ((self.new.bytes.items, self.new.kept) ≡ draft_after self.old.bytes.items self.old.kept octet) }
+    {
+        match octet {
+            Some(octet) => self.add(octet),
+            None => Ok(()),
+        }
+    }
+
+    fn finish(self) -> Bytes
+        ensures { result ≡ take self.kept self.bytes.items }
+    {
+        let Draft { mut bytes, kept } = self;
+        bytes.truncate(kept);
+        Bytes::from_vec(bytes)
+    }
+}
+
+fn octets_of(alloc: Global, text: &[u8]) -> Result<Bytes, NameFault>
+    ensures { Gives (λ v. v) result (value_from (octets_from states.Plain text.now)) }
+{
+    let mut draft = Draft::new(alloc, text.len())?;
+    let mut state = State::Plain;
+    for byte in text {
+        match step(state, *byte) {
+            Ok((next, octet)) => {
+                draft.add_any(octet)?;
+                state = next;
+            }
+            Err(fault) => return Err(NameFault::Fault(fault)),
+        }
+    }
+    match state {
+        State::Plain => Ok(draft.finish()),
+        _ => Err(NameFault::Fault(Fault::Escape)),
+    }
+}
+
+fn begins_form(text: &[u8]) -> bool
+    ensures { result ≡ begins_form text.now }
+{
+    match text {
+        [] => false,
+        [first, ..] => *first == b'"' || *first == b'#',
+    }
+}
+
+/// The value that a text without spaces at its front spells.
+#[tactic(auto, unfolding(crate::specs::Reading::value_of))]
+pub(crate) fn value_of(alloc: Global, text: &[u8]) -> Result<Bytes, NameFault>
+    ensures { Gives (λ v. v) result (value_of text.now) }
+{
+    if begins_form(text) {
+        return Err(NameFault::Fault(Fault::FormNotSupported));
+    }
+    octets_of(alloc, text)
+}

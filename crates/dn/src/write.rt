@@ -1,0 +1,135 @@
+//! Names are written.
+
+ghost use Rattle.std.specs.Prelude.{◌≡◌, ◌<◌, ◌∷◌, ◌++◌, map, true, IfOk, OnOk};
+ghost use Rattle.std.specs.List.{flat_map, join_with_byte};
+ghost use Rattle.std.specs.String.{string_bytes};
+ghost use Rattle.dn.specs.Names.{is_name};
+ghost use Rattle.dn.specs.Spelling.{Spells};
+ghost use Rattle.dn.specs.Writing.{digit, needs_pair, stands, written, value_text, part_text, rdn_text, text_of};
+
+use crate::names::{Ava, Name, Rdn};
+use crate::value::may_stand;
+use std::alloc::{AllocError, Global};
+
+fn digit(d: u8) -> u8
+    requires { d < 16 }
+    ensures { result ≡ digit d }
+{
+    if d < 10 { d + b'0' } else { d - 10 + b'A' }
+}
+
+fn needs_pair(b: u8) -> bool
+    ensures { result ≡ needs_pair b }
+{
+    b < 32 || b >= 127
+}
+
+fn stands(first: bool, last: bool, b: u8) -> bool
+    ensures { result ≡ stands first last b }
+{
+    may_stand(b) && !(b == b' ' && (first || last)) && !(b == b'#' && first)
+}
+
+#[tactic(auto, unfolding(crate::specs::Writing::written))]
+fn put_byte(out: &mut Vec<u8>, first: bool, last: bool, b: u8) -> Result<(), AllocError>
+    ensures { OnOk result (out.new.items ≡ out.old.items ++ written first last b) }
+{
+    if needs_pair(b) {
+        return out.extend_from_slice(&[b'\\', digit(b / 16), digit(b % 16)]);
+    }
+    if stands(first, last, b) {
+        return out.extend_from_slice(&[b]);
+    }
+    out.extend_from_slice(&[b'\\', b])
+}
+
+fn put_value(out: &mut Vec<u8>, value: &[u8]) -> Result<(), AllocError>
+    ensures { OnOk result (out.new.items ≡ out.old.items ++ value_text value.now) }
+{
+    for i in 0..value.len() {
+        put_byte(out, i == 0, i + 1 == value.len(), value[i])?;
+    }
+    Ok(())
+}
+
+fn put_part(out: &mut Vec<u8>, part: &Ava) -> Result<(), AllocError>
+    ensures { OnOk result (out.new.items ≡ out.old.items ++ part_text part.now) }
+{
+    out.extend_from_slice(part.ty_text())?;
+    out.extend_from_slice(b"=")?;
+    put_value(out, part.value())
+}
+
+/// Each part with a plus sign before it.
+fn put_more_parts(out: &mut Vec<u8>, parts: &[Ava]) -> Result<(), AllocError>
+    ensures { OnOk result (out.new.items ≡ out.old.items ++ flat_map (λ p. 43 ∷ part_text p) parts.now) }
+{
+    for part in parts {
+        out.extend_from_slice(b"+")?;
+        put_part(out, part)?;
+    }
+    Ok(())
+}
+
+fn put_parts(out: &mut Vec<u8>, parts: &[Ava]) -> Result<(), AllocError>
+    ensures { OnOk result (out.new.items ≡ out.old.items ++ join_with_byte 43 (map part_text parts.now)) }
+{
+    match parts {
+        [] => Ok(()),
+        [first, others @ ..] => {
+            put_part(out, first)?;
+            put_more_parts(out, others)?;
+            Ok(())
+        }
+    }
+}
+
+fn put_rdn(out: &mut Vec<u8>, rdn: &Rdn) -> Result<(), AllocError>
+    ensures { OnOk result (out.new.items ≡ out.old.items ++ rdn_text rdn.now) }
+{
+    put_parts(out, rdn.parts())
+}
+
+/// Each RDN with a comma before it.
+fn put_more_rdns(out: &mut Vec<u8>, rdns: &[Rdn]) -> Result<(), AllocError>
+    ensures { OnOk result (out.new.items ≡ out.old.items ++ flat_map (λ r. 44 ∷ rdn_text r) rdns.now) }
+{
+    for rdn in rdns {
+        out.extend_from_slice(b",")?;
+        put_rdn(out, rdn)?;
+    }
+    Ok(())
+}
+
+fn put_rdns(out: &mut Vec<u8>, rdns: &[Rdn]) -> Result<(), AllocError>
+    ensures { OnOk result (out.new.items ≡ out.old.items ++ join_with_byte 44 (map rdn_text rdns.now)) }
+{
+    match rdns {
+        [] => Ok(()),
+        [first, others @ ..] => {
+            put_rdn(out, first)?;
+            put_more_rdns(out, others)?;
+            Ok(())
+        }
+    }
+}
+
+#[tactic(auto, unfolding(crate::specs::Writing::text_of))]
+fn text_of(alloc: Global, name: &Name) -> Result<Vec<u8>, AllocError>
+    ensures text { IfOk result (λ v. v.items ≡ text_of name.now) }
+    ensures good { OnOk result (is_name name.now ≡ true) }
+{
+    let mut out = Vec::new(alloc);
+    put_rdns(&mut out, name.rdns())?;
+    Ok(out)
+}
+
+/// The one spelling of a name that is written (RFC 4514, section 2): no spaces, and an escape only where one is needed. It
+/// is ASCII: other bytes are written as pairs of hexadecimal digits.
+pub fn write_name(alloc: Global, name: &Name) -> Result<String, AllocError>
+    ensures text { IfOk result (λ s. string_bytes s ≡ text_of name.now) }
+    ensures spelled { IfOk result (λ s. Spells (string_bytes s) name.now) }
+{
+    let text = text_of(alloc, name)?;
+    Ok(String::from_utf8(text).unwrap())
+}
