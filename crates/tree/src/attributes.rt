@@ -51,9 +51,9 @@ fn push_value(
             values.push(value)?;
         }
         None => {
-            let mut values = Sequence::new(alloc);
+            let mut values = Vec::with_capacity(alloc, 1)?;
             values.push(value)?;
-            attrs.insert(t, values)?;
+            attrs.insert(t, Sequence::from_vec(values))?;
         }
     }
     Ok(())

@@ -11,6 +11,6 @@ returns-in_ok-push-in-Some c =
 
 pub returns-in_ok-insert-in-None : goal.returns-in_ok-insert-in-None
 returns-in_ok-insert-in-None c =
-    pushed_new c.args.t c.args.attrs.now.entries c.insert.new.self.entries c.push-in-None.new.self c.args.value (sym c.in-None.ensures.value)
-    (c.in_ok-insert-in-None.ensures.entries ∙ ap (λ (es : List StoredAttribute). insert_entry nat_eq es c.args.t c.push-in-None.new.self) (ap (λ m. m.entries) c.get_mut.follows.holds-at-none))
-    (c.in_ok-push-in-None.ensures.ok ∙ ap (λ (vs : List Value). vs ++ c.args.value ∷ []) c.new-values.ensures)
+    pushed_new c.args.t c.args.attrs.now.entries c.insert.new.self.entries c.from_vec.result c.args.value (sym c.in-None.ensures.value)
+    (c.in_ok-insert-in-None.ensures.entries ∙ ap (λ (es : List StoredAttribute). insert_entry nat_eq es c.args.t c.from_vec.result) (ap (λ m. m.entries) c.get_mut.follows.holds-at-none))
+    (c.from_vec.ensures ∙ c.in_ok-push-in-None.ensures.items ∙ ap (λ (vs : List Value). vs ++ c.args.value ∷ []) c.in_ok-values-in-None.ensures.items)
