@@ -3,6 +3,8 @@
 
 mod bytes;
 mod sequence;
+#[cfg(test)]
+mod tests;
 
 pub use bytes::Bytes;
 pub use sequence::Sequence;

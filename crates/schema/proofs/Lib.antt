@@ -14,3 +14,4 @@ pub mod Through
 pub mod Ends
 pub mod Numbered
 pub mod Whole
+pub mod Examples

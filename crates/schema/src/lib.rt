@@ -12,6 +12,8 @@ mod locate;
 mod name;
 mod normal;
 mod path;
+#[cfg(test)]
+mod tests;
 mod types;
 mod value;
 mod word;

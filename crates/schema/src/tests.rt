@@ -1,0 +1,7 @@
+mod codes;
+mod configurations;
+mod faults;
+mod order;
+mod places;
+mod shown;
+mod values;
