@@ -1,0 +1,72 @@
+//! One command, from its words to its status.
+ghost use Rattle.std.specs.Prelude.{◌≡◌, ◌<◌, ◌≤◌, ◌-◌, ◌^◌};
+
+use crate::cli::{self, Request};
+use crate::folder::Folder;
+use crate::messages::{Fault, Status, say, tell};
+use crate::slapadd::slapadd;
+use crate::slapcat::slapcat;
+use clap::error::ErrorKind;
+use device::{Device, Sink, Source, push_all};
+use std::alloc::Global;
+use std::convert::AsStr;
+
+/// Prints a text on standard output.
+fn print<O: Sink, E: Sink>(alloc: Global, text: &str, out: &mut O, err: &mut E) -> Status
+    requires out { (O.written out.old).failed < 2 ^ 64 - 1 }
+    requires err { (E.written err.old).failed < 2 ^ 64 - 1 }
+{
+    match push_all(out, text.as_bytes()) {
+        Ok(()) => Status::Done,
+        Err(Device) => tell(alloc, err, &Fault::cannot_write(alloc, "output")),
+    }
+}
+
+fn print_help<O: Sink, E: Sink>(alloc: Global, out: &mut O, err: &mut E) -> Status
+    requires out { (O.written out.old).failed < 2 ^ 64 - 1 }
+    requires err { (E.written err.old).failed < 2 ^ 64 - 1 }
+{
+    match cli::help(alloc) {
+        Ok(text) => print(alloc, text.as_str(), out, err),
+        Err(_) => tell(alloc, err, &Fault::OutOfMemory),
+    }
+}
+
+/// What the command line's reader says: a fault on standard error, help on standard output.
+fn answer<O: Sink, E: Sink>(alloc: Global, said: &clap::Error, out: &mut O, err: &mut E) -> Status
+    requires out { (O.written out.old).failed < 2 ^ 64 - 1 }
+    requires err { (E.written err.old).failed < 2 ^ 64 - 1 }
+{
+    if said.kind() == ErrorKind::OutOfMemory {
+        return tell(alloc, err, &Fault::OutOfMemory);
+    }
+    match said.to_string(alloc) {
+        Ok(text) if said.use_stderr() => say(err, text.as_str(), Status::Usage),
+        Ok(text) => print(alloc, text.as_str(), out, err),
+        Err(_) => tell(alloc, err, &Fault::OutOfMemory),
+    }
+}
+
+/// Carries out the command that the words spell, the first being the program's name, and answers its exit status: 0, or 1
+/// where a record was refused, 2 for a fault of the command line or of dir.conf, 3 for one of a file, a stream or memory.
+pub fn command<W: AsStr, F: Folder, S: Source, O: Sink, E: Sink>(
+    alloc: Global,
+    words: &[W],
+    folder: &mut F,
+    input: &mut S,
+    out: &mut O,
+    err: &mut E,
+) -> u8
+    requires input { (S.seen input.old).failed < 2 ^ 64 - 1 }
+    requires out { (O.written out.old).failed < 2 ^ 64 - 1 }
+    requires err { (E.written err.old).failed < 2 ^ 64 - 1 }
+    ensures { result ≤ 3 }
+{
+    let status = match cli::read(alloc, words) {
+        Ok(Request::Help) => print_help(alloc, out, err),
+        Ok(Request::Add(asked)) => slapadd(alloc, &asked, folder, input, err),
+        Ok(Request::Cat(asked)) => slapcat(alloc, &asked, folder, out, err),
+        Err(said) => answer(alloc, &said, out, err),
+    };
+    status.number()
+}

@@ -1,0 +1,56 @@
+//! Tools for an LDAP directory that is kept as LDIF, without a server.
+#![tactic(auto)]
+
+mod buffered;
+mod cli;
+mod command;
+mod database;
+mod files;
+mod folder;
+#[cfg(test)]
+mod memory;
+mod messages;
+mod slapadd;
+mod slapcat;
+#[cfg(test)]
+mod tests;
+
+use device::{OfRead, OfWrite};
+use files::Files;
+use messages::{Fault, tell};
+use std::env;
+use std::io::{self, ErrorKind};
+use std::process::ExitCode;
+
+fn fault_of(error: io::Error) -> Fault {
+    match error.kind() {
+        ErrorKind::OutOfMemory => Fault::OutOfMemory,
+        _ => Fault::Words,
+    }
+}
+
+fn words_of(rt: &HostRuntime) -> Result<Vec<String>, Fault> {
+    match env::args(rt) {
+        Ok(words) => Ok(words.collect(rt.alloc())?),
+        Err(error) => Err(fault_of(error)),
+    }
+}
+
+fn main(rt: HostRuntime) -> ExitCode {
+    let mut err = OfWrite::new(rt.stderr());
+    let words = match words_of(&rt) {
+        Ok(words) => words,
+        Err(fault) => return ExitCode::from(tell(rt.alloc(), &mut err, &fault).number()),
+    };
+    let mut folder = Files::new(&rt);
+    let mut input = OfRead::new(rt.stdin());
+    let mut out = OfWrite::new(rt.stdout());
+    ExitCode::from(command::command(
+        rt.alloc(),
+        words.as_slice(),
+        &mut folder,
+        &mut input,
+        &mut out,
+        &mut err,
+    ))
+}
