@@ -46,6 +46,19 @@ same db/data.ldif again/data.ldif
 "$program" slapadd --db piped < db/data.ldif || failed=1
 same db/data.ldif piped/data.ldif
 
+# 10,000 people in two runs are the same as in one
+mkdir whole halves
+cp "$example/../bench/dir.conf" whole
+cp "$example/../bench/dir.conf" halves
+python3 "$example/../bench/people.py" 10000 > people.ldif
+awk -v RS= -v ORS='\n\n' 'NR <= 5000' people.ldif > first.ldif
+awk -v RS= -v ORS='\n\n' 'NR > 5000' people.ldif > second.ldif
+wants 0 "" slapadd --db whole -l people.ldif
+wants 0 "" slapadd --db halves -l first.ldif
+wants 0 "" slapadd --db halves -l second.ldif
+same whole/data.ldif halves/data.ldif
+[ "$(grep -c '^dn:' whole/data.ldif)" = "$(grep -c '^dn:' people.ldif)" ] || { echo "some people are missing"; failed=1; }
+
 # a refusal, a dry run, and going on
 cp db/data.ldif before
 wants 1 "line 5: 68 entryAlreadyExists" slapadd --db db -l "$example/people.ldif"
