@@ -5,7 +5,7 @@ use Rattle.std.proofs.lemmas.Grind.{flat_map-append}
 use Rattle.ldif.specs.Contents.{written_attr, write_content}
 use Rattle.ldif.specs.Writing.{written_line}
 use Rattle.schema.specs.declared.types.AttributeType.{AttributeType}
-use Rattle.schema.specs.declared.value.Value.{Value}
+use Rattle.schema.specs.Values.{Value}
 use Rattle.schema.specs.Types.{name_of}
 use Rattle.tree.specs.Entries.{lines_of, attribute_lines}
 use Rattle.schema.specs.Paths.{Steps}

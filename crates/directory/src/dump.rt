@@ -25,7 +25,7 @@ fn write_values<W: Sink>(
     ensures { Writes result (W.written sink.old) (W.written sink.new) (values_text name.now values.now) }
 {
     for value in values {
-        write_line(alloc, sink, name, value.raw.as_slice())?;
+        write_line(alloc, sink, name, value.raw())?;
     }
     Ok(())
 }

@@ -22,7 +22,7 @@ pub use laws::{
 pub use ldif_lines::{RawRecord, ReadFault, Reader};
 pub use read::read_record;
 pub use record::{Attr, Control, Mod, Mode, Op, Record};
-pub use write::{WriteFault, write_line};
+pub use write::{WriteFault, put_line, write_line};
 
 #[cfg(test)]
 mod tests;

@@ -57,25 +57,22 @@ fn is_plain(value: &[u8]) -> bool
         && !ends_with(value, b' ')
 }
 
-/// The line before it is folded, with room for its end.
+// Puts the line, before it is folded, at the end.
 #[tactic(auto, unfolding(crate::specs::Writing::line_text))]
-fn line_text(alloc: Global, name: &[u8], value: &[u8]) -> Result<Vec<u8>, AllocError>
-    ensures { IfOk result (λ v. v.items ≡ line_text name.now value.now) }
+fn put_text(alloc: Global, out: &mut Vec<u8>, name: &[u8], value: &[u8]) -> Result<(), AllocError>
+    ensures { OnOk result (out.new.items ≡ out.old.items ++ line_text name.now value.now) }
 {
-    let room = name.len().saturating_add(value.len()).saturating_add(3);
-    let mut text = Vec::with_capacity(alloc, room)?;
-    text.extend_from_slice(name)?;
+    out.extend_from_slice(name)?;
     if value.is_empty() {
-        text.extend_from_slice(b":")?;
+        out.extend_from_slice(b":")
     } else if is_plain(value) {
-        text.extend_from_slice(b": ")?;
-        text.extend_from_slice(value)?;
+        out.extend_from_slice(b": ")?;
+        out.extend_from_slice(value)
     } else {
-        text.extend_from_slice(b":: ")?;
+        out.extend_from_slice(b":: ")?;
         let code = STANDARD.encode(alloc, value)?;
-        text.extend_from_slice(code.as_bytes())?;
+        out.extend_from_slice(code.as_bytes())
     }
-    Ok(text)
 }
 
 /// What fits into the room, and the rest.
@@ -97,32 +94,50 @@ fn push_piece(out: &mut Vec<u8>, piece: &[u8]) -> Result<(), AllocError>
     out.extend_from_slice(piece)
 }
 
-fn fold(alloc: Global, text: &[u8]) -> Result<Vec<u8>, AllocError>
-    ensures { IfOk result (λ v. v.items ≡ folded 76 text.now) }
+// Puts the line, folded, at the end.
+fn put_folded(out: &mut Vec<u8>, text: &[u8]) -> Result<(), AllocError>
+    ensures { OnOk result (out.new.items ≡ out.old.items ++ folded 76 text.now) }
 {
-    let mut out = Vec::with_capacity(alloc, text.len())?;
     let (front, after) = split_piece(text, FIRST_PIECE);
     out.extend_from_slice(front)?;
     let mut rest = after;
     'pieces: while !rest.is_empty() {
         let (piece, after) = split_piece(rest, NEXT_PIECE);
-        push_piece(&mut out, piece)?;
+        push_piece(out, piece)?;
         rest = after;
     }
     out.push(b'\n')?;
-    Ok(out)
+    Ok(())
+}
+
+/// Puts the line of a name and a value at the end, as [`write_line`] writes it. Where memory runs out, a beginning of it may
+/// stand there.
+pub fn put_line(
+    alloc: Global,
+    out: &mut Vec<u8>,
+    name: &[u8],
+    value: &[u8],
+) -> Result<(), AllocError>
+    ensures { OnOk result (out.new.items ≡ out.old.items ++ written_line name.now value.now) }
+{
+    let start = out.len();
+    put_text(alloc, out, name, value)?;
+    if out.len() - start <= FIRST_PIECE {
+        out.push(b'\n')?;
+        return Ok(());
+    }
+    let text = Vec::from_slice(alloc, &out[start..])?;
+    out.truncate(start);
+    put_folded(out, &text)
 }
 
 fn written_line(alloc: Global, name: &[u8], value: &[u8]) -> Result<Vec<u8>, AllocError>
     ensures { IfOk result (λ v. v.items ≡ written_line name.now value.now) }
 {
-    let mut text = line_text(alloc, name, value)?;
-    if text.len() <= FIRST_PIECE {
-        text.push(b'\n')?;
-        Ok(text)
-    } else {
-        fold(alloc, &text)
-    }
+    let room = name.len().saturating_add(value.len()).saturating_add(3);
+    let mut line = Vec::with_capacity(alloc, room)?;
+    put_line(alloc, &mut line, name, value)?;
+    Ok(line)
 }
 
 /// Writes the line of a name and a value, folded to 76 bytes (RFC 2849, notes 2 and 4).

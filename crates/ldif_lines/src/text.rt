@@ -9,6 +9,9 @@ use crate::line::split_line;
 use crate::raw_record::RawRecord;
 use std::alloc::{AllocError, Global};
 
+/// How many bytes are read at least before their memory is given back.
+const MANY: usize = 65536;
+
 /// A record, and where the text goes on behind it.
 #[derive(Drop)]
 struct Found {
@@ -40,11 +43,11 @@ fn record_from(
     first: bool,
 ) -> Result<Option<Found>, AllocError>
     requires in_range { at ≤ length text.now }
-    requires counted { before ≤ at }
+    requires counted { before + (length text.now - at) < 2 ^ 64 }
     ensures record { IfOk result (λ found. MatchOption found
         (records_from first (before + 1) (drop at text.now) ≡ [])
         (λ f. records_from first (before + 1) (drop at text.now) ≡ view f.record ∷ records_from false (f.before + 1) (drop f.at text.now))) }
-    ensures place { IfOk result (λ found. IfSome found (λ f. (at < f.at) × (f.at ≤ length text.now) × (f.before ≤ f.at))) }
+    ensures place { IfOk result (λ found. IfSome found (λ f. (at < f.at) × (f.at ≤ length text.now) × (f.before + (length text.now - f.at) < 2 ^ 64))) }
 {
     let mut draft = Draft {
         line: 0,
@@ -81,7 +84,7 @@ pub struct Text {
     /// Whether no record was read yet.
     first: bool,
     ghost in_range: { at ≤ length bytes.items },
-    ghost counted: { before ≤ at },
+    ghost counted: { before + (length bytes.items - at) < 2 ^ 64 },
 }
 
 impl Text {
@@ -101,6 +104,25 @@ impl Text {
         }
     }
 
+    /// Whether more was read than is left, and much.
+    fn is_mostly_read(&self) -> bool {
+        self.at >= MANY && self.at > self.bytes.len() - self.at
+    }
+
+    /// Gives back the memory of what was read, where that is most of it. Each byte is so moved once at most, on average.
+    fn give_back(&mut self, alloc: Global)
+        ensures records { text_records self.new ≡ text_records self.old }
+        ensures left { length self.new.bytes.items - self.new.at ≡ length self.old.bytes.items - self.old.at }
+    {
+        if !self.is_mostly_read() {
+            return;
+        }
+        if let Ok(rest) = Vec::from_slice(alloc, &self.bytes[self.at..]) {
+            self.bytes = rest;
+            self.at = 0;
+        }
+    }
+
     /// The next record, or `None` where no record is left.
     pub fn next_record(&mut self, alloc: Global) -> Result<Option<RawRecord>, AllocError>
         ensures record { IfOk result (λ found. MatchOption found
@@ -108,6 +130,7 @@ impl Text {
             (λ r. text_records self.old ≡ view r ∷ text_records self.new)) }
         ensures falls { IfOk result (λ found. IfSome found (λ _. length self.new.bytes.items - self.new.at < length self.old.bytes.items - self.old.at)) }
     {
+        self.give_back(alloc);
         match record_from(alloc, &self.bytes, self.at, self.before, self.first)? {
             None => Ok(None),
             Some(found) => {

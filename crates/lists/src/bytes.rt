@@ -1,20 +1,33 @@
 //! Byte strings.
 
-ghost use Rattle.std.specs.Prelude.{◌≡◌, ◌↔◌, [], IfOk, IsTrue, length};
+ghost use Rattle.std.specs.Prelude.{◌≡◌, ◌↔◌, ◌++◌, [], IfOk, OnOk, OnErr, IsTrue, length, map};
+ghost use Rattle.std.specs.Char.{to_ascii_lowercase};
 ghost use Rattle.std.specs.Prelude.{Some, nat_eq};
 ghost use Rattle.std.specs.Cmp as laws_of;
 ghost use Rattle.std.specs.Cmp.Lexicographic.{pointwise, slice_cmp, nat_list_eq_equiv, nat_list_cmp_total, texts_po, texts_ties};
 ghost use Rattle.std.specs.Ordering.{nat_cmp};
 ghost use Rattle.std.proofs.Common.{rules};
 
+use smallvec::SmallVec;
 use std::alloc::{AllocError, Global};
 use std::cmp::Ordering;
 use std::marker::Model;
 
-/// Bytes in order. A contract sees them as the list of their values, 0 to 255.
-#[derive(Debug, Drop)]
+/// As many bytes as need no allocation.
+const FEW: usize = 16;
+
+/// Bytes in order; a few of them take no allocation. A contract sees them as the list of their values, 0 to 255.
+#[derive(Debug)]
 pub struct Bytes {
-    bytes: Vec<u8>,
+    bytes: SmallVec<u8, FEW>,
+}
+
+// A call of its own, so that a caller's proof need not tell the two places of the bytes apart.
+impl Drop for Bytes {
+    fn drop(self) {
+        let Bytes { bytes } = self;
+        drop(bytes);
+    }
 }
 
 impl Model for Bytes {
@@ -26,11 +39,13 @@ impl Model for Bytes {
 }
 
 impl Bytes {
-    /// The bytes of a vector, which is kept as it is.
+    /// The bytes of a vector. Its allocation is kept, unless it has room for a few bytes only.
     pub fn from_vec(bytes: Vec<u8>) -> Self
         ensures { result ≡ bytes.items }
     {
-        Bytes { bytes }
+        Bytes {
+            bytes: SmallVec::from_vec(bytes),
+        }
     }
 
     /// A copy of these bytes.
@@ -38,7 +53,7 @@ impl Bytes {
         ensures { IfOk result (λ b. b ≡ bytes.now) }
     {
         Ok(Bytes {
-            bytes: Vec::from_slice(alloc, bytes)?,
+            bytes: SmallVec::from_slice(alloc, bytes)?,
         })
     }
 
@@ -67,12 +82,19 @@ impl Bytes {
         self.bytes.is_empty()
     }
 
-    /// The vector itself.
-    pub fn into_vec(self) -> Vec<u8>
-        ensures { result.items ≡ self }
+    /// Puts these bytes at the end, or changes nothing where memory runs out.
+    pub fn extend_from_slice(&mut self, bytes: &[u8]) -> Result<(), AllocError>
+        ensures ok { OnOk result (self.new ≡ self.old ++ bytes.now) }
+        ensures err { OnErr result (self.new ≡ self.old) }
     {
-        let Bytes { bytes } = self;
-        bytes
+        self.bytes.extend_from_slice(bytes)
+    }
+
+    /// Makes each ASCII capital small.
+    pub fn make_ascii_lowercase(&mut self)
+        ensures { self.new ≡ map to_ascii_lowercase self.old }
+    {
+        self.bytes.as_mut_slice().make_ascii_lowercase();
     }
 }
 
@@ -126,9 +148,21 @@ mod tests {
         assert_eq!(rt; again.as_slice(), b"ab\0\xff".as_slice());
         assert_eq!(rt; again.len(), 4);
         assert!(rt; !again.is_empty());
-        let vector = again.into_vec();
-        assert_eq!(rt; vector.as_slice(), b"ab\0\xff".as_slice());
+        let kept = Bytes::from_vec(Vec::from_slice(rt.alloc(), b"ab\0\xff")?);
+        assert_eq!(rt; kept.as_slice(), b"ab\0\xff".as_slice());
         assert!(rt; Bytes::from_vec(Vec::new(rt.alloc())).is_empty());
+        Ok(())
+    }
+
+    #[test]
+    fn few_and_many_bytes_are_alike(rt: HostRuntime) -> Result<(), Fail> {
+        let mut bytes = Bytes::from_slice(rt.alloc(), b"Zaukdreva")?;
+        bytes.extend_from_slice(b" AND 17 more [@`{")?;
+        assert_eq!(rt; bytes.as_slice(), b"Zaukdreva AND 17 more [@`{".as_slice());
+        bytes.make_ascii_lowercase();
+        assert_eq!(rt; bytes.as_slice(), b"zaukdreva and 17 more [@`{".as_slice());
+        let again = Bytes::from_vec(Vec::from_slice(rt.alloc(), bytes.as_slice())?);
+        assert!(rt; again == bytes);
         Ok(())
     }
 }

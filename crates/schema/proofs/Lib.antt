@@ -1,4 +1,6 @@
 pub mod Spaces
+pub mod Tidy
+pub mod Joined
 pub mod Texts
 pub mod Beginnings
 pub mod Loop

@@ -6,6 +6,7 @@ pub mod Rdns
 pub mod Names
 pub mod Rules
 pub mod Gaps
+pub mod Joined
 pub mod Gives
 pub mod Each
 pub mod ConfFaults

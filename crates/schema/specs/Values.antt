@@ -1,5 +1,6 @@
 -- Values of attribute types: which are valid (RFC 4517, 3.3) and when two are equal (RFC 4517, 4.2).
-use Rattle.std.specs.Prelude.{ℕ, Bool, false, ◌&&◌, not, ◌==◌, nat_lt, if◌then◌else◌, List, [], ◌∷◌, map, length}
+use Rattle.std.specs.Prelude.{ℕ, Bool, false, ◌&&◌, not, ◌==◌, nat_lt, if◌then◌else◌, List, [], ◌∷◌, map, length, refl}
+use Rattle.std.specs.Coded.{Coded, code_by, coded×, coded_ℕ, coded_list}
 use Rattle.std.specs.List.{list_all}
 use Rattle.std.specs.Char.{to_ascii_lowercase}
 use Rattle.std.specs.Str.{is_utf8, bytes_eq}
@@ -57,6 +58,15 @@ lower bs = map to_ascii_lowercase bs
 unfoldable pub norm : Family → List ℕ → List ℕ
 norm families.Ignore bs = lower (tidy bs)
 norm families.Oid bs = lower bs
+
+-- ---- a value as written, and its normal form
+
+pub record Value : Type 0 where
+  pub raw : List ℕ
+  pub norm : List ℕ
+
+abbrev pub value_code : Coded Value
+value_code = code_by (List ℕ × List ℕ) (coded× (coded_list coded_ℕ) (coded_list coded_ℕ)) (λ v. (v.raw, v.norm)) (λ p. record { raw = p.0; norm = p.1 }) (λ _. refl)
 
 -- ---- under a type of a configuration
 

@@ -10,7 +10,7 @@ use crate::normal::normal_form;
 use crate::path::{Rdn, RdnKey};
 use crate::types::{AttributeType, TypeId, type_at, type_of};
 use crate::value::{Value, ValueFault, is_valid};
-use lists::{Bytes, Sequence};
+use lists::Sequence;
 use std::alloc::Global;
 use std::marker::Model;
 
@@ -125,10 +125,6 @@ impl Conf {
         if !is_valid(kind.syntax, raw) {
             return Err(ValueFault::Invalid);
         }
-        let norm = normal_form(alloc, kind.family, raw)?;
-        Ok(Value {
-            raw: Bytes::from_slice(alloc, raw)?,
-            norm: Bytes::from_vec(norm),
-        })
+        Ok(Value::new(normal_form(alloc, kind.family, raw)?, raw)?)
     }
 }

@@ -60,7 +60,7 @@ fn typed_rdn(
     }
     let norm = normal_form(alloc, kind.family, value)?;
     let rdn = Rdn::new(one_pair(alloc, t, part.1.copy(alloc)?)?);
-    Ok((rdn, RdnKey::new(one_pair(alloc, t, Bytes::from_vec(norm))?)))
+    Ok((rdn, RdnKey::new(one_pair(alloc, t, norm)?)))
 }
 
 /// The RDNs of a name, its own first, and what they come to.

@@ -1,10 +1,11 @@
 //! Normal forms of values, by family of matching rules (RFC 4517, 4.2).
 
-ghost use Rattle.std.specs.Prelude.{◌≡◌, IfOk, OnOk};
+ghost use Rattle.std.specs.Prelude.{◌≡◌, true, IfOk, OnOk};
 ghost use Rattle.schema.specs.Values.{norm, tidy, lower};
-ghost use Rattle.schema.specs.Gaps.{with_gap};
+ghost use Rattle.schema.specs.Gaps.{with_gap, is_tidy_after};
 
 use crate::types::Family;
+use lists::Bytes;
 use std::alloc::{AllocError, Global};
 
 fn put_gap(out: &mut Vec<u8>, gap: bool) -> Result<(), AllocError>
@@ -33,27 +34,46 @@ fn tidy_text(alloc: Global, bytes: &[u8]) -> Result<Vec<u8>, AllocError>
     Ok(out)
 }
 
-fn lower_text(alloc: Global, bytes: &[u8]) -> Result<Vec<u8>, AllocError>
-    ensures { IfOk result (λ v. v.items ≡ lower bytes.now) }
+// whether there is no space at the ends, and one in each gap
+fn is_tidy(bytes: &[u8]) -> bool
+    ensures { result ≡ is_tidy_after true bytes.now }
 {
-    bytes.iter().map(|b| b.to_ascii_lowercase()).collect(alloc)
+    let mut after_space = true;
+    for b in bytes {
+        if *b == b' ' && after_space {
+            return false;
+        }
+        after_space = *b == b' ';
+    }
+    !after_space
+}
+
+fn lower(alloc: Global, bytes: &[u8]) -> Result<Bytes, AllocError>
+    ensures { IfOk result (λ v. v ≡ lower bytes.now) }
+{
+    let mut text = Bytes::from_slice(alloc, bytes)?;
+    text.make_ascii_lowercase();
+    Ok(text)
+}
+
+#[tactic(auto, using(crate::proofs::Tidy::is_tidy))]
+fn tidy_and_lower(alloc: Global, bytes: &[u8]) -> Result<Bytes, AllocError>
+    ensures { IfOk result (λ v. v ≡ lower (tidy bytes.now)) }
+{
+    if is_tidy(bytes) {
+        lower(alloc, bytes)
+    } else {
+        lower(alloc, &tidy_text(alloc, bytes)?)
+    }
 }
 
 /// The normal form of a value: two values of a type are equal where their normal forms are.
 #[tactic(auto, unfolding(crate::specs::Values::norm))]
-pub(crate) fn normal_form(
-    alloc: Global,
-    family: Family,
-    bytes: &[u8],
-) -> Result<Vec<u8>, AllocError>
-    ensures { IfOk result (λ v. v.items ≡ norm family bytes.now) }
+pub(crate) fn normal_form(alloc: Global, family: Family, bytes: &[u8]) -> Result<Bytes, AllocError>
+    ensures { IfOk result (λ v. v ≡ norm family bytes.now) }
 {
     match family {
-        Family::Ignore => {
-            let mut text = tidy_text(alloc, bytes)?;
-            text.make_ascii_lowercase();
-            Ok(text)
-        }
-        Family::Oid => lower_text(alloc, bytes),
+        Family::Ignore => tidy_and_lower(alloc, bytes),
+        Family::Oid => lower(alloc, bytes),
     }
 }

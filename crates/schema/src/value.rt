@@ -1,20 +1,81 @@
 //! Values of attribute types.
 
-ghost use Rattle.std.specs.Prelude.{◌≡◌, ◌↔◌, false, IfOk, Err};
+ghost use Rattle.std.specs.Prelude.{◌≡◌, ◌↔◌, ◌≢◌, [], false, IfOk, Err};
 ghost use Rattle.std.specs.List.{list_all};
 ghost use Rattle.std.specs.Str.{is_utf8};
 ghost use Rattle.schema.specs.Values.{is_valid, is_oid_byte};
 
 use crate::types::Syntax;
 use lists::Bytes;
-use std::alloc::{AllocError, AllocFailed};
+use std::alloc::{AllocError, AllocFailed, Global};
+use std::default::MadeWith;
+use std::marker::Model;
 use thiserror::Error;
 
-/// A value as written, and its normal form under the equality rule of its type.
+/// A value as written, and its normal form under the equality rule of its type. A contract sees the two.
 #[derive(Debug, Drop)]
 pub struct Value {
-    pub raw: Bytes,
-    pub norm: Bytes,
+    // the normal form, and behind it the value as written, unless that is the same
+    bytes: Bytes,
+    norm_len: usize,
+}
+
+impl Model for Value {
+    ghost use Rattle.std.specs.Prelude.{◌≤◌, length, take};
+    ghost use Rattle.schema.specs.Values as values;
+    ghost use Rattle.schema.specs.Joined.{raw_in};
+
+    ghost Value = { values.Value };
+
+    ghost coded = { values.value_code };
+
+    ghost view = { λ v. record { raw = raw_in v.norm_len v.bytes; norm = take v.norm_len v.bytes } };
+
+    ghost invariant = { λ v. v.norm_len ≤ length v.bytes };
+}
+
+impl MadeWith<Global> for Value {
+    fn made_with(alloc: Global) -> Value {
+        Value {
+            bytes: Bytes::from_vec(Vec::new(alloc)),
+            norm_len: 0,
+        }
+    }
+}
+
+impl Value {
+    // The value that is written so and has this normal form.
+    pub(crate) fn new(norm: Bytes, raw: &[u8]) -> Result<Value, AllocError>
+        requires { raw.now ≢ [] }
+        ensures { IfOk result (λ v. v ≡ record { raw = raw.now; norm = norm }) }
+    {
+        let norm_len = norm.len();
+        let mut bytes = norm;
+        if bytes.as_slice() == raw {
+            return Ok(Value { bytes, norm_len });
+        }
+        bytes.extend_from_slice(raw)?;
+        Ok(Value { bytes, norm_len })
+    }
+
+    /// The value as written.
+    pub fn raw(&self) -> &[u8]
+        ensures { result.now ≡ self.now.raw }
+    {
+        let bytes = self.bytes.as_slice();
+        if bytes.len() == self.norm_len {
+            bytes
+        } else {
+            &bytes[self.norm_len..]
+        }
+    }
+
+    /// Its normal form.
+    pub fn norm(&self) -> &[u8]
+        ensures { result.now ≡ self.now.norm }
+    {
+        &self.bytes.as_slice()[..self.norm_len]
+    }
 }
 
 /// Why bytes are no value of a type.

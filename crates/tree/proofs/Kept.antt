@@ -27,7 +27,7 @@ guard_ok : {A : Type 0} (b : Bool) (d : Code) (x : Result A Code) (y : A) → co
 guard_ok true d x y e = absurd cc
 guard_ok false d x y e = (refl, e)
 
-equal : (o : Ordering) → is_eq o ≡ true → o ≡ Equal
+pub equal : (o : Ordering) → is_eq o ≡ true → o ≡ Equal
 equal Less h = cc
 equal Equal h = refl
 equal Greater h = cc

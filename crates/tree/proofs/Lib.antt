@@ -14,4 +14,5 @@ pub mod LineLemmas
 pub mod Children
 pub mod PlanLemmas
 pub mod NameLemmas
+pub mod Above
 pub mod Writable

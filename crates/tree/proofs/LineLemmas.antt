@@ -4,9 +4,8 @@ use Rattle.ldif.specs.declared.record.Attr.{Attr}
 use Rattle.schema.specs.declared.code.Code.{Code}
 use Rattle.schema.specs.declared.code.Code.TheVariants.{AttributeOrValueExists}
 use Rattle.schema.specs.declared.types.AttributeType.{AttributeType}
-use Rattle.schema.specs.declared.value.Value.{Value}
+use Rattle.schema.specs.Values.{Value, norm_at}
 use Rattle.schema.specs.Each.{◌>>=◌}
-use Rattle.schema.specs.Values.{norm_at}
 use Rattle.schema.specs.Rdns.{Part}
 use Rattle.tree.specs.Entries.{values_of, has_equal, push_value, line_value, put_value, add_line, with_part}
 use Rattle.tree.specs.Stored.{StoredAttribute, attributes_of, has_norm, IsMade}

@@ -10,7 +10,7 @@ use Rattle.std.specs.Str.{bytes_eq}
 use Rattle.std.proofs.lemmas.Cmp.{nat_eq_equiv}
 use Rattle.std.proofs.lemmas.List.Folds.{list_any-append}
 use Rattle.std.proofs.lemmas.Map.Text.{is_eq-slice_cmp}
-use Rattle.schema.specs.declared.value.Value.{Value}
+use Rattle.schema.specs.Values.{Value}
 use Rattle.schema.specs.Paths.{Pair, pair_cmp}
 use Rattle.tree.specs.Entries.{values_of, push_value}
 use Rattle.tree.specs.Stored.{StoredAttribute, has_norm, AreNormsOf}

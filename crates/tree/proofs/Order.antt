@@ -16,5 +16,8 @@ step_total = lists_total pair_total
 pub path_total : IsTotalOrder path_cmp
 path_total = lists_total step_total
 
+pub step_exact : finite.IsAntisymmetric step_cmp
+step_exact = finite.slice_cmp-IsAntisymmetric (exact_pairs nat_cmp (slice_cmp nat_cmp) exact_unsigned exact_bytes)
+
 pub path_exact : finite.IsAntisymmetric path_cmp
-path_exact = finite.slice_cmp-IsAntisymmetric (finite.slice_cmp-IsAntisymmetric (exact_pairs nat_cmp (slice_cmp nat_cmp) exact_unsigned exact_bytes))
+path_exact = finite.slice_cmp-IsAntisymmetric step_exact

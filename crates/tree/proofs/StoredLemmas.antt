@@ -9,8 +9,7 @@ use Rattle.std.proofs.lemmas.Bool.{eqb-true}
 use Rattle.std.proofs.lemmas.List.{map-append}
 use Rattle.indexmap.specs.IndexMap.{insert_entry}
 use Rattle.schema.specs.declared.types.AttributeType.{AttributeType}
-use Rattle.schema.specs.declared.value.Value.{Value}
-use Rattle.schema.specs.Values.{norm_at}
+use Rattle.schema.specs.Values.{Value, norm_at}
 use Rattle.tree.specs.Entries.{Attributes, values_of, has_equal, push_value}
 use Rattle.tree.specs.Stored.{StoredAttribute, raws, attributes_of, has_norm, AreNormal, IsMadeAttribute, IsMade}
 use Rattle.tree.proofs.Pushed.{all_push}

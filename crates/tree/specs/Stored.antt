@@ -5,11 +5,9 @@ use Rattle.std.specs.BTreeSet.{BTreeSet, contains}
 use Rattle.std.specs.List.{AllByRecursion, list_any}
 use Rattle.std.specs.Str.{bytes_eq}
 use Rattle.schema.specs.declared.types.AttributeType.{AttributeType}
-use Rattle.schema.specs.declared.value.Value.{Value}
-use Rattle.schema.specs.contracts.value.Value as value
+use Rattle.schema.specs.Values.{Value, norm_at, value_code}
 use Rattle.schema.specs.Paths.{Pair, pair_cmp}
 use Rattle.schema.specs.Rdns.{Parts}
-use Rattle.schema.specs.Values.{norm_at}
 use Rattle.tree.specs.Entries.{Attributes, Facts, values_of}
 
 -- a type's number, and its values
@@ -54,7 +52,7 @@ abbrev parts_code : Coded Parts
 parts_code = coded_list (coded× coded_ℕ (coded_list coded_ℕ))
 
 abbrev pub stored_code : Coded Stored
-stored_code = code_by (Parts × List StoredAttribute) (coded× parts_code (coded_list (coded× coded_ℕ (coded_list value.the_row.coded)))) (λ e. (e.rdn, e.attrs)) (λ p. record { rdn = p.0; attrs = p.1 }) (λ _. refl)
+stored_code = code_by (Parts × List StoredAttribute) (coded× parts_code (coded_list (coded× coded_ℕ (coded_list value_code)))) (λ e. (e.rdn, e.attrs)) (λ p. record { rdn = p.0; attrs = p.1 }) (λ _. refl)
 
 abbrev pub facts_code : Coded Facts
 facts_code = code_by (Parts × Attributes) (coded× parts_code (coded_list (coded× coded_ℕ (coded_list (coded_list coded_ℕ))))) (λ f. (f.rdn, f.attrs)) (λ p. record { rdn = p.0; attrs = p.1 }) (λ _. refl)

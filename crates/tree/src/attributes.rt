@@ -10,9 +10,10 @@ ghost use Rattle.tree.specs.Gives.{Gives};
 
 use crate::entry::Attributes;
 use crate::refusal::Refusal;
+use crate::values::Values;
 use indexmap::IndexMap;
 use ldif::Attr;
-use lists::{Bytes, Sequence};
+use lists::Bytes;
 use schema::{Code, Conf, Rdn, TypeId, Value, ValueFault};
 use std::alloc::{AllocError, Global};
 use std::collections::BTreeSet;
@@ -20,11 +21,14 @@ use std::collections::BTreeSet;
 /// As many lines as each is compared with all that came before it; in more, values are looked up in a set.
 const FEW_LINES: usize = 64;
 
+/// As many attributes as room is made for ahead, at most.
+const FEW_ATTRIBUTES: usize = 18;
+
 // whether one of the values has this normal form
 fn has_norm(values: &[Value], norm: &[u8]) -> bool
     ensures { result ≡ has_norm norm.now values.now }
 {
-    values.iter().any(|value| value.norm.as_slice() == norm)
+    values.iter().any(|value| value.norm() == norm)
 }
 
 // whether a type has a value with this normal form
@@ -51,9 +55,7 @@ fn push_value(
             values.push(value)?;
         }
         None => {
-            let mut values = Vec::with_capacity(alloc, 1)?;
-            values.push(value)?;
-            attrs.insert(t, Sequence::from_vec(values))?;
+            attrs.insert(t, Values::one(alloc, value)?)?;
         }
     }
     Ok(())
@@ -78,7 +80,7 @@ fn add_line(alloc: Global, conf: &Conf, attrs: &mut Attributes, line: &Attr) -> 
     ensures gives { Gives (λ _. attributes_of attrs.new.entries) result (add_line conf.now.types (attributes_of attrs.old.entries) line.now) }
 {
     let (t, value) = line_value(alloc, conf, line)?;
-    if has_value(attrs, t, value.norm.as_slice()) {
+    if has_value(attrs, t, value.norm()) {
         return Err(Refusal::Code(Code::AttributeOrValueExists));
     }
     push_value(alloc, attrs, t, value)?;
@@ -100,11 +102,24 @@ fn add_line_by_norm(
     ensures gives { Gives (λ _. attributes_of attrs.new.entries) result (add_line conf.now.types (attributes_of attrs.old.entries) line.now) }
 {
     let (t, value) = line_value(alloc, conf, line)?;
-    if !norms.insert((t, value.norm.copy(alloc)?))? {
+    if !norms.insert((t, Bytes::from_slice(alloc, value.norm())?))? {
         return Err(Refusal::Code(Code::AttributeOrValueExists));
     }
     push_value(alloc, attrs, t, value)?;
     Ok(())
+}
+
+// how many runs of lines with one name there are, which is how many attributes where each stands together
+fn runs_in(lines: &[Attr]) -> usize {
+    let mut count = 0usize;
+    let mut last: &[u8] = b"";
+    for line in lines {
+        if line.name.as_slice() != last {
+            count = count.saturating_add(1);
+        }
+        last = line.name.as_slice();
+    }
+    count
 }
 
 #[tactic(auto, unfolding(crate::specs::Entries::add_lines))]
@@ -112,7 +127,7 @@ fn attributes_of_few(alloc: Global, conf: &Conf, lines: &[Attr]) -> Result<Attri
     ensures made { IfOk result (λ attrs. IsMade conf.now.types attrs.entries) }
     ensures gives { Gives (λ attrs. attributes_of attrs.entries) result (add_lines conf.now.types [] lines.now) }
 {
-    let mut attrs = IndexMap::new(alloc);
+    let mut attrs = IndexMap::with_capacity(alloc, runs_in(lines).min(FEW_ATTRIBUTES))?;
     for line in lines {
         add_line(alloc, conf, &mut attrs, line)?;
     }
@@ -174,7 +189,7 @@ fn add_part(
 {
     let (t, raw) = part;
     let value = valid_value(alloc, conf, *t, raw.as_slice())?;
-    if !has_value(attrs, *t, value.norm.as_slice()) {
+    if !has_value(attrs, *t, value.norm()) {
         push_value(alloc, attrs, *t, value)?;
     }
     Ok(())

@@ -2,21 +2,21 @@
 
 ghost use Rattle.std.specs.Prelude.{◌≡◌};
 
+use crate::values::Values;
 use indexmap::IndexMap;
 use indexmap::map::Iter;
-use lists::Sequence;
-use schema::{Rdn, TypeId, Value};
+use schema::{Rdn, TypeId};
 use std::marker::Model;
 
 /// Attributes in order, each a type with its values in order.
-pub(crate) type Attributes = IndexMap<TypeId, Sequence<Value>>;
+pub(crate) type Attributes = IndexMap<TypeId, Values>;
 
 /// An entry (RFC 4512, 2.2): its RDN as written, and its attributes in order, each with its values in order. A contract sees
 /// the RDN's parts, and the list of the types with their values.
 #[derive(Drop)]
 pub struct Entry {
     rdn: Rdn,
-    attrs: IndexMap<TypeId, Sequence<Value>>,
+    attrs: IndexMap<TypeId, Values>,
 }
 
 impl Model for Entry {
@@ -44,7 +44,7 @@ impl Entry {
     }
 
     /// Each type with its values, in order.
-    pub fn attrs(&self) -> Iter<'_, TypeId, Sequence<Value>>
+    pub fn attrs(&self) -> Iter<'_, TypeId, Values>
         ensures { result ≡ self.now.attrs }
     {
         self.attrs.iter()

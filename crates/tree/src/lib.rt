@@ -4,6 +4,7 @@
 mod attributes;
 mod entry;
 mod laws;
+mod names;
 mod naming;
 mod planning;
 mod plans;
@@ -12,13 +13,16 @@ mod refusal;
 #[cfg(test)]
 mod tests;
 mod tree;
+mod values;
 
 pub use entry::Entry;
 pub use laws::{
     adding_keeps_a_directory, an_entry_adds_itself, empty_is_a_directory, own_content_is_written,
 };
+pub use names::Names;
 pub use planning::plan;
 pub use plans::Plan;
 pub use range::Below;
 pub use refusal::Refusal;
 pub use tree::Tree;
+pub use values::Values;

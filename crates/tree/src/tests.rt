@@ -108,7 +108,7 @@ fn push_attrs(text: &mut Vec<u8>, entry: &Entry) -> Result<(), AllocError> {
             text.push(b'|')?;
             text.extend_from_slice(type_text(t.number()).as_bytes())?;
             text.push(b':')?;
-            text.extend_from_slice(value.raw.as_slice())?;
+            text.extend_from_slice(value.raw())?;
         }
     }
     Ok(())
@@ -216,7 +216,7 @@ fn name_again(alloc: Global, tree: &Tree, conf: &Conf, dn: &[u8]) -> Result<Vec<
 {
     let place = conf.locate(alloc, dn)?;
     match tree.get(&place.path) {
-        Some(_) => Ok(tree.name_of(alloc, conf, &place.path)?.into_vec()),
+        Some(_) => Ok(Vec::from_slice(alloc, tree.name_of(alloc, conf, &place.path)?.as_slice())?),
         None => Ok(Vec::new(alloc)),
     }
 }

@@ -11,10 +11,10 @@ fn normal_of(alloc: Global, conf: &Conf, name: &[u8], raw: &[u8]) -> Result<Opti
     let t = conf.type_of(name).ok_or("no such type")?;
     match conf.make_value(alloc, t, raw) {
         Ok(value) => {
-            if value.raw.as_slice() != raw {
+            if value.raw() != raw {
                 return Err("not as written")?;
             }
-            Ok(Some(value.norm.into_vec()))
+            Ok(Some(Vec::from_slice(alloc, value.norm())?))
         }
         Err(ValueFault::Invalid) => Ok(None),
         Err(ValueFault::OutOfMemory) => Err(AllocError)?,

@@ -32,7 +32,7 @@ lines-preserved-in-Continue-1 c =
     let within = rw (take_rest text end) at k.within in
     record {
       same = rw c.in_ok-add.ensures (sym (pending-line c.args.first (draft_of c.lines.draft) (c.lines.count + 1) (drop end text) line (drop (end + len) text) (cut_at text line end len k.line) some) ∙ h.same);
-      counted = omega (arith, h.counted, k.some);
+      counted = omega (arith, h.counted, k.some, within);
       within = omega (arith, h.within, within);
       since = omega (arith, h.since);
       begun = λ _. omega (arith, h.since, k.some);
@@ -53,7 +53,7 @@ lines-preserved c =
     let within = rw (take_rest text end) at k.within in
     record {
       same = sym (pending-gap c.args.first d.in_comment d.line (texts d.lines.items) (c.lines.count + 1) (drop end text) line (drop (end + len) text) (cut_at text line end len k.line) empty none) ∙ h.same;
-      counted = omega (arith, h.counted, k.some);
+      counted = omega (arith, h.counted, k.some, within);
       within = omega (arith, h.within, within);
       since = omega (arith, h.since);
       begun = λ _. omega (arith, h.since, k.some);

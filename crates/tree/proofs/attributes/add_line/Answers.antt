@@ -9,7 +9,7 @@ use Rattle.tree.proofs.attributes.add_line.Goals as goal
 pub returns-then-has_value-clause-gives : goal.returns-then-has_value-clause-gives
 returns-then-has_value-clause-gives c =
     line_is c.args.conf.now.types c.args.attrs.now.entries c.requires c.in_ok-t.t c.in_ok-t.value c.in_ok-t.ensures.normal c.has_value.result
-    (c.has_value.ensures ∙ ap (λ (n : List ℕ). has_norm n (values_of c.args.attrs.now.entries c.in_ok-t.t)) c.as_slice.ensures) c.args.line.now c.in_ok-t.ensures.gives
+    (c.has_value.ensures ∙ ap (λ (n : List ℕ). has_norm n (values_of c.args.attrs.now.entries c.in_ok-t.t)) c.norm.ensures) c.args.line.now c.in_ok-t.ensures.gives
     ∙ ap (λ b. cond b (Err AttributeOrValueExists) (Ok (push_value (attributes_of c.args.attrs.now.entries) c.in_ok-t.t c.in_ok-t.value.raw))) c.if-has_value.true
 
 pub returns-clause-made : goal.returns-clause-made
@@ -19,6 +19,6 @@ returns-clause-made c =
 pub returns-clause-gives : goal.returns-clause-gives
 returns-clause-gives c =
     line_is c.args.conf.now.types c.args.attrs.now.entries c.requires c.in_ok-t.t c.in_ok-t.value c.in_ok-t.ensures.normal c.has_value.result
-    (c.has_value.ensures ∙ ap (λ (n : List ℕ). has_norm n (values_of c.args.attrs.now.entries c.in_ok-t.t)) c.as_slice.ensures) c.args.line.now c.in_ok-t.ensures.gives
+    (c.has_value.ensures ∙ ap (λ (n : List ℕ). has_norm n (values_of c.args.attrs.now.entries c.in_ok-t.t)) c.norm.ensures) c.args.line.now c.in_ok-t.ensures.gives
     ∙ ap (λ b. cond b (Err AttributeOrValueExists) (Ok (push_value (attributes_of c.args.attrs.now.entries) c.in_ok-t.t c.in_ok-t.value.raw))) c.if-has_value.false
     ∙ ap (λ (x : Attributes). Ok x) (sym (raws_pushed c.args.attrs.now.entries c.in_ok-t.t c.in_ok-t.value) ∙ ap attributes_of (sym c.in_ok-push_value.ensures))

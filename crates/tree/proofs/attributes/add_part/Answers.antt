@@ -14,13 +14,13 @@ pub returns-in_ok-push_value-clause-values : goal.returns-in_ok-push_value-claus
 returns-in_ok-push_value-clause-values c =
     ap attributes_of c.in_ok-push_value.ensures ∙ raws_pushed c.args.attrs.now.entries c.args.part.now.0 c.in_ok-value.value
     ∙ sym (part_is c.args.conf.now.types c.args.attrs.now.entries c.requires.made c.args.part.now.0 c.in_ok-value.value (part_normal c.args.conf.now.types c.args.part.now.0 c.as_slice.result.now c.in_ok-value.value c.in_ok-value.ensures) c.has_value.result
-    (c.has_value.ensures ∙ ap (λ (n : List ℕ). has_norm n (values_of c.args.attrs.now.entries c.args.part.now.0)) c.as_slice-2.ensures)
+    (c.has_value.ensures ∙ ap (λ (n : List ℕ). has_norm n (values_of c.args.attrs.now.entries c.args.part.now.0)) c.norm.ensures)
     c.args.part.now (part_value c.args.conf.now.types c.args.part.now c.as_slice.result.now c.in_ok-value.value c.as_slice.ensures c.in_ok-value.ensures)
     ∙ ap (λ b. cond b (attributes_of c.args.attrs.now.entries) (push_value (attributes_of c.args.attrs.now.entries) c.args.part.now.0 c.in_ok-value.value.raw)) c.if-not-has_value.true)
 
 pub returns-else-not-has_value-clause-values : goal.returns-else-not-has_value-clause-values
 returns-else-not-has_value-clause-values c =
     sym (part_is c.args.conf.now.types c.args.attrs.now.entries c.requires.made c.args.part.now.0 c.in_ok-value.value (part_normal c.args.conf.now.types c.args.part.now.0 c.as_slice.result.now c.in_ok-value.value c.in_ok-value.ensures) c.has_value.result
-    (c.has_value.ensures ∙ ap (λ (n : List ℕ). has_norm n (values_of c.args.attrs.now.entries c.args.part.now.0)) c.as_slice-2.ensures)
+    (c.has_value.ensures ∙ ap (λ (n : List ℕ). has_norm n (values_of c.args.attrs.now.entries c.args.part.now.0)) c.norm.ensures)
     c.args.part.now (part_value c.args.conf.now.types c.args.part.now c.as_slice.result.now c.in_ok-value.value c.as_slice.ensures c.in_ok-value.ensures)
     ∙ ap (λ b. cond b (attributes_of c.args.attrs.now.entries) (push_value (attributes_of c.args.attrs.now.entries) c.args.part.now.0 c.in_ok-value.value.raw)) c.if-not-has_value.false)

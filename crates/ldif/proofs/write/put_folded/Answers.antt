@@ -2,7 +2,7 @@ use Rattle.std.proofs.Common.{ℕ, List, ◌++◌, sym, ap, ◌∙◌, arith}
 use Rattle.std.proofs.lemmas.Bool.{eqb-true, eqb-false}
 use Rattle.ldif_lines.specs.Folding.{folded}
 use Rattle.ldif.proofs.Folds.{one_piece, last_piece}
-use Rattle.ldif.proofs.write.fold.Goals as goal
+use Rattle.ldif.proofs.write.put_folded.Goals as goal
 
 pub pieces-preserved : goal.pieces-preserved
 pieces-preserved c =
