@@ -1,6 +1,5 @@
 -- The text of a dump, entry by entry.
 use Rattle.std.proofs.Common.{◌≡◌, List, [], ◌∷◌, filter, Some, refl, sym, ◌∙◌, ap, subst}
-use Rattle.std.specs.Prelude.{is_some}
 use Rattle.std.specs.List.{flat_map, AllByRecursion}
 use Rattle.std.specs.FinMap as finite
 use Rattle.std.specs.Cmp.{IsTotalOrder}
@@ -29,7 +28,7 @@ module _ (rules : Rules) (d : Entries) (items : List (Steps × Stored)) (root : 
 
   each_there : (es : List (Steps × Stored)) → AllByRecursion (λ e. finite.get d e.0 ≡ Some e.1) (seen_entries es) → AllByRecursion (λ e. IsMade rules.types e.1.attrs) es → AllByRecursion (IsThere rules d) es
   each_there [] h k = tt
-  each_there (e ∷ es) h k = (record { there = ap is_some h.0; made = k.0 }, each_there es h.1 k.1)
+  each_there (e ∷ es) h k = (record { there = h.0; made = k.0 }, each_there es h.1 k.1)
 
   pub all_in : IsTotalOrder path_cmp → IsDirectory rules d → AllByRecursion (λ e. IsMade rules.types e.1.attrs) items → AllByRecursion (IsThere rules d) items
   all_in total h made = each_there items (subst (AllByRecursion (λ e. finite.get d e.0 ≡ Some e.1)) (sym are) (all_there total rules d h)) made

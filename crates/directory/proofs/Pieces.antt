@@ -55,3 +55,8 @@ failed e = Err e
 pub line_stops : (e : WriteFault) (a b : Written) (bytes : List ℕ) → (failed e ≡ failed faults.Device → Broke a b bytes) → (failed e ≡ failed faults.OutOfMemory → b ≡ a) → Writes (Err e) a b bytes
 line_stops faults.Device a b bytes device memory = device refl
 line_stops faults.OutOfMemory a b bytes device memory = subst (λ x. Begun a x bytes) (sym (memory refl)) (want_at_once a bytes)
+
+-- what was put at the end, of what is to come there
+pub put_on : (out longer xs rest more total : List ℕ) → longer ≡ out ++ xs → rest ≡ xs ++ more → out ++ rest ≡ total → longer ++ more ≡ total
+put_on out longer xs rest more total is parts so_far =
+    ap (λ (bs : List ℕ). bs ++ more) is ∙ append_assoc out xs more ∙ ap (λ (bs : List ℕ). out ++ bs) (sym parts) ∙ so_far

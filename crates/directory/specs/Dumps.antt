@@ -1,5 +1,5 @@
 -- What is written of a dump, piece by piece.
-use Rattle.std.specs.Prelude.{◌≡◌, ℕ, true, List, [], ◌∷◌, ◌++◌, Result, Ok, Err}
+use Rattle.std.specs.Prelude.{◌≡◌, ℕ, Some, List, [], ◌∷◌, ◌++◌, Result, Ok, Err}
 use Rattle.std.specs.List.{flat_map}
 use Rattle.std.specs.FinMap as finite
 use Rattle.device.specs.Device.{Written, Took, Broke}
@@ -50,5 +50,5 @@ entries_text rules d es = flat_map (entry_text rules d) es
 
 -- entries of a directory, as its tree stores them
 pub record IsThere (rules : Rules) (d : Entries) (e : Steps × Stored) : Type 0 where
-  pub there : finite.contains_key d e.0 ≡ true
+  pub there : finite.get d e.0 ≡ Some (facts_of e.1)
   pub made : IsMade rules.types e.1.attrs

@@ -1,74 +1,112 @@
 //! The dump of a directory.
 
-ghost use Rattle.std.specs.Prelude.{◌≡◌, ◌<◌, ◌-◌, ◌^◌, true};
+ghost use Rattle.std.specs.Prelude.{◌≡◌, ◌<◌, ◌-◌, ◌^◌, ◌++◌, ◌∷◌, [], Some, OnOk};
 ghost use Rattle.std.specs.FinMap as finite;
 ghost use Rattle.std.specs.List.{AllByRecursion};
-ghost use Rattle.tree.specs.Stored.{IsMade, IsMadeAttribute};
+ghost use Rattle.ldif.specs.Writing.{written_line};
+ghost use Rattle.tree.specs.Stored.{facts_of, IsMade, IsMadeAttribute};
 ghost use Rattle.directory.specs.Runs.{dump};
 ghost use Rattle.directory.specs.Dumps.{Writes, values_text, attributes_text, entry_text};
 
 use crate::directory::Directory;
 use device::{Device, Sink, push_all};
-use ldif::{WriteFault, write_line};
+use ldif::{WriteFault, put_line};
 use schema::{Conf, Path, Value};
-use std::alloc::Global;
-use tree::Entry;
+use std::alloc::{AllocError, Global};
+use tree::{Entry, Names};
 
 // the lines of values under one name
-fn write_values<W: Sink>(
+fn put_values(
     alloc: Global,
-    sink: &mut W,
+    out: &mut Vec<u8>,
     name: &[u8],
     values: &[Value],
-) -> Result<(), WriteFault>
-    requires { (W.written sink.old).failed < 2 ^ 64 - 1 }
-    ensures { Writes result (W.written sink.old) (W.written sink.new) (values_text name.now values.now) }
+) -> Result<(), AllocError>
+    ensures { OnOk result (out.new.items ≡ out.old.items ++ values_text name.now values.now) }
 {
     for value in values {
-        write_line(alloc, sink, name, value.raw())?;
+        put_line(alloc, out, name, value.raw())?;
     }
     Ok(())
 }
 
 // the lines of the attributes, and an empty line
-fn write_attributes<W: Sink>(
+fn put_attributes(
     alloc: Global,
-    sink: &mut W,
+    out: &mut Vec<u8>,
     conf: &Conf,
     entry: &Entry,
-) -> Result<(), WriteFault>
-    requires can_fail { (W.written sink.old).failed < 2 ^ 64 - 1 }
-    requires made { IsMade conf.now.types entry.now.attrs }
-    ensures { Writes result (W.written sink.old) (W.written sink.new) (attributes_text conf.now.types entry.now.attrs) }
+) -> Result<(), AllocError>
+    requires { IsMade conf.now.types entry.now.attrs }
+    ensures { OnOk result (out.new.items ≡ out.old.items ++ attributes_text conf.now.types entry.now.attrs) }
 {
     for (t, values) in entry.attrs() {
-        write_values(alloc, sink, conf.name_of(*t), values.as_slice())?;
+        put_values(alloc, out, conf.name_of(*t), values.as_slice())?;
     }
-    match push_all(sink, b"\n") {
-        Ok(()) => Ok(()),
-        Err(Device) => Err(WriteFault::Device),
-    }
+    out.push(b'\n')?;
+    Ok(())
+}
+
+// the content record of an entry with this name, and an empty line
+fn put_entry(
+    alloc: Global,
+    out: &mut Vec<u8>,
+    conf: &Conf,
+    name: &[u8],
+    entry: &Entry,
+) -> Result<(), AllocError>
+    requires { IsMade conf.now.types entry.now.attrs }
+    ensures { OnOk result (out.new.items ≡ out.old.items ++ written_line (100 ∷ 110 ∷ []) name.now ++ attributes_text conf.now.types entry.now.attrs) }
+{
+    put_line(alloc, out, b"dn", name)?;
+    put_attributes(alloc, out, conf, entry)
 }
 
 impl Directory {
-    // the content record of an entry, and an empty line
+    // the content record of the entry at a path, in place of what `out` holds
+    fn text_of(
+        &self,
+        alloc: Global,
+        names: &mut Names<'_>,
+        path: &Path,
+        entry: &Entry,
+        out: &mut Vec<u8>,
+    ) -> Result<(), AllocError>
+        requires names { names.old ≡ self.now }
+        requires there { finite.get self.now.entries path.now ≡ Some (facts_of entry.now) }
+        requires made { IsMade self.now.rules.types entry.now.attrs }
+        ensures names { names.new ≡ self.now }
+        ensures text { OnOk result (out.new.items ≡ entry_text self.now.rules self.now.entries (path.now, entry.now)) }
+    {
+        out.clear();
+        let name = names.name_of(alloc, path, entry)?;
+        put_entry(alloc, out, self.conf(), name.as_slice(), entry)
+    }
+
+    // writes the content record of the entry at a path, and an empty line; `text` is room for it
     fn write_entry<W: Sink>(
         &self,
         alloc: Global,
         sink: &mut W,
+        names: &mut Names<'_>,
         path: &Path,
         entry: &Entry,
+        text: &mut Vec<u8>,
     ) -> Result<(), WriteFault>
         requires can_fail { (W.written sink.old).failed < 2 ^ 64 - 1 }
-        requires there { finite.contains_key self.now.entries path.now ≡ true }
+        requires names { names.old ≡ self.now }
+        requires there { finite.get self.now.entries path.now ≡ Some (facts_of entry.now) }
         requires made { IsMade self.now.rules.types entry.now.attrs }
-        ensures { Writes result (W.written sink.old) (W.written sink.new) (entry_text self.now.rules self.now.entries (path.now, entry.now)) }
+        ensures names { names.new ≡ self.now }
+        ensures writes { Writes result (W.written sink.old) (W.written sink.new) (entry_text self.now.rules self.now.entries (path.now, entry.now)) }
     {
-        let Ok(name) = self.tree().name_of(alloc, self.conf(), path) else {
+        if self.text_of(alloc, names, path, entry, text).is_err() {
             return Err(WriteFault::OutOfMemory);
-        };
-        write_line(alloc, sink, b"dn", name.as_slice())?;
-        write_attributes(alloc, sink, self.conf(), entry)
+        }
+        match push_all(sink, text.as_slice()) {
+            Ok(()) => Ok(()),
+            Err(Device) => Err(WriteFault::Device),
+        }
     }
 
     /// Writes each entry as a content record, in the order of paths (RFC 2849). On a fault a beginning was written.
@@ -79,8 +117,10 @@ impl Directory {
         self.tree().is_directory();
         schema::order_of_paths();
         let root = Path::root(alloc);
+        let mut names = Names::new(self.tree(), self.conf());
+        let mut text = Vec::new(alloc);
         for (path, entry) in self.tree().range(&root) {
-            self.write_entry(alloc, sink, path, entry)?;
+            self.write_entry(alloc, sink, &mut names, path, entry, &mut text)?;
         }
         Ok(())
     }

@@ -9,6 +9,7 @@ use device::{Sink, Source};
 use directory::{Directory, RunFault, Tally, run};
 use ldif::Mode;
 use std::alloc::Global;
+use std::mem;
 
 /// Runs the records of a source that has this name, or answers how the command ends.
 fn add_all<S: Source, E: Sink>(
@@ -71,7 +72,10 @@ fn add_and_store<F: Folder, S: Source, E: Sink>(
     if asked.dry_run {
         return Status::of_tally(tally);
     }
-    match store_directory(alloc, folder, asked.db, &dir) {
+    let stored = store_directory(alloc, folder, asked.db, &dir);
+    // The process is about to end, which frees the entries at once.
+    mem::forget(dir);
+    match stored {
         Ok(()) => Status::of_tally(tally),
         Err(fault) => tell(alloc, err, &fault),
     }

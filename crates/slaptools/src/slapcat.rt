@@ -10,6 +10,7 @@ use device::{Device, Sink};
 use directory::Directory;
 use ldif::WriteFault;
 use std::alloc::Global;
+use std::mem;
 
 fn print<O: Sink>(alloc: Global, dir: &Directory, out: &mut O) -> Result<(), Fault>
     requires { (O.written out.old).failed < 2 ^ 64 - 1 }
@@ -35,10 +36,13 @@ fn write_out<F: Folder, O: Sink>(
     requires { (O.written out.old).failed < 2 ^ 64 - 1 }
 {
     let dir = load_directory(alloc, folder, asked.db)?;
-    match asked.file {
+    let written = match asked.file {
         Some(name) => store(alloc, folder, name, &dir),
         None => print(alloc, &dir, out),
-    }
+    };
+    // The process is about to end, which frees the entries at once.
+    mem::forget(dir);
+    written
 }
 
 /// Writes the directory in a folder to the file, or to `out`.

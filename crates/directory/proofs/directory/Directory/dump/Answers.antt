@@ -18,11 +18,12 @@ loop-path-init g c =
     let items : List (Steps × Stored) = c.range-path-items.result in
     let root : Steps = c.root-root.result in
     let seen : seen_entries items ≡ filter (λ e. begins root e.0) (finite.entries d.entries) =
-    c.range-path-items.ensures.entries ∙ ap (λ (t : Directory). filter (λ e. begins root e.0) (finite.entries t.entries)) c.tree-2.ensures in
-    let made : AllByRecursion (λ e. IsMade d.rules.types e.1.attrs) items = subst (λ (t : Directory). AllByRecursion (λ (e : Steps × Stored). IsMade t.rules.types e.1.attrs) items) c.tree-2.ensures c.range-path-items.ensures.made in
+    c.range-path-items.ensures.entries ∙ ap (λ (t : Directory). filter (λ e. begins root e.0) (finite.entries t.entries)) c.tree-3.ensures in
+    let made : AllByRecursion (λ e. IsMade d.rules.types e.1.attrs) items = subst (λ (t : Directory). AllByRecursion (λ (e : Steps × Stored). IsMade t.rules.types e.1.attrs) items) c.tree-3.ensures c.range-path-items.ensures.made in
     let is : IsDirectory d.rules d.entries = subst (λ (t : Directory). IsDirectory t.rules t.entries) c.tree.ensures c.is_directory.ensures in
     record {
       failures = refl;
+      names = c.new-names.ensures ∙ c.tree-2.ensures;
       there = subst (AllByRecursion (IsThere d.rules d.entries)) (sym c.into_iter-path-iterator.ensures.into_iter_gives) (all_in d.rules d.entries items root c.root-root.ensures seen c.order_of_paths.ensures.total is made);
       so_far = subst (SoFar (g.W.Sink.written c.args.sink.now) (g.W.Sink.written c.args.sink.now) (dump d.rules d.entries))
           (dump_is d.rules d.entries items root c.root-root.ensures seen ∙ ap (entries_text d.rules d.entries) (sym c.into_iter-path-iterator.ensures.into_iter_gives))
@@ -34,11 +35,12 @@ loop-path-preserved g c =
     let d : Directory = c.args.self.now in
     let left : List (Steps × Stored) = c.next.new.self in
     record {
-      failures = c.in_ok-write_entry.ensures.failed ∙ c.loop-path.invariant.failures;
+      failures = c.in_ok-write_entry.ensures.writes.failed ∙ c.loop-path.invariant.failures;
+      names = c.in_ok-write_entry.ensures.names;
       there = (subst (AllByRecursion (IsThere d.rules d.entries)) c.in-Some.ensures.steps c.loop-path.invariant.there).1;
       so_far = pieces.goes_on (g.W.Sink.written c.args.sink.now) (g.W.Sink.written c.loop-path.sink) (g.W.Sink.written c.write_entry.new.sink)
           (dump d.rules d.entries) (entries_text d.rules d.entries c.loop-path.path-iterator) c.loop-path.invariant.so_far
-          (entry_text d.rules d.entries (c.in-Some.path.now, c.in-Some.entry.now)) (entries_text d.rules d.entries left) (ap (entries_text d.rules d.entries) c.in-Some.ensures.steps) c.in_ok-write_entry.ensures;
+          (entry_text d.rules d.entries (c.in-Some.path.now, c.in-Some.entry.now)) (entries_text d.rules d.entries left) (ap (entries_text d.rules d.entries) c.in-Some.ensures.steps) c.in_ok-write_entry.ensures.writes;
     }
 
 pub returns-in_err-write_entry : goal.returns-in_err-write_entry
@@ -48,4 +50,4 @@ returns-in_err-write_entry g c =
     let left : List (Steps × Stored) = c.next.new.self in
     rw (p.1, p.2) (pieces.stops (g.W.Sink.written c.args.sink.now) (g.W.Sink.written c.loop-path.sink) (g.W.Sink.written c.write_entry.new.sink)
     (dump d.rules d.entries) (entries_text d.rules d.entries c.loop-path.path-iterator) c.loop-path.invariant.so_far
-    c.in_err-write_entry.field-0.0 (entry_text d.rules d.entries (c.in-Some.path.now, c.in-Some.entry.now)) (entries_text d.rules d.entries left) (ap (entries_text d.rules d.entries) c.in-Some.ensures.steps) c.in_err-write_entry.ensures)
+    c.in_err-write_entry.field-0.0 (entry_text d.rules d.entries (c.in-Some.path.now, c.in-Some.entry.now)) (entries_text d.rules d.entries left) (ap (entries_text d.rules d.entries) c.in-Some.ensures.steps) c.in_err-write_entry.ensures.writes)

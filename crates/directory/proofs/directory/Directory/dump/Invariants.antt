@@ -7,6 +7,7 @@ use Rattle.directory.proofs.directory.Directory.dump.Given as goal
 abbrev pub invariant-loop-path : goal.invariant-loop-path
 invariant-loop-path g l = record {
   failures : (g.W.Sink.written l.sink).failed ≡ (g.W.Sink.written l.fn.sink).failed;
+  names : l.names ≡ l.self;
   there : AllByRecursion (IsThere l.self.rules l.self.entries) l.path-iterator;
   so_far : SoFar (g.W.Sink.written l.fn.sink) (g.W.Sink.written l.sink) (dump l.self.rules l.self.entries) (entries_text l.self.rules l.self.entries l.path-iterator);
 }
