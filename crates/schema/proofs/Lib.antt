@@ -15,3 +15,6 @@ pub mod Ends
 pub mod Numbered
 pub mod Whole
 pub mod Examples
+pub mod PackOrder
+pub mod Unpacked
+pub mod PackedPaths

@@ -99,7 +99,7 @@ impl Conf {
     }
 
     // of RDNs from the root of the tree down, those below the suffix
-    fn below_suffix(&self, mut typed: TypedName) -> Result<Located, PathFault>
+    fn below_suffix(&self, alloc: Global, mut typed: TypedName) -> Result<Located, PathFault>
         requires { typed.keys.items ≡ map (step_of self.now.types) typed.rdns.items }
         ensures rdns { Gives (λ l. l.rdns) result (below self.now.types (reverse self.now.suffix) typed.rdns.items) }
         ensures path { IfOk result (λ l. l.path ≡ path_of self.now l.rdns) }
@@ -110,7 +110,7 @@ impl Conf {
         let rdns = typed.rdns.split_off(self.suffix_len())?;
         let keys = typed.keys.split_off(self.suffix_len())?;
         Ok(Located {
-            path: Path::of_steps(Sequence::from_vec(keys)),
+            path: Path::of_steps(alloc, &keys)?,
             rdns: Sequence::from_vec(rdns),
         })
     }
@@ -126,6 +126,6 @@ impl Conf {
         let mut typed = typed(alloc, self.types(), name.as_slice())?;
         typed.rdns.reverse();
         typed.keys.reverse();
-        self.below_suffix(typed)
+        self.below_suffix(alloc, typed)
     }
 }

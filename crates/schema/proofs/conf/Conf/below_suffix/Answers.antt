@@ -18,14 +18,14 @@ pub returns-clause-rdns : goal.returns-clause-rdns
 returns-clause-rdns c =
     is_below c.args.self.now.types (reverse c.args.self.now.suffix) c.args.typed.rdns.items c.args.typed.keys.items c.is_below.result c.requires
     (c.is_below.ensures.test ∙ ap (λ (k : Steps). begins (map (step_of c.args.self.now.types) (reverse c.args.self.now.suffix)) k) c.deref.ensures.value) c.if-not-is_below.false
-    ∙ ap ok (ap (λ (n : ℕ). drop n c.args.typed.rdns.items) (sym c.suffix_len.ensures) ∙ sym c.in_ok-rdns.ensures.tail ∙ sym c.from_vec-2.ensures)
+    ∙ ap ok (ap (λ (n : ℕ). drop n c.args.typed.rdns.items) (sym c.suffix_len.ensures) ∙ sym c.in_ok-rdns.ensures.tail ∙ sym c.from_vec.ensures)
 
 pub returns-clause-path : goal.returns-clause-path
 returns-clause-path c =
     let same : c.suffix_len-2.result ≡ c.suffix_len.result = c.suffix_len-2.ensures ∙ sym c.suffix_len.ensures in
-    c.of_steps.ensures ∙ c.from_vec.ensures ∙ c.in_ok-keys.ensures.tail ∙ ap (λ (k : Steps). drop c.suffix_len-2.result k) c.requires
+    c.in_ok-of_steps.ensures ∙ c.deref-2.ensures.value ∙ c.in_ok-keys.ensures.tail ∙ ap (λ (k : Steps). drop c.suffix_len-2.result k) c.requires
     ∙ drop-map (step_of c.args.self.now.types) c.suffix_len-2.result c.args.typed.rdns.items
-    ∙ ap (map (step_of c.args.self.now.types)) (ap (λ (n : ℕ). drop n c.args.typed.rdns.items) same ∙ sym c.in_ok-rdns.ensures.tail ∙ sym c.from_vec-2.ensures)
+    ∙ ap (map (step_of c.args.self.now.types)) (ap (λ (n : ℕ). drop n c.args.typed.rdns.items) same ∙ sym c.in_ok-rdns.ensures.tail ∙ sym c.from_vec.ensures)
 
 pub split_off-requires : goal.split_off-requires
 split_off-requires c =
