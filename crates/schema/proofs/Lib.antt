@@ -1,6 +1,5 @@
 pub mod Spaces
 pub mod Texts
-pub mod Beginnings
 pub mod Loop
 pub mod Below
 pub mod Named

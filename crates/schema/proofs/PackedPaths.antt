@@ -1,5 +1,5 @@
 -- What the bytes of a packed path say of it: its length, its parent, and the paths that it begins.
-use Rattle.std.proofs.Common.{◌≡◌, ℕ, zero, suc, ◌+◌, ◌-◌, ◌<◌, ◌≤◌, ◌⊎◌, inl, inr, Bool, true, false, cond, List, [], ◌∷◌, ◌++◌, length, take, drop, get_or, refl, sym, ap, subst, ◌∙◌, arith, append_assoc, length-append}
+use Rattle.std.proofs.Common.{◌≡◌, ℕ, zero, suc, ◌+◌, ◌-◌, ◌<◌, ◌≤◌, ◌⊎◌, inl, inr, Bool, true, false, cond, List, [], ◌∷◌, ◌++◌, length, map, reverse, take, drop, get_or, refl, sym, ap, subst, ◌∙◌, arith, append_assoc, length-append}
 use Rattle.std.specs.Prelude.{◌==◌, ◌&&◌, nat_eq, count_by}
 use Rattle.std.specs.List.{flat_map, sum_by, AllByRecursion, starts_with}
 use Rattle.std.specs.declared.cmp.Ordering.{Ordering}
@@ -9,11 +9,12 @@ use Rattle.std.specs.Cmp.Lexicographic.{slice_cmp}
 use Rattle.std.proofs.lemmas.Bool.{and_parts, cases_order, ne_eqb}
 use Rattle.std.proofs.lemmas.Bool.Decides.{nat_tests, Decides-eqb}
 use Rattle.std.proofs.lemmas.Cmp.{nat_list_cmp_total, tied_itself}
-use Rattle.std.proofs.lemmas.List.{append_cancel_left, append-nil, take_more, take_all, take_at, get_or-append_right, get_or_append_left, get_or_at, get_or_default}
+use Rattle.std.proofs.lemmas.List.{append_cancel_left, append-nil, take_more, take_all, take_at, drop_at, drop_more, drop_all, map-append, reverse-append, get_or-append_right, get_or_append_left, get_or_at, get_or_default}
 use Rattle.std.proofs.lemmas.List.Concat.{flat_map-append}
 use Rattle.std.proofs.lemmas.List.Sums.{sum_by-append, sum_by-cons}
 use Rattle.std.proofs.lemmas.Slice.Eq.{starts_is}
 use Rattle.schema.specs.Paths.{Step, Steps, step_cmp, begins, parent_of, is_root}
+use Rattle.schema.specs.Rdns.{Parts}
 use Rattle.schema.specs.Packed.{type_code, pair_code, step_code, pack}
 use Rattle.schema.specs.PathLaws.{step_total}
 use Rattle.schema.proofs.Orders.{step_exact}
@@ -187,3 +188,29 @@ step_more steps i old new s lt so_far at pushed =
 
 pub packed_more : (p : Steps) (s : Step) (old code new : List ℕ) → old ≡ pack p → code ≡ step_code s → new ≡ old ++ code → new ≡ pack (p ++ s ∷ [])
 packed_more p s old code new is coded pushed = pushed ∙ (λ i. is i ++ coded i) ∙ sym (pack_push p s)
+
+-- ---- what comes behind a beginning
+
+module _ (p q : Steps) (front whole : List ℕ) (is_front : front ≡ pack p) (is_whole : whole ≡ pack q) (below : begins p q ≡ true) where
+  split : whole ≡ front ++ pack (drop (length p) q)
+  split = is_whole ∙ to_packed p q below ∙ ap (λ bs. bs ++ pack (drop (length p) q)) (sym is_front)
+
+  pub front_fits : length front ≤ length whole
+  front_fits = omega (arith, ap length split, length-append front (pack (drop (length p) q)))
+
+  pub rest_packed : drop (length front) whole ≡ pack (drop (length p) q)
+  rest_packed = ap (drop (length front)) split ∙ drop_at front (pack (drop (length p) q)) (length front) refl
+
+-- ---- steps pushed from the last on
+
+pub step_before : (f : Parts → Step) (rs : List Parts) (i : ℕ) (old new : List ℕ) (r : Parts) → 0 < i → i ≤ length rs → old ≡ pack (map f (reverse (drop i rs))) → r ≡ get_or rs (i - 1) r → new ≡ old ++ step_code (f r) → new ≡ pack (map f (reverse (drop (i - 1) rs)))
+step_before f rs i old new r some le so_far at pushed =
+    let back : i - 1 + 1 ≡ i = omega arith in
+    let rest : drop (i - 1) rs ≡ r ∷ drop i rs = drop_more rs (i - 1) r (omega arith) ∙ (λ k. sym at k ∷ drop (back k) rs) in
+    let turned : map f (reverse (drop (i - 1) rs)) ≡ map f (reverse (drop i rs)) ++ f r ∷ [] =
+    ap (λ (x : List Parts). map f (reverse x)) rest ∙ ap (map f) (reverse-append (r ∷ []) (drop i rs)) ∙ map-append f (reverse (drop i rs)) (r ∷ []) in
+    pushed ∙ ap (λ bs. bs ++ step_code (f r)) so_far ∙ sym (pack_push (map f (reverse (drop i rs))) (f r)) ∙ sym (ap pack turned)
+
+pub none_yet : (f : Parts → Step) (rs : List Parts) (bs : List ℕ) → bs ≡ [] → bs ≡ pack (map f (reverse (drop (length rs) rs)))
+unfolding pack
+none_yet f rs bs is = is ∙ sym (ap (λ (x : List Parts). pack (map f (reverse x))) (drop_all (length rs) rs (omega arith)))

@@ -1,6 +1,6 @@
 //! The bytes of a packed path: codes of types and values that keep their order.
 
-ghost use Rattle.std.specs.Prelude.{◌≡◌, ◌++◌, OnOk};
+ghost use Rattle.std.specs.Prelude.{◌≡◌, ◌++◌, ◌∷◌, [], OnOk};
 ghost use Rattle.schema.specs.Packed.{byte_code, value_code, type_code, pair_code, step_code};
 
 use crate::types::TypeId;
@@ -55,6 +55,16 @@ fn push_pair(out: &mut Vec<u8>, t: TypeId, value: &[u8]) -> Result<(), AllocErro
 {
     push_type(out, t)?;
     push_value(out, value)
+}
+
+/// The code of a step of one pair.
+#[tactic(auto, unfolding(crate::specs::Packed::step_code))]
+pub(crate) fn push_single(out: &mut Vec<u8>, t: TypeId, value: &[u8]) -> Result<(), AllocError>
+    ensures { OnOk result (out.new.items ≡ out.old.items ++ step_code ((t, value.now) ∷ [])) }
+{
+    push_pair(out, t, value)?;
+    out.push(STEP_END)?;
+    Ok(())
 }
 
 /// The code of a step with these pairs.

@@ -1,6 +1,6 @@
 //! RDNs and paths.
 
-ghost use Rattle.std.specs.Prelude.{◌≡◌, ◌++◌, ◌∷◌, ◌≤◌, ◌==◌, [], IfOk, OnOk, OnErr, Some, length, take, count_by, refl};
+ghost use Rattle.std.specs.Prelude.{◌≡◌, ◌++◌, ◌∷◌, ◌≤◌, ◌==◌, [], IfOk, OnOk, OnErr, Some, length, take, drop, count_by, true, refl};
 ghost use Rattle.std.specs.Cmp.{partial_equiv_from_equiv, partial_order_from_total, eq_by_cmp_equiv};
 ghost use Rattle.std.specs.Ordering.{eq_by_cmp};
 ghost use Rattle.schema.specs.Paths.{path_cmp, begins, parent_of, is_root};
@@ -154,14 +154,12 @@ impl Path {
         }
     }
 
-    pub(crate) fn of_steps(alloc: Global, steps: &[RdnKey]) -> Result<Path, AllocError>
-        ensures { IfOk result (λ p. p ≡ steps.now) }
+    /// The path with these bytes.
+    pub(crate) fn from_bytes(bytes: Vec<u8>) -> Path
+        requires { IsPacked bytes.items }
+        ensures { result ≡ unpack bytes.items }
     {
-        let mut bytes = Vec::new(alloc);
-        for step in steps {
-            push_step(&mut bytes, step.pairs())?;
-        }
-        Ok(Path { bytes })
+        Path { bytes }
     }
 
     /// Goes one step down, or changes nothing where memory runs out.
@@ -210,6 +208,17 @@ impl Path {
     #[cfg(test)]
     pub(crate) fn bytes(&self) -> &[u8] {
         self.bytes.as_slice()
+    }
+
+    /// What comes behind a path that begins this one.
+    pub(crate) fn behind(&self, alloc: Global, upper: &Path) -> Result<Path, AllocError>
+        requires { begins upper.now self.now ≡ true }
+        ensures { IfOk result (λ p. p ≡ drop (length upper.now) self.now) }
+    {
+        let (_, rest) = self.bytes.as_slice().split_at(upper.bytes.len());
+        Ok(Path {
+            bytes: Vec::from_slice(alloc, rest)?,
+        })
     }
 
     /// Whether the other path is this one, or below it.
