@@ -1,7 +1,9 @@
 -- RDNs below the suffix, as the code takes them off.
-use Rattle.std.proofs.Common.{◌≡◌, Bool, true, false, cond, List, [], ◌∷◌, length, map, drop, Result, Ok, Err, refl, sym, ap, ◌∙◌}
+use Rattle.std.proofs.Common.{◌≡◌, Bool, true, false, cond, ℕ, ◌≤◌, ◌-◌, List, [], ◌∷◌, ◌++◌, length, map, reverse, take, drop, Result, Ok, Err, refl, sym, ap, ◌∙◌, arith}
 use Rattle.std.specs.Prelude.{◌&&◌, if◌then◌else◌}
 use Rattle.std.specs.Ordering.{is_eq}
+use Rattle.std.proofs.lemmas.Bool.{and_parts}
+use Rattle.std.proofs.lemmas.List.{take-append-drop, reverse-append, length-reverse, length-drop, drop_at}
 use Rattle.schema.specs.declared.types.AttributeType.{AttributeType}
 use Rattle.schema.specs.declared.code.Code.{Code}
 use Rattle.schema.specs.declared.code.Code.TheVariants.{NoSuchObject}
@@ -33,3 +35,16 @@ module _ (types : List AttributeType) (ss rs : List Parts) (keys : Steps) (b : B
 
   pub is_below : b ≡ true → below types ss rs ≡ Ok (drop (length ss) rs)
   is_below on = by_test ∙ ap (λ x. answer x (drop (length ss) rs)) on
+
+-- what stands in front, turned round, comes behind what stood last
+pub reversed_front : {X : Type 0} (xs : List X) (k : ℕ) → k ≤ length xs → reverse (take (length xs - k) xs) ≡ drop k (reverse xs)
+reversed_front {X} xs k le =
+    let m : ℕ = length xs - k in
+    let cut : reverse xs ≡ reverse (drop m xs) ++ reverse (take m xs) = ap (λ (ys : List X). reverse ys) (sym (take-append-drop m xs)) ∙ reverse-append (take m xs) (drop m xs) in
+    let long : length (reverse (drop m xs)) ≡ k = omega (arith, length-reverse (drop m xs), length-drop m xs) in
+    sym (ap (λ (ys : List X). drop k ys) cut ∙ drop_at (reverse (drop m xs)) (reverse (take m xs)) k long)
+
+pub begins_long : (p q : Steps) → begins p q ≡ true → length p ≤ length q
+begins_long [] q h = omega arith
+begins_long (x ∷ p) [] h = absurd cc
+begins_long (x ∷ p) (y ∷ q) h = omega (arith, begins_long p q (and_parts (is_eq (step_cmp x y)) (begins p q) h).1)

@@ -2,7 +2,6 @@ pub mod Spaces
 pub mod Tidy
 pub mod Joined
 pub mod Texts
-pub mod Beginnings
 pub mod Loop
 pub mod Below
 pub mod Named
@@ -17,3 +16,6 @@ pub mod Ends
 pub mod Numbered
 pub mod Whole
 pub mod Examples
+pub mod PackOrder
+pub mod Unpacked
+pub mod PackedPaths

@@ -17,7 +17,7 @@ use Rattle.schema.specs.Rdns.{Parts, IsRdn, step_of, is_plain_byte}
 use Rattle.schema.specs.Names.{Name, is_type_text}
 use Rattle.schema.specs.Rules.{Rules, IsRules, IsType, typed_part, typed_rdn, typed, below, located, written_part, name_text}
 use Rattle.schema.proofs.Named.{type_is, is_type_at}
-use Rattle.schema.proofs.Orders.{step_total}
+use Rattle.schema.specs.PathLaws.{step_total}
 use Rattle.schema.proofs.Spelled.{IsNamePart, name_read}
 
 both : (a b : Bool) → a ≡ true → b ≡ true → (a && b) ≡ true

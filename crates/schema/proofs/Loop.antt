@@ -1,6 +1,6 @@
 -- A loop that reads each of a list, up to the first fault.
-use Rattle.std.proofs.Common.{◌≡◌, ℕ, ◌+◌, ◌<◌, ◌≤◌, List, [], ◌∷◌, ◌++◌, length, get_or, drop, map, reverse, Result, Ok, Err, refl, sym, ap, ◌∙◌, append_assoc}
-use Rattle.std.proofs.lemmas.List.{drop_more, drop_all, append-nil, map-append, reverse-append}
+use Rattle.std.proofs.Common.{◌≡◌, ℕ, ◌+◌, ◌<◌, ◌≤◌, List, [], ◌∷◌, ◌++◌, length, get_or, drop, map, Result, Ok, Err, refl, sym, ap, ◌∙◌, append_assoc}
+use Rattle.std.proofs.lemmas.List.{drop_more, drop_all, append-nil}
 use Rattle.schema.specs.declared.code.Code.{Code}
 use Rattle.schema.specs.declared.fault.PathFault.{PathFault}
 use Rattle.schema.specs.declared.fault.PathFault.TheVariants as errors
@@ -50,11 +50,3 @@ is_done {A} f g xs i front total le so_far =
 pub map_same : {A : Type 0} (xs : List A) → map (λ x. x) xs ≡ xs
 map_same [] = refl
 map_same (x ∷ xs) = ap (λ ys. x ∷ ys) (map_same xs)
-
-pub map_pushed : {A B : Type 0} (f : A → B) (xs : List A) (x : A) (ys zs : List B) (ws : List A) → ys ≡ map f xs → zs ≡ ys ++ f x ∷ [] → ws ≡ xs ++ x ∷ [] → zs ≡ map f ws
-map_pushed {A} {B} f xs x ys zs ws same put more = put ∙ ap (λ (us : List B). us ++ f x ∷ []) same ∙ sym (ap (map f) more ∙ map-append f xs (x ∷ []))
-
-pub map_reversed : {A B : Type 0} (f : A → B) (xs : List A) → map f (reverse xs) ≡ reverse (map f xs)
-map_reversed f [] = refl
-map_reversed {A} {B} f (x ∷ xs) =
-    ap (map f) (reverse-append (x ∷ []) xs) ∙ map-append f (reverse xs) (x ∷ []) ∙ ap (λ (ys : List B). ys ++ f x ∷ []) (map_reversed f xs) ∙ sym (reverse-append (f x ∷ []) (map f xs))

@@ -1,5 +1,5 @@
 -- The rules that a text says hold together.
-use Rattle.std.proofs.Common.{◌≡◌, ℕ, ◌<◌, ◌≤◌, Bool, true, false, cond, ◌&&◌, ◌||◌, List, [], ◌∷◌, ◌++◌, length, map, reverse, Option, Some, None, Result, Ok, Err, refl, sym, ap, subst, ◌∙◌, arith, lit≤, length-append}
+use Rattle.std.proofs.Common.{◌≡◌, ℕ, ◌<◌, ◌≤◌, Bool, true, false, cond, ◌&&◌, ◌||◌, List, [], ◌∷◌, ◌++◌, length, Option, Some, None, Result, Ok, Err, refl, ap, subst, ◌∙◌, arith, lit≤, length-append}
 use Rattle.std.specs.Prelude.{nat_lt, nat_le, codes, is_some}
 use Rattle.std.specs.List.{list_any, AllByRecursion, IsDistinct}
 use Rattle.std.proofs.lemmas.Bool.{or_parts, lt-ltb}
@@ -9,12 +9,10 @@ use Rattle.schema.specs.declared.code.Code.{Code}
 use Rattle.schema.specs.declared.conf_fault.ConfFaultKind.{ConfFaultKind}
 use Rattle.schema.specs.declared.conf_fault.ConfFaultKind.TheVariants.{Keyword, Form, Twice, Suffix, TooManyTypes}
 use Rattle.schema.specs.Types.{is_oid, is_type_name, are_groups}
-use Rattle.schema.specs.Rdns.{Parts, IsRdn, step_of}
+use Rattle.schema.specs.Rdns.{Parts, IsRdn}
 use Rattle.schema.specs.Names.{Name, name_of_text}
 use Rattle.schema.specs.Rules.{IsRules, IsType, share_name}
 use Rattle.schema.specs.Configurations.{At, Line, ◌>>=◌, through, says_nothing, begins_blank, is_first, Definition, definition_of, head_at, tail_ends, allowed, text_type, is_built_in, added, placed, object_class, type_line, types_of, after_word, some_rdns, typed_name, suffix_at, suffix_text, suffix_line, suffix_of, ◌>>>◌}
-use Rattle.schema.specs.Paths.{Steps}
-use Rattle.schema.proofs.Loop.{map_reversed}
 use Rattle.schema.proofs.Found.{name_plain, rdns_are}
 
 bind_ok : {A B : Type 0} (r : Result A At) (f : A → Result B At) (y : B) → (r >>= f) ≡ Ok y → (x : A) × (r ≡ Ok x) × (f x ≡ Ok y)
@@ -183,8 +181,3 @@ suffix_is types ls out e = through_keeps (IsSuffix types) (suffix_line types) (s
 
 pub rules_are : (types : List AttributeType) (suffix : List Parts) → AreTypes types → IsSuffix types (Some suffix) → IsRules (record { types = types; suffix = suffix })
 rules_are types suffix h k = record { types = h.good; types_apart = h.apart; types_few = h.few; suffix = k.0; suffix_some = k.1 }
-
--- what a configuration keeps, of vectors that are taken over
-pub conf_holds : (ts ts' : List AttributeType) (rs rs' : List Parts) (ks ks' : Steps) → ts' ≡ ts → rs' ≡ rs → IsRules (record { types = ts; suffix = rs }) → ks ≡ map (step_of ts) rs → ks' ≡ reverse ks
-    → IsRules (record { types = ts'; suffix = rs' }) × (ks' ≡ map (step_of ts') (reverse rs'))
-conf_holds ts ts' rs rs' ks ks' e f h k l = rw (e, f) (h, l ∙ ap (λ (x : Steps). reverse x) k ∙ sym (map_reversed (step_of ts) rs))

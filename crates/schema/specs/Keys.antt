@@ -1,11 +1,18 @@
 -- RDNs beside what they come to.
-use Rattle.std.specs.Prelude.{◌≡◌, List, map, Option, None, Some}
+use Rattle.std.specs.Prelude.{◌≡◌, ◌<◌, List, map, reverse, length, Option, None, Some}
+use Rattle.std.specs.List.{AllByRecursion}
 use Rattle.schema.specs.declared.types.AttributeType.{AttributeType}
 use Rattle.schema.specs.declared.locate.TypedName.{TypedName}
 use Rattle.schema.specs.Rdns.{Parts, step_of}
 
+-- an RDN of one part, whose type is known
+pub record IsOne (types : List AttributeType) (r : Parts) : Type 0 where
+  pub one : length r ≡ 1
+  pub known : AllByRecursion (λ p. p.0 < length types) r
+
+-- the path goes from the root of the tree down
 abbrev pub KeysFit : List AttributeType → TypedName → Type 0
-KeysFit types x = x.keys.items ≡ map (step_of types) x.rdns.items
+KeysFit types x = x.path ≡ map (step_of types) (reverse x.rdns.items)
 
 -- the RDNs of a suffix that was found
 abbrev pub rdns_found : Option TypedName → Option (List Parts)

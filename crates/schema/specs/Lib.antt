@@ -13,3 +13,5 @@ pub mod ConfFaults
 pub mod Configurations
 pub mod Reads
 pub mod Keys
+pub mod PathLaws
+pub mod Packed

@@ -1,13 +1,14 @@
 //! A configuration, and what it says of types, values and names.
 
-ghost use Rattle.std.specs.Prelude.{◌≡◌, ◌<◌, ◌≤◌, IfSome, length};
+ghost use Rattle.std.specs.Prelude.{◌≡◌, ◌<◌, ◌≤◌, IfSome, length, map, reverse};
+ghost use Rattle.schema.specs.Rdns.{step_of};
 ghost use Rattle.schema.specs.Types.{type_of, name_of, type_at};
 ghost use Rattle.schema.specs.Values.{is_valid_at, norm_at};
 ghost use Rattle.schema.specs.Gives.{Makes};
 
 use crate::locate::TypedName;
 use crate::normal::normal_form;
-use crate::path::{Rdn, RdnKey};
+use crate::path::{Path, Rdn};
 use crate::types::{AttributeType, TypeId, type_at, type_of};
 use crate::value::{Value, ValueFault, is_valid};
 use lists::Sequence;
@@ -20,7 +21,7 @@ pub struct Conf {
     types: Sequence<AttributeType>,
     suffix: Sequence<Rdn>,
     // what the suffix's RDNs come to, from the root of the tree down
-    pub(crate) root_keys: Sequence<RdnKey>,
+    root: Path,
 }
 
 impl Model for Conf {
@@ -32,7 +33,7 @@ impl Model for Conf {
 
     ghost view = { λ c. record { types = c.types; suffix = c.suffix } };
 
-    ghost invariant = { λ c. (IsRules (record { types = c.types; suffix = c.suffix })) × (c.root_keys ≡ map (step_of c.types) (reverse c.suffix)) };
+    ghost invariant = { λ c. (IsRules (record { types = c.types; suffix = c.suffix })) × (c.root ≡ map (step_of c.types) (reverse c.suffix)) };
 }
 
 impl Conf {
@@ -44,12 +45,11 @@ impl Conf {
         requires keys { KeysFit types.items suffix }
         ensures { result ≡ record { types = types.items; suffix = suffix.rdns.items } }
     {
-        let TypedName { rdns, mut keys } = suffix;
-        keys.reverse();
+        let TypedName { rdns, path } = suffix;
         Conf {
             types: Sequence::from_vec(types),
             suffix: Sequence::from_vec(rdns),
-            root_keys: Sequence::from_vec(keys),
+            root: path,
         }
     }
 
@@ -88,6 +88,13 @@ impl Conf {
         ensures { result.now ≡ self.now.suffix }
     {
         self.suffix.as_slice()
+    }
+
+    /// What the suffix's RDNs come to, from the root of the tree down.
+    pub(crate) fn root(&self) -> &Path
+        ensures { result.now ≡ map (step_of self.now.types) (reverse self.now.suffix) }
+    {
+        &self.root
     }
 
     /// The RDN of the suffix's own entry.

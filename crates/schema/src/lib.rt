@@ -11,6 +11,7 @@ mod laws;
 mod locate;
 mod name;
 mod normal;
+mod packing;
 mod path;
 #[cfg(test)]
 mod tests;

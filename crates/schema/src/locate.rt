@@ -1,8 +1,10 @@
 //! Where a name stands under a configuration.
 
-ghost use Rattle.std.specs.Prelude.{◌≡◌, ◌<◌, ◌∷◌, [], ◌≤◌, IfOk, IfSome, IsTrue, map, reverse, length};
-ghost use Rattle.schema.specs.Paths.{begins};
+ghost use Rattle.std.specs.Prelude.{◌≡◌, ◌<◌, ◌∷◌, ◌++◌, [], ◌≤◌, IfOk, IfSome, OnOk, IsTrue, map, reverse, length};
+ghost use Rattle.std.specs.List.{AllByRecursion};
+ghost use Rattle.schema.specs.Packed.{step_code};
 ghost use Rattle.schema.specs.Rdns.{step_of};
+ghost use Rattle.schema.specs.Keys.{IsOne, KeysFit};
 ghost use Rattle.schema.specs.Rules.{typed_rdn, typed, below, located, path_of};
 ghost use Rattle.schema.specs.Gives.{Gives};
 
@@ -11,11 +13,15 @@ use crate::conf::Conf;
 use crate::fault::PathFault;
 use crate::name::name_of_text;
 use crate::normal::normal_form;
-use crate::path::{Path, Rdn, RdnKey};
+use crate::packing::push_single;
+use crate::path::{Path, Rdn};
 use crate::types::{AttributeType, TypeId, type_at, type_of};
 use crate::value::is_valid;
 use lists::{Bytes, Sequence};
 use std::alloc::{AllocError, Global};
+
+// the packed path of a name seldom takes more bytes
+const USUAL_LEN: usize = 64;
 
 /// Where a name stands: its path, and its RDNs below the suffix, from the suffix down.
 #[derive(Debug, Drop)]
@@ -24,43 +30,87 @@ pub struct Located {
     pub rdns: Sequence<Rdn>,
 }
 
-// RDNs and what they come to
+// RDNs, and what they come to from the last on
 #[derive(Drop)]
 pub(crate) struct TypedName {
     pub(crate) rdns: Vec<Rdn>,
-    pub(crate) keys: Vec<RdnKey>,
+    pub(crate) path: Path,
 }
 
-fn one_pair(alloc: Global, t: TypeId, value: Bytes) -> Result<Sequence<(TypeId, Bytes)>, AllocError>
-    ensures { IfOk result (λ s. s ≡ (t, value) ∷ []) }
+fn one_part(alloc: Global, t: TypeId, value: Bytes) -> Result<Rdn, AllocError>
+    ensures { IfOk result (λ r. r ≡ (t, value) ∷ []) }
 {
-    let mut pairs = Sequence::new(alloc);
-    pairs.push((t, value))?;
-    Ok(pairs)
+    let mut parts = Vec::with_capacity(alloc, 1)?;
+    parts.push((t, value))?;
+    Ok(Rdn::new(Sequence::from_vec(parts)))
 }
 
-// an RDN of one part, and what it comes to
-#[tactic(auto, unfolding(crate::specs::Rdns::step_of, crate::specs::Rdns::put_pair))]
+// an RDN of one part
 fn typed_rdn(
     alloc: Global,
     types: &[AttributeType],
     part: &(Bytes, Bytes),
-) -> Result<(Rdn, RdnKey), PathFault>
+) -> Result<Rdn, PathFault>
     requires { length types.now ≤ 65535 }
-    ensures gives { Gives (λ x. x.0) result (typed_rdn types.now part.now) }
-    ensures key { IfOk result (λ x. x.1 ≡ step_of types.now x.0) }
+    ensures gives { Gives (λ r. r) result (typed_rdn types.now part.now) }
+    ensures one { IfOk result (IsOne types.now) }
 {
     let value = part.1.as_slice();
     let Some(t) = type_of(types, part.0.as_slice()) else {
         return Err(PathFault::Code(Code::InvalidDnSyntax));
     };
-    let kind = type_at(types, t);
-    if !is_valid(kind.syntax, value) {
+    if !is_valid(type_at(types, t).syntax, value) {
         return Err(PathFault::Code(Code::InvalidDnSyntax));
     }
-    let norm = normal_form(alloc, kind.family, value)?;
-    let rdn = Rdn::new(one_pair(alloc, t, part.1.copy(alloc)?)?);
-    Ok((rdn, RdnKey::new(one_pair(alloc, t, norm)?)))
+    Ok(one_part(alloc, t, part.1.copy(alloc)?)?)
+}
+
+// puts what an RDN comes to behind the others
+#[tactic(auto, unfolding(crate::specs::Rdns::step_of, crate::specs::Rdns::put_pair))]
+fn push_rdn(
+    alloc: Global,
+    types: &[AttributeType],
+    rdn: &Rdn,
+    out: &mut Vec<u8>,
+) -> Result<(), AllocError>
+    requires { IsOne types.now rdn.now }
+    ensures { OnOk result (out.new.items ≡ out.old.items ++ step_code (step_of types.now rdn.now)) }
+{
+    match rdn.parts() {
+        [(t, value)] => {
+            let norm = normal_form(alloc, type_at(types, *t).family, value.as_slice())?;
+            push_single(out, *t, norm.as_slice())
+        }
+        _ => unreachable!(),
+    }
+}
+
+// what RDNs come to, from the last on
+fn path_of(alloc: Global, types: &[AttributeType], rdns: &[Rdn]) -> Result<Path, AllocError>
+    requires { AllByRecursion (IsOne types.now) rdns.now }
+    ensures { IfOk result (λ p. p ≡ map (step_of types.now) (reverse rdns.now)) }
+{
+    let mut bytes = Vec::with_capacity(alloc, USUAL_LEN)?;
+    for i in (0..rdns.len()).rev() {
+        push_rdn(alloc, types, &rdns[i], &mut bytes)?;
+    }
+    Ok(Path::from_bytes(bytes))
+}
+
+fn typed_rdns(
+    alloc: Global,
+    types: &[AttributeType],
+    name: &[(Bytes, Bytes)],
+) -> Result<Vec<Rdn>, PathFault>
+    requires { length types.now ≤ 65535 }
+    ensures rdns { Gives (λ v. v.items) result (typed types.now name.now) }
+    ensures one { IfOk result (λ v. AllByRecursion (IsOne types.now) v.items) }
+{
+    let mut rdns = Vec::with_capacity(alloc, name.len())?;
+    for part in name {
+        rdns.push(typed_rdn(alloc, types, part)?)?;
+    }
+    Ok(rdns)
 }
 
 /// The RDNs of a name, its own first, and what they come to.
@@ -71,46 +121,30 @@ pub(crate) fn typed(
 ) -> Result<TypedName, PathFault>
     requires { length types.now ≤ 65535 }
     ensures rdns { Gives (λ x. x.rdns.items) result (typed types.now name.now) }
-    ensures keys { IfOk result (λ x. x.keys.items ≡ map (step_of types.now) x.rdns.items) }
+    ensures keys { IfOk result (KeysFit types.now) }
 {
-    let mut rdns = Vec::new(alloc);
-    let mut keys = Vec::new(alloc);
-    for part in name {
-        let (rdn, key) = typed_rdn(alloc, types, part)?;
-        rdns.push(rdn)?;
-        keys.push(key)?;
-    }
-    Ok(TypedName { rdns, keys })
+    let rdns = typed_rdns(alloc, types, name)?;
+    let path = path_of(alloc, types, &rdns)?;
+    Ok(TypedName { rdns, path })
 }
 
 impl Conf {
-    // whether what comes from the root of the tree down begins with the suffix
-    fn is_below(&self, keys: &[RdnKey]) -> bool
-        ensures test { result ≡ begins (map (step_of self.now.types) (reverse self.now.suffix)) keys.now }
-        ensures bound { IsTrue result → length (reverse self.now.suffix) ≤ length keys.now }
-    {
-        keys.starts_with(self.root_keys.as_slice())
-    }
+    ghost use Rattle.schema.specs.Keys.{KeysFit};
 
-    fn suffix_len(&self) -> usize
-        ensures { result ≡ length (reverse self.now.suffix) }
-    {
-        self.root_keys.len()
-    }
-
-    // of RDNs from the root of the tree down, those below the suffix
-    fn below_suffix(&self, mut typed: TypedName) -> Result<Located, PathFault>
-        requires { typed.keys.items ≡ map (step_of self.now.types) typed.rdns.items }
-        ensures rdns { Gives (λ l. l.rdns) result (below self.now.types (reverse self.now.suffix) typed.rdns.items) }
+    // the RDNs below the suffix, from the suffix down
+    fn below_suffix(&self, alloc: Global, typed: TypedName) -> Result<Located, PathFault>
+        requires { KeysFit self.now.types typed }
+        ensures rdns { Gives (λ l. l.rdns) result (below self.now.types (reverse self.now.suffix) (reverse typed.rdns.items)) }
         ensures path { IfOk result (λ l. l.path ≡ path_of self.now l.rdns) }
     {
-        if !self.is_below(&typed.keys) {
+        let TypedName { mut rdns, path } = typed;
+        if !self.root().begins(&path) {
             return Err(PathFault::Code(Code::NoSuchObject));
         }
-        let rdns = typed.rdns.split_off(self.suffix_len())?;
-        let keys = typed.keys.split_off(self.suffix_len())?;
+        rdns.truncate(rdns.len() - self.suffix().len());
+        rdns.reverse();
         Ok(Located {
-            path: Path::of_steps(Sequence::from_vec(keys)),
+            path: path.behind(alloc, self.root())?,
             rdns: Sequence::from_vec(rdns),
         })
     }
@@ -123,9 +157,7 @@ impl Conf {
         ensures path { IfOk result (λ l. l.path ≡ path_of self.now l.rdns) }
     {
         let name = name_of_text(alloc, text)?;
-        let mut typed = typed(alloc, self.types(), name.as_slice())?;
-        typed.rdns.reverse();
-        typed.keys.reverse();
-        self.below_suffix(typed)
+        let typed = typed(alloc, self.types(), name.as_slice())?;
+        self.below_suffix(alloc, typed)
     }
 }

@@ -1,11 +1,17 @@
 //! RDNs and paths.
 
-ghost use Rattle.std.specs.Prelude.{◌≡◌, ◌++◌, ◌∷◌, [], IfOk, OnOk, OnErr, length};
-ghost use Rattle.schema.specs.Paths.{begins, parent_of, is_root};
+ghost use Rattle.std.specs.Prelude.{◌≡◌, ◌++◌, ◌∷◌, ◌≤◌, ◌==◌, [], IfOk, OnOk, OnErr, Some, length, take, drop, count_by, true, refl};
+ghost use Rattle.std.specs.Cmp.{partial_equiv_from_equiv, partial_order_from_total, eq_by_cmp_equiv};
+ghost use Rattle.std.specs.Ordering.{eq_by_cmp};
+ghost use Rattle.schema.specs.Paths.{path_cmp, begins, parent_of, is_root};
+ghost use Rattle.schema.specs.PathLaws.{path_total};
+ghost use Rattle.schema.specs.Packed.{pack, unpack, IsPacked};
 
+use crate::packing::{STEP_END, push_step};
 use crate::types::TypeId;
 use lists::{Bytes, Sequence};
 use std::alloc::{AllocError, Global};
+use std::cmp::Ordering;
 use std::marker::Model;
 
 /// An RDN as written (RFC 4512, 2.3.2): each part's type and value. A contract sees it as the list of its parts.
@@ -71,19 +77,21 @@ impl RdnKey {
 
 /// Where an entry stands below the suffix: what its RDNs come to, from the suffix down. The suffix's own path is empty.
 /// Paths are ordered as lists, which is the order of a dump. A contract sees a path as the list of its steps.
-#[derive(Debug, PartialEq, Eq, PartialOrd, Ord, Drop)]
+#[derive(Debug, Drop)]
 pub struct Path {
-    steps: Sequence<RdnKey>,
+    // the steps in a code whose order byte by byte is the order of paths
+    bytes: Vec<u8>,
 }
 
 impl Model for Path {
     ghost use Rattle.std.specs.Prelude.{List, ℕ};
+    ghost use Rattle.schema.specs.Packed.{unpack, IsPacked};
 
     ghost Value = { List (List (ℕ × List ℕ)) };
 
-    ghost view = { λ p. p.steps };
+    ghost view = { λ p. unpack p.bytes.items };
 
-    ghost inverse = { λ steps. record { steps = steps } };
+    ghost invariant = { λ p. IsPacked p.bytes.items };
 }
 
 fn copy_pairs(
@@ -95,16 +103,6 @@ fn copy_pairs(
     let mut copied = Sequence::new(alloc);
     for (number, value) in pairs {
         copied.push((*number, value.copy(alloc)?))?;
-    }
-    Ok(copied)
-}
-
-fn copy_steps(alloc: Global, steps: &[RdnKey]) -> Result<Sequence<RdnKey>, AllocError>
-    ensures { IfOk result (λ s. s ≡ steps.now) }
-{
-    let mut copied = Sequence::new(alloc);
-    for step in steps {
-        copied.push(step.copy(alloc)?)?;
     }
     Ok(copied)
 }
@@ -127,20 +125,41 @@ impl RdnKey {
     }
 }
 
+fn count_ends(bytes: &[u8]) -> usize
+    ensures { result ≡ count_by (λ b. b == 0) bytes.now }
+{
+    bytes.iter().filter(|b| **b == STEP_END).count()
+}
+
+// How many of a path's bytes its parent has: those up to the last end of a step before the last byte.
+fn parent_len(bytes: &[u8]) -> usize
+    requires { IsPacked bytes.now }
+    ensures bound { result ≤ length bytes.now }
+    ensures cut { take result bytes.now ≡ pack (parent_of (unpack bytes.now)) }
+{
+    let mut end = bytes.len().saturating_sub(1);
+    while end > 0 && bytes[end - 1] != STEP_END {
+        end -= 1;
+    }
+    end
+}
+
 impl Path {
     /// The suffix's path, which has no step.
     pub fn root(alloc: Global) -> Path
         ensures { result ≡ [] }
     {
         Path {
-            steps: Sequence::new(alloc),
+            bytes: Vec::new(alloc),
         }
     }
 
-    pub(crate) fn of_steps(steps: Sequence<RdnKey>) -> Path
-        ensures { result ≡ steps }
+    /// The path with these bytes.
+    pub(crate) fn from_bytes(bytes: Vec<u8>) -> Path
+        requires { IsPacked bytes.items }
+        ensures { result ≡ unpack bytes.items }
     {
-        Path { steps }
+        Path { bytes }
     }
 
     /// Goes one step down, or changes nothing where memory runs out.
@@ -148,26 +167,23 @@ impl Path {
         ensures ok { OnOk result (self.new ≡ self.old ++ step ∷ []) }
         ensures err { OnErr result (self.new ≡ self.old) }
     {
-        self.steps.push(step)
+        let mut code = Vec::new(*self.bytes.allocator());
+        push_step(&mut code, step.pairs())?;
+        self.bytes.extend_from_slice(&code)?;
+        Ok(())
     }
 
     pub fn len(&self) -> usize
         ensures { result ≡ length self.now }
     {
-        self.steps.len()
+        count_ends(&self.bytes)
     }
 
     /// Whether it is the suffix's.
     pub fn is_root(&self) -> bool
         ensures { result ≡ is_root self.now }
     {
-        self.steps.is_empty()
-    }
-
-    pub fn steps(&self) -> &[RdnKey]
-        ensures { result.now ≡ self.now }
-    {
-        self.steps.as_slice()
+        self.bytes.is_empty()
     }
 
     /// The same path again.
@@ -175,7 +191,7 @@ impl Path {
         ensures { IfOk result (λ p. p ≡ self.now) }
     {
         Ok(Path {
-            steps: copy_steps(alloc, self.steps())?,
+            bytes: Vec::from_slice(alloc, &self.bytes)?,
         })
     }
 
@@ -183,10 +199,25 @@ impl Path {
     pub fn parent(&self, alloc: Global) -> Result<Path, AllocError>
         ensures { IfOk result (λ p. p ≡ parent_of self.now) }
     {
-        let steps = self.steps();
-        let end = steps.len().saturating_sub(1);
+        let bytes = self.bytes.as_slice();
         Ok(Path {
-            steps: copy_steps(alloc, &steps[..end])?,
+            bytes: Vec::from_slice(alloc, &bytes[..parent_len(bytes)])?,
+        })
+    }
+
+    #[cfg(test)]
+    pub(crate) fn bytes(&self) -> &[u8] {
+        self.bytes.as_slice()
+    }
+
+    /// What comes behind a path that begins this one.
+    pub(crate) fn behind(&self, alloc: Global, upper: &Path) -> Result<Path, AllocError>
+        requires { begins upper.now self.now ≡ true }
+        ensures { IfOk result (λ p. p ≡ drop (length upper.now) self.now) }
+    {
+        let (_, rest) = self.bytes.as_slice().split_at(upper.bytes.len());
+        Ok(Path {
+            bytes: Vec::from_slice(alloc, rest)?,
         })
     }
 
@@ -194,6 +225,44 @@ impl Path {
     pub fn begins(&self, other: &Path) -> bool
         ensures { result ≡ begins self.now other.now }
     {
-        other.steps().starts_with(self.steps())
+        other.bytes.starts_with(&self.bytes)
+    }
+}
+
+impl PartialEq for Path {
+    ghost eq = { eq_by_cmp path_cmp };
+
+    ghost laws = { partial_equiv_from_equiv (eq_by_cmp_equiv path_total) };
+
+    fn eq(&self, other: &Path) -> bool {
+        self.bytes == other.bytes
+    }
+}
+
+impl Eq for Path {
+    ghost laws = { eq_by_cmp_equiv path_total };
+}
+
+impl PartialOrd for Path {
+    ghost partial_cmp = { λ p q. Some (path_cmp p q) };
+
+    ghost laws = { partial_order_from_total path_total };
+
+    fn partial_cmp(&self, other: &Path) -> Option<Ordering> {
+        Some(self.cmp(other))
+    }
+}
+
+impl Ord for Path {
+    ghost cmp = { path_cmp };
+
+    ghost total = { path_total };
+
+    ghost matches_partial_cmp = { λ p q. refl };
+
+    ghost matches_eq = { λ p q. refl };
+
+    fn cmp(&self, other: &Path) -> Ordering {
+        self.bytes.cmp(&other.bytes)
     }
 }

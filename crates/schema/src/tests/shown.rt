@@ -1,6 +1,6 @@
 //! Texts of configurations, and paths and RDNs as short texts.
 
-use crate::{Conf, ConfFault, Located, PathFault, Rdn, RdnKey, TypeId, read_conf};
+use crate::{Conf, ConfFault, Located, Path, PathFault, Rdn, TypeId, read_conf};
 use lists::Bytes;
 use std::alloc::{AllocError, Global};
 use std::test::Fail;
@@ -63,13 +63,37 @@ pub fn rdns_shown(alloc: Global, rdns: &[Rdn]) -> Result<Vec<u8>, AllocError> {
     Ok(out)
 }
 
-/// `/TYPE=VALUE` for each step, in order.
-pub fn steps_shown(alloc: Global, steps: &[RdnKey]) -> Result<Vec<u8>, AllocError> {
+/// `/TYPE=VALUE` for each pair of a path of ASCII values, in order, read from its bytes: three digits, the value and a 1 for a
+/// pair, and a 0 behind the pairs of a step.
+pub fn steps_shown(alloc: Global, path: &Path) -> Result<Vec<u8>, AllocError> {
     let mut out = Vec::new(alloc);
-    for step in steps {
-        push_pairs(alloc, &mut out, step.pairs())?;
+    let mut digits = 0u8;
+    let mut number = 0u32;
+    for &byte in path.bytes() {
+        if byte < 2 {
+            digits = 0;
+            number = 0;
+        } else if digits == 3 {
+            out.push(byte - 2)?;
+        } else {
+            digits = digits.saturating_add(1);
+            number = number.wrapping_mul(254).wrapping_add(u32::from(byte - 2));
+            push_number(alloc, &mut out, digits, number)?;
+        }
     }
     Ok(out)
+}
+
+fn push_number(
+    alloc: Global,
+    out: &mut Vec<u8>,
+    digits: u8,
+    number: u32,
+) -> Result<(), AllocError> {
+    if digits == 3 {
+        out.extend_from_slice(format!(in alloc; "/{number}=")?.as_bytes())?;
+    }
+    Ok(())
 }
 
 /// The path, a bar and the RDNs, or the number of the code.
@@ -79,7 +103,7 @@ pub fn place_shown(
 ) -> Result<Vec<u8>, AllocError> {
     match answer {
         Ok(place) => {
-            let mut out = steps_shown(alloc, place.path.steps())?;
+            let mut out = steps_shown(alloc, &place.path)?;
             out.push(b'|')?;
             out.extend_from_slice(&rdns_shown(alloc, place.rdns.as_slice())?)?;
             Ok(out)

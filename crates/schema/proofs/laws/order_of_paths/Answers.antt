@@ -1,4 +1,5 @@
-use Rattle.schema.proofs.Orders.{path_total, path_exact, parent_first}
+use Rattle.schema.specs.PathLaws.{path_total}
+use Rattle.schema.proofs.Orders.{path_exact, parent_first}
 use Rattle.schema.proofs.laws.order_of_paths.Goals as goal
 
 pub returns : goal.returns

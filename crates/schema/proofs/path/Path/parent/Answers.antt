@@ -1,0 +1,17 @@
+use Rattle.std.proofs.Common.{◌≡◌, ap, ◌∙◌}
+use Rattle.schema.specs.Paths.{parent_of}
+use Rattle.schema.specs.Packed.{pack, unpack}
+use Rattle.schema.proofs.Unpacked.{reads_as, is_packed}
+use Rattle.schema.proofs.path.Path.parent.Goals as goal
+use Rattle.schema.proofs.path.Path.parent.Goals.{In_ok-from_slice}
+
+is_cut : (c : In_ok-from_slice) → c.in_ok-from_slice.field-0.items ≡ pack (parent_of c.args.self.now)
+is_cut c =
+    c.in_ok-from_slice.ensures.items ∙ c.parent_len.ensures.cut ∙ ap (λ bs. pack (parent_of (unpack bs))) c.as_slice-bytes.ensures.value
+    ∙ ap (λ p. pack (parent_of p)) c.self.view_is
+
+pub invariant_of-result : goal.invariant_of-result
+invariant_of-result c = is_packed c.in_ok-from_slice.field-0.items (parent_of c.args.self.now) (is_cut c)
+
+pub returns : goal.returns
+returns c = reads_as c.in_ok-from_slice.field-0.items (parent_of c.args.self.now) (is_cut c)
