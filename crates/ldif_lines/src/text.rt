@@ -12,6 +12,9 @@ use std::alloc::{AllocError, Global};
 /// How many bytes are read at least before their memory is given back.
 const MANY: usize = 65536;
 
+/// As many lines as most records have at most.
+const USUAL_LINES: usize = 24;
+
 /// A record, and where the text goes on behind it.
 #[derive(Drop)]
 struct Found {
@@ -52,7 +55,7 @@ fn record_from(
     let mut draft = Draft {
         line: 0,
         in_comment: false,
-        lines: Vec::new(alloc),
+        lines: Vec::with_capacity(alloc, USUAL_LINES)?,
     };
     let mut end = at;
     let mut count = before;
@@ -110,17 +113,18 @@ impl Text {
     }
 
     /// Gives back the memory of what was read, where that is most of it. Each byte is so moved once at most, on average.
-    fn give_back(&mut self, alloc: Global)
+    fn give_back(&mut self)
         ensures records { text_records self.new ≡ text_records self.old }
         ensures left { length self.new.bytes.items - self.new.at ≡ length self.old.bytes.items - self.old.at }
     {
         if !self.is_mostly_read() {
             return;
         }
-        if let Ok(rest) = Vec::from_slice(alloc, &self.bytes[self.at..]) {
-            self.bytes = rest;
-            self.at = 0;
-        }
+        let left = self.bytes.len() - self.at;
+        self.bytes.copy_within(self.at.., 0);
+        self.bytes.truncate(left);
+        self.bytes.shrink_to_fit();
+        self.at = 0;
     }
 
     /// The next record, or `None` where no record is left.
@@ -130,7 +134,7 @@ impl Text {
             (λ r. text_records self.old ≡ view r ∷ text_records self.new)) }
         ensures falls { IfOk result (λ found. IfSome found (λ _. length self.new.bytes.items - self.new.at < length self.old.bytes.items - self.old.at)) }
     {
-        self.give_back(alloc);
+        self.give_back();
         match record_from(alloc, &self.bytes, self.at, self.before, self.first)? {
             None => Ok(None),
             Some(found) => {

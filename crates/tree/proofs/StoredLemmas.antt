@@ -39,6 +39,17 @@ push_insert t (e ∷ es) v is = elim (nat_eq t e.0) as (λ b. cond b (Some e.1) 
 pub pushed_old : (t : ℕ) (es new : List StoredAttribute) (old w : List Value) (v : Value) → lookup (nat_eq t) es ≡ Some old → new ≡ set_value (nat_eq t) es w → w ≡ old ++ v ∷ [] → new ≡ push_value es t v
 pushed_old t es new old w v is set items = set ∙ ap (set_value (nat_eq t) es) items ∙ push_set t es old v is
 
+set_same : (t : ℕ) (es : List StoredAttribute) (w : List Value) → lookup (nat_eq t) es ≡ Some w → set_value (nat_eq t) es w ≡ es
+set_same t [] w is = cc
+set_same t (e ∷ es) w is = elim (nat_eq t e.0) as (λ b. cond b (Some e.1) (lookup (nat_eq t) es) ≡ Some w → cond b ((e.0, w) ∷ es) (e ∷ set_value (nat_eq t) es w) ≡ e ∷ es) [
+  | true ↦ λ is. let here : w ≡ e.1 = cc in ap (λ (vs : List Value). (e.0, vs) ∷ es) here
+  | false ↦ λ is. ap (λ (xs : List StoredAttribute). e ∷ xs) (set_same t es w is)
+] is
+
+-- values that were lent and not changed
+pub kept_same : (t : ℕ) (es new : List StoredAttribute) (w : List Value) → lookup (nat_eq t) es ≡ Some w → new ≡ set_value (nat_eq t) es w → new ≡ es
+kept_same t es new w is set = set ∙ set_same t es w is
+
 pub pushed_new : (t : ℕ) (es new : List StoredAttribute) (w : List Value) (v : Value) → lookup (nat_eq t) es ≡ None → new ≡ insert_entry nat_eq es t w → w ≡ v ∷ [] → new ≡ push_value es t v
 pushed_new t es new w v is set items = set ∙ ap (insert_entry nat_eq es t) items ∙ push_insert t es v is
 

@@ -1,6 +1,6 @@
 //! The attributes of an entry that is added.
 
-ghost use Rattle.std.specs.Prelude.{◌≡◌, ◌<◌, true, [], IfOk, OnOk, length};
+ghost use Rattle.std.specs.Prelude.{◌≡◌, ◌<◌, true, not, [], if◌then◌else◌, IfOk, OnOk, length};
 ghost use Rattle.std.specs.List.{AllByRecursion};
 ghost use Rattle.schema.specs.Rdns.{IsPart};
 ghost use Rattle.schema.specs.Values.{norm_at, is_valid_at};
@@ -31,16 +31,6 @@ fn has_norm(values: &[Value], norm: &[u8]) -> bool
     values.iter().any(|value| value.norm() == norm)
 }
 
-// whether a type has a value with this normal form
-fn has_value(attrs: &Attributes, t: TypeId, norm: &[u8]) -> bool
-    ensures { result ≡ has_norm norm.now (values_of attrs.now.entries t) }
-{
-    match attrs.get(&t) {
-        Some(values) => has_norm(values.as_slice(), norm),
-        None => false,
-    }
-}
-
 // Puts a value last.
 fn push_value(
     alloc: Global,
@@ -59,6 +49,30 @@ fn push_value(
         }
     }
     Ok(())
+}
+
+// Puts a value last, unless its type has an equal one, and tells whether it did.
+fn put_value(
+    alloc: Global,
+    attrs: &mut Attributes,
+    t: TypeId,
+    value: Value,
+) -> Result<bool, AllocError>
+    ensures is_new { IfOk result (λ put. put ≡ not (has_norm value.norm (values_of attrs.old.entries t))) }
+    ensures entries { IfOk result (λ put. attrs.new.entries ≡ (if put then push_value attrs.old.entries t value else attrs.old.entries)) }
+{
+    match attrs.get_mut(&t) {
+        Some(values) => {
+            if has_norm(values.as_slice(), value.norm()) {
+                return Ok(false);
+            }
+            values.push(value)?;
+        }
+        None => {
+            attrs.insert(t, Values::one(alloc, value)?)?;
+        }
+    }
+    Ok(true)
 }
 
 // a line's type and value
@@ -80,10 +94,9 @@ fn add_line(alloc: Global, conf: &Conf, attrs: &mut Attributes, line: &Attr) -> 
     ensures gives { Gives (λ _. attributes_of attrs.new.entries) result (add_line conf.now.types (attributes_of attrs.old.entries) line.now) }
 {
     let (t, value) = line_value(alloc, conf, line)?;
-    if has_value(attrs, t, value.norm()) {
+    if !put_value(alloc, attrs, t, value)? {
         return Err(Refusal::Code(Code::AttributeOrValueExists));
     }
-    push_value(alloc, attrs, t, value)?;
     Ok(())
 }
 
@@ -189,9 +202,7 @@ fn add_part(
 {
     let (t, raw) = part;
     let value = valid_value(alloc, conf, *t, raw.as_slice())?;
-    if !has_value(attrs, *t, value.norm()) {
-        push_value(alloc, attrs, *t, value)?;
-    }
+    put_value(alloc, attrs, *t, value)?;
     Ok(())
 }
 

@@ -1,24 +1,35 @@
-use Rattle.std.proofs.Common.{◌∙◌, sym, subst, ap, cond, Err, Ok, List, ℕ}
+use Rattle.std.proofs.Common.{◌≡◌, ◌∙◌, sym, subst, ap, cond, refl, true, false, Bool, Err, Ok, List, ℕ}
+use Rattle.std.proofs.lemmas.Bool.{not-false, not-true}
 use Rattle.schema.specs.declared.code.Code.TheVariants.{AttributeOrValueExists}
+use Rattle.schema.specs.Values.{Value}
 use Rattle.tree.specs.Entries.{Attributes, values_of, push_value}
-use Rattle.tree.specs.Stored.{attributes_of, has_norm, IsMade}
+use Rattle.tree.specs.Stored.{StoredAttribute, attributes_of, has_norm, IsMade}
 use Rattle.tree.proofs.LineLemmas.{line_is}
 use Rattle.tree.proofs.StoredLemmas.{raws_pushed, made_pushed}
 use Rattle.tree.proofs.attributes.add_line.Goals as goal
 
-pub returns-then-has_value-clause-gives : goal.returns-then-has_value-clause-gives
-returns-then-has_value-clause-gives c =
-    line_is c.args.conf.now.types c.args.attrs.now.entries c.requires c.in_ok-t.t c.in_ok-t.value c.in_ok-t.ensures.normal c.has_value.result
-    (c.has_value.ensures ∙ ap (λ (n : List ℕ). has_norm n (values_of c.args.attrs.now.entries c.in_ok-t.t)) c.norm.ensures) c.args.line.now c.in_ok-t.ensures.gives
-    ∙ ap (λ b. cond b (Err AttributeOrValueExists) (Ok (push_value (attributes_of c.args.attrs.now.entries) c.in_ok-t.t c.in_ok-t.value.raw))) c.if-has_value.true
+pub returns-then-not-branch-clause-gives : goal.returns-then-not-branch-clause-gives
+returns-then-not-branch-clause-gives c =
+    let es : List StoredAttribute = c.args.attrs.now.entries in
+    let v : Value = c.in_ok-t.value in
+    let there : has_norm v.norm (values_of es c.in_ok-t.t) ≡ true = not-false _ (sym c.in_ok-put_value.ensures.is_new ∙ c.if-not-branch.true) in
+    line_is c.args.conf.now.types es c.requires c.in_ok-t.t v c.in_ok-t.ensures.normal (has_norm v.norm (values_of es c.in_ok-t.t)) refl c.args.line.now c.in_ok-t.ensures.gives
+    ∙ ap (λ b. cond b (Err AttributeOrValueExists) (Ok (push_value (attributes_of es) c.in_ok-t.t v.raw))) there
 
 pub returns-clause-made : goal.returns-clause-made
 returns-clause-made c =
-    subst (IsMade c.args.conf.now.types) (sym c.in_ok-push_value.ensures) (made_pushed c.args.conf.now.types c.in_ok-t.t c.args.attrs.now.entries c.in_ok-t.value c.requires c.in_ok-t.ensures.known c.in_ok-t.ensures.normal)
+    let es : List StoredAttribute = c.args.attrs.now.entries in
+    let put : c.put_value.new.attrs.entries ≡ push_value es c.in_ok-t.t c.in_ok-t.value =
+    c.in_ok-put_value.ensures.entries ∙ ap (λ (b : Bool). cond b (push_value es c.in_ok-t.t c.in_ok-t.value) es) c.if-not-branch.false in
+    subst (IsMade c.args.conf.now.types) (sym put) (made_pushed c.args.conf.now.types c.in_ok-t.t es c.in_ok-t.value c.requires c.in_ok-t.ensures.known c.in_ok-t.ensures.normal)
 
 pub returns-clause-gives : goal.returns-clause-gives
 returns-clause-gives c =
-    line_is c.args.conf.now.types c.args.attrs.now.entries c.requires c.in_ok-t.t c.in_ok-t.value c.in_ok-t.ensures.normal c.has_value.result
-    (c.has_value.ensures ∙ ap (λ (n : List ℕ). has_norm n (values_of c.args.attrs.now.entries c.in_ok-t.t)) c.norm.ensures) c.args.line.now c.in_ok-t.ensures.gives
-    ∙ ap (λ b. cond b (Err AttributeOrValueExists) (Ok (push_value (attributes_of c.args.attrs.now.entries) c.in_ok-t.t c.in_ok-t.value.raw))) c.if-has_value.false
-    ∙ ap (λ (x : Attributes). Ok x) (sym (raws_pushed c.args.attrs.now.entries c.in_ok-t.t c.in_ok-t.value) ∙ ap attributes_of (sym c.in_ok-push_value.ensures))
+    let es : List StoredAttribute = c.args.attrs.now.entries in
+    let v : Value = c.in_ok-t.value in
+    let put : c.put_value.new.attrs.entries ≡ push_value es c.in_ok-t.t v =
+    c.in_ok-put_value.ensures.entries ∙ ap (λ (b : Bool). cond b (push_value es c.in_ok-t.t v) es) c.if-not-branch.false in
+    let new : has_norm v.norm (values_of es c.in_ok-t.t) ≡ false = not-true _ (sym c.in_ok-put_value.ensures.is_new ∙ c.if-not-branch.false) in
+    line_is c.args.conf.now.types es c.requires c.in_ok-t.t v c.in_ok-t.ensures.normal (has_norm v.norm (values_of es c.in_ok-t.t)) refl c.args.line.now c.in_ok-t.ensures.gives
+    ∙ ap (λ b. cond b (Err AttributeOrValueExists) (Ok (push_value (attributes_of es) c.in_ok-t.t v.raw))) new
+    ∙ ap (λ (x : Attributes). Ok x) (sym (raws_pushed es c.in_ok-t.t v) ∙ ap attributes_of (sym put))

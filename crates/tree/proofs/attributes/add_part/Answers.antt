@@ -1,26 +1,35 @@
-use Rattle.std.proofs.Common.{◌∙◌, sym, subst, ap, cond, List, ℕ, length}
+use Rattle.std.proofs.Common.{◌≡◌, ◌∙◌, sym, subst, ap, cond, refl, true, false, Bool, List, ℕ, length, not}
 use Rattle.std.proofs.lemmas.Bool.{ltb-true}
+use Rattle.schema.specs.Values.{Value}
 use Rattle.tree.specs.Entries.{values_of, push_value}
-use Rattle.tree.specs.Stored.{attributes_of, has_norm, IsMade}
+use Rattle.tree.specs.Stored.{StoredAttribute, attributes_of, has_norm, IsMade}
 use Rattle.tree.proofs.LineLemmas.{part_is, part_value, part_normal}
 use Rattle.tree.proofs.StoredLemmas.{raws_pushed, made_pushed}
 use Rattle.tree.proofs.attributes.add_part.Goals as goal
 
-pub returns-in_ok-push_value-clause-made : goal.returns-in_ok-push_value-clause-made
-returns-in_ok-push_value-clause-made c =
-    subst (IsMade c.args.conf.now.types) (sym c.in_ok-push_value.ensures) (made_pushed c.args.conf.now.types c.args.part.now.0 c.args.attrs.now.entries c.in_ok-value.value c.requires.made (ltb-true c.args.part.now.0 (length c.args.conf.now.types) c.requires.part.known) (part_normal c.args.conf.now.types c.args.part.now.0 c.as_slice.result.now c.in_ok-value.value c.in_ok-value.ensures))
+pub returns-clause-made : goal.returns-clause-made
+returns-clause-made c =
+    let types = c.args.conf.now.types in
+    let es : List StoredAttribute = c.args.attrs.now.entries in
+    let t = c.args.part.now.0 in
+    let v : Value = c.in_ok-value.value in
+    subst (IsMade types) (sym c.in_ok-put_value.ensures.entries)
+    (elim c.in_ok-put_value.field-0 as (λ (b : Bool). IsMade types (cond b (push_value es t v) es)) [
+      | true ↦ made_pushed types t es v c.requires.made (ltb-true t (length types) c.requires.part.known) (part_normal types t c.as_slice.result.now v c.in_ok-value.ensures)
+      | false ↦ c.requires.made
+    ])
 
-pub returns-in_ok-push_value-clause-values : goal.returns-in_ok-push_value-clause-values
-returns-in_ok-push_value-clause-values c =
-    ap attributes_of c.in_ok-push_value.ensures ∙ raws_pushed c.args.attrs.now.entries c.args.part.now.0 c.in_ok-value.value
-    ∙ sym (part_is c.args.conf.now.types c.args.attrs.now.entries c.requires.made c.args.part.now.0 c.in_ok-value.value (part_normal c.args.conf.now.types c.args.part.now.0 c.as_slice.result.now c.in_ok-value.value c.in_ok-value.ensures) c.has_value.result
-    (c.has_value.ensures ∙ ap (λ (n : List ℕ). has_norm n (values_of c.args.attrs.now.entries c.args.part.now.0)) c.norm.ensures)
-    c.args.part.now (part_value c.args.conf.now.types c.args.part.now c.as_slice.result.now c.in_ok-value.value c.as_slice.ensures c.in_ok-value.ensures)
-    ∙ ap (λ b. cond b (attributes_of c.args.attrs.now.entries) (push_value (attributes_of c.args.attrs.now.entries) c.args.part.now.0 c.in_ok-value.value.raw)) c.if-not-has_value.true)
-
-pub returns-else-not-has_value-clause-values : goal.returns-else-not-has_value-clause-values
-returns-else-not-has_value-clause-values c =
-    sym (part_is c.args.conf.now.types c.args.attrs.now.entries c.requires.made c.args.part.now.0 c.in_ok-value.value (part_normal c.args.conf.now.types c.args.part.now.0 c.as_slice.result.now c.in_ok-value.value c.in_ok-value.ensures) c.has_value.result
-    (c.has_value.ensures ∙ ap (λ (n : List ℕ). has_norm n (values_of c.args.attrs.now.entries c.args.part.now.0)) c.norm.ensures)
-    c.args.part.now (part_value c.args.conf.now.types c.args.part.now c.as_slice.result.now c.in_ok-value.value c.as_slice.ensures c.in_ok-value.ensures)
-    ∙ ap (λ b. cond b (attributes_of c.args.attrs.now.entries) (push_value (attributes_of c.args.attrs.now.entries) c.args.part.now.0 c.in_ok-value.value.raw)) c.if-not-has_value.false)
+pub returns-clause-values : goal.returns-clause-values
+returns-clause-values c =
+    let types = c.args.conf.now.types in
+    let es : List StoredAttribute = c.args.attrs.now.entries in
+    let t = c.args.part.now.0 in
+    let v : Value = c.in_ok-value.value in
+    let there : Bool = has_norm v.norm (values_of es t) in
+    ap attributes_of (c.in_ok-put_value.ensures.entries ∙ ap (λ (b : Bool). cond b (push_value es t v) es) c.in_ok-put_value.ensures.is_new)
+    ∙ (elim there as (λ (b : Bool). attributes_of (cond (not b) (push_value es t v) es) ≡ cond b (attributes_of es) (push_value (attributes_of es) t v.raw)) [
+      | true ↦ refl
+      | false ↦ raws_pushed es t v
+    ])
+    ∙ sym (part_is types es c.requires.made t v (part_normal types t c.as_slice.result.now v c.in_ok-value.ensures) there refl
+    c.args.part.now (part_value types c.args.part.now c.as_slice.result.now v c.as_slice.ensures c.in_ok-value.ensures))
