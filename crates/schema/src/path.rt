@@ -10,6 +10,7 @@ ghost use Rattle.schema.specs.Packed.{pack, unpack, IsPacked};
 use crate::packing::{STEP_END, push_step};
 use crate::types::TypeId;
 use lists::{Bytes, Sequence};
+use smallvec::SmallVec;
 use std::alloc::{AllocError, Global};
 use std::cmp::Ordering;
 use std::marker::Model;
@@ -75,12 +76,23 @@ impl RdnKey {
     }
 }
 
+/// As many bytes as most paths take at most.
+const USUAL_LEN: usize = 48;
+
 /// Where an entry stands below the suffix: what its RDNs come to, from the suffix down. The suffix's own path is empty.
 /// Paths are ordered as lists, which is the order of a dump. A contract sees a path as the list of its steps.
-#[derive(Debug, Drop)]
+#[derive(Debug)]
 pub struct Path {
     // the steps in a code whose order byte by byte is the order of paths
-    bytes: Vec<u8>,
+    bytes: SmallVec<u8, USUAL_LEN>,
+}
+
+// A call of its own, so that a caller's proof need not tell the two places of the bytes apart.
+impl Drop for Path {
+    fn drop(self) {
+        let Path { bytes } = self;
+        drop(bytes);
+    }
 }
 
 impl Model for Path {
@@ -150,16 +162,24 @@ impl Path {
         ensures { result ≡ [] }
     {
         Path {
-            bytes: Vec::new(alloc),
+            bytes: SmallVec::new(alloc),
         }
     }
 
-    /// The path with these bytes.
+    // The path with these bytes.
     pub(crate) fn from_bytes(bytes: Vec<u8>) -> Path
         requires { IsPacked bytes.items }
         ensures { result ≡ unpack bytes.items }
     {
-        Path { bytes }
+        Path {
+            bytes: SmallVec::from_vec(bytes),
+        }
+    }
+
+    pub(crate) fn bytes(&self) -> &[u8]
+        ensures { result.now ≡ pack self.now }
+    {
+        self.bytes.as_slice()
     }
 
     /// Goes one step down, or changes nothing where memory runs out.
@@ -176,14 +196,14 @@ impl Path {
     pub fn len(&self) -> usize
         ensures { result ≡ length self.now }
     {
-        count_ends(&self.bytes)
+        count_ends(self.bytes())
     }
 
     /// Whether it is the suffix's.
     pub fn is_root(&self) -> bool
         ensures { result ≡ is_root self.now }
     {
-        self.bytes.is_empty()
+        self.bytes().is_empty()
     }
 
     /// The same path again.
@@ -191,7 +211,7 @@ impl Path {
         ensures { IfOk result (λ p. p ≡ self.now) }
     {
         Ok(Path {
-            bytes: Vec::from_slice(alloc, &self.bytes)?,
+            bytes: SmallVec::from_slice(alloc, self.bytes())?,
         })
     }
 
@@ -199,25 +219,20 @@ impl Path {
     pub fn parent(&self, alloc: Global) -> Result<Path, AllocError>
         ensures { IfOk result (λ p. p ≡ parent_of self.now) }
     {
-        let bytes = self.bytes.as_slice();
+        let bytes = self.bytes();
         Ok(Path {
-            bytes: Vec::from_slice(alloc, &bytes[..parent_len(bytes)])?,
+            bytes: SmallVec::from_slice(alloc, &bytes[..parent_len(bytes)])?,
         })
     }
 
-    #[cfg(test)]
-    pub(crate) fn bytes(&self) -> &[u8] {
-        self.bytes.as_slice()
-    }
-
-    /// What comes behind a path that begins this one.
+    // What comes behind a path that begins this one.
     pub(crate) fn behind(&self, alloc: Global, upper: &Path) -> Result<Path, AllocError>
         requires { begins upper.now self.now ≡ true }
         ensures { IfOk result (λ p. p ≡ drop (length upper.now) self.now) }
     {
-        let (_, rest) = self.bytes.as_slice().split_at(upper.bytes.len());
+        let (_, rest) = self.bytes().split_at(upper.bytes().len());
         Ok(Path {
-            bytes: Vec::from_slice(alloc, rest)?,
+            bytes: SmallVec::from_slice(alloc, rest)?,
         })
     }
 
@@ -225,7 +240,7 @@ impl Path {
     pub fn begins(&self, other: &Path) -> bool
         ensures { result ≡ begins self.now other.now }
     {
-        other.bytes.starts_with(&self.bytes)
+        other.bytes().starts_with(self.bytes())
     }
 }
 
@@ -235,7 +250,7 @@ impl PartialEq for Path {
     ghost laws = { partial_equiv_from_equiv (eq_by_cmp_equiv path_total) };
 
     fn eq(&self, other: &Path) -> bool {
-        self.bytes == other.bytes
+        self.bytes() == other.bytes()
     }
 }
 
@@ -263,6 +278,6 @@ impl Ord for Path {
     ghost matches_eq = { λ p q. refl };
 
     fn cmp(&self, other: &Path) -> Ordering {
-        self.bytes.cmp(&other.bytes)
+        self.bytes().cmp(other.bytes())
     }
 }

@@ -10,7 +10,7 @@ pushed c =
     packed_more c.args.self.now c.args.step c.self.inside.bytes.items c.deref.result.now c.extend_from_slice.new.self.items
     (bytes_of c.self.inside.bytes.items c.args.self.now c.self.invariant c.self.view_is)
     (c.deref.ensures.value ∙ c.in_ok-push_step.ensures ∙ ap (λ bs. bs ++ step_code c.pairs.result.now) c.new-code.ensures.items ∙ ap step_code c.pairs.ensures)
-    c.in_ok-extend_from_slice.ensures.items
+    c.in_ok-extend_from_slice.ensures.ok
 
 pub invariant_of-self-2 : goal.invariant_of-self-2
 invariant_of-self-2 c = is_packed c.extend_from_slice.new.self.items (c.args.self.now ++ c.args.step ∷ []) (pushed (goal.at.invariant_of-self-2 c).In_ok-extend_from_slice)
