@@ -2,6 +2,8 @@
 
 ghost use Rattle.std.specs.Prelude.{◌≡◌, ◌<◌, ◌-◌, ◌^◌, ◌++◌, ◌∷◌, length, IfOk, OnOk};
 ghost use Rattle.std.specs.List.{list_all};
+ghost use Rattle.base64.specs.GeneralPurpose.{encode_of};
+ghost use Rattle.base64.specs.Engines.{standard};
 ghost use Rattle.device.specs.Device.{Took, Broke};
 ghost use Rattle.ldif_lines.specs.Folding.{folded};
 ghost use Rattle.ldif.specs.Writing.{is_safe_byte, ends_with, is_plain, line_text, written_line};
@@ -57,6 +59,15 @@ fn is_plain(value: &[u8]) -> bool
         && !ends_with(value, b' ')
 }
 
+// Kept apart, since most values are plain, and its tables would be laid out for them too.
+#[inline(never)]
+fn put_encoded(alloc: Global, out: &mut Vec<u8>, value: &[u8]) -> Result<(), AllocError>
+    ensures { OnOk result (out.new.items ≡ out.old.items ++ encode_of standard value.now) }
+{
+    let code = STANDARD.encode(alloc, value)?;
+    out.extend_from_slice(code.as_bytes())
+}
+
 // Puts the line, before it is folded, at the end.
 #[tactic(auto, unfolding(crate::specs::Writing::line_text))]
 fn put_text(alloc: Global, out: &mut Vec<u8>, name: &[u8], value: &[u8]) -> Result<(), AllocError>
@@ -70,8 +81,7 @@ fn put_text(alloc: Global, out: &mut Vec<u8>, name: &[u8], value: &[u8]) -> Resu
         out.extend_from_slice(value)
     } else {
         out.extend_from_slice(b":: ")?;
-        let code = STANDARD.encode(alloc, value)?;
-        out.extend_from_slice(code.as_bytes())
+        put_encoded(alloc, out, value)
     }
 }
 
