@@ -169,7 +169,7 @@ unfolding trimmed
 no_spaces zero = refl
 no_spaces (suc n) = ap (keep space) (no_spaces n)
 
-trimmed_with : (us : List Octet) (n : ℕ) → ends_well us ≡ true → trimmed (us ++ replicate n space) ≡ us
+pub trimmed_with : (us : List Octet) (n : ℕ) → ends_well us ≡ true → trimmed (us ++ replicate n space) ≡ us
 unfolding trimmed
 trimmed_with [] n h = no_spaces n
 trimmed_with (u ∷ []) n h = ap (keep u) (no_spaces n) ∙ ap (λ (t : Bool). cond t [] (u ∷ [])) (not-true (is_raw_space u) h)

@@ -2,18 +2,18 @@
 
 ghost use Rattle.std.specs.Prelude.{◌≡◌, ◌==◌, not, true, false, length, Ok, IfOk, OnOk};
 ghost use Rattle.std.specs.List.{list_all, prefix_len};
-ghost use Rattle.dn.specs.Names.{Rdns, is_type_byte, is_part, is_rdn};
+ghost use Rattle.dn.specs.Names.{Rdns, is_type_byte, is_type, is_part};
 ghost use Rattle.dn.specs.Spelling.{Spells};
-ghost use Rattle.dn.specs.Reading.{is_space, skip, type_in, after_type, after_equals, part_of, each, cut_raw, rdn_of, name_of};
+ghost use Rattle.dn.specs.Reading.{is_space, skip, type_in, after_type, after_equals, each, cut_raw, rdn_of, name_of};
+ghost use Rattle.dn.specs.Cuts.{first_part, first_rdn, HoldsBefore};
 ghost use Rattle.dn.specs.Gives.{Gives};
 
 use crate::faults::{Fault, NameFault};
 use crate::names::{Ava, Name, Rdn, is_type_byte};
-use crate::split::split_once;
-use crate::value::value_of;
-use lists::Bytes;
+use crate::split::{after_first, after_plus, split_piece};
+use crate::value::{split_plain, value_of};
 use smallvec::SmallVec;
-use std::alloc::Global;
+use std::alloc::{AllocError, Global};
 
 fn spaces_in(text: &[u8]) -> usize
     ensures { result ≡ prefix_len is_space text.now }
@@ -60,52 +60,60 @@ fn after_equals<'a>(ty_text: &[u8], rest: &'a [u8]) -> Result<&'a [u8], NameFaul
     }
 }
 
-/// The part that a text spells.
-#[tactic(auto, unfolding(crate::specs::Reading::part_of, crate::specs::Reading::part_at))]
-fn part_of(alloc: Global, text: &[u8]) -> Result<Ava, NameFault>
-    ensures exact { Gives (λ p. p) result (part_of text.now) }
-    ensures good { IfOk result (λ p. is_part p ≡ true) }
+/// The part at the front of a text, from its type on: what stands behind it was cut off.
+fn plain_part(alloc: Global, text: &[u8], behind: &[u8], ty_text: &[u8], value: &[u8]) -> Result<Ava, AllocError>
+    requires ty_text { is_type ty_text.now ≡ true }
+    requires text { HoldsBefore text.now behind.now ty_text.now value.now }
+    ensures same { IfOk result (λ part. part ≡ (ty_text.now, value.now)) }
+    ensures good { IfOk result (λ part. is_part part ≡ true) }
 {
-    let (ty_text, rest) = split_type(skip(text));
-    let value = after_equals(ty_text, skip(rest))?;
-    let value = value_of(alloc, skip(value))?;
-    Ok(Ava::of_type(Bytes::from_slice(alloc, ty_text)?, value))
+    Ava::of_text(alloc, &text[..text.len() - behind.len()], ty_text, value)
 }
 
-/// The parts between plus signs.
-fn parts_of(alloc: Global, text: &[u8]) -> Result<SmallVec<Ava, 1>, NameFault>
-    ensures exact { Gives (λ v. v.items) result (each part_of (cut_raw 43 false text.now)) }
-    ensures good { IfOk result (λ v. is_rdn v.items ≡ true) }
+/// The part at the front of a text, up to the first separator that is not escaped, and what stands from there on.
+fn part_in(alloc: Global, text: &[u8]) -> Result<(Ava, &[u8]), NameFault>
+    ensures exact { Gives (λ r. (r.0, r.1.now)) result (first_part text.now) }
+    ensures good { IfOk result (λ r. is_part r.0 ≡ true) }
 {
+    let text = skip(text);
+    let (ty_text, rest) = split_type(text);
+    let rest = skip(after_equals(ty_text, skip(rest))?);
+    if let Some((value, behind)) = split_plain(rest) {
+        let part = plain_part(alloc, text, behind, ty_text, value)?;
+        return Ok((part, behind));
+    }
+    let (piece, behind) = split_piece(rest);
+    let value = value_of(alloc, piece)?;
+    Ok((Ava::of_type(alloc, ty_text, value.as_slice())?, behind))
+}
+
+/// The RDN at the front of a text, up to the first comma that is not escaped, and what stands from there on.
+fn rdn_in(alloc: Global, text: &[u8]) -> Result<(Rdn, &[u8]), NameFault>
+    ensures { Gives (λ r. (r.0, r.1.now)) result (first_rdn text.now) }
+{
+    let (part, mut rest) = part_in(alloc, text)?;
     let mut parts = SmallVec::new(alloc);
-    let mut rest = text;
-    while let Some((piece, behind)) = split_once(rest, b'+') {
-        parts.push(part_of(alloc, piece)?)?;
+    parts.push(part)?;
+    while let Some(more) = after_plus(rest) {
+        let (part, behind) = part_in(alloc, more)?;
+        parts.push(part)?;
         rest = behind;
     }
-    parts.push(part_of(alloc, rest)?)?;
-    Ok(parts)
-}
-
-/// The RDN that a text spells.
-#[tactic(auto, unfolding(crate::specs::Reading::rdn_of))]
-fn rdn_of(alloc: Global, text: &[u8]) -> Result<Rdn, NameFault>
-    ensures { Gives (λ r. r) result (rdn_of text.now) }
-{
-    Ok(Rdn::from_parts(parts_of(alloc, text)?))
+    Ok((Rdn::from_parts(parts), rest))
 }
 
 /// The RDNs between commas.
 fn rdns_of(alloc: Global, text: &[u8]) -> Result<Name, NameFault>
     ensures { Gives (λ n. n) result (each rdn_of (cut_raw 44 false text.now)) }
 {
+    let (rdn, mut rest) = rdn_in(alloc, text)?;
     let mut name = Name::new(alloc);
-    let mut rest = text;
-    while let Some((piece, behind)) = split_once(rest, b',') {
-        name.push(rdn_of(alloc, piece)?)?;
+    name.push(rdn)?;
+    while let Some(more) = after_first(rest) {
+        let (rdn, behind) = rdn_in(alloc, more)?;
+        name.push(rdn)?;
         rest = behind;
     }
-    name.push(rdn_of(alloc, rest)?)?;
     Ok(name)
 }
 

@@ -1,7 +1,6 @@
 //! Names, each with what it reads as and how it is written, by RFC 4514.
 
 use crate::{Ava, Name, NameFault, Rdn, read_name, write_name};
-use lists::Bytes;
 use std::alloc::{AllocError, Global};
 use std::default::MadeWith;
 use std::process::Abort;
@@ -346,23 +345,18 @@ fn first_faults_are_found(rt: HostRuntime) -> Result<(), Fail> {
     compare_faults(&rt, rt.alloc(), &FAULTS)
 }
 
-fn part_of(alloc: Global, ty_text: &[u8], value: &[u8]) -> Result<Option<Ava>, AllocError> {
-    let ty_text = Bytes::from_slice(alloc, ty_text)?;
-    Ok(Ava::new(ty_text, Bytes::from_slice(alloc, value)?))
-}
-
 #[test]
 fn only_what_is_spelled_is_made(rt: HostRuntime) -> Result<(), Fail> {
     let alloc = rt.alloc();
     for ty_text in ["", " ", "c n", "cn ", "cn=", "c,n", "c;x", "\u{e9}", "c\tn"] {
         assert!(rt;
-            part_of(alloc, ty_text.as_bytes(), b"a")?.is_none(),
+            Ava::new(alloc, ty_text.as_bytes(), b"a")?.is_none(),
             "{ty_text}"
         );
     }
     for ty_text in ["cn", "2.5.4.3", "a-b", "a_b", "0", "."] {
         assert!(rt;
-            part_of(alloc, ty_text.as_bytes(), b"a")?.is_some(),
+            Ava::new(alloc, ty_text.as_bytes(), b"a")?.is_some(),
             "{ty_text}"
         );
     }
@@ -385,8 +379,8 @@ fn every_byte_is_written_and_read(rt: HostRuntime) -> Result<(), Fail> {
     let alloc = rt.alloc();
     let bytes = all_bytes(alloc)?;
     let mut parts = Vec::new(alloc);
-    parts.extend(part_of(alloc, b"cn", &bytes)?)?;
-    parts.extend(part_of(alloc, b"sn", b"")?)?;
+    parts.extend(Ava::new(alloc, b"cn", &bytes)?)?;
+    parts.extend(Ava::new(alloc, b"sn", b"")?)?;
     let mut name = Name::new(alloc);
     match Rdn::new(parts) {
         Some(rdn) => name.push(rdn)?,

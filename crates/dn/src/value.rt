@@ -1,13 +1,16 @@
 //! Values as text.
 
-ghost use Rattle.std.specs.Prelude.{◌≡◌, ◌<◌, ◌&&◌, ◌==◌, [], take, IfOk, OnOk, IfSome, Some, None, if◌then◌else◌};
+ghost use Rattle.std.specs.Prelude.{◌≡◌, ◌<◌, ◌&&◌, ◌==◌, ◌++◌, [], take, Ok, IfOk, OnOk, IfSome, Some, None, if◌then◌else◌};
+ghost use Rattle.std.specs.List.{prefix_len};
 ghost use Rattle.dn.specs.Spelling.{may_stand, may_follow, is_hex, hex};
 ghost use Rattle.dn.specs.Reading.{raw_fault, octets_from, step, begins_form, value_from, value_of};
+ghost use Rattle.dn.specs.Cuts.{first_value, ends_in_space};
 ghost use Rattle.dn.specs.Drafts.{draft_after, IsInRange};
 ghost use Rattle.dn.specs.Gives.{Gives};
 ghost use Rattle.dn.specs.declared.value.State.TheVariants as states;
 
 use crate::faults::{Fault, NameFault};
+use crate::split::ends_piece;
 use lists::Bytes;
 use std::alloc::{AllocError, Global};
 
@@ -182,6 +185,34 @@ fn begins_form(text: &[u8]) -> bool
         [] => false,
         [first, ..] => *first == b'"' || *first == b'#',
     }
+}
+
+fn plain_len(text: &[u8]) -> usize
+    ensures { result ≡ prefix_len may_stand text.now }
+{
+    text.iter().take_while(|b| may_stand(**b)).count()
+}
+
+fn ends_in_space(text: &[u8]) -> bool
+    ensures { result ≡ ends_in_space text.now }
+{
+    match text {
+        [] => false,
+        [.., last] => *last == b' ',
+    }
+}
+
+/// The value that a text without spaces at its front begins with, where that is spelled without an escape and no space follows,
+/// and what stands behind it.
+pub(crate) fn split_plain(text: &[u8]) -> Option<(&[u8], &[u8])>
+    ensures read { IfSome result (λ s. first_value text.now ≡ Ok (s.0.now, s.1.now)) }
+    ensures split { IfSome result (λ s. text.now ≡ s.0.now ++ s.1.now) }
+{
+    let (value, behind) = text.split_at(plain_len(text));
+    if !ends_piece(behind) || begins_form(value) || ends_in_space(value) {
+        return None;
+    }
+    Some((value, behind))
 }
 
 /// The value that a text without spaces at its front spells.
