@@ -111,13 +111,9 @@ module _ (total : Got) (ty rest : List ℕ) (total_is : total ≡ from_text ty r
   equals_fails (errors.Fault fault) h = total_is ∙ ap reads h
 
   module _ (v from : List ℕ) (equals : after_equals ty rest ≡ Ok v) (from_is : from ≡ skip v) where
-    value_in : total ≡ (first_value from >>= with_type ty)
+    pub value_in : total ≡ (first_value from >>= with_type ty)
     unfolding from_text
     value_in = total_is ∙ ap reads equals ∙ ap (λ (x : List ℕ). first_value x >>= with_type ty) (sym from_is)
-
-    pub value_fails : (e : NameFault) (p : List ℕ) → p ≡ P from → Fails e (value_of p) → Fails e total
-    value_fails errors.OutOfMemory p is h = tt
-    value_fails (errors.Fault fault) p is h = value_in ∙ ap (λ (r : Result (List ℕ) Fault). (r >>= before (B from)) >>= with_type ty) (ap value_of (sym is) ∙ h)
 
     pub part_read : (value behind : List ℕ) (p : Part) → first_value from ≡ before behind value → p ≡ (ty, value) → total ≡ before behind p
     part_read value behind p h is = value_in ∙ ap (λ (r : Result (List ℕ × List ℕ) Fault). r >>= with_type ty) h ∙ ap (before behind) (sym is)

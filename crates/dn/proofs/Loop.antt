@@ -2,7 +2,7 @@
 use Rattle.std.proofs.lemmas.List.{length_push, append-nil}
 use Rattle.std.proofs.lemmas.Bool.Decides.{nat_tests}
 use Rattle.dn.specs.Names.{Part, Parts, Rdns, is_part, is_rdn}
-use Rattle.std.proofs.Common.{◌≡◌, ℕ, ◌<◌, arith, false, cond, not, eqb, length, Bool, true, List, [], ◌∷◌, ◌++◌, ◌&&◌, Result, Ok, Err, refl, sym, ap, ◌∙◌, append_assoc}
+use Rattle.std.proofs.Common.{◌≡◌, ℕ, ◌+◌, ◌<◌, ◌≤◌, arith, false, cond, not, eqb, length, Bool, true, List, [], ◌∷◌, ◌++◌, ◌&&◌, Option, Some, None, Result, Ok, Err, refl, sym, ap, ◌∙◌, append_assoc}
 use Rattle.std.specs.List.{list_all}
 use Rattle.std.proofs.lemmas.List.Folds.{list_all-append}
 use Rattle.dn.specs.declared.faults.Fault.{Fault}
@@ -10,11 +10,11 @@ use Rattle.dn.specs.declared.faults.NameFault.{NameFault}
 use Rattle.dn.specs.declared.faults.NameFault.TheVariants as errors
 use Rattle.dn.specs.Gives.{Fails}
 use Rattle.dn.specs.Reading.{◌>>=◌}
-use Rattle.dn.specs.Cuts.{piece, behind, first_by, first_part, first_rdn, begins_with_plus}
+use Rattle.dn.specs.Cuts.{piece, behind, first_by, first_part, first_rdn, after_first, begins_with_plus}
 use Rattle.dn.proofs.Parts.{same_ok}
 use Rattle.dn.proofs.Pieces.{shorter}
 use Rattle.dn.proofs.Firsts.{before}
-use Rattle.dn.proofs.Steps.{Found, parts_behind, with_part, parts_from, rdn_first, names, names_behind, onto_rdn, names_from, name_first}
+use Rattle.dn.proofs.Steps.{Found, parts_behind, with_part, parts_from, rdn_first, names, names_in, names_behind, names_from, name_first}
 
 pub with_front : {Y : Type 0} → List Y → Result (List Y) Fault → Result (List Y) Fault
 with_front front (Ok ys) = Ok (front ++ ys)
@@ -83,34 +83,30 @@ module _ (front : Parts) (rest : List ℕ) (total : Found) (so_far : onto front 
 
 -- ---- a name
 
-pub names_begin : (text : List ℕ) (r : Parts) (rest : List ℕ) (new : Rdns) → first_rdn text ≡ before rest r → new ≡ [] ++ r ∷ [] → with_front new (names_behind rest) ≡ names text
-names_begin text r rest new h is =
-    ap (λ (rs : Rdns). with_front rs (names_behind rest)) is ∙ more [] r (names_behind rest) ∙ nothing_front (onto_rdn r (names_behind rest))
-    ∙ sym (name_first text ∙ ap (λ (s : Found). s >>= names_from) h)
+pub names_begin : (text : List ℕ) (new : Rdns) → new ≡ [] → with_front new (names_in (Some text)) ≡ names text
+unfolding names_in
+names_begin text new is = ap (λ (rs : Rdns). with_front rs (names text)) is ∙ nothing_front (names text)
 
-pub names_fail : (text : List ℕ) (e : NameFault) → Fails e (first_rdn text) → Fails e (names text)
-names_fail text errors.OutOfMemory h = tt
-names_fail text (errors.Fault fault) h = name_first text ∙ ap (λ (s : Found). s >>= names_from) h
+module _ (front : Rdns) (text : List ℕ) (total : Result Rdns Fault) (so_far : with_front front (names_in (Some text)) ≡ total) where
+  at_text : with_front front (first_rdn text >>= names_from) ≡ total
+  unfolding names_in
+  at_text = ap (with_front front) (sym (name_first text)) ∙ so_far
 
-module _ (front : Rdns) (rest : List ℕ) (total : Result Rdns Fault) (so_far : with_front front (names_behind rest) ≡ total) where
-  module _ (s : ℕ) (more_text : List ℕ) (is : rest ≡ s ∷ more_text) where
-    at_comma : with_front front (names more_text) ≡ total
-    unfolding names_behind
-    at_comma = sym (ap (λ (x : List ℕ). with_front front (names_behind x)) is) ∙ so_far
+  pub names_go_on : (r : Parts) (rest : List ℕ) (new : Rdns) (left : Option (List ℕ)) → first_rdn text ≡ before rest r → new ≡ front ++ r ∷ [] → left ≡ after_first rest → with_front new (names_in left) ≡ total
+  names_go_on r rest new left h new_is left_is =
+      ap (λ (rs : Rdns). with_front rs (names_in left)) new_is
+      ∙ ap (λ (x : Option (List ℕ)). with_front (front ++ r ∷ []) (names_in x)) left_is
+      ∙ more front r (names_behind rest)
+      ∙ sym (ap (λ (s : Found). with_front front (s >>= names_from)) h) ∙ at_text
 
-    pub names_go_on : (r : Parts) (new_rest : List ℕ) (new : Rdns) → first_rdn more_text ≡ before new_rest r → new ≡ front ++ r ∷ [] → with_front new (names_behind new_rest) ≡ total
-    names_go_on r new_rest new h new_is =
-        ap (λ (rs : Rdns). with_front rs (names_behind new_rest)) new_is ∙ more front r (names_behind new_rest)
-        ∙ sym (ap (with_front front) (name_first more_text ∙ ap (λ (s : Found). s >>= names_from) h)) ∙ at_comma
+  pub names_end_at : (e : NameFault) → Fails e (first_rdn text) → Fails e total
+  unfolding with_front
+  names_end_at errors.OutOfMemory h = tt
+  names_end_at (errors.Fault fault) h = sym at_text ∙ ap (λ (s : Found). with_front front (s >>= names_from)) h
 
-    pub names_end_at : (e : NameFault) → Fails e (first_rdn more_text) → Fails e total
-    unfolding with_front
-    names_end_at errors.OutOfMemory h = tt
-    names_end_at (errors.Fault fault) h = sym at_comma ∙ ap (with_front front) (names_fail more_text (errors.Fault fault) h)
-
-  pub names_done : rest ≡ [] → total ≡ Ok front
-  unfolding with_front names_behind
-  names_done h = sym so_far ∙ ap (λ (x : List ℕ). with_front front (names_behind x)) h ∙ ap (λ (rs : Rdns). ok rs) (append-nil front)
+pub names_done : (front : Rdns) (left : Option (List ℕ)) (total : Result Rdns Fault) → with_front front (names_in left) ≡ total → left ≡ None → total ≡ Ok front
+unfolding with_front names_in
+names_done front left total so_far h = sym so_far ∙ ap (λ (x : Option (List ℕ)). with_front front (names_in x)) h ∙ ap (λ (rs : Rdns). ok rs) (append-nil front)
 
 -- ---- what all pass, and at the end one more
 
@@ -127,13 +123,29 @@ rdn_push front p new is h g =
 
 -- ---- the loops end
 
-left_is : {X : Type 0} (r : Result X Fault) (x : X) (rest end : List ℕ) → (r >>= before end) ≡ before rest x → rest ≡ end
-left_is {X} (Ok y) x rest end h = sym (ap (λ (s : X × List ℕ). s.1) (same_ok (y, end) (x, rest) h))
-left_is (Err e) x rest end h = absurd cc
+left_is_end : {X : Type 0} (r : Result X Fault) (x : X) (rest end : List ℕ) → (r >>= before end) ≡ before rest x → rest ≡ end
+left_is_end {X} (Ok y) x rest end h = sym (ap (λ (s : X × List ℕ). s.1) (same_ok (y, end) (x, rest) h))
+left_is_end (Err e) x rest end h = absurd cc
 
 pub less_is_left : {X : Type 0} (ends : ℕ → Bool) (read : List ℕ → Result X Fault) (text : List ℕ) (x : X) (s : ℕ) (rest old : List ℕ) → first_by ends read text ≡ before rest x → old ≡ s ∷ text → length rest < length old
 less_is_left ends read text x s rest old h is =
-    omega (arith, ap length (left_is (read (piece ends false text)) x rest (behind ends false text) h), ap length is, shorter ends false text)
+    omega (arith, ap length (left_is_end (read (piece ends false text)) x rest (behind ends false text) h), ap length is, shorter ends false text)
+
+-- what is left of a text, and one for a text that may be read
+pub size : Option (List ℕ) → ℕ
+size None = 0
+size (Some text) = length text + 1
+
+size_behind : (rest : List ℕ) → size (after_first rest) ≤ length rest
+unfolding size
+size_behind [] = omega arith
+size_behind (b ∷ bs) = omega arith
+
+pub less_is_left_behind : {X : Type 0} (ends : ℕ → Bool) (read : List ℕ → Result X Fault) (text : List ℕ) (x : X) (rest : List ℕ) (left old : Option (List ℕ)) → first_by ends read text ≡ before rest x → left ≡ after_first rest → old ≡ Some text → size left < size old
+unfolding size
+less_is_left_behind ends read text x rest left old h left_is old_is =
+    let le = ap length (left_is_end (read (piece ends false text)) x rest (behind ends false text) h) in
+    omega (arith, le, shorter ends false text, ap size left_is, ap size old_is, size_behind rest)
 
 pub no_plus : (text : List ℕ) → begins_with_plus text ≡ false → parts_behind text ≡ Ok ([], text)
 unfolding parts_behind

@@ -1,5 +1,5 @@
 -- An RDN, and a name, read part by part.
-use Rattle.std.proofs.Common.{◌≡◌, ℕ, Bool, true, false, cond, not, ◌&&◌, ◌||◌, eqb, List, [], ◌∷◌, ◌++◌, length, ◌≤◌, ◌<◌, get_or, drop, Result, Ok, Err, refl, sym, ap, subst, ◌∙◌, append_assoc, arith}
+use Rattle.std.proofs.Common.{◌≡◌, ℕ, Bool, true, false, cond, not, ◌&&◌, ◌||◌, eqb, List, [], ◌∷◌, ◌++◌, length, ◌≤◌, ◌<◌, get_or, drop, Option, Some, None, Result, Ok, Err, refl, sym, ap, subst, ◌∙◌, append_assoc, arith}
 use Rattle.std.specs.List.{onto_first}
 use Rattle.std.proofs.lemmas.Bool.{and_parts, eqb-true, not-true}
 use Rattle.std.proofs.lemmas.Bool.Decides.{nat_tests}
@@ -10,7 +10,7 @@ use Rattle.dn.specs.declared.faults.NameFault.TheVariants as errors
 use Rattle.dn.specs.Gives.{Fails}
 use Rattle.dn.specs.Names.{Part, Parts, Rdns}
 use Rattle.dn.specs.Reading.{◌>>=◌, each, part_of, escapes, cut_raw, rdn_of}
-use Rattle.dn.specs.Cuts.{piece, behind, is_comma, is_separator, first_part, first_rdn}
+use Rattle.dn.specs.Cuts.{piece, behind, is_comma, is_separator, after_first, first_part, first_rdn}
 use Rattle.dn.proofs.Pieces.{P, B, split, ends_is}
 use Rattle.dn.proofs.Firsts.{before}
 use Rattle.dn.proofs.Wholes.{IsWhole, cut_at, cut_none}
@@ -173,10 +173,13 @@ module _ (text : List ℕ) where
 abbrev pub names : List ℕ → Result Rdns Fault
 names text = each rdn_of (cut_raw 44 false text)
 
--- the RDNs that follow
-unfoldable pub names_behind : List ℕ → Result Rdns Fault
-names_behind [] = Ok []
-names_behind (s ∷ more) = names more
+-- the names of a text, where there is one
+unfoldable pub names_in : Option (List ℕ) → Result Rdns Fault
+names_in None = Ok []
+names_in (Some text) = names text
+
+abbrev pub names_behind : List ℕ → Result Rdns Fault
+names_behind text = names_in (after_first text)
 
 abbrev pub onto_rdn : Parts → Result Rdns Fault → Result Rdns Fault
 onto_rdn r rs = rs >>= λ rs. Ok (r ∷ rs)
@@ -190,7 +193,7 @@ rdn_then (Err e) rest = refl
 
 module _ (text : List ℕ) where
   name_last : behind is_comma false text ≡ [] → names text ≡ (first_rdn text >>= names_from)
-  unfolding each names_behind
+  unfolding each names_in
   name_last h =
       ap (each rdn_of) (cut_last is_comma 44 itself false text h)
       ∙ ap (λ (x : List ℕ). rdn_of x >>= λ r. onto_rdn r (names_behind [])) (sym (piece_last is_comma false text h))
@@ -198,7 +201,7 @@ module _ (text : List ℕ) where
       ∙ ap (λ (x : List ℕ). (rdn_of (piece is_comma false text) >>= before x) >>= names_from) (sym h)
 
   name_comma : (more : List ℕ) → behind is_comma false text ≡ 44 ∷ more → names text ≡ (first_rdn text >>= names_from)
-  unfolding each names_behind
+  unfolding each names_in
   name_comma more h =
       ap (λ (x : List ℕ). each rdn_of (cut_raw 44 false x)) (split_at is_comma text 44 more h)
       ∙ ap (each rdn_of) (cut_at 44 false (piece is_comma false text) more (piece_whole is_comma 44 itself false text 44 more h))

@@ -1,5 +1,5 @@
 -- The piece of a text up to the first byte of a kind that is not escaped, and what is read of it.
-use Rattle.std.specs.Prelude.{◌≡◌, ℕ, Bool, true, false, not, ◌&&◌, ◌||◌, ◌==◌, if◌then◌else◌, List, [], ◌∷◌, ◌++◌, Result, Ok}
+use Rattle.std.specs.Prelude.{◌≡◌, ℕ, Bool, true, false, not, ◌&&◌, ◌||◌, ◌==◌, if◌then◌else◌, List, [], ◌∷◌, ◌++◌, Option, Some, None, Result, Ok}
 use Rattle.dn.specs.declared.faults.Fault.{Fault}
 use Rattle.dn.specs.Names.{Part, Parts}
 use Rattle.dn.specs.Reading.{◌>>=◌, is_space, escapes, value_of, part_of, rdn_of}
@@ -30,6 +30,10 @@ first_value = first_by is_separator value_of
 abbrev pub first_part : List ℕ → Result (Part × List ℕ) Fault
 first_part = first_by is_separator part_of
 
+-- a part of this type
+abbrev pub part_from : List ℕ → List ℕ → Result (Part × List ℕ) Fault
+part_from ty text = first_value text >>= λ s. Ok ((ty, s.0), s.1)
+
 abbrev pub first_rdn : List ℕ → Result (Parts × List ℕ) Fault
 first_rdn = first_by is_comma rdn_of
 
@@ -40,6 +44,10 @@ ends_piece (b ∷ bs) = is_separator b
 abbrev pub begins_with_plus : List ℕ → Bool
 begins_with_plus [] = false
 begins_with_plus (b ∷ bs) = b == 43
+
+abbrev pub after_first : List ℕ → Option (List ℕ)
+after_first [] = None
+after_first (b ∷ bs) = Some bs
 
 abbrev pub ends_in_space : List ℕ → Bool
 ends_in_space [] = false

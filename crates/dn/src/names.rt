@@ -86,7 +86,8 @@ impl Ava {
         ensures good { IfOk result (λ part. is_part part ≡ true) }
     {
         in_range(value);
-        let mut text = SmallVec::from_slice(alloc, ty_text)?;
+        let mut text = SmallVec::new(alloc);
+        text.extend_from_slice(ty_text)?;
         text.extend_from_slice(value)?;
         Ok(Ava {
             text,
@@ -96,6 +97,7 @@ impl Ava {
     }
 
     /// The part of the type that a text begins with and the value that it ends with.
+    #[inline(always)]
     pub(crate) fn of_text(alloc: Global, text: &[u8], ty_text: &[u8], value: &[u8]) -> Result<Ava, AllocError>
         requires ty_text { is_type ty_text.now ≡ true }
         requires text { Holds text.now ty_text.now value.now }
@@ -103,10 +105,13 @@ impl Ava {
         ensures good { IfOk result (λ part. is_part part ≡ true) }
     {
         in_range(value);
+        let value_at = text.len() - value.len();
+        let mut copy = SmallVec::new(alloc);
+        copy.extend_from_slice(text)?;
         Ok(Ava {
-            text: SmallVec::from_slice(alloc, text)?,
+            text: copy,
             ty_len: ty_text.len(),
-            value_at: text.len() - value.len(),
+            value_at,
         })
     }
 
@@ -212,6 +217,7 @@ impl Name {
     }
 
     /// Puts an RDN at the end, which names the entry above the others, or changes nothing where memory runs out.
+    #[inline]
     pub fn push(&mut self, rdn: Rdn) -> Result<(), AllocError>
         ensures ok { OnOk result (self.new ≡ self.old ++ rdn ∷ []) }
         ensures err { OnErr result (self.new ≡ self.old) }

@@ -5,7 +5,7 @@ ghost use Rattle.std.specs.List.{list_all, prefix_len};
 ghost use Rattle.dn.specs.Names.{Rdns, is_type_byte, is_type, is_part};
 ghost use Rattle.dn.specs.Spelling.{Spells};
 ghost use Rattle.dn.specs.Reading.{is_space, skip, type_in, after_type, after_equals, each, cut_raw, rdn_of, name_of};
-ghost use Rattle.dn.specs.Cuts.{first_part, first_rdn, HoldsBefore};
+ghost use Rattle.dn.specs.Cuts.{part_from, first_part, first_rdn, HoldsBefore};
 ghost use Rattle.dn.specs.Gives.{Gives};
 
 use crate::faults::{Fault, NameFault};
@@ -61,6 +61,7 @@ fn after_equals<'a>(ty_text: &[u8], rest: &'a [u8]) -> Result<&'a [u8], NameFaul
 }
 
 /// The part at the front of a text, from its type on: what stands behind it was cut off.
+#[inline(always)]
 fn plain_part(alloc: Global, text: &[u8], behind: &[u8], ty_text: &[u8], value: &[u8]) -> Result<Ava, AllocError>
     requires ty_text { is_type ty_text.now ≡ true }
     requires text { HoldsBefore text.now behind.now ty_text.now value.now }
@@ -70,7 +71,21 @@ fn plain_part(alloc: Global, text: &[u8], behind: &[u8], ty_text: &[u8], value: 
     Ava::of_text(alloc, &text[..text.len() - behind.len()], ty_text, value)
 }
 
+/// The part of a type and the value that a text begins with, up to the first separator that is not escaped, and what stands
+/// from there on.
+#[inline(never)]
+fn escaped_part<'a>(alloc: Global, ty_text: &[u8], text: &'a [u8]) -> Result<(Ava, &'a [u8]), NameFault>
+    requires { is_type ty_text.now ≡ true }
+    ensures exact { Gives (λ r. (r.0, r.1.now)) result (part_from ty_text.now text.now) }
+    ensures good { IfOk result (λ r. is_part r.0 ≡ true) }
+{
+    let (piece, behind) = split_piece(text);
+    let value = value_of(alloc, piece)?;
+    Ok((Ava::of_type(alloc, ty_text, value.as_slice())?, behind))
+}
+
 /// The part at the front of a text, up to the first separator that is not escaped, and what stands from there on.
+#[inline(always)]
 fn part_in(alloc: Global, text: &[u8]) -> Result<(Ava, &[u8]), NameFault>
     ensures exact { Gives (λ r. (r.0, r.1.now)) result (first_part text.now) }
     ensures good { IfOk result (λ r. is_part r.0 ≡ true) }
@@ -78,22 +93,19 @@ fn part_in(alloc: Global, text: &[u8]) -> Result<(Ava, &[u8]), NameFault>
     let text = skip(text);
     let (ty_text, rest) = split_type(text);
     let rest = skip(after_equals(ty_text, skip(rest))?);
-    if let Some((value, behind)) = split_plain(rest) {
-        let part = plain_part(alloc, text, behind, ty_text, value)?;
-        return Ok((part, behind));
+    match split_plain(rest) {
+        Some((value, behind)) => Ok((plain_part(alloc, text, behind, ty_text, value)?, behind)),
+        None => escaped_part(alloc, ty_text, rest),
     }
-    let (piece, behind) = split_piece(rest);
-    let value = value_of(alloc, piece)?;
-    Ok((Ava::of_type(alloc, ty_text, value.as_slice())?, behind))
 }
 
 /// The RDN at the front of a text, up to the first comma that is not escaped, and what stands from there on.
+#[inline(always)]
 fn rdn_in(alloc: Global, text: &[u8]) -> Result<(Rdn, &[u8]), NameFault>
     ensures { Gives (λ r. (r.0, r.1.now)) result (first_rdn text.now) }
 {
     let (part, mut rest) = part_in(alloc, text)?;
-    let mut parts = SmallVec::new(alloc);
-    parts.push(part)?;
+    let mut parts = SmallVec::from_buf(alloc, [part]);
     while let Some(more) = after_plus(rest) {
         let (part, behind) = part_in(alloc, more)?;
         parts.push(part)?;
@@ -106,13 +118,12 @@ fn rdn_in(alloc: Global, text: &[u8]) -> Result<(Rdn, &[u8]), NameFault>
 fn rdns_of(alloc: Global, text: &[u8]) -> Result<Name, NameFault>
     ensures { Gives (λ n. n) result (each rdn_of (cut_raw 44 false text.now)) }
 {
-    let (rdn, mut rest) = rdn_in(alloc, text)?;
     let mut name = Name::new(alloc);
-    name.push(rdn)?;
-    while let Some(more) = after_first(rest) {
-        let (rdn, behind) = rdn_in(alloc, more)?;
+    let mut rest = Some(text);
+    while let Some(text) = rest {
+        let (rdn, behind) = rdn_in(alloc, text)?;
         name.push(rdn)?;
-        rest = behind;
+        rest = after_first(behind);
     }
     Ok(name)
 }

@@ -1,8 +1,9 @@
 //! Texts cut at separators.
 
-ghost use Rattle.std.specs.Prelude.{◌≡◌, ◌≤◌, ◌∷◌, ◌&&◌, [], not, false, length, take, drop, slice_index_or, IfSome, IfNone};
+ghost use Rattle.std.specs.Prelude.{◌≡◌, ◌≤◌, ◌∷◌, ◌&&◌, not, false, length, take, drop, IfSome, IfNone};
+ghost use Rattle.std.specs.Option.{option_map};
 ghost use Rattle.dn.specs.Reading.{escapes};
-ghost use Rattle.dn.specs.Cuts.{piece, behind, is_separator, ends_piece, begins_with_plus};
+ghost use Rattle.dn.specs.Cuts.{piece, behind, is_separator, ends_piece, begins_with_plus, after_first};
 
 fn escapes(escaped: bool, b: u8) -> bool
     ensures { result ≡ escapes escaped b }
@@ -69,8 +70,7 @@ pub(crate) fn after_plus(text: &[u8]) -> Option<&[u8]>
 
 /// What stands behind the first byte of a text.
 pub(crate) fn after_first(text: &[u8]) -> Option<&[u8]>
-    ensures some { IfSome result (λ more. text.now ≡ slice_index_or text.now 0 0 ∷ more.now) }
-    ensures none { IfNone result (text.now ≡ []) }
+    ensures { option_map (λ s. s.now) result ≡ after_first text.now }
 {
     match text {
         [_, more @ ..] => Some(more),

@@ -15,10 +15,10 @@ returns-in_err-part c =
 
 pub loop-more-init : goal.loop-more-init
 loop-more-init c =
-    let new_is = c.in_ok-push.ensures.ok ∙ ap (λ (ps : Parts). ps ++ c.in_ok-part.part ∷ []) c.new-parts.ensures.items in
+    let new_is = c.from_buf-parts.ensures.items in
     record {
-      same = parts_begin c.args.text.now c.in_ok-part.part c.in_ok-part.rest.now c.push.new.self.items c.in_ok-part.ensures.exact new_is;
-      good = rdn_push [] c.in_ok-part.part c.push.new.self.items new_is refl c.in_ok-part.ensures.good;
+      same = parts_begin c.args.text.now c.in_ok-part.part c.in_ok-part.rest.now c.from_buf-parts.result.items c.in_ok-part.ensures.exact new_is;
+      good = rdn_push [] c.in_ok-part.part c.from_buf-parts.result.items new_is refl c.in_ok-part.ensures.good;
     }
 
 pub returns-in_err-part-2 : goal.returns-in_err-part-2
@@ -33,10 +33,10 @@ pub loop-more-preserved : goal.loop-more-preserved
 loop-more-preserved c =
     let front = c.loop-more.parts.items in
     record {
-      same = parts_go_on front c.loop-more.rest.now (first_rdn c.args.text.now) c.loop-more.invariant.same c.in-Some.more.now c.in-Some.ensures.some c.in_ok-part-2.part c.in_ok-part-2.behind.now c.push-in-Some.new.self.items c.in_ok-part-2.ensures.exact c.in_ok-push-2.ensures.ok;
+      same = parts_go_on front c.loop-more.rest.now (first_rdn c.args.text.now) c.loop-more.invariant.same c.in-Some.more.now c.in-Some.ensures.some c.in_ok-part-2.part c.in_ok-part-2.behind.now c.push.new.self.items c.in_ok-part-2.ensures.exact c.in_ok-push.ensures.ok;
       good =
           let all = (and_parts (not (eqb (length front) 0)) (list_all is_part front) c.loop-more.invariant.good).1 in
-          rdn_push front c.in_ok-part-2.part c.push-in-Some.new.self.items c.in_ok-push-2.ensures.ok all c.in_ok-part-2.ensures.good;
+          rdn_push front c.in_ok-part-2.part c.push.new.self.items c.in_ok-push.ensures.ok all c.in_ok-part-2.ensures.good;
     }
 
 pub returns : goal.returns
