@@ -1,5 +1,5 @@
 -- The part, and the RDN, at the front of a text.
-use Rattle.std.proofs.Common.{◌≡◌, ℕ, Bool, true, false, cond, not, ◌&&◌, eqb, List, [], ◌∷◌, ◌++◌, length, Result, Ok, Err, refl, sym, ap, subst, ◌∙◌, append_assoc, arith}
+use Rattle.std.proofs.Common.{◌≡◌, ℕ, Bool, true, false, cond, not, ◌&&◌, eqb, List, [], ◌∷◌, ◌++◌, length, take, ◌-◌, Result, Ok, Err, refl, sym, ap, subst, ◌∙◌, append_assoc, arith}
 use Rattle.std.proofs.lemmas.Bool.{and_parts, eqb-true}
 use Rattle.std.proofs.lemmas.Bool.Decides.{nat_tests}
 use Rattle.std.proofs.lemmas.List.{append-nil, take-append-drop}
@@ -12,10 +12,11 @@ use Rattle.dn.specs.Gives.{Fails}
 use Rattle.dn.specs.Spelling.{spaces}
 use Rattle.dn.specs.Names.{Part, Parts, Rdns, is_type_byte}
 use Rattle.dn.specs.Reading.{◌>>=◌, each, value_of, is_space, skip, type_in, after_type, after_equals, part_at, part_of, escapes, cut_raw, rdn_of}
-use Rattle.dn.specs.Cuts.{piece, behind, is_comma, is_separator, first_value, first_part, first_rdn, HoldsBefore}
+use Rattle.dn.specs.Cuts.{piece, behind, is_comma, is_separator, first_value, first_part, first_rdn, Holds}
 use Rattle.dn.proofs.Pieces.{P, B, split, ends_is, space_apart, type_apart, front_of_piece, rest_of_piece, behind_rest}
 use Rattle.dn.proofs.Runs.{skipped}
 use Rattle.dn.proofs.Parts.{equals_found}
+use Rattle.dn.proofs.Holding.{front_is}
 use Rattle.dn.proofs.Wholes.{IsWhole, cut_at, cut_none}
 
 -- ---- a part
@@ -119,24 +120,29 @@ module _ (total : Got) (ty rest : List ℕ) (total_is : total ≡ from_text ty r
     part_read value behind p h is = value_in ∙ ap (λ (r : Result (List ℕ × List ℕ) Fault). r >>= with_type ty) h ∙ ap (before behind) (sym is)
 
     -- the type, the value and what is between them stand in the text
-    pub stands_before : (t after value behind : List ℕ) → ty ≡ type_in t → after ≡ after_type t → rest ≡ skip after → from ≡ value ++ behind → HoldsBefore t behind ty value
-    stands_before t after value behind is behind_is rest_is ends =
+    pub stands : (t after value behind : List ℕ) → ty ≡ type_in t → after ≡ after_type t → rest ≡ skip after → from ≡ value ++ behind → Holds (take (length t - length behind) t) ty value
+    stands t after value behind is behind_is rest_is ends =
         let s2 = skipped after in
         let s3 = skipped v in
         let between = spaces s2.0 ++ 61 ∷ spaces s3.0 in
         record {
-          front = ty ++ (between ++ value);
+          between = between;
           is =
-              sym (take-append-drop (prefix_len is_type_byte t) t)
-              ∙ ap (λ (x : List ℕ). x ++ after_type t) (sym is)
-              ∙ ap (λ (x : List ℕ). ty ++ x) (sym behind_is ∙ s2.1
-              ∙ ap (λ (x : List ℕ). spaces s2.0 ++ x) (sym rest_is ∙ (equals_found ty rest v equals).0
-              ∙ ap (λ (x : List ℕ). 61 ∷ x) (s3.1 ∙ ap (λ (x : List ℕ). spaces s3.0 ++ x) (sym from_is ∙ ends)))
-              ∙ sym (append_assoc (spaces s2.0) (61 ∷ spaces s3.0) (value ++ behind))
-              ∙ sym (append_assoc between value behind))
-              ∙ sym (append_assoc ty (between ++ value) behind);
-          holds = record { between = between; is = refl };
+              front_is t (ty ++ (between ++ value)) behind (
+                sym (take-append-drop (prefix_len is_type_byte t) t)
+                ∙ ap (λ (x : List ℕ). x ++ after_type t) (sym is)
+                ∙ ap (λ (x : List ℕ). ty ++ x) (sym behind_is ∙ s2.1
+                ∙ ap (λ (x : List ℕ). spaces s2.0 ++ x) (sym rest_is ∙ (equals_found ty rest v equals).0
+                ∙ ap (λ (x : List ℕ). 61 ∷ x) (s3.1 ∙ ap (λ (x : List ℕ). spaces s3.0 ++ x) (sym from_is ∙ ends)))
+                ∙ sym (append_assoc (spaces s2.0) (61 ∷ spaces s3.0) (value ++ behind))
+                ∙ sym (append_assoc between value behind))
+                ∙ sym (append_assoc ty (between ++ value) behind)
+              );
         }
+
+    pub value_fails : (e : NameFault) (p : List ℕ) → p ≡ P from → Fails e (value_of p) → Fails e total
+    value_fails errors.OutOfMemory p is h = tt
+    value_fails (errors.Fault fault) p is h = value_in ∙ ap (λ (r : Result (List ℕ) Fault). (r >>= before (B from)) >>= with_type ty) (ap value_of (sym is) ∙ h)
 
 pub value_of_piece : (from p rest v : List ℕ) → p ≡ P from → rest ≡ B from → value_of p ≡ Ok v → first_value from ≡ before rest v
 value_of_piece from p rest v is behind_is h =

@@ -5,7 +5,7 @@ use Rattle.std.proofs.lemmas.Bool.{and_parts}
 use Rattle.std.proofs.lemmas.List.{length-append}
 use Rattle.std.proofs.Math.Seq.{drop-append_seam, take-append_seam}
 use Rattle.dn.specs.Names.{Part, is_type_byte, is_type, is_byte, is_part}
-use Rattle.dn.specs.Cuts.{Holds, HoldsBefore}
+use Rattle.dn.specs.Cuts.{Holds}
 
 before_end : (a b n m : ℕ) → n ≡ a + b → m ≡ b → n - m ≡ a
 before_end a b n m h g = omega (arith, h, g)

@@ -151,3 +151,6 @@ pub no_plus : (text : List ℕ) → begins_with_plus text ≡ false → parts_be
 unfolding parts_behind
 no_plus [] h = refl
 no_plus (b ∷ bs) h = ap (λ (t : Bool). cond t (first_rdn bs) (found [] (b ∷ bs))) h
+
+pub one_plain : (text : List ℕ) (p : Part) (rest : List ℕ) → first_part text ≡ before rest p → begins_with_plus rest ≡ false → first_rdn text ≡ before rest (p ∷ [])
+one_plain text p rest h plain = rdn_first text ∙ ap (λ (r : Result (Part × List ℕ) Fault). r >>= parts_from) h ∙ ap (with_part p) (no_plus rest plain)

@@ -1,7 +1,7 @@
 -- The piece of a text up to the first byte of a kind that is not escaped, and what is read of it.
 use Rattle.std.specs.Prelude.{◌≡◌, ℕ, Bool, true, false, not, ◌&&◌, ◌||◌, ◌==◌, if◌then◌else◌, List, [], ◌∷◌, ◌++◌, Option, Some, None, Result, Ok}
 use Rattle.dn.specs.declared.faults.Fault.{Fault}
-use Rattle.dn.specs.Names.{Part, Parts}
+use Rattle.dn.specs.Names.{Part, Parts, Rdns}
 use Rattle.dn.specs.Reading.{◌>>=◌, is_space, escapes, value_of, part_of, rdn_of}
 
 -- the argument says whether the first byte is escaped
@@ -30,10 +30,6 @@ first_value = first_by is_separator value_of
 abbrev pub first_part : List ℕ → Result (Part × List ℕ) Fault
 first_part = first_by is_separator part_of
 
--- a part of this type
-abbrev pub part_from : List ℕ → List ℕ → Result (Part × List ℕ) Fault
-part_from ty text = first_value text >>= λ s. Ok ((ty, s.0), s.1)
-
 abbrev pub first_rdn : List ℕ → Result (Parts × List ℕ) Fault
 first_rdn = first_by is_comma rdn_of
 
@@ -59,8 +55,6 @@ pub record Holds (text ty value : List ℕ) : Type 0 where
   pub between : List ℕ
   pub is : text ≡ ty ++ (between ++ value)
 
--- the same of a text with more behind it
-pub record HoldsBefore (text behind ty value : List ℕ) : Type 0 where
-  pub front : List ℕ
-  pub is : text ≡ front ++ behind
-  pub holds : Holds front ty value
+-- an RDN was read and put at the end, and this is left
+abbrev pub Pushes : Rdns → Rdns → List ℕ → Result (Parts × List ℕ) Fault → Type 0
+Pushes old new rest said = (r : Parts) × (said ≡ Ok (r, rest)) × (new ≡ old ++ r ∷ [])

@@ -173,6 +173,16 @@ impl Rdn {
         })
     }
 
+    #[inline(always)]
+    pub(crate) fn of_part(alloc: Global, part: Ava) -> Rdn
+        requires { is_part part ≡ true }
+        ensures { result ≡ part ∷ [] }
+    {
+        Rdn {
+            parts: SmallVec::from_buf(alloc, [part]),
+        }
+    }
+
     pub(crate) fn from_parts(parts: SmallVec<Ava, 1>) -> Rdn
         requires { is_rdn parts.items ≡ true }
         ensures { result ≡ parts.items }

@@ -1,19 +1,19 @@
 //! Names are read.
 
-ghost use Rattle.std.specs.Prelude.{◌≡◌, ◌==◌, not, true, false, length, Ok, IfOk, OnOk};
+ghost use Rattle.std.specs.Prelude.{◌≡◌, ◌==◌, not, true, false, length, Ok, IfOk, IfErr, IfSome, OnOk};
 ghost use Rattle.std.specs.List.{list_all, prefix_len};
 ghost use Rattle.dn.specs.Names.{Rdns, is_type_byte, is_type, is_part};
 ghost use Rattle.dn.specs.Spelling.{Spells};
 ghost use Rattle.dn.specs.Reading.{is_space, skip, type_in, after_type, after_equals, each, cut_raw, rdn_of, name_of};
-ghost use Rattle.dn.specs.Cuts.{part_from, first_part, first_rdn, HoldsBefore};
-ghost use Rattle.dn.specs.Gives.{Gives};
+ghost use Rattle.dn.specs.Cuts.{first_part, first_rdn, Holds, Pushes};
+ghost use Rattle.dn.specs.Gives.{Gives, Fails};
 
 use crate::faults::{Fault, NameFault};
 use crate::names::{Ava, Name, Rdn, is_type_byte};
-use crate::split::{after_first, after_plus, split_piece};
+use crate::split::{after_first, after_plus, begins_with_plus, split_piece};
 use crate::value::{split_plain, value_of};
 use smallvec::SmallVec;
-use std::alloc::{AllocError, Global};
+use std::alloc::Global;
 
 fn spaces_in(text: &[u8]) -> usize
     ensures { result ≡ prefix_len is_space text.now }
@@ -60,32 +60,37 @@ fn after_equals<'a>(ty_text: &[u8], rest: &'a [u8]) -> Result<&'a [u8], NameFaul
     }
 }
 
-/// The part at the front of a text, from its type on: what stands behind it was cut off.
-#[inline(always)]
-fn plain_part(alloc: Global, text: &[u8], behind: &[u8], ty_text: &[u8], value: &[u8]) -> Result<Ava, AllocError>
-    requires ty_text { is_type ty_text.now ≡ true }
-    requires text { HoldsBefore text.now behind.now ty_text.now value.now }
-    ensures same { IfOk result (λ part. part ≡ (ty_text.now, value.now)) }
-    ensures good { IfOk result (λ part. is_part part ≡ true) }
-{
-    Ava::of_text(alloc, &text[..text.len() - behind.len()], ty_text, value)
+/// A part that is spelled without an escape, and what stands behind it.
+#[derive(Clone, Copy)]
+struct Plain<'a> {
+    text: &'a [u8],
+    ty_text: &'a [u8],
+    value: &'a [u8],
+    behind: &'a [u8],
 }
 
-/// The part of a type and the value that a text begins with, up to the first separator that is not escaped, and what stands
-/// from there on.
-#[inline(never)]
-fn escaped_part<'a>(alloc: Global, ty_text: &[u8], text: &'a [u8]) -> Result<(Ava, &'a [u8]), NameFault>
-    requires { is_type ty_text.now ≡ true }
-    ensures exact { Gives (λ r. (r.0, r.1.now)) result (part_from ty_text.now text.now) }
-    ensures good { IfOk result (λ r. is_part r.0 ≡ true) }
+/// The part at the front of a text, where it is spelled without an escape and no space follows its value.
+#[inline(always)]
+fn plain_in(text: &[u8]) -> Option<Plain<'_>>
+    ensures exact { IfSome result (λ p. first_part text.now ≡ Ok ((p.ty_text.now, p.value.now), p.behind.now)) }
+    ensures ty_text { IfSome result (λ p. is_type p.ty_text.now ≡ true) }
+    ensures text { IfSome result (λ p. Holds p.text.now p.ty_text.now p.value.now) }
 {
-    let (piece, behind) = split_piece(text);
-    let value = value_of(alloc, piece)?;
-    Ok((Ava::of_type(alloc, ty_text, value.as_slice())?, behind))
+    let text = skip(text);
+    let (ty_text, rest) = split_type(text);
+    let Ok(value) = after_equals(ty_text, skip(rest)) else {
+        return None;
+    };
+    let (value, behind) = split_plain(skip(value))?;
+    Some(Plain {
+        text: &text[..text.len() - behind.len()],
+        ty_text,
+        value,
+        behind,
+    })
 }
 
 /// The part at the front of a text, up to the first separator that is not escaped, and what stands from there on.
-#[inline(always)]
 fn part_in(alloc: Global, text: &[u8]) -> Result<(Ava, &[u8]), NameFault>
     ensures exact { Gives (λ r. (r.0, r.1.now)) result (first_part text.now) }
     ensures good { IfOk result (λ r. is_part r.0 ≡ true) }
@@ -93,14 +98,12 @@ fn part_in(alloc: Global, text: &[u8]) -> Result<(Ava, &[u8]), NameFault>
     let text = skip(text);
     let (ty_text, rest) = split_type(text);
     let rest = skip(after_equals(ty_text, skip(rest))?);
-    match split_plain(rest) {
-        Some((value, behind)) => Ok((plain_part(alloc, text, behind, ty_text, value)?, behind)),
-        None => escaped_part(alloc, ty_text, rest),
-    }
+    let (piece, behind) = split_piece(rest);
+    let value = value_of(alloc, piece)?;
+    Ok((Ava::of_type(alloc, ty_text, value.as_slice())?, behind))
 }
 
 /// The RDN at the front of a text, up to the first comma that is not escaped, and what stands from there on.
-#[inline(always)]
 fn rdn_in(alloc: Global, text: &[u8]) -> Result<(Rdn, &[u8]), NameFault>
     ensures { Gives (λ r. (r.0, r.1.now)) result (first_rdn text.now) }
 {
@@ -114,6 +117,24 @@ fn rdn_in(alloc: Global, text: &[u8]) -> Result<(Rdn, &[u8]), NameFault>
     Ok((Rdn::from_parts(parts), rest))
 }
 
+/// Puts the RDN at the front of a text at the end of a name, and answers what stands behind it.
+#[inline(always)]
+fn push_rdn<'a>(alloc: Global, name: &mut Name, text: &'a [u8]) -> Result<&'a [u8], NameFault>
+    ensures ok { IfOk result (λ rest. Pushes name.old name.new rest.now (first_rdn text.now)) }
+    ensures err { IfErr result (λ e. Fails e (first_rdn text.now)) }
+{
+    if let Some(plain) = plain_in(text) {
+        if !begins_with_plus(plain.behind) {
+            let part = Ava::of_text(alloc, plain.text, plain.ty_text, plain.value)?;
+            name.push(Rdn::of_part(alloc, part))?;
+            return Ok(plain.behind);
+        }
+    }
+    let (rdn, behind) = rdn_in(alloc, text)?;
+    name.push(rdn)?;
+    Ok(behind)
+}
+
 /// The RDNs between commas.
 fn rdns_of(alloc: Global, text: &[u8]) -> Result<Name, NameFault>
     ensures { Gives (λ n. n) result (each rdn_of (cut_raw 44 false text.now)) }
@@ -121,9 +142,7 @@ fn rdns_of(alloc: Global, text: &[u8]) -> Result<Name, NameFault>
     let mut name = Name::new(alloc);
     let mut rest = Some(text);
     while let Some(text) = rest {
-        let (rdn, behind) = rdn_in(alloc, text)?;
-        name.push(rdn)?;
-        rest = after_first(behind);
+        rest = after_first(push_rdn(alloc, &mut name, text)?);
     }
     Ok(name)
 }

@@ -57,6 +57,15 @@ pub(crate) fn ends_piece(text: &[u8]) -> bool
     }
 }
 
+pub(crate) fn begins_with_plus(text: &[u8]) -> bool
+    ensures { result ≡ begins_with_plus text.now }
+{
+    match text {
+        [] => false,
+        [first, ..] => *first == b'+',
+    }
+}
+
 /// What stands behind the plus sign that a text begins with.
 pub(crate) fn after_plus(text: &[u8]) -> Option<&[u8]>
     ensures some { IfSome result (λ more. text.now ≡ 43 ∷ more.now) }
