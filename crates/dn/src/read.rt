@@ -95,6 +95,10 @@ fn part_in(alloc: Global, text: &[u8]) -> Result<(Ava, &[u8]), NameFault>
     ensures exact { Gives (λ r. (r.0, r.1.now)) result (first_part text.now) }
     ensures good { IfOk result (λ r. is_part r.0 ≡ true) }
 {
+    if let Some(plain) = plain_in(text) {
+        let part = Ava::of_text(alloc, plain.text, plain.ty_text, plain.value)?;
+        return Ok((part, plain.behind));
+    }
     let text = skip(text);
     let (ty_text, rest) = split_type(text);
     let rest = skip(after_equals(ty_text, skip(rest))?);

@@ -11,7 +11,7 @@ ghost use Rattle.dn.specs.declared.value.State.TheVariants as states;
 
 use crate::faults::{Fault, NameFault};
 use crate::split::ends_piece;
-use lists::Bytes;
+use smallvec::SmallVec;
 use std::alloc::{AllocError, Global};
 
 /// An octet of a value, and whether it stands in the text by itself.
@@ -107,7 +107,7 @@ fn step(state: State, byte: u8) -> Result<(State, Option<Octet>), Fault>
 /// The bytes of a value so far, and how many of them stay where it ends here.
 #[derive(Drop)]
 struct Draft {
-    bytes: Vec<u8>,
+    bytes: SmallVec<u8, 24>,
     kept: usize,
 }
 
@@ -127,7 +127,7 @@ impl Draft {
         ensures kept { IfOk result (λ d. d.kept ≡ 0) }
     {
         Ok(Draft {
-            bytes: Vec::with_capacity(alloc, room)?,
+            bytes: SmallVec::with_capacity(alloc, room)?,
             kept: 0,
         })
     }
@@ -149,17 +149,17 @@ impl Draft {
         }
     }
 
-    fn finish(self) -> Bytes
-        ensures { result ≡ take self.kept self.bytes.items }
+    fn finish(self) -> SmallVec<u8, 24>
+        ensures { result.items ≡ take self.kept self.bytes.items }
     {
         let Draft { mut bytes, kept } = self;
         bytes.truncate(kept);
-        Bytes::from_vec(bytes)
+        bytes
     }
 }
 
-fn octets_of(alloc: Global, text: &[u8]) -> Result<Bytes, NameFault>
-    ensures { Gives (λ v. v) result (value_from (octets_from states.Plain text.now)) }
+fn octets_of(alloc: Global, text: &[u8]) -> Result<SmallVec<u8, 24>, NameFault>
+    ensures { Gives (λ v. v.items) result (value_from (octets_from states.Plain text.now)) }
 {
     let mut draft = Draft::new(alloc, text.len())?;
     let mut state = State::Plain;
@@ -217,8 +217,8 @@ pub(crate) fn split_plain(text: &[u8]) -> Option<(&[u8], &[u8])>
 
 /// The value that a text without spaces at its front spells.
 #[tactic(auto, unfolding(crate::specs::Reading::value_of))]
-pub(crate) fn value_of(alloc: Global, text: &[u8]) -> Result<Bytes, NameFault>
-    ensures { Gives (λ v. v) result (value_of text.now) }
+pub(crate) fn value_of(alloc: Global, text: &[u8]) -> Result<SmallVec<u8, 24>, NameFault>
+    ensures { Gives (λ v. v.items) result (value_of text.now) }
 {
     if begins_form(text) {
         return Err(NameFault::Fault(Fault::FormNotSupported));
