@@ -95,16 +95,24 @@ fn part_in(alloc: Global, text: &[u8]) -> Result<(Ava, &[u8]), NameFault>
     ensures exact { Gives (λ r. (r.0, r.1.now)) result (first_part text.now) }
     ensures good { IfOk result (λ r. is_part r.0 ≡ true) }
 {
-    if let Some(plain) = plain_in(text) {
-        let part = Ava::of_text(alloc, plain.text, plain.ty_text, plain.value)?;
-        return Ok((part, plain.behind));
-    }
     let text = skip(text);
     let (ty_text, rest) = split_type(text);
     let rest = skip(after_equals(ty_text, skip(rest))?);
     let (piece, behind) = split_piece(rest);
     let value = value_of(alloc, piece)?;
     Ok((Ava::of_type(alloc, ty_text, value.as_slice())?, behind))
+}
+
+/// The same, for parts that are mostly spelled without an escape.
+fn next_part(alloc: Global, text: &[u8]) -> Result<(Ava, &[u8]), NameFault>
+    ensures exact { Gives (λ r. (r.0, r.1.now)) result (first_part text.now) }
+    ensures good { IfOk result (λ r. is_part r.0 ≡ true) }
+{
+    if let Some(plain) = plain_in(text) {
+        let part = Ava::of_text(alloc, plain.text, plain.ty_text, plain.value)?;
+        return Ok((part, plain.behind));
+    }
+    part_in(alloc, text)
 }
 
 /// The RDN at the front of a text, up to the first comma that is not escaped, and what stands from there on.
@@ -114,7 +122,7 @@ fn rdn_in(alloc: Global, text: &[u8]) -> Result<(Rdn, &[u8]), NameFault>
     let (part, mut rest) = part_in(alloc, text)?;
     let mut parts = SmallVec::from_buf(alloc, [part]);
     while let Some(more) = after_plus(rest) {
-        let (part, behind) = part_in(alloc, more)?;
+        let (part, behind) = next_part(alloc, more)?;
         parts.push(part)?;
         rest = behind;
     }

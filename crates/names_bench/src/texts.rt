@@ -1,8 +1,7 @@
-//! Names of one pattern, in two sizes.
+//! Names that go on with one text over and over, in two sizes.
 
 use std::alloc::{AllocError, Global};
 
-/// A name that begins with one text and goes on with another, over and over.
 #[derive(Clone, Copy)]
 pub struct Text {
     pub label: &'static str,
@@ -13,22 +12,35 @@ pub struct Text {
 }
 
 impl Text {
-    /// The text with that many repeats.
-    pub fn spelled(&self, alloc: Global, repeats: usize) -> Result<String, AllocError> {
+    /// The start, and the rest that many times.
+    pub fn spelled(&self, alloc: Global, times: usize) -> Result<String, AllocError> {
         let mut text = String::from_str(alloc, self.start)?;
-        for _ in 0..repeats {
+        for _ in 0..times {
             text.push_str(self.again)?;
         }
         Ok(text)
     }
 }
 
-pub fn texts() -> [Text; 5] {
+const fn many(label: &'static str, start: &'static str, again: &'static str, small: usize, large: usize) -> Text {
+    Text {
+        label,
+        start,
+        again,
+        small,
+        large,
+    }
+}
+
+/// Names of 10,000 and 100,000 RDNs, and values of 100,000 and 1,000,000 bytes.
+pub fn texts() -> [Text; 7] {
     [
-        Text { label: "short RDNs", start: "a=bcd", again: ",a=bcd", small: 10_000, large: 100_000 },
-        Text { label: "long RDNs", start: "ou=department-0001", again: ",ou=department-0001", small: 10_000, large: 100_000 },
-        Text { label: "plain", start: "cn=", again: "department", small: 10_000, large: 100_000 },
-        Text { label: "pairs", start: "cn=", again: "\\2C", small: 33_333, large: 333_333 },
-        Text { label: "escapes", start: "cn=", again: "\\,", small: 50_000, large: 500_000 },
+        many("short RDNs", "a=bcd", ",a=bcd", 9_999, 99_999),
+        many("RDNs", "ou=department-0001", ",ou=department-0001", 9_999, 99_999),
+        many("spaced RDNs", "cn = a b", ", cn = a b", 9_999, 99_999),
+        many("escaped RDNs", "ou=a\\2C b", ",ou=a\\2C b", 9_999, 99_999),
+        many("plain value", "cn=", "abcdefghij", 10_000, 100_000),
+        many("pairs", "cn=", "\\2C", 33_333, 333_333),
+        many("escapes", "cn=", "\\,", 50_000, 500_000),
     ]
 }

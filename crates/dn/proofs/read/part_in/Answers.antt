@@ -6,7 +6,7 @@ use Rattle.dn.proofs.read.part_in.Goals as goal
 
 pub returns-in_err-after_equals-clause-exact : goal.returns-in_err-after_equals-clause-exact
 returns-in_err-after_equals-clause-exact c =
-    let p = err_from_is_err_and c.from_residual-in_err-after_equals.result c.from_residual-in_err-after_equals.ensures.1 in
+    let p = err_from_is_err_and c.from_residual.result c.from_residual.ensures.1 in
     let ty = c.split_type.result.0.now in
     let is = part_is c.args.text.now c.skip-text.result.now ty c.split_type.result.1.now c.skip.result.now c.skip-text.ensures c.split_type.ensures.ty_text c.split_type.ensures.rest c.skip.ensures in
     rw (p.1, p.2) (equals_fails (first_part c.args.text.now) ty c.skip.result.now is c.in_err-after_equals.field-0.0 c.in_err-after_equals.ensures.rest)
