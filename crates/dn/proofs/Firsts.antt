@@ -1,23 +1,21 @@
 -- The part, and the RDN, at the front of a text.
-use Rattle.std.proofs.Common.{◌≡◌, ℕ, Bool, true, false, cond, not, ◌&&◌, eqb, List, [], ◌∷◌, ◌++◌, length, take, ◌-◌, Result, Ok, Err, refl, sym, ap, subst, ◌∙◌, append_assoc, arith}
-use Rattle.std.proofs.lemmas.Bool.{and_parts, eqb-true}
-use Rattle.std.proofs.lemmas.Bool.Decides.{nat_tests}
-use Rattle.std.proofs.lemmas.List.{append-nil, take-append-drop}
-use Rattle.std.specs.List.{onto_first, prefix_len}
+use Rattle.std.proofs.Common.{◌≡◌, ℕ, Bool, true, false, cond, eqb, List, [], ◌∷◌, ◌++◌, length, take, ◌-◌, Result, Ok, Err, refl, sym, ap, subst, ◌∙◌, append_assoc}
+use Rattle.std.proofs.lemmas.Bool.{eqb-true}
+use Rattle.std.proofs.lemmas.List.{take-append-drop}
+use Rattle.std.specs.List.{prefix_len}
 use Rattle.dn.specs.declared.faults.Fault.{Fault}
 use Rattle.dn.specs.declared.faults.Fault.TheVariants.{EqualsMissing, TypeMissing}
 use Rattle.dn.specs.declared.faults.NameFault.{NameFault}
 use Rattle.dn.specs.declared.faults.NameFault.TheVariants as errors
 use Rattle.dn.specs.Gives.{Fails}
 use Rattle.dn.specs.Spelling.{spaces}
-use Rattle.dn.specs.Names.{Part, Parts, Rdns, is_type_byte}
-use Rattle.dn.specs.Reading.{◌>>=◌, each, value_of, is_space, skip, type_in, after_type, after_equals, part_at, part_of, escapes, cut_raw, rdn_of}
-use Rattle.dn.specs.Cuts.{piece, behind, is_comma, is_separator, first_value, first_part, first_rdn, Holds}
-use Rattle.dn.proofs.Pieces.{P, B, split, ends_is, space_apart, type_apart, front_of_piece, rest_of_piece, behind_rest}
+use Rattle.dn.specs.Names.{Part, is_type_byte}
+use Rattle.dn.specs.Reading.{◌>>=◌, value_of, is_space, skip, type_in, after_type, after_equals, part_at, part_of}
+use Rattle.dn.specs.Cuts.{piece, behind, is_separator, first_value, first_part, Holds}
+use Rattle.dn.proofs.Pieces.{P, B, space_apart, type_apart, front_of_piece, rest_of_piece, behind_rest}
 use Rattle.dn.proofs.Runs.{skipped}
 use Rattle.dn.proofs.Parts.{equals_found}
 use Rattle.dn.proofs.Holding.{front_is}
-use Rattle.dn.proofs.Wholes.{IsWhole, cut_at, cut_none}
 
 -- ---- a part
 
@@ -129,14 +127,14 @@ module _ (total : Got) (ty rest : List ℕ) (total_is : total ≡ from_text ty r
           between = between;
           is =
               front_is t (ty ++ (between ++ value)) behind (
-                sym (take-append-drop (prefix_len is_type_byte t) t)
-                ∙ ap (λ (x : List ℕ). x ++ after_type t) (sym is)
-                ∙ ap (λ (x : List ℕ). ty ++ x) (sym behind_is ∙ s2.1
-                ∙ ap (λ (x : List ℕ). spaces s2.0 ++ x) (sym rest_is ∙ (equals_found ty rest v equals).0
-                ∙ ap (λ (x : List ℕ). 61 ∷ x) (s3.1 ∙ ap (λ (x : List ℕ). spaces s3.0 ++ x) (sym from_is ∙ ends)))
-                ∙ sym (append_assoc (spaces s2.0) (61 ∷ spaces s3.0) (value ++ behind))
-                ∙ sym (append_assoc between value behind))
-                ∙ sym (append_assoc ty (between ++ value) behind)
+              sym (take-append-drop (prefix_len is_type_byte t) t)
+              ∙ ap (λ (x : List ℕ). x ++ after_type t) (sym is)
+              ∙ ap (λ (x : List ℕ). ty ++ x) (sym behind_is ∙ s2.1
+              ∙ ap (λ (x : List ℕ). spaces s2.0 ++ x) (sym rest_is ∙ (equals_found ty rest v equals).0
+              ∙ ap (λ (x : List ℕ). 61 ∷ x) (s3.1 ∙ ap (λ (x : List ℕ). spaces s3.0 ++ x) (sym from_is ∙ ends)))
+              ∙ sym (append_assoc (spaces s2.0) (61 ∷ spaces s3.0) (value ++ behind))
+              ∙ sym (append_assoc between value behind))
+              ∙ sym (append_assoc ty (between ++ value) behind)
               );
         }
 

@@ -1,20 +1,14 @@
 -- Pieces of a text, what stands behind them, and what is read of them.
-use Rattle.std.proofs.Common.{◌≡◌, ℕ, ◌+◌, ◌<◌, ◌≤◌, Bool, true, false, cond, not, ◌&&◌, eqb, List, [], ◌∷◌, ◌++◌, map, take, drop, length, get_or, Result, Ok, Err, refl, sym, ap, subst, ◌∙◌, append_assoc, arith}
+use Rattle.std.proofs.Common.{◌≡◌, ℕ, ◌+◌, ◌<◌, ◌≤◌, Bool, true, false, cond, not, ◌&&◌, eqb, List, [], ◌∷◌, ◌++◌, take, drop, length, get_or, refl, sym, ap, ◌∙◌, append_assoc, arith}
 use Rattle.std.specs.List.{list_all, prefix_len}
-use Rattle.std.proofs.lemmas.Bool.{and_parts, eqb-true}
+use Rattle.std.proofs.lemmas.Bool.{and_parts}
 use Rattle.std.proofs.lemmas.Bool.Decides.{nat_tests}
 use Rattle.std.proofs.lemmas.List.{append-nil, take-append-drop, take_more, take_all, drop_more, drop_all}
-use Rattle.dn.specs.declared.faults.Fault.{Fault}
-use Rattle.dn.specs.declared.faults.Fault.TheVariants.{EqualsMissing, TypeMissing, FormNotSupported}
-use Rattle.dn.specs.declared.value.Octet.{Octet}
-use Rattle.dn.specs.declared.value.State.TheVariants.{Plain}
-use Rattle.dn.specs.Names.{Part, Parts, Rdns, is_type_byte}
-use Rattle.dn.specs.Spelling.{may_stand, is_raw_space, ends_well, byte_of}
-use Rattle.dn.specs.Reading.{◌>>=◌, each, with_octet, octets_from, trimmed, begins_form, value_from, value_of, is_space, skip, type_in, after_type, after_equals, part_at, part_of, escapes, cut_raw, rdn_of}
-use Rattle.dn.specs.Cuts.{piece, behind, is_comma, is_separator, first_value, first_part, first_rdn, ends_piece, ends_in_space}
+use Rattle.dn.specs.Names.{is_type_byte}
+use Rattle.dn.specs.Spelling.{may_stand}
+use Rattle.dn.specs.Reading.{is_space, escapes}
+use Rattle.dn.specs.Cuts.{piece, behind, is_separator}
 use Rattle.dn.proofs.Runs.{Stops, front_passes, rest_stops, run_front, run_rest}
-use Rattle.dn.proofs.Octets.{trimmed_with}
-use Rattle.dn.proofs.Wholes.{IsWhole, cut_at, cut_none}
 
 -- ---- a piece and what stands behind it
 

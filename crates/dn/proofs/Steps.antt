@@ -1,13 +1,10 @@
 -- An RDN, and a name, read part by part.
-use Rattle.std.proofs.Common.{◌≡◌, ℕ, Bool, true, false, cond, not, ◌&&◌, ◌||◌, eqb, List, [], ◌∷◌, ◌++◌, length, ◌≤◌, ◌<◌, get_or, drop, Option, Some, None, Result, Ok, Err, refl, sym, ap, subst, ◌∙◌, append_assoc, arith}
+use Rattle.std.proofs.Common.{◌≡◌, ℕ, Bool, true, false, cond, not, ◌&&◌, eqb, List, [], ◌∷◌, ◌++◌, Option, Some, None, Result, Ok, Err, refl, sym, ap, ◌∙◌, arith}
 use Rattle.std.specs.List.{onto_first}
 use Rattle.std.proofs.lemmas.Bool.{and_parts, eqb-true, not-true}
 use Rattle.std.proofs.lemmas.Bool.Decides.{nat_tests}
 use Rattle.std.proofs.lemmas.List.{append-nil}
 use Rattle.dn.specs.declared.faults.Fault.{Fault}
-use Rattle.dn.specs.declared.faults.NameFault.{NameFault}
-use Rattle.dn.specs.declared.faults.NameFault.TheVariants as errors
-use Rattle.dn.specs.Gives.{Fails}
 use Rattle.dn.specs.Names.{Part, Parts, Rdns}
 use Rattle.dn.specs.Reading.{◌>>=◌, each, part_of, escapes, cut_raw, rdn_of}
 use Rattle.dn.specs.Cuts.{piece, behind, is_comma, is_separator, after_first, first_part, first_rdn}

@@ -98,7 +98,12 @@ impl Ava {
 
     /// The part of the type that a text begins with and the value that it ends with.
     #[inline(always)]
-    pub(crate) fn of_text(alloc: Global, text: &[u8], ty_text: &[u8], value: &[u8]) -> Result<Ava, AllocError>
+    pub(crate) fn of_text(
+        alloc: Global,
+        text: &[u8],
+        ty_text: &[u8],
+        value: &[u8],
+    ) -> Result<Ava, AllocError>
         requires ty_text { is_type ty_text.now ≡ true }
         requires text { Holds text.now ty_text.now value.now }
         ensures same { IfOk result (λ part. part ≡ (ty_text.now, value.now)) }

@@ -77,7 +77,7 @@ fn compare_faults(rt: &impl Abort, alloc: Global, cases: &[(&str, &str)]) -> Res
 }
 
 /// A text, the name, and its written form.
-const NAMES: [(&str, &str, &str); 82] = [
+const NAMES: [(&str, &str, &str); 85] = [
     // The examples of RFC 4514, section 4.
     (
         "UID=jsmith,DC=example,DC=net",
@@ -233,6 +233,22 @@ const NAMES: [(&str, &str, &str); 82] = [
         "cn=!a:b/c&d(e)f*g?h@i|j",
     ),
     ("cn=~`^{}[]$%", "[cn|~`^{}[]$%]/", "cn=~`^{}[]$%"),
+    // Parts of 23, 24, 25 and more bytes, which are kept in different places.
+    (
+        "cn=abcdefghijklmnopqrst,cn=abcdefghijklmnopqrstu,cn=abcdefghijklmnopqrstuv",
+        "[cn|abcdefghijklmnopqrst]/[cn|abcdefghijklmnopqrstu]/[cn|abcdefghijklmnopqrstuv]/",
+        "cn=abcdefghijklmnopqrst,cn=abcdefghijklmnopqrstu,cn=abcdefghijklmnopqrstuv",
+    ),
+    (
+        "c=abcdefghijklmnopqrst\\2C,c=abcdefghijklmnopqrstu\\2C,c=abcdefghijklmnopqrstuv\\2C",
+        "[c|abcdefghijklmnopqrst,]/[c|abcdefghijklmnopqrstu,]/[c|abcdefghijklmnopqrstuv,]/",
+        "c=abcdefghijklmnopqrst\\,,c=abcdefghijklmnopqrstu\\,,c=abcdefghijklmnopqrstuv\\,",
+    ),
+    (
+        "description  =  a text of many words +abcdefghijklmnopqrstuvwxyz=b",
+        "[description|a text of many words][abcdefghijklmnopqrstuvwxyz|b]/",
+        "description=a text of many words+abcdefghijklmnopqrstuvwxyz=b",
+    ),
 ];
 
 /// A text, and the fault that comes first from the left.

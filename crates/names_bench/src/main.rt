@@ -8,8 +8,8 @@ use anyhow::Result;
 use dn::read_name;
 use std::alloc::{AllocError, Global};
 use std::env;
-use std::rt::Clock;
 use std::io::Print;
+use std::rt::Clock;
 use texts::{Text, texts};
 use timing::time;
 
@@ -35,7 +35,13 @@ fn print_times(rt: &(impl Clock + Print), alloc: Global, text: &Text) -> Result<
         let plain_ns = decimal(alloc, times.plain / 10)?;
         let read_ns = decimal(alloc, times.read / 10)?;
         let in_loops = decimal(alloc, ratio(times.read, times.plain))?;
-        print!(rt; "{:>9} {:>6} {:>6} {:>6}", spelled.len(), plain_ns.as_str(), read_ns.as_str(), in_loops.as_str())?;
+        print!(rt;
+            "{:>9} {:>6} {:>6} {:>6}",
+            spelled.len(),
+            plain_ns.as_str(),
+            read_ns.as_str(),
+            in_loops.as_str()
+        )?;
         *read = times.read;
         hash = hash.wrapping_add(times.hash);
     }
@@ -48,7 +54,12 @@ fn print_times(rt: &(impl Clock + Print), alloc: Global, text: &Text) -> Result<
 fn print_count(rt: &impl Print, alloc: Global, text: &Text) -> Result<()> {
     let spelled = text.spelled(alloc, text.small)?;
     let name = read_name(alloc, spelled.as_str())?;
-    println!(rt; "{}: {} bytes, {} RDNs", text.label, spelled.len(), name.rdns().len())?;
+    println!(rt;
+        "{}: {} bytes, {} RDNs",
+        text.label,
+        spelled.len(),
+        name.rdns().len()
+    )?;
     Ok(())
 }
 

@@ -22,7 +22,13 @@ impl Text {
     }
 }
 
-const fn many(label: &'static str, start: &'static str, again: &'static str, small: usize, large: usize) -> Text {
+const fn many(
+    label: &'static str,
+    start: &'static str,
+    again: &'static str,
+    small: usize,
+    large: usize,
+) -> Text {
     Text {
         label,
         start,
@@ -36,7 +42,13 @@ const fn many(label: &'static str, start: &'static str, again: &'static str, sma
 pub fn texts() -> [Text; 7] {
     [
         many("short RDNs", "a=bcd", ",a=bcd", 9_999, 99_999),
-        many("RDNs", "ou=department-0001", ",ou=department-0001", 9_999, 99_999),
+        many(
+            "RDNs",
+            "ou=department-0001",
+            ",ou=department-0001",
+            9_999,
+            99_999,
+        ),
         many("spaced RDNs", "cn = a b", ", cn = a b", 9_999, 99_999),
         many("escaped RDNs", "ou=a\\2C b", ",ou=a\\2C b", 9_999, 99_999),
         many("plain value", "cn=", "abcdefghij", 10_000, 100_000),

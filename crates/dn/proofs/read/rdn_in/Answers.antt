@@ -1,8 +1,8 @@
-use Rattle.std.proofs.Common.{[], ◌∷◌, ◌++◌, true, not, eqb, length, refl, ap, ◌∙◌}
+use Rattle.std.proofs.Common.{[], not, eqb, length, refl}
 use Rattle.std.proofs.lemmas.Bool.{and_parts}
 use Rattle.std.proofs.lemmas.Result.{err_from_is_err_and}
 use Rattle.std.specs.List.{list_all}
-use Rattle.dn.specs.Names.{Parts, is_part}
+use Rattle.dn.specs.Names.{is_part}
 use Rattle.dn.specs.Reading.{part_of}
 use Rattle.dn.specs.Cuts.{is_separator, first_rdn}
 use Rattle.dn.proofs.Loop.{parts_begin, parts_fail, parts_go_on, parts_end_at, parts_done, rdn_push, less_is_left, no_plus}
