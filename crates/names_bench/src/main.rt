@@ -11,7 +11,7 @@ use std::env;
 use std::io::Print;
 use std::rt::Clock;
 use texts::{Text, texts};
-use timing::time;
+use timing::{Times, time};
 
 /// Hundredths as a decimal number.
 fn decimal(alloc: Global, hundredths: u64) -> Result<String, AllocError> {
@@ -23,30 +23,41 @@ fn ratio(a: u64, b: u64) -> u64 {
     a.saturating_mul(100) / b.max(1)
 }
 
-/// One line for a text in both sizes, each with its bytes, the nanoseconds a byte of the loop and of reading, and the second
-/// in times of the first; then the nanoseconds of reading the larger in times of the smaller, and the hashes of the loop.
-fn print_times(rt: &(impl Clock + Print), alloc: Global, text: &Text) -> Result<()> {
-    print!(rt; "{:<14}", text.label)?;
-    let mut reads = [0, 0];
-    let mut hash = 0u64;
-    for (read, size) in reads.iter_mut().zip([text.small, text.large]) {
-        let spelled = text.spelled(alloc, size)?;
-        let times = time(rt, alloc, spelled.as_str())?;
-        let plain_ns = decimal(alloc, times.plain / 10)?;
-        let read_ns = decimal(alloc, times.read / 10)?;
-        let in_loops = decimal(alloc, ratio(times.read, times.plain))?;
-        print!(rt;
-            "{:>9} {:>6} {:>6} {:>6}",
-            spelled.len(),
-            plain_ns.as_str(),
-            read_ns.as_str(),
-            in_loops.as_str()
-        )?;
-        *read = times.read;
-        hash = hash.wrapping_add(times.hash);
+/// A line with the bytes of a text, the nanoseconds a byte of the plain loop and of reading, the second in times of the first,
+/// and reading in times of that of the smaller text; then the hash, so that the loop is not left out.
+fn print_row(
+    rt: &(impl Clock + Print),
+    alloc: Global,
+    label: &str,
+    text: &str,
+    smaller: Option<Times>,
+) -> Result<Times> {
+    let times = time(rt, alloc, text)?;
+    let growth = match smaller {
+        Some(smaller) => ratio(times.read, smaller.read),
+        None => 100,
+    };
+    println!(rt;
+        "{:<13}{:>9}{:>8}{:>8}{:>8}{:>8}  {:x}",
+        label,
+        text.len(),
+        decimal(alloc, times.plain / 10)?.as_str(),
+        decimal(alloc, times.read / 10)?.as_str(),
+        decimal(alloc, ratio(times.read, times.plain))?.as_str(),
+        decimal(alloc, growth)?.as_str(),
+        times.hash
+    )?;
+    Ok(times)
+}
+
+fn print_times(rt: &(impl Clock + Print), alloc: Global) -> Result<()> {
+    println!(rt; "text             bytes    loop    read   times  growth  hash")?;
+    for text in texts() {
+        let small = text.spelled(alloc, text.small)?;
+        let small = print_row(rt, alloc, text.label, small.as_str(), None)?;
+        let large = text.spelled(alloc, text.large)?;
+        print_row(rt, alloc, text.label, large.as_str(), Some(small))?;
     }
-    let growth = decimal(alloc, ratio(reads[1], reads[0]))?;
-    println!(rt; " {:>6} {hash:x}", growth.as_str())?;
     Ok(())
 }
 
@@ -66,10 +77,7 @@ fn print_count(rt: &impl Print, alloc: Global, text: &Text) -> Result<()> {
 fn main(rt: HostRuntime) -> Result<()> {
     let words: Vec<String> = env::args(&rt)?.collect(rt.alloc())?;
     if words.len() > 1 {
-        for text in texts() {
-            print_times(&rt, rt.alloc(), &text)?;
-        }
-        return Ok(());
+        return print_times(&rt, rt.alloc());
     }
     println!(rt; "names_bench run times the reading of these, and of ten times as much:")?;
     for text in texts() {

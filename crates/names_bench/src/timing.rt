@@ -7,7 +7,7 @@ use std::rt::Clock;
 use std::time::{Duration, Instant};
 
 /// How many bytes are gone through for each best time.
-const BYTES: usize = 40_000_000;
+const BYTES: usize = 200_000_000;
 
 /// The best times in picoseconds a byte, and the hash of the bytes.
 #[derive(Clone, Copy)]
