@@ -106,7 +106,7 @@ complete (u ∷ us) text (s ∷ b ∷ c ∷ d ∷ bs, rest, is, e, more) = absur
 
 -- ---- the spaces at the end
 
-abbrev space : Octet
+abbrev pub space : Octet
 space = record { raw = true; byte = 32 }
 
 and_true : (a b : Bool) → (a && b) ≡ true → (a ≡ true) × (b ≡ true)

@@ -69,7 +69,7 @@ struct Plain<'a> {
     behind: &'a [u8],
 }
 
-/// The part at the front of a text, where it is spelled without an escape and no space follows its value.
+/// The part at the front of a text, where it is spelled without an escape.
 #[inline(always)]
 fn plain_in(text: &[u8]) -> Option<Plain<'_>>
     ensures exact { IfSome result (λ p. first_part text.now ≡ Ok ((p.ty_text.now, p.value.now), p.behind.now)) }
@@ -81,9 +81,9 @@ fn plain_in(text: &[u8]) -> Option<Plain<'_>>
     let Ok(value) = after_equals(ty_text, skip(rest)) else {
         return None;
     };
-    let (value, behind) = split_plain(skip(value))?;
+    let (value, after, behind) = split_plain(skip(value))?;
     Some(Plain {
-        text: &text[..text.len() - behind.len()],
+        text: &text[..text.len() - after.len()],
         ty_text,
         value,
         behind,

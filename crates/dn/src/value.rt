@@ -1,9 +1,9 @@
 //! Values as text.
 
-ghost use Rattle.std.specs.Prelude.{◌≡◌, ◌<◌, ◌&&◌, ◌==◌, ◌++◌, [], take, Ok, IfOk, OnOk, IfSome, Some, None, if◌then◌else◌};
-ghost use Rattle.std.specs.List.{prefix_len};
+ghost use Rattle.std.specs.Prelude.{◌≡◌, ◌<◌, ◌&&◌, ◌==◌, ◌++◌, ◌≤◌, [], true, false, length, take, drop, Ok, IfOk, OnOk, IfSome, Some, None, if◌then◌else◌};
+ghost use Rattle.std.specs.List.{list_all, prefix_len};
 ghost use Rattle.dn.specs.Spelling.{may_stand, may_follow, is_hex, hex};
-ghost use Rattle.dn.specs.Reading.{raw_fault, octets_from, step, begins_form, value_from, value_of};
+ghost use Rattle.dn.specs.Reading.{is_space, raw_fault, octets_from, step, begins_form, value_from, value_of};
 ghost use Rattle.dn.specs.Cuts.{first_value, ends_in_space};
 ghost use Rattle.dn.specs.Drafts.{draft_after, IsInRange};
 ghost use Rattle.dn.specs.Gives.{Gives};
@@ -202,17 +202,31 @@ fn ends_in_space(text: &[u8]) -> bool
     }
 }
 
-/// The value that a text without spaces at its front begins with, where that is spelled without an escape and no space follows,
-/// and what stands behind it.
-pub(crate) fn split_plain(text: &[u8]) -> Option<(&[u8], &[u8])>
-    ensures read { IfSome result (λ s. first_value text.now ≡ Ok (s.0.now, s.1.now)) }
+/// How many bytes a text has without the spaces at its end.
+fn kept_len(text: &[u8]) -> usize
+    ensures kept { ends_in_space (take result text.now) ≡ false }
+    ensures spaces { list_all is_space (drop result text.now) ≡ true }
+    ensures bound { result ≤ length text.now }
+{
+    let mut len = text.len();
+    while ends_in_space(&text[..len]) {
+        len -= 1;
+    }
+    len
+}
+
+/// The value that a text without spaces at its front begins with, where it is spelled without an escape; what follows it, and
+/// what of that follows the spaces.
+pub(crate) fn split_plain(text: &[u8]) -> Option<(&[u8], &[u8], &[u8])>
+    ensures read { IfSome result (λ s. first_value text.now ≡ Ok (s.0.now, s.2.now)) }
     ensures split { IfSome result (λ s. text.now ≡ s.0.now ++ s.1.now) }
 {
-    let (value, behind) = text.split_at(plain_len(text));
-    if !ends_piece(behind) || begins_form(value) || ends_in_space(value) {
+    let (plain, behind) = text.split_at(plain_len(text));
+    if !ends_piece(behind) || begins_form(plain) {
         return None;
     }
-    Some((value, behind))
+    let (value, after) = text.split_at(kept_len(plain));
+    Some((value, after, behind))
 }
 
 /// The value that a text without spaces at its front spells.
