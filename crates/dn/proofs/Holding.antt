@@ -28,9 +28,6 @@ module _ (text ty value : List ℕ) (h : Holds text ty value) where
   pub type_fits : length ty ≤ length text
   type_fits = omega (arith, ap length h.is, length-append ty (h.between ++ value))
 
-  pub value_fits : length value ≤ length text
-  value_fits = omega (arith, ap length h.is, length-append ty (h.between ++ value), length-append h.between value)
-
   pub held : part (take (length ty) text) (drop (length text - length value) text) ≡ part ty value
   held =
       ap (λ (x : List ℕ). part x (drop (length text - length value) text)) (ap (take (length ty)) h.is ∙ take-append_seam ty (h.between ++ value))
