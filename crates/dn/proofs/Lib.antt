@@ -1,6 +1,10 @@
 pub mod Octets
 pub mod Drafts
-pub mod Cutting
+pub mod Holding
+pub mod Pieces
+pub mod Plain
+pub mod Firsts
+pub mod Steps
 pub mod Loop
 pub mod Runs
 pub mod Parts

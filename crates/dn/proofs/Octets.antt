@@ -106,7 +106,7 @@ complete (u ∷ us) text (s ∷ b ∷ c ∷ d ∷ bs, rest, is, e, more) = absur
 
 -- ---- the spaces at the end
 
-abbrev space : Octet
+abbrev pub space : Octet
 space = record { raw = true; byte = 32 }
 
 and_true : (a b : Bool) → (a && b) ≡ true → (a ≡ true) × (b ≡ true)
@@ -169,7 +169,7 @@ unfolding trimmed
 no_spaces zero = refl
 no_spaces (suc n) = ap (keep space) (no_spaces n)
 
-trimmed_with : (us : List Octet) (n : ℕ) → ends_well us ≡ true → trimmed (us ++ replicate n space) ≡ us
+pub trimmed_with : (us : List Octet) (n : ℕ) → ends_well us ≡ true → trimmed (us ++ replicate n space) ≡ us
 unfolding trimmed
 trimmed_with [] n h = no_spaces n
 trimmed_with (u ∷ []) n h = ap (keep u) (no_spaces n) ∙ ap (λ (t : Bool). cond t [] (u ∷ [])) (not-true (is_raw_space u) h)

@@ -32,7 +32,7 @@ named ty rest got e = elim (chosen (eqb (length ty) 0) (Err TypeMissing) (Ok res
   | inr n ↦ (same_ok rest got n.1, n.0)
 ]
 
-equals_found : (ty text rest : List ℕ) → after_equals ty text ≡ Ok rest → (text ≡ 61 ∷ rest) × (eqb (length ty) 0 ≡ false)
+pub equals_found : (ty text rest : List ℕ) → after_equals ty text ≡ Ok rest → (text ≡ 61 ∷ rest) × (eqb (length ty) 0 ≡ false)
 equals_found ty [] rest e = absurd cc
 equals_found ty (b ∷ bs) rest e = elim (chosen (eqb b 61) (cond (eqb (length ty) 0) (Err TypeMissing) (Ok bs)) (Err EqualsMissing) (Ok rest) e) [
   | inl y ↦ let k = named ty bs rest y.1 in (ap (λ (x : ℕ). x ∷ bs) (eqb-true b 61 y.0) ∙ ap (λ (xs : List ℕ). 61 ∷ xs) k.0, k.1)

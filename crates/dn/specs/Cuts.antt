@@ -1,13 +1,60 @@
--- A text cut at its first separator.
-use Rattle.std.specs.Prelude.{ℕ, ◌+◌, false, List, [], ◌∷◌, take, drop, Option, Some, None}
-use Rattle.dn.specs.Reading.{cut_raw}
+-- The piece of a text up to the first byte of a kind that is not escaped, and what is read of it.
+use Rattle.std.specs.Prelude.{◌≡◌, ℕ, Bool, true, false, not, ◌&&◌, ◌||◌, ◌==◌, if◌then◌else◌, List, [], ◌∷◌, ◌++◌, Option, Some, None, Result, Ok}
+use Rattle.dn.specs.declared.faults.Fault.{Fault}
+use Rattle.dn.specs.Names.{Part, Parts, Rdns}
+use Rattle.dn.specs.Reading.{◌>>=◌, is_space, escapes, value_of, part_of, rdn_of}
 
--- what there is before the place of the separator, and the pieces behind it
-abbrev pub cut_by : ℕ → List ℕ → Option ℕ → List (List ℕ)
-cut_by sep text None = text ∷ []
-cut_by sep text (Some at) = take at text ∷ cut_raw sep false (drop (at + 1) text)
+-- the argument says whether the first byte is escaped
+unfoldable pub piece : (ℕ → Bool) → Bool → List ℕ → List ℕ
+piece ends escaped [] = []
+piece ends escaped (b ∷ bs) = if not escaped && ends b then [] else b ∷ piece ends (escapes escaped b) bs
 
--- the text before the separator and the text behind it, cut again
-abbrev pub pieces : ℕ → List ℕ → Option (List ℕ × List ℕ) → List (List ℕ)
-pieces sep text None = text ∷ []
-pieces sep text (Some s) = s.0 ∷ cut_raw sep false s.1
+-- the byte that ends the piece, and what follows it
+unfoldable pub behind : (ℕ → Bool) → Bool → List ℕ → List ℕ
+behind ends escaped [] = []
+behind ends escaped (b ∷ bs) = if not escaped && ends b then b ∷ bs else behind ends (escapes escaped b) bs
+
+abbrev pub is_comma : ℕ → Bool
+is_comma b = b == 44
+
+abbrev pub is_separator : ℕ → Bool
+is_separator b = b == 43 || b == 44
+
+-- what the piece at the front reads as, and what stands behind it
+abbrev pub first_by : {X : Type 0} → (ℕ → Bool) → (List ℕ → Result X Fault) → List ℕ → Result (X × List ℕ) Fault
+first_by ends read text = read (piece ends false text) >>= λ x. Ok (x, behind ends false text)
+
+abbrev pub first_value : List ℕ → Result (List ℕ × List ℕ) Fault
+first_value = first_by is_separator value_of
+
+abbrev pub first_part : List ℕ → Result (Part × List ℕ) Fault
+first_part = first_by is_separator part_of
+
+abbrev pub first_rdn : List ℕ → Result (Parts × List ℕ) Fault
+first_rdn = first_by is_comma rdn_of
+
+abbrev pub ends_piece : List ℕ → Bool
+ends_piece [] = true
+ends_piece (b ∷ bs) = is_separator b
+
+abbrev pub begins_with_plus : List ℕ → Bool
+begins_with_plus [] = false
+begins_with_plus (b ∷ bs) = b == 43
+
+abbrev pub after_first : List ℕ → Option (List ℕ)
+after_first [] = None
+after_first (b ∷ bs) = Some bs
+
+abbrev pub ends_in_space : List ℕ → Bool
+ends_in_space [] = false
+ends_in_space (b ∷ []) = is_space b
+ends_in_space (b ∷ c ∷ bs) = ends_in_space (c ∷ bs)
+
+-- a text that begins with a type and ends with a value
+pub record Holds (text ty value : List ℕ) : Type 0 where
+  pub between : List ℕ
+  pub is : text ≡ ty ++ (between ++ value)
+
+-- an RDN was read and put at the end, and this is left
+abbrev pub Pushes : Rdns → Rdns → List ℕ → Result (Parts × List ℕ) Fault → Type 0
+Pushes old new rest said = (r : Parts) × (said ≡ Ok (r, rest)) × (new ≡ old ++ r ∷ [])

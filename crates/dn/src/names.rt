@@ -1,10 +1,10 @@
 //! What names are made of.
 
-ghost use Rattle.std.specs.Prelude.{◌≡◌, ◌∷◌, ◌++◌, ◌&&◌, [], true, false, not, Some, None, if◌then◌else◌, OnOk, OnErr};
+ghost use Rattle.std.specs.Prelude.{◌≡◌, ◌∷◌, ◌++◌, ◌&&◌, [], true, false, not, Some, None, if◌then◌else◌, IfOk, OnOk, OnErr};
 ghost use Rattle.std.specs.List.{list_all};
 ghost use Rattle.dn.specs.Names.{is_type_byte, is_type, is_byte, is_part, is_rdn, is_name};
+ghost use Rattle.dn.specs.Cuts.{Holds};
 
-use lists::Bytes;
 use smallvec::SmallVec;
 use std::alloc::{AllocError, Global};
 use std::default::MadeWith;
@@ -39,27 +39,31 @@ fn in_range(bytes: &[u8]) -> &[u8]
 /// A type as written and a value: one part of an RDN (RFC 4512, 2.3.2). A contract sees the pair of them.
 #[derive(Debug, Drop)]
 pub struct Ava {
-    ty_text: Bytes,
-    value: Bytes,
+    // begins with the type and ends with the value: short ones need no memory of their own
+    text: SmallVec<u8, 24>,
+    ty_len: usize,
+    value_at: usize,
 }
 
 impl Model for Ava {
-    ghost use Rattle.std.specs.Prelude.{◌≡◌, ◌&&◌, true, List, ℕ};
+    ghost use Rattle.std.specs.Prelude.{◌≡◌, ◌≤◌, ◌&&◌, true, List, ℕ, length, take, drop};
     ghost use Rattle.std.specs.List.{list_all};
     ghost use Rattle.dn.specs.Names.{is_type_byte, is_byte};
 
     ghost Value = { List ℕ × List ℕ };
 
-    ghost view = { λ a. (a.ty_text, a.value) };
+    ghost view = { λ a. (take a.ty_len a.text.items, drop a.value_at a.text.items) };
 
-    ghost invariant = { λ a. (list_all is_type_byte a.ty_text && list_all is_byte a.value) ≡ true };
+    ghost invariant = { λ a. ((list_all is_type_byte (take a.ty_len a.text.items) && list_all is_byte (drop a.value_at a.text.items)) ≡ true)
+        × (a.ty_len ≤ length a.text.items) × (a.value_at ≤ length a.text.items) };
 }
 
 impl MadeWith<Global> for Ava {
     fn made_with(alloc: Global) -> Ava {
         Ava {
-            ty_text: Bytes::from_vec(Vec::new(alloc)),
-            value: Bytes::from_vec(Vec::new(alloc)),
+            text: SmallVec::new(alloc),
+            ty_len: 0,
+            value_at: 0,
         }
     }
 }
@@ -67,42 +71,74 @@ impl MadeWith<Global> for Ava {
 impl Ava {
     /// The part of this type and this value; None where the text is no type. A type is one or more letters, digits, `-`, `_`
     /// and `.`, which takes in all names and OIDs of types (RFC 4512, 1.4); a value is any bytes.
-    pub fn new(ty_text: Bytes, value: Bytes) -> Option<Ava>
-        ensures { result ≡ (if is_type ty_text then Some (ty_text, value) else None) }
+    pub fn new(alloc: Global, ty_text: &[u8], value: &[u8]) -> Result<Option<Ava>, AllocError>
+        ensures { IfOk result (λ part. part ≡ (if is_type ty_text.now then Some (ty_text.now, value.now) else None)) }
     {
-        if !is_type(ty_text.as_slice()) {
-            return None;
+        if !is_type(ty_text) {
+            return Ok(None);
         }
-        Some(Ava::of_type(ty_text, value))
+        Ok(Some(Ava::of_type(alloc, ty_text, value)?))
     }
 
-    pub(crate) fn of_type(ty_text: Bytes, value: Bytes) -> Ava
-        requires { is_type ty_text ≡ true }
-        ensures same { result ≡ (ty_text, value) }
-        ensures good { is_part result ≡ true }
+    pub(crate) fn of_type(alloc: Global, ty_text: &[u8], value: &[u8]) -> Result<Ava, AllocError>
+        requires { is_type ty_text.now ≡ true }
+        ensures same { IfOk result (λ part. part ≡ (ty_text.now, value.now)) }
+        ensures good { IfOk result (λ part. is_part part ≡ true) }
     {
-        in_range(value.as_slice());
-        Ava { ty_text, value }
+        in_range(value);
+        let mut text = SmallVec::new(alloc);
+        text.extend_from_slice(ty_text)?;
+        text.extend_from_slice(value)?;
+        Ok(Ava {
+            text,
+            ty_len: ty_text.len(),
+            value_at: ty_text.len(),
+        })
+    }
+
+    /// The part of the type that a text begins with and the value that it ends with.
+    #[inline(always)]
+    pub(crate) fn of_text(
+        alloc: Global,
+        text: &[u8],
+        ty_text: &[u8],
+        value: &[u8],
+    ) -> Result<Ava, AllocError>
+        requires ty_text { is_type ty_text.now ≡ true }
+        requires text { Holds text.now ty_text.now value.now }
+        ensures same { IfOk result (λ part. part ≡ (ty_text.now, value.now)) }
+        ensures good { IfOk result (λ part. is_part part ≡ true) }
+    {
+        in_range(value);
+        let value_at = text.len() - value.len();
+        let mut copy = SmallVec::new(alloc);
+        copy.extend_from_slice(text)?;
+        Ok(Ava {
+            text: copy,
+            ty_len: ty_text.len(),
+            value_at,
+        })
     }
 
     /// The type's text.
     pub fn ty_text(&self) -> &[u8]
         ensures { result.now ≡ self.now.0 }
     {
-        self.ty_text.as_slice()
+        &self.text.as_slice()[..self.ty_len]
     }
 
     /// The bytes of the value.
     pub fn value(&self) -> &[u8]
         ensures { result.now ≡ self.now.1 }
     {
-        self.value.as_slice()
+        &self.text.as_slice()[self.value_at..]
     }
 
     fn is_part(&self) -> bool
         ensures { result ≡ is_part self.now }
     {
-        !self.ty_text.is_empty()
+        let _ = &self.text;
+        !self.ty_text().is_empty()
     }
 }
 
@@ -140,6 +176,16 @@ impl Rdn {
         Some(Rdn {
             parts: SmallVec::from_vec(parts),
         })
+    }
+
+    #[inline(always)]
+    pub(crate) fn of_part(alloc: Global, part: Ava) -> Rdn
+        requires { is_part part ≡ true }
+        ensures { result ≡ part ∷ [] }
+    {
+        Rdn {
+            parts: SmallVec::from_buf(alloc, [part]),
+        }
     }
 
     pub(crate) fn from_parts(parts: SmallVec<Ava, 1>) -> Rdn
@@ -186,6 +232,7 @@ impl Name {
     }
 
     /// Puts an RDN at the end, which names the entry above the others, or changes nothing where memory runs out.
+    #[inline]
     pub fn push(&mut self, rdn: Rdn) -> Result<(), AllocError>
         ensures ok { OnOk result (self.new ≡ self.old ++ rdn ∷ []) }
         ensures err { OnErr result (self.new ≡ self.old) }

@@ -1,17 +1,17 @@
 //! Names are read.
 
-ghost use Rattle.std.specs.Prelude.{◌≡◌, ◌==◌, not, true, false, length, Ok, IfOk, OnOk};
+ghost use Rattle.std.specs.Prelude.{◌≡◌, ◌==◌, not, true, false, length, Ok, IfOk, IfErr, IfSome, OnOk};
 ghost use Rattle.std.specs.List.{list_all, prefix_len};
-ghost use Rattle.dn.specs.Names.{Rdns, is_type_byte, is_part, is_rdn};
+ghost use Rattle.dn.specs.Names.{Rdns, is_type_byte, is_type, is_part};
 ghost use Rattle.dn.specs.Spelling.{Spells};
-ghost use Rattle.dn.specs.Reading.{is_space, skip, type_in, after_type, after_equals, part_of, each, cut_raw, rdn_of, name_of};
-ghost use Rattle.dn.specs.Gives.{Gives};
+ghost use Rattle.dn.specs.Reading.{is_space, skip, type_in, after_type, after_equals, each, cut_raw, rdn_of, name_of};
+ghost use Rattle.dn.specs.Cuts.{first_part, first_rdn, Holds, Pushes};
+ghost use Rattle.dn.specs.Gives.{Gives, Fails};
 
 use crate::faults::{Fault, NameFault};
 use crate::names::{Ava, Name, Rdn, is_type_byte};
-use crate::split::split_once;
-use crate::value::value_of;
-use lists::Bytes;
+use crate::split::{after_first, after_plus, begins_with_plus, split_piece};
+use crate::value::{split_plain, value_of};
 use smallvec::SmallVec;
 use std::alloc::Global;
 
@@ -60,39 +60,91 @@ fn after_equals<'a>(ty_text: &[u8], rest: &'a [u8]) -> Result<&'a [u8], NameFaul
     }
 }
 
-/// The part that a text spells.
-#[tactic(auto, unfolding(crate::specs::Reading::part_of, crate::specs::Reading::part_at))]
-fn part_of(alloc: Global, text: &[u8]) -> Result<Ava, NameFault>
-    ensures exact { Gives (λ p. p) result (part_of text.now) }
-    ensures good { IfOk result (λ p. is_part p ≡ true) }
-{
-    let (ty_text, rest) = split_type(skip(text));
-    let value = after_equals(ty_text, skip(rest))?;
-    let value = value_of(alloc, skip(value))?;
-    Ok(Ava::of_type(Bytes::from_slice(alloc, ty_text)?, value))
+/// A part that is spelled without an escape, and what stands behind it.
+#[derive(Clone, Copy)]
+struct Plain<'a> {
+    text: &'a [u8],
+    ty_text: &'a [u8],
+    value: &'a [u8],
+    behind: &'a [u8],
 }
 
-/// The parts between plus signs.
-fn parts_of(alloc: Global, text: &[u8]) -> Result<SmallVec<Ava, 1>, NameFault>
-    ensures exact { Gives (λ v. v.items) result (each part_of (cut_raw 43 false text.now)) }
-    ensures good { IfOk result (λ v. is_rdn v.items ≡ true) }
+/// The part at the front of a text, where it is spelled without an escape.
+#[inline(always)]
+fn plain_in(text: &[u8]) -> Option<Plain<'_>>
+    ensures exact { IfSome result (λ p. first_part text.now ≡ Ok ((p.ty_text.now, p.value.now), p.behind.now)) }
+    ensures ty_text { IfSome result (λ p. is_type p.ty_text.now ≡ true) }
+    ensures text { IfSome result (λ p. Holds p.text.now p.ty_text.now p.value.now) }
 {
-    let mut parts = SmallVec::new(alloc);
-    let mut rest = text;
-    while let Some((piece, behind)) = split_once(rest, b'+') {
-        parts.push(part_of(alloc, piece)?)?;
+    let text = skip(text);
+    let (ty_text, rest) = split_type(text);
+    let Ok(value) = after_equals(ty_text, skip(rest)) else {
+        return None;
+    };
+    let (value, after, behind) = split_plain(skip(value))?;
+    Some(Plain {
+        text: &text[..text.len() - after.len()],
+        ty_text,
+        value,
+        behind,
+    })
+}
+
+/// The part at the front of a text, up to the first separator that is not escaped, and what stands from there on.
+fn part_in(alloc: Global, text: &[u8]) -> Result<(Ava, &[u8]), NameFault>
+    ensures exact { Gives (λ r. (r.0, r.1.now)) result (first_part text.now) }
+    ensures good { IfOk result (λ r. is_part r.0 ≡ true) }
+{
+    let text = skip(text);
+    let (ty_text, rest) = split_type(text);
+    let rest = skip(after_equals(ty_text, skip(rest))?);
+    let (piece, behind) = split_piece(rest);
+    let value = value_of(alloc, piece)?;
+    Ok((Ava::of_type(alloc, ty_text, value.as_slice())?, behind))
+}
+
+/// The same, for parts that are mostly spelled without an escape.
+fn next_part(alloc: Global, text: &[u8]) -> Result<(Ava, &[u8]), NameFault>
+    ensures exact { Gives (λ r. (r.0, r.1.now)) result (first_part text.now) }
+    ensures good { IfOk result (λ r. is_part r.0 ≡ true) }
+{
+    if let Some(plain) = plain_in(text) {
+        let part = Ava::of_text(alloc, plain.text, plain.ty_text, plain.value)?;
+        return Ok((part, plain.behind));
+    }
+    part_in(alloc, text)
+}
+
+/// The RDN at the front of a text, up to the first comma that is not escaped, and what stands from there on.
+fn rdn_in(alloc: Global, text: &[u8]) -> Result<(Rdn, &[u8]), NameFault>
+    ensures { Gives (λ r. (r.0, r.1.now)) result (first_rdn text.now) }
+{
+    let (part, mut rest) = part_in(alloc, text)?;
+    let mut parts = SmallVec::from_buf(alloc, [part]);
+    while let Some(more) = after_plus(rest) {
+        let (part, behind) = next_part(alloc, more)?;
+        parts.push(part)?;
         rest = behind;
     }
-    parts.push(part_of(alloc, rest)?)?;
-    Ok(parts)
+    Ok((Rdn::from_parts(parts), rest))
 }
 
-/// The RDN that a text spells.
-#[tactic(auto, unfolding(crate::specs::Reading::rdn_of))]
-fn rdn_of(alloc: Global, text: &[u8]) -> Result<Rdn, NameFault>
-    ensures { Gives (λ r. r) result (rdn_of text.now) }
+/// Puts the RDN at the front of a text at the end of a name, and answers what stands behind it.
+#[inline(always)]
+fn push_rdn<'a>(alloc: Global, name: &mut Name, text: &'a [u8]) -> Result<&'a [u8], NameFault>
+    ensures ok { IfOk result (λ rest. Pushes name.old name.new rest.now (first_rdn text.now)) }
+    ensures err { IfErr result (λ e. Fails e (first_rdn text.now)) }
 {
-    Ok(Rdn::from_parts(parts_of(alloc, text)?))
+    if let Some(plain) = plain_in(text) {
+        if !begins_with_plus(plain.behind) {
+            let part = Ava::of_text(alloc, plain.text, plain.ty_text, plain.value)?;
+            name.push(Rdn::of_part(alloc, part))?;
+            return Ok(plain.behind);
+        }
+    }
+    let (rdn, behind) = rdn_in(alloc, text)?;
+    name.push(rdn)?;
+    Ok(behind)
 }
 
 /// The RDNs between commas.
@@ -100,12 +152,10 @@ fn rdns_of(alloc: Global, text: &[u8]) -> Result<Name, NameFault>
     ensures { Gives (λ n. n) result (each rdn_of (cut_raw 44 false text.now)) }
 {
     let mut name = Name::new(alloc);
-    let mut rest = text;
-    while let Some((piece, behind)) = split_once(rest, b',') {
-        name.push(rdn_of(alloc, piece)?)?;
-        rest = behind;
+    let mut rest = Some(text);
+    while let Some(text) = rest {
+        rest = after_first(push_rdn(alloc, &mut name, text)?);
     }
-    name.push(rdn_of(alloc, rest)?)?;
     Ok(name)
 }
 

@@ -1,9 +1,9 @@
 //! Texts cut at separators.
 
-ghost use Rattle.std.specs.Prelude.{◌≡◌, ◌<◌, ◌&&◌, ◌==◌, not, false, IfSome, length};
+ghost use Rattle.std.specs.Prelude.{◌≡◌, ◌≤◌, ◌∷◌, ◌&&◌, not, false, length, take, drop, IfSome, IfNone};
 ghost use Rattle.std.specs.Option.{option_map};
-ghost use Rattle.dn.specs.Reading.{escapes, cut_raw};
-ghost use Rattle.dn.specs.Cuts.{cut_by, pieces};
+ghost use Rattle.dn.specs.Reading.{escapes};
+ghost use Rattle.dn.specs.Cuts.{piece, behind, is_separator, ends_piece, begins_with_plus, after_first};
 
 fn escapes(escaped: bool, b: u8) -> bool
     ensures { result ≡ escapes escaped b }
@@ -11,34 +11,78 @@ fn escapes(escaped: bool, b: u8) -> bool
     !escaped && b == b'\\'
 }
 
-fn separates(escaped: bool, b: u8, separator: u8) -> bool
-    ensures { result ≡ (not escaped && b == separator) }
+fn is_separator(b: u8) -> bool
+    ensures { result ≡ is_separator b }
 {
-    !escaped && b == separator
+    b == b'+' || b == b','
 }
 
-/// Where the first separator stands that is not escaped.
-fn separator_in(text: &[u8], separator: u8) -> Option<usize>
-    ensures cut { cut_raw separator false text.now ≡ cut_by separator text.now result }
-    ensures bound { IfSome result (λ at. at < length text.now) }
+fn separates(escaped: bool, b: u8) -> bool
+    ensures { result ≡ (not escaped && is_separator b) }
+{
+    !escaped && is_separator(b)
+}
+
+/// How many bytes stand before the first plus sign or comma that is not escaped.
+fn piece_len(text: &[u8]) -> usize
+    ensures piece { take result text.now ≡ piece is_separator false text.now }
+    ensures behind { drop result text.now ≡ behind is_separator false text.now }
+    ensures bound { result ≤ length text.now }
 {
     let mut escaped = false;
     for i in 0..text.len() {
-        if separates(escaped, text[i], separator) {
-            return Some(i);
+        if separates(escaped, text[i]) {
+            return i;
         }
         escaped = escapes(escaped, text[i]);
     }
-    None
+    text.len()
 }
 
-/// The text before the first separator that is not escaped, and the text behind it.
-pub(crate) fn split_once(text: &[u8], separator: u8) -> Option<(&[u8], &[u8])>
-    ensures cut { cut_raw separator false text.now ≡ pieces separator text.now (option_map (λ s. (s.0.now, s.1.now)) result) }
-    ensures shorter { IfSome result (λ s. length s.1.now < length text.now) }
+/// The text before the first plus sign or comma that is not escaped, and the text from there on.
+pub(crate) fn split_piece(text: &[u8]) -> (&[u8], &[u8])
+    ensures piece { result.0.now ≡ piece is_separator false text.now }
+    ensures behind { result.1.now ≡ behind is_separator false text.now }
 {
-    match separator_in(text, separator) {
-        Some(at) => Some((&text[..at], &text[at + 1..])),
-        None => None,
+    text.split_at(piece_len(text))
+}
+
+/// Whether a text is empty or begins with a plus sign or a comma.
+pub(crate) fn ends_piece(text: &[u8]) -> bool
+    ensures { result ≡ ends_piece text.now }
+{
+    match text {
+        [] => true,
+        [first, ..] => is_separator(*first),
+    }
+}
+
+pub(crate) fn begins_with_plus(text: &[u8]) -> bool
+    ensures { result ≡ begins_with_plus text.now }
+{
+    match text {
+        [] => false,
+        [first, ..] => *first == b'+',
+    }
+}
+
+/// What stands behind the plus sign that a text begins with.
+pub(crate) fn after_plus(text: &[u8]) -> Option<&[u8]>
+    ensures some { IfSome result (λ more. text.now ≡ 43 ∷ more.now) }
+    ensures none { IfNone result (begins_with_plus text.now ≡ false) }
+{
+    match text {
+        [first, more @ ..] if *first == b'+' => Some(more),
+        _ => None,
+    }
+}
+
+/// What stands behind the first byte of a text.
+pub(crate) fn after_first(text: &[u8]) -> Option<&[u8]>
+    ensures { option_map (λ s. s.now) result ≡ after_first text.now }
+{
+    match text {
+        [_, more @ ..] => Some(more),
+        [] => None,
     }
 }

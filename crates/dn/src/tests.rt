@@ -1,7 +1,6 @@
 //! Names, each with what it reads as and how it is written, by RFC 4514.
 
 use crate::{Ava, Name, NameFault, Rdn, read_name, write_name};
-use lists::Bytes;
 use std::alloc::{AllocError, Global};
 use std::default::MadeWith;
 use std::process::Abort;
@@ -78,7 +77,7 @@ fn compare_faults(rt: &impl Abort, alloc: Global, cases: &[(&str, &str)]) -> Res
 }
 
 /// A text, the name, and its written form.
-const NAMES: [(&str, &str, &str); 82] = [
+const NAMES: [(&str, &str, &str); 85] = [
     // The examples of RFC 4514, section 4.
     (
         "UID=jsmith,DC=example,DC=net",
@@ -234,6 +233,22 @@ const NAMES: [(&str, &str, &str); 82] = [
         "cn=!a:b/c&d(e)f*g?h@i|j",
     ),
     ("cn=~`^{}[]$%", "[cn|~`^{}[]$%]/", "cn=~`^{}[]$%"),
+    // Parts of 23, 24, 25 and more bytes, which are kept in different places.
+    (
+        "cn=abcdefghijklmnopqrst,cn=abcdefghijklmnopqrstu,cn=abcdefghijklmnopqrstuv",
+        "[cn|abcdefghijklmnopqrst]/[cn|abcdefghijklmnopqrstu]/[cn|abcdefghijklmnopqrstuv]/",
+        "cn=abcdefghijklmnopqrst,cn=abcdefghijklmnopqrstu,cn=abcdefghijklmnopqrstuv",
+    ),
+    (
+        "c=abcdefghijklmnopqrst\\2C,c=abcdefghijklmnopqrstu\\2C,c=abcdefghijklmnopqrstuv\\2C",
+        "[c|abcdefghijklmnopqrst,]/[c|abcdefghijklmnopqrstu,]/[c|abcdefghijklmnopqrstuv,]/",
+        "c=abcdefghijklmnopqrst\\,,c=abcdefghijklmnopqrstu\\,,c=abcdefghijklmnopqrstuv\\,",
+    ),
+    (
+        "description  =  a text of many words +abcdefghijklmnopqrstuvwxyz=b",
+        "[description|a text of many words][abcdefghijklmnopqrstuvwxyz|b]/",
+        "description=a text of many words+abcdefghijklmnopqrstuvwxyz=b",
+    ),
 ];
 
 /// A text, and the fault that comes first from the left.
@@ -346,23 +361,18 @@ fn first_faults_are_found(rt: HostRuntime) -> Result<(), Fail> {
     compare_faults(&rt, rt.alloc(), &FAULTS)
 }
 
-fn part_of(alloc: Global, ty_text: &[u8], value: &[u8]) -> Result<Option<Ava>, AllocError> {
-    let ty_text = Bytes::from_slice(alloc, ty_text)?;
-    Ok(Ava::new(ty_text, Bytes::from_slice(alloc, value)?))
-}
-
 #[test]
 fn only_what_is_spelled_is_made(rt: HostRuntime) -> Result<(), Fail> {
     let alloc = rt.alloc();
     for ty_text in ["", " ", "c n", "cn ", "cn=", "c,n", "c;x", "\u{e9}", "c\tn"] {
         assert!(rt;
-            part_of(alloc, ty_text.as_bytes(), b"a")?.is_none(),
+            Ava::new(alloc, ty_text.as_bytes(), b"a")?.is_none(),
             "{ty_text}"
         );
     }
     for ty_text in ["cn", "2.5.4.3", "a-b", "a_b", "0", "."] {
         assert!(rt;
-            part_of(alloc, ty_text.as_bytes(), b"a")?.is_some(),
+            Ava::new(alloc, ty_text.as_bytes(), b"a")?.is_some(),
             "{ty_text}"
         );
     }
@@ -385,8 +395,8 @@ fn every_byte_is_written_and_read(rt: HostRuntime) -> Result<(), Fail> {
     let alloc = rt.alloc();
     let bytes = all_bytes(alloc)?;
     let mut parts = Vec::new(alloc);
-    parts.extend(part_of(alloc, b"cn", &bytes)?)?;
-    parts.extend(part_of(alloc, b"sn", b"")?)?;
+    parts.extend(Ava::new(alloc, b"cn", &bytes)?)?;
+    parts.extend(Ava::new(alloc, b"sn", b"")?)?;
     let mut name = Name::new(alloc);
     match Rdn::new(parts) {
         Some(rdn) => name.push(rdn)?,

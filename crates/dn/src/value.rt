@@ -1,14 +1,17 @@
 //! Values as text.
 
-ghost use Rattle.std.specs.Prelude.{◌≡◌, ◌<◌, ◌&&◌, ◌==◌, [], take, IfOk, OnOk, IfSome, Some, None, if◌then◌else◌};
+ghost use Rattle.std.specs.Prelude.{◌≡◌, ◌<◌, ◌&&◌, ◌==◌, ◌++◌, ◌≤◌, [], true, false, length, take, drop, Ok, IfOk, OnOk, IfSome, Some, None, if◌then◌else◌};
+ghost use Rattle.std.specs.List.{list_all, prefix_len};
 ghost use Rattle.dn.specs.Spelling.{may_stand, may_follow, is_hex, hex};
-ghost use Rattle.dn.specs.Reading.{raw_fault, octets_from, step, begins_form, value_from, value_of};
+ghost use Rattle.dn.specs.Reading.{is_space, raw_fault, octets_from, step, begins_form, value_from, value_of};
+ghost use Rattle.dn.specs.Cuts.{first_value, ends_in_space};
 ghost use Rattle.dn.specs.Drafts.{draft_after, IsInRange};
 ghost use Rattle.dn.specs.Gives.{Gives};
 ghost use Rattle.dn.specs.declared.value.State.TheVariants as states;
 
 use crate::faults::{Fault, NameFault};
-use lists::Bytes;
+use crate::split::ends_piece;
+use smallvec::SmallVec;
 use std::alloc::{AllocError, Global};
 
 /// An octet of a value, and whether it stands in the text by itself.
@@ -104,7 +107,7 @@ fn step(state: State, byte: u8) -> Result<(State, Option<Octet>), Fault>
 /// The bytes of a value so far, and how many of them stay where it ends here.
 #[derive(Drop)]
 struct Draft {
-    bytes: Vec<u8>,
+    bytes: SmallVec<u8, 24>,
     kept: usize,
 }
 
@@ -124,7 +127,7 @@ impl Draft {
         ensures kept { IfOk result (λ d. d.kept ≡ 0) }
     {
         Ok(Draft {
-            bytes: Vec::with_capacity(alloc, room)?,
+            bytes: SmallVec::with_capacity(alloc, room)?,
             kept: 0,
         })
     }
@@ -146,17 +149,17 @@ impl Draft {
         }
     }
 
-    fn finish(self) -> Bytes
-        ensures { result ≡ take self.kept self.bytes.items }
+    fn finish(self) -> SmallVec<u8, 24>
+        ensures { result.items ≡ take self.kept self.bytes.items }
     {
         let Draft { mut bytes, kept } = self;
         bytes.truncate(kept);
-        Bytes::from_vec(bytes)
+        bytes
     }
 }
 
-fn octets_of(alloc: Global, text: &[u8]) -> Result<Bytes, NameFault>
-    ensures { Gives (λ v. v) result (value_from (octets_from states.Plain text.now)) }
+fn octets_of(alloc: Global, text: &[u8]) -> Result<SmallVec<u8, 24>, NameFault>
+    ensures { Gives (λ v. v.items) result (value_from (octets_from states.Plain text.now)) }
 {
     let mut draft = Draft::new(alloc, text.len())?;
     let mut state = State::Plain;
@@ -184,10 +187,52 @@ fn begins_form(text: &[u8]) -> bool
     }
 }
 
+fn plain_len(text: &[u8]) -> usize
+    ensures { result ≡ prefix_len may_stand text.now }
+{
+    text.iter().take_while(|b| may_stand(**b)).count()
+}
+
+fn ends_in_space(text: &[u8]) -> bool
+    ensures { result ≡ ends_in_space text.now }
+{
+    match text {
+        [] => false,
+        [.., last] => *last == b' ',
+    }
+}
+
+/// How many bytes a text has without the spaces at its end.
+fn kept_len(text: &[u8]) -> usize
+    ensures kept { ends_in_space (take result text.now) ≡ false }
+    ensures spaces { list_all is_space (drop result text.now) ≡ true }
+    ensures bound { result ≤ length text.now }
+{
+    let mut len = text.len();
+    while ends_in_space(&text[..len]) {
+        len -= 1;
+    }
+    len
+}
+
+/// The value that a text without spaces at its front begins with, where it is spelled without an escape; what follows it, and
+/// what of that follows the spaces.
+pub(crate) fn split_plain(text: &[u8]) -> Option<(&[u8], &[u8], &[u8])>
+    ensures read { IfSome result (λ s. first_value text.now ≡ Ok (s.0.now, s.2.now)) }
+    ensures split { IfSome result (λ s. text.now ≡ s.0.now ++ s.1.now) }
+{
+    let (plain, behind) = text.split_at(plain_len(text));
+    if !ends_piece(behind) || begins_form(plain) {
+        return None;
+    }
+    let (value, after) = text.split_at(kept_len(plain));
+    Some((value, after, behind))
+}
+
 /// The value that a text without spaces at its front spells.
 #[tactic(auto, unfolding(crate::specs::Reading::value_of))]
-pub(crate) fn value_of(alloc: Global, text: &[u8]) -> Result<Bytes, NameFault>
-    ensures { Gives (λ v. v) result (value_of text.now) }
+pub(crate) fn value_of(alloc: Global, text: &[u8]) -> Result<SmallVec<u8, 24>, NameFault>
+    ensures { Gives (λ v. v.items) result (value_of text.now) }
 {
     if begins_form(text) {
         return Err(NameFault::Fault(Fault::FormNotSupported));

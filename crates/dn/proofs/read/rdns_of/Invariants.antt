@@ -1,10 +1,11 @@
-use Rattle.std.proofs.Common.{◌≡◌, false, length}
-use Rattle.dn.specs.Reading.{each, rdn_of, cut_raw}
-use Rattle.dn.proofs.Loop.{with_front}
+use Rattle.std.proofs.Common.{◌≡◌}
+use Rattle.std.specs.Option.{option_map}
+use Rattle.dn.proofs.Steps.{names, names_in}
+use Rattle.dn.proofs.Loop.{with_front, size}
 use Rattle.dn.proofs.read.rdns_of.Given as goal
 
-abbrev pub invariant-loop-piece : goal.invariant-loop-piece
-invariant-loop-piece l = with_front l.name (each rdn_of (cut_raw 44 false l.rest)) ≡ each rdn_of (cut_raw 44 false l.text)
+abbrev pub invariant-loop-rest : goal.invariant-loop-rest
+invariant-loop-rest l = with_front l.name (names_in (option_map (λ s. s.now) l.rest)) ≡ names l.text
 
-abbrev pub decreases-loop-piece : goal.decreases-loop-piece
-decreases-loop-piece l = length l.rest
+abbrev pub decreases-loop-rest : goal.decreases-loop-rest
+decreases-loop-rest l = size (option_map (λ s. s.now) l.rest)

@@ -1,0 +1,87 @@
+//! Times the reading of names against a plain loop over the same bytes.
+#![tactic(auto)]
+
+mod texts;
+mod timing;
+
+use anyhow::Result;
+use dn::read_name;
+use std::alloc::{AllocError, Global};
+use std::env;
+use std::io::Print;
+use std::rt::Clock;
+use texts::{Text, texts};
+use timing::{Times, time};
+
+/// Hundredths as a decimal number.
+fn decimal(alloc: Global, hundredths: u64) -> Result<String, AllocError> {
+    format!(in alloc; "{}.{:02}", hundredths / 100, hundredths % 100)
+}
+
+/// How many hundredths of b are in a.
+fn ratio(a: u64, b: u64) -> u64 {
+    a.saturating_mul(100) / b.max(1)
+}
+
+/// A line with the bytes of a text, the nanoseconds a byte of the plain loop and of reading, the second in times of the first,
+/// and reading in times of that of the smaller text; then the hash, so that the loop is not left out.
+fn print_row(
+    rt: &(impl Clock + Print),
+    alloc: Global,
+    label: &str,
+    text: &str,
+    smaller: Option<Times>,
+) -> Result<Times> {
+    let times = time(rt, alloc, text)?;
+    let growth = match smaller {
+        Some(smaller) => ratio(times.read, smaller.read),
+        None => 100,
+    };
+    println!(rt;
+        "{:<13}{:>9}{:>8}{:>8}{:>8}{:>8}  {:x}",
+        label,
+        text.len(),
+        decimal(alloc, times.plain / 10)?.as_str(),
+        decimal(alloc, times.read / 10)?.as_str(),
+        decimal(alloc, ratio(times.read, times.plain))?.as_str(),
+        decimal(alloc, growth)?.as_str(),
+        times.hash
+    )?;
+    Ok(times)
+}
+
+fn print_times(rt: &(impl Clock + Print), alloc: Global) -> Result<()> {
+    println!(rt; "text             bytes    loop    read   times  growth  hash")?;
+    for text in texts() {
+        let small = text.spelled(alloc, text.small)?;
+        let small = print_row(rt, alloc, text.label, small.as_str(), None)?;
+        let large = text.spelled(alloc, text.large)?;
+        print_row(rt, alloc, text.label, large.as_str(), Some(small))?;
+    }
+    Ok(())
+}
+
+/// What is read of a text in its smaller size.
+fn print_count(rt: &impl Print, alloc: Global, text: &Text) -> Result<()> {
+    let spelled = text.spelled(alloc, text.small)?;
+    let name = read_name(alloc, spelled.as_str())?;
+    println!(rt;
+        "{}: {} bytes, {} RDNs",
+        text.label,
+        spelled.len(),
+        name.rdns().len()
+    )?;
+    Ok(())
+}
+
+fn main(rt: HostRuntime) -> Result<()> {
+    let words: Vec<String> = env::args(&rt)?.collect(rt.alloc())?;
+    if words.len() > 1 {
+        return print_times(&rt, rt.alloc());
+    }
+    println!(rt; "names_bench run times the reading of these, and of ten times as much:")?;
+    for text in texts() {
+        print_count(&rt, rt.alloc(), &text)?;
+    }
+    Ok(())
+}
