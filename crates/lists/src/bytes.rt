@@ -1,16 +1,18 @@
 //! Byte strings.
 
-ghost use Rattle.std.specs.Prelude.{◌≡◌, ◌↔◌, ◌++◌, [], IfOk, OnOk, OnErr, IsTrue, length, map};
+ghost use Rattle.std.specs.Prelude.{◌≡◌, ◌↔◌, ◌∷◌, ◌++◌, [], IfOk, OnOk, OnErr, IsTrue, length, map};
 ghost use Rattle.std.specs.Char.{to_ascii_lowercase};
 ghost use Rattle.std.specs.Prelude.{Some, nat_eq};
 ghost use Rattle.std.specs.Cmp as laws_of;
-ghost use Rattle.std.specs.Cmp.Lexicographic.{pointwise, slice_cmp, nat_list_eq_equiv, nat_list_cmp_total, texts_po, texts_ties};
+ghost use Rattle.std.specs.Hash.{same_Alike};
+ghost use Rattle.std.specs.Cmp.Lexicographic.{pointwise, bytes_decides, slice_cmp, nat_list_eq_equiv, nat_list_cmp_total, texts_po, texts_ties};
 ghost use Rattle.std.specs.Ordering.{nat_cmp};
 ghost use Rattle.std.proofs.Common.{rules};
 
 use smallvec::SmallVec;
 use std::alloc::{AllocError, Global};
 use std::cmp::Ordering;
+use std::hash::{Hash, Hasher};
 use std::marker::Model;
 
 /// As many bytes as need no allocation.
@@ -110,6 +112,17 @@ impl PartialEq for Bytes {
 
 impl Eq for Bytes {
     ghost laws = { nat_list_eq_equiv };
+}
+
+// all bytes in one write
+impl Hash for Bytes {
+    ghost hash_input = { λ b. b ∷ [] };
+
+    ghost respects_eq = { (same_Alike (λ b. b ∷ []) bytes_decides).fed };
+
+    fn hash<H: Hasher>(&self, state: &mut H) {
+        state.write(self.as_slice());
+    }
 }
 
 impl PartialOrd for Bytes {

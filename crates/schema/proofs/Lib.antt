@@ -5,6 +5,7 @@ pub mod Texts
 pub mod Loop
 pub mod Below
 pub mod Named
+pub mod Tables
 pub mod Orders
 pub mod TextBytes
 pub mod Spelled

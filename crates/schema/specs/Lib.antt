@@ -1,5 +1,6 @@
 pub mod Codes
 pub mod Types
+pub mod Tables
 pub mod Values
 pub mod Paths
 pub mod Rdns

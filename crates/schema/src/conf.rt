@@ -9,7 +9,8 @@ ghost use Rattle.schema.specs.Gives.{Makes};
 use crate::locate::TypedName;
 use crate::normal::normal_form;
 use crate::path::{Path, Rdn};
-use crate::types::{AttributeType, TypeId, type_at, type_of};
+use crate::table::TypeTable;
+use crate::types::{AttributeType, TypeId};
 use crate::value::{Value, ValueFault, is_valid};
 use lists::Sequence;
 use std::alloc::Global;
@@ -18,7 +19,7 @@ use std::marker::Model;
 /// The configuration of a directory. A contract sees it as its rules.
 #[derive(Debug, Drop)]
 pub struct Conf {
-    types: Sequence<AttributeType>,
+    types: TypeTable,
     suffix: Sequence<Rdn>,
     // what the suffix's RDNs come to, from the root of the tree down
     root: Path,
@@ -40,14 +41,14 @@ impl Conf {
     ghost use Rattle.schema.specs.Rules.{IsRules, root_rdn};
     ghost use Rattle.schema.specs.Keys.{KeysFit};
 
-    pub(crate) fn new(types: Vec<AttributeType>, suffix: TypedName) -> Conf
-        requires rules { IsRules (record { types = types.items; suffix = suffix.rdns.items }) }
-        requires keys { KeysFit types.items suffix }
-        ensures { result ≡ record { types = types.items; suffix = suffix.rdns.items } }
+    pub(crate) fn new(types: TypeTable, suffix: TypedName) -> Conf
+        requires rules { IsRules (record { types = types; suffix = suffix.rdns.items }) }
+        requires keys { KeysFit types suffix }
+        ensures { result ≡ record { types = types; suffix = suffix.rdns.items } }
     {
         let TypedName { rdns, path } = suffix;
         Conf {
-            types: Sequence::from_vec(types),
+            types,
             suffix: Sequence::from_vec(rdns),
             root: path,
         }
@@ -58,6 +59,12 @@ impl Conf {
         ensures { IsRules self.now }
     {
         let _ = &self.types;
+    }
+
+    pub(crate) fn table(&self) -> &TypeTable
+        ensures { result.now ≡ self.now.types }
+    {
+        &self.types
     }
 
     /// Its attribute types, each at its number.
@@ -73,14 +80,14 @@ impl Conf {
         ensures place { result ≡ type_of self.now.types name.now }
         ensures known { IfSome result (λ t. t < length self.now.types) }
     {
-        type_of(self.types(), name)
+        self.types.type_of(name)
     }
 
     fn at(&self, t: TypeId) -> &AttributeType
         requires { t < length self.now.types }
         ensures { result.now ≡ type_at self.now.types t }
     {
-        type_at(self.types(), t)
+        self.types.at(t)
     }
 
     /// The suffix's RDNs, its own entry's first.

@@ -18,6 +18,7 @@ use crate::definition::{definition_of, is_built_in};
 use crate::fault::PathFault;
 use crate::locate::{TypedName, typed};
 use crate::name::name_of_text;
+use crate::table::TypeTable;
 use crate::types::{AttributeType, Family, Syntax};
 use crate::word::{begins_with, skip, split_first_word};
 use lists::{Bytes, Sequence};
@@ -218,8 +219,7 @@ fn suffix_text(line: &[u8]) -> &[u8]
     unquoted(without_end(skip(split_first_word(line).1)))
 }
 
-fn typed_name(alloc: Global, types: &[AttributeType], text: &[u8]) -> Result<TypedName, PathFault>
-    requires { length types.now ≤ 65535 }
+fn typed_name(alloc: Global, types: &TypeTable, text: &[u8]) -> Result<TypedName, PathFault>
     ensures rdns { Gives (λ x. x.rdns.items) result (typed_name types.now (name_of_text text.now)) }
     ensures keys { IfOk result (KeysFit types.now) }
 {
@@ -229,11 +229,10 @@ fn typed_name(alloc: Global, types: &[AttributeType], text: &[u8]) -> Result<Typ
 
 fn suffix_at(
     alloc: Global,
-    types: &[AttributeType],
+    types: &TypeTable,
     line: u64,
     text: &[u8],
 ) -> Result<TypedName, ConfFault>
-    requires { length types.now ≤ 65535 }
     ensures rdns { Reads (λ x. Some x.rdns.items) result (suffix_at types.now line text.now) }
     ensures keys { IfOk result (KeysFit types.now) }
 {
@@ -254,13 +253,12 @@ fn suffix_at(
 #[tactic(auto, unfolding(crate::specs::Configurations::suffix_line))]
 fn read_suffix_line(
     alloc: Global,
-    types: &[AttributeType],
+    types: &TypeTable,
     found: &mut Option<TypedName>,
     line: u64,
     text: &[u8],
 ) -> Result<(), ConfFault>
-    requires few { length types.now ≤ 65535 }
-    requires keys { FoundFits types.now found.old }
+    requires { FoundFits types.now found.old }
     ensures rdns { Reads (λ _. rdns_found found.new) result (suffix_line types.now (rdns_found found.old) (line, text.now)) }
     ensures keys { OnOk result (FoundFits types.now found.new) }
 {
@@ -283,10 +281,9 @@ fn read_suffix_line(
 // the suffix that the lines say
 fn suffix_of(
     alloc: Global,
-    types: &[AttributeType],
+    types: &TypeTable,
     lines: &[(u64, &[u8])],
 ) -> Result<Option<TypedName>, ConfFault>
-    requires { length types.now ≤ 65535 }
     ensures rdns { Reads rdns_found result (suffix_of types.now None (map (λ l. (l.0, l.1.now)) lines.now)) }
     ensures keys { IfOk result (FoundFits types.now) }
 {
@@ -330,7 +327,7 @@ pub fn read_conf(alloc: Global, text: &[u8]) -> Result<Conf, ConfFault>
     ensures { Reads (λ c. c) result (conf_of text.now) }
 {
     let lines = lines_of(alloc, text)?;
-    let types = types_of(alloc, &lines)?;
+    let types = TypeTable::new(alloc, types_of(alloc, &lines)?)?;
     match suffix_of(alloc, &types, &lines)? {
         Some(suffix) => Ok(Conf::new(types, suffix)),
         None => Err(fault(0, ConfFaultKind::Suffix)),

@@ -13,6 +13,7 @@ mod name;
 mod normal;
 mod packing;
 mod path;
+mod table;
 #[cfg(test)]
 mod tests;
 mod types;

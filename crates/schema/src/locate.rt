@@ -15,7 +15,8 @@ use crate::name::name_of_text;
 use crate::normal::normal_form;
 use crate::packing::push_single;
 use crate::path::{Path, Rdn};
-use crate::types::{AttributeType, TypeId, type_at, type_of};
+use crate::table::TypeTable;
+use crate::types::TypeId;
 use crate::value::is_valid;
 use lists::{Bytes, Sequence};
 use std::alloc::{AllocError, Global};
@@ -46,20 +47,15 @@ fn one_part(alloc: Global, t: TypeId, value: Bytes) -> Result<Rdn, AllocError>
 }
 
 // an RDN of one part
-fn typed_rdn(
-    alloc: Global,
-    types: &[AttributeType],
-    part: &(Bytes, Bytes),
-) -> Result<Rdn, PathFault>
-    requires { length types.now ≤ 65535 }
+fn typed_rdn(alloc: Global, types: &TypeTable, part: &(Bytes, Bytes)) -> Result<Rdn, PathFault>
     ensures gives { Gives (λ r. r) result (typed_rdn types.now part.now) }
     ensures one { IfOk result (IsOne types.now) }
 {
     let value = part.1.as_slice();
-    let Some(t) = type_of(types, part.0.as_slice()) else {
+    let Some(t) = types.type_of(part.0.as_slice()) else {
         return Err(PathFault::Code(Code::InvalidDnSyntax));
     };
-    if !is_valid(type_at(types, t).syntax, value) {
+    if !is_valid(types.at(t).syntax, value) {
         return Err(PathFault::Code(Code::InvalidDnSyntax));
     }
     Ok(one_part(alloc, t, part.1.copy(alloc)?)?)
@@ -69,7 +65,7 @@ fn typed_rdn(
 #[tactic(auto, unfolding(crate::specs::Rdns::step_of, crate::specs::Rdns::put_pair))]
 fn push_rdn(
     alloc: Global,
-    types: &[AttributeType],
+    types: &TypeTable,
     rdn: &Rdn,
     out: &mut Vec<u8>,
 ) -> Result<(), AllocError>
@@ -78,7 +74,7 @@ fn push_rdn(
 {
     match rdn.parts() {
         [(t, value)] => {
-            let norm = normal_form(alloc, type_at(types, *t).family, value.as_slice())?;
+            let norm = normal_form(alloc, types.at(*t).family, value.as_slice())?;
             push_single(out, *t, norm.as_slice())
         }
         _ => unreachable!(),
@@ -86,7 +82,7 @@ fn push_rdn(
 }
 
 // what RDNs come to, from the last on
-fn path_of(alloc: Global, types: &[AttributeType], rdns: &[Rdn]) -> Result<Path, AllocError>
+fn path_of(alloc: Global, types: &TypeTable, rdns: &[Rdn]) -> Result<Path, AllocError>
     requires { AllByRecursion (IsOne types.now) rdns.now }
     ensures { IfOk result (λ p. p ≡ map (step_of types.now) (reverse rdns.now)) }
 {
@@ -99,10 +95,9 @@ fn path_of(alloc: Global, types: &[AttributeType], rdns: &[Rdn]) -> Result<Path,
 
 fn typed_rdns(
     alloc: Global,
-    types: &[AttributeType],
+    types: &TypeTable,
     name: &[(Bytes, Bytes)],
 ) -> Result<Vec<Rdn>, PathFault>
-    requires { length types.now ≤ 65535 }
     ensures rdns { Gives (λ v. v.items) result (typed types.now name.now) }
     ensures one { IfOk result (λ v. AllByRecursion (IsOne types.now) v.items) }
 {
@@ -116,10 +111,9 @@ fn typed_rdns(
 /// The RDNs of a name, its own first, and what they come to.
 pub(crate) fn typed(
     alloc: Global,
-    types: &[AttributeType],
+    types: &TypeTable,
     name: &[(Bytes, Bytes)],
 ) -> Result<TypedName, PathFault>
-    requires { length types.now ≤ 65535 }
     ensures rdns { Gives (λ x. x.rdns.items) result (typed types.now name.now) }
     ensures keys { IfOk result (KeysFit types.now) }
 {
@@ -157,7 +151,7 @@ impl Conf {
         ensures path { IfOk result (λ l. l.path ≡ path_of self.now l.rdns) }
     {
         let name = name_of_text(alloc, text)?;
-        let typed = typed(alloc, self.types(), name.as_slice())?;
+        let typed = typed(alloc, self.table(), name.as_slice())?;
         self.below_suffix(alloc, typed)
     }
 }

@@ -28,7 +28,7 @@ impl TypeId {
     /// The type of `objectClass`, which every configuration has.
     pub const OBJECT_CLASS: TypeId = TypeId { number: 0 };
 
-    fn from_number(number: u16) -> TypeId
+    pub(crate) fn from_number(number: u16) -> TypeId
         ensures { result ≡ number }
     {
         TypeId { number }

@@ -59,14 +59,17 @@ fn object_class_is_built_in(rt: HostRuntime) -> Result<(), Fail> {
 fn names_are_found_in_any_case(rt: HostRuntime) -> Result<(), Fail> {
     let conf = conf_of(
         rt.alloc(),
-        b"suffix x=y\nattributetype ( 1.2 NAME 'X-9_z'~\nattributetype ( 1.20 NAME 'x'~\n",
+        b"suffix x=y\nattributetype ( 1.2 NAME 'X-9_z'~\nattributetype ( 1.20 NAME 'x'~\nattributetype ( 1.21 NAME 'aNameOfMoreThan16'~\n",
     )?;
-    let names: [(&[u8], Option<u16>); 12] = [
+    let names: [(&[u8], Option<u16>); 15] = [
         (b"X-9_z", Some(1)),
         (b"x-9_Z", Some(1)),
         (b"1.2", Some(1)),
         (b"1.20", Some(2)),
         (b"X", Some(2)),
+        (b"aNameOfMoreThan16", Some(3)),
+        (b"ANAMEOFMORETHAN16", Some(3)),
+        (b"aNameOfMoreThan17", None),
         (b"1.", None),
         (b"x-9", None),
         (b"X-9_z ", None),
