@@ -1,5 +1,5 @@
 -- Packed paths are in the order of paths.
-use Rattle.std.proofs.Common.{◌≡◌, ℕ, ◌+◌, ◌-◌, ◌/◌, ◌%◌, ◌<◌, Bool, true, false, cond, List, [], ◌∷◌, ◌++◌, refl, sym, ap, ◌∙◌, arith, append_assoc}
+use Rattle.std.proofs.Common.{◌≡◌, ℕ, ◌+◌, ◌/◌, ◌%◌, ◌<◌, Bool, true, false, cond, List, [], ◌∷◌, ◌++◌, refl, sym, ap, ◌∙◌, arith, append_assoc}
 use Rattle.std.specs.Prelude.{nat_lt}
 use Rattle.std.specs.List.{flat_map}
 use Rattle.std.specs.declared.cmp.Ordering.{Ordering}
@@ -73,43 +73,43 @@ module _ {A : Type 0} (code : A → List ℕ) (cmp : A → A → Ordering) (z : 
 shifted : (a b : ℕ) → nat_cmp (a + 2) (b + 2) ≡ nat_cmp a b
 shifted a b = grind (arith, nat_tests)
 
-shifted_back : (a b : ℕ) → nat_lt a 253 ≡ false → nat_lt b 253 ≡ false → nat_cmp (a - 251) (b - 251) ≡ nat_cmp a b
-shifted_back a b h k = grind (arith, nat_tests)
-
-low_first : (a b : ℕ) → nat_lt a 253 ≡ true → nat_lt b 253 ≡ false → nat_cmp a b ≡ Less
+low_first : (a b : ℕ) → nat_lt a 3 ≡ true → nat_lt b 3 ≡ false → nat_cmp a b ≡ Less
 low_first a b h k = grind (arith, nat_tests)
 
-low_below : (a : ℕ) → nat_lt a 253 ≡ true → nat_cmp (a + 2) 255 ≡ Less
-low_below a h = grind (arith, nat_tests)
+low_below : (b : ℕ) → nat_lt b 3 ≡ false → nat_cmp 2 b ≡ Less
+low_below b h = grind (arith, nat_tests)
 
-high_last : (a b : ℕ) → nat_lt a 253 ≡ false → nat_lt b 253 ≡ true → nat_cmp a b ≡ Greater
+high_last : (a b : ℕ) → nat_lt a 3 ≡ false → nat_lt b 3 ≡ true → nat_cmp a b ≡ Greater
 high_last a b h k = grind (arith, nat_tests)
 
-high_above : (b : ℕ) → nat_lt b 253 ≡ true → nat_cmp 255 (b + 2) ≡ Greater
-high_above b h = grind (arith, nat_tests)
+high_above : (a : ℕ) → nat_lt a 3 ≡ false → nat_cmp a 2 ≡ Greater
+high_above a h = grind (arith, nat_tests)
 
 abbrev coded : Bool → ℕ → List ℕ
-coded low b = cond low ((b + 2) ∷ []) (255 ∷ (b - 251) ∷ [])
+coded low b = cond low (2 ∷ (b + 2) ∷ []) (b ∷ [])
 
-by_sides : (a b : ℕ) (x y : List ℕ) (c d : Bool) → nat_lt a 253 ≡ c → nat_lt b 253 ≡ d → slice_cmp nat_cmp (coded c a ++ x) (coded d b ++ y) ≡ ordering_then (nat_cmp a b) (slice_cmp nat_cmp x y)
+by_sides : (a b : ℕ) (x y : List ℕ) (c d : Bool) → nat_lt a 3 ≡ c → nat_lt b 3 ≡ d → slice_cmp nat_cmp (coded c a ++ x) (coded d b ++ y) ≡ ordering_then (nat_cmp a b) (slice_cmp nat_cmp x y)
 by_sides a b x y true true h k = ap (λ o. ordering_then o (slice_cmp nat_cmp x y)) (shifted a b)
 by_sides a b x y true false h k =
-    ap (λ o. ordering_then o (slice_cmp nat_cmp x ((b - 251) ∷ y))) (low_below a h) ∙ sym (ap (λ o. ordering_then o (slice_cmp nat_cmp x y)) (low_first a b h k))
+    ap (λ o. ordering_then o (slice_cmp nat_cmp ((a + 2) ∷ x) y)) (low_below b k) ∙ sym (ap (λ o. ordering_then o (slice_cmp nat_cmp x y)) (low_first a b h k))
 by_sides a b x y false true h k =
-    ap (λ o. ordering_then o (slice_cmp nat_cmp ((a - 251) ∷ x) y)) (high_above b k) ∙ sym (ap (λ o. ordering_then o (slice_cmp nat_cmp x y)) (high_last a b h k))
-by_sides a b x y false false h k = ap (λ o. ordering_then o (slice_cmp nat_cmp x y)) (shifted_back a b h k)
+    ap (λ o. ordering_then o (slice_cmp nat_cmp x ((b + 2) ∷ y))) (high_above a h) ∙ sym (ap (λ o. ordering_then o (slice_cmp nat_cmp x y)) (high_last a b h k))
+by_sides a b x y false false h k = refl
 
 byte_fits : Fits byte_code nat_cmp
 unfolding byte_code
-byte_fits a b x y = by_sides a b x y (nat_lt a 253) (nat_lt b 253) refl refl
+byte_fits a b x y = by_sides a b x y (nat_lt a 3) (nat_lt b 3) refl refl
 
 byte_above : (b : ℕ) → Above 1 (byte_code b)
 unfolding byte_code
-byte_above b = by (nat_lt b 253)
+byte_above b = by (nat_lt b 3) refl
   where
-    by : (low : Bool) → Above 1 (coded low b)
-    by true = record { first = b + 2; rest = []; is = refl; above = omega arith }
-    by false = record { first = 255; rest = (b - 251) ∷ []; is = refl; above = omega arith }
+    high : (b : ℕ) → nat_lt b 3 ≡ false → 1 < b
+    high b h = grind (arith, nat_tests)
+
+    by : (low : Bool) → nat_lt b 3 ≡ low → Above 1 (coded low b)
+    by true h = record { first = 2; rest = (b + 2) ∷ []; is = refl; above = omega arith }
+    by false h = record { first = b; rest = []; is = refl; above = high b h }
 
 value_fits : Fits value_code (slice_cmp nat_cmp)
 unfolding value_code

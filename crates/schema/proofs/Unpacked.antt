@@ -1,8 +1,8 @@
 -- Packed paths read back.
 use Rattle.std.proofs.Common.{◌≡◌, ℕ, ◌+◌, ◌-◌, ◌*◌, ◌/◌, ◌%◌, ◌<◌, Bool, true, false, cond, List, [], ◌∷◌, ◌++◌, map, refl, sym, ap, subst, ◌∙◌, arith, append_assoc}
 use Rattle.std.specs.Prelude.{nat_lt, ◌==◌}
-use Rattle.std.specs.List.{flat_map, onto_first, AllByRecursion}
-use Rattle.std.proofs.lemmas.Bool.{ne_eqb}
+use Rattle.std.specs.List.{flat_map, onto_first, AllByRecursion, list_all}
+use Rattle.std.proofs.lemmas.Bool.{ne_eqb, and_parts}
 use Rattle.std.proofs.lemmas.Bool.Decides.{nat_tests}
 use Rattle.schema.specs.Paths.{Pair, Step, Steps}
 use Rattle.schema.specs.Packed.{byte_code, value_code, type_code, pair_code, step_code, pack, parts, value_of, pair_of, pairs_of, unpack, IsPacked}
@@ -10,29 +10,36 @@ use Rattle.schema.proofs.Locating.{all_append}
 
 -- ---- values
 
-by_low : (b : ℕ) (bs : List ℕ) (low : Bool) → nat_lt b 253 ≡ low → value_of false (cond low ((b + 2) ∷ []) (255 ∷ (b - 251) ∷ []) ++ bs) ≡ b ∷ value_of false bs
+by_low : (b : ℕ) (bs : List ℕ) (low : Bool) → nat_lt b 3 ≡ low → value_of false (cond low (2 ∷ (b + 2) ∷ []) (b ∷ []) ++ bs) ≡ b ∷ value_of false bs
 unfolding value_of
-by_low b bs true h =
-    ap (λ t. cond t (value_of true bs) ((b + 2 - 2) ∷ value_of false bs)) (differs b h) ∙ ap (λ n. n ∷ value_of false bs) (same b)
+by_low b bs true h = ap (λ n. n ∷ value_of false bs) (same b)
   where
-    differs : (b : ℕ) → nat_lt b 253 ≡ true → (b + 2 == 255) ≡ false
-    differs b h = grind (arith, nat_tests)
-
     same : (b : ℕ) → b + 2 - 2 ≡ b
     same b = omega arith
-by_low b bs false h = ap (λ n. n ∷ value_of false bs) (same b h)
+by_low b bs false h = ap (λ t. cond t (value_of true bs) (b ∷ value_of false bs)) (differs b h)
   where
-    same : (b : ℕ) → nat_lt b 253 ≡ false → b - 251 + 251 ≡ b
-    same b h = grind (arith, nat_tests)
+    differs : (b : ℕ) → nat_lt b 3 ≡ false → (b == 2) ≡ false
+    differs b h = grind (arith, nat_tests)
 
 byte_back : (b : ℕ) (bs : List ℕ) → value_of false (byte_code b ++ bs) ≡ b ∷ value_of false bs
 unfolding byte_code
-byte_back b bs = by_low b bs (nat_lt b 253) refl
+byte_back b bs = by_low b bs (nat_lt b 3) refl
 
 bytes_back : (v : List ℕ) → value_of false (flat_map byte_code v) ≡ v
 unfolding value_of
 bytes_back [] = refl
 bytes_back (b ∷ v) = byte_back b (flat_map byte_code v) ∙ ap (λ w. b ∷ w) (bytes_back v)
+
+-- bytes of a text stand for themselves
+pub as_they_are : (v : List ℕ) → list_all (λ b. nat_lt 2 b) v ≡ true → flat_map byte_code v ≡ v
+unfolding byte_code
+as_they_are [] h = refl
+as_they_are (b ∷ v) h =
+    let both = and_parts (nat_lt 2 b) (list_all (λ c. nat_lt 2 c) v) h in
+    ap (λ t. cond t (2 ∷ (b + 2) ∷ []) (b ∷ []) ++ flat_map byte_code v) (high b both.0) ∙ ap (λ w. b ∷ w) (as_they_are v both.1)
+  where
+    high : (b : ℕ) → nat_lt 2 b ≡ true → nat_lt b 3 ≡ false
+    high b h = grind (arith, nat_tests)
 
 -- ---- pairs
 
@@ -61,14 +68,14 @@ parted z (b ∷ bs) rest h =
 bytes_high : (v : List ℕ) → AllByRecursion (λ b. 1 < b) (flat_map byte_code v)
 unfolding byte_code
 bytes_high [] = tt
-bytes_high (b ∷ v) = all_append (λ b. 1 < b) (byte_code b) (flat_map byte_code v) (by (nat_lt b 253) refl) (bytes_high v)
+bytes_high (b ∷ v) = all_append (λ b. 1 < b) (byte_code b) (flat_map byte_code v) (by (nat_lt b 3) refl) (bytes_high v)
   where
-    escaped : (b : ℕ) → nat_lt b 253 ≡ false → 1 < b - 251
-    escaped b h = grind (arith, nat_tests)
+    high : (b : ℕ) → nat_lt b 3 ≡ false → 1 < b
+    high b h = grind (arith, nat_tests)
 
-    by : (low : Bool) → nat_lt b 253 ≡ low → AllByRecursion (λ b. 1 < b) (cond low ((b + 2) ∷ []) (255 ∷ (b - 251) ∷ []))
-    by true h = (omega arith, tt)
-    by false h = (omega arith, (escaped b h, tt))
+    by : (low : Bool) → nat_lt b 3 ≡ low → AllByRecursion (λ b. 1 < b) (cond low (2 ∷ (b + 2) ∷ []) (b ∷ []))
+    by true h = (omega arith, (omega arith, tt))
+    by false h = (high b h, tt)
 
 body_high : (p : Pair) → AllByRecursion (λ b. 1 < b) (body p)
 unfolding body type_code

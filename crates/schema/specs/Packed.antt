@@ -4,9 +4,9 @@ use Rattle.std.specs.Prelude.{◌≡◌, ℕ, ◌+◌, ◌-◌, ◌*◌, ◌/◌
 use Rattle.std.specs.List.{flat_map, onto_first}
 use Rattle.schema.specs.Paths.{Pair, Step, Steps}
 
--- a byte of a value: one byte, or two from 253 on
+-- a byte of a value: itself, but two bytes for 0, 1 and 2
 unfoldable pub byte_code : ℕ → List ℕ
-byte_code b = if nat_lt b 253 then (b + 2) ∷ [] else 255 ∷ (b - 251) ∷ []
+byte_code b = if nat_lt b 3 then 2 ∷ (b + 2) ∷ [] else b ∷ []
 
 unfoldable pub value_code : List ℕ → List ℕ
 value_code v = flat_map byte_code v ++ 1 ∷ []
@@ -31,11 +31,11 @@ unfoldable pub parts : ℕ → List ℕ → List (List ℕ)
 parts z [] = []
 parts z (b ∷ bs) = if b == z then [] ∷ parts z bs else onto_first b (parts z bs)
 
--- the value whose bytes have these codes; whether the first stands behind a 255
+-- the value whose bytes have these codes; whether the first stands behind a 2
 unfoldable pub value_of : Bool → List ℕ → List ℕ
-value_of escaped [] = []
-value_of true (b ∷ bs) = (b + 251) ∷ value_of false bs
-value_of false (b ∷ bs) = if b == 255 then value_of true bs else (b - 2) ∷ value_of false bs
+value_of behind [] = []
+value_of true (b ∷ bs) = (b - 2) ∷ value_of false bs
+value_of false (b ∷ bs) = if b == 2 then value_of true bs else b ∷ value_of false bs
 
 unfoldable pub pair_of : List ℕ → Pair
 pair_of [] = (0, [])

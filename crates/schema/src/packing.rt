@@ -1,6 +1,7 @@
 //! The bytes of a packed path: codes of types and values that keep their order.
 
-ghost use Rattle.std.specs.Prelude.{◌≡◌, ◌++◌, ◌∷◌, [], OnOk};
+ghost use Rattle.std.specs.Prelude.{◌≡◌, ◌++◌, ◌∷◌, [], OnOk, nat_lt};
+ghost use Rattle.std.specs.List.{flat_map, list_all};
 ghost use Rattle.schema.specs.Packed.{byte_code, value_code, type_code, pair_code, step_code};
 
 use crate::types::TypeId;
@@ -17,11 +18,31 @@ pub(crate) const STEP_END: u8 = 0;
 fn push_byte(out: &mut Vec<u8>, byte: u8) -> Result<(), AllocError>
     ensures { OnOk result (out.new.items ≡ out.old.items ++ byte_code byte) }
 {
-    if byte < 253 {
+    if byte < 3 {
+        out.push(2)?;
         out.push(byte + 2)?;
     } else {
-        out.push(255)?;
-        out.push(byte - 251)?;
+        out.push(byte)?;
+    }
+    Ok(())
+}
+
+fn are_themselves(bytes: &[u8]) -> bool
+    ensures { result ≡ list_all (λ b. nat_lt 2 b) bytes.now }
+{
+    bytes.iter().all(|b| 2 < *b)
+}
+
+// a text goes in as it is
+fn push_bytes(out: &mut Vec<u8>, bytes: &[u8]) -> Result<(), AllocError>
+    ensures { OnOk result (out.new.items ≡ out.old.items ++ flat_map byte_code bytes.now) }
+{
+    if are_themselves(bytes) {
+        out.extend_from_slice(bytes)?;
+        return Ok(());
+    }
+    for byte in bytes {
+        push_byte(out, *byte)?;
     }
     Ok(())
 }
@@ -30,9 +51,7 @@ fn push_byte(out: &mut Vec<u8>, byte: u8) -> Result<(), AllocError>
 fn push_value(out: &mut Vec<u8>, value: &[u8]) -> Result<(), AllocError>
     ensures { OnOk result (out.new.items ≡ out.old.items ++ value_code value.now) }
 {
-    for byte in value {
-        push_byte(out, *byte)?;
-    }
+    push_bytes(out, value)?;
     out.push(VALUE_END)?;
     Ok(())
 }

@@ -113,13 +113,19 @@ fn key_of(alloc: Global, conf: &Conf, pairs: Pairs) -> Result<RdnKey, Fail> {
 }
 
 // Each byte of a value, and values that begin one another, as the first of two steps, alone, and beside a second pair.
-const VALUES_ASCENDING: [&[u8]; 19] = [
+const VALUES_ASCENDING: [&[u8]; 25] = [
     b"",
     b"\0",
     b"\0\0",
     b"\0\x01",
+    b"\0\xff",
     b"\x01",
+    b"\x01\x03",
     b"\x02",
+    b"\x02\x02",
+    b"\x02\x03",
+    b"\x03",
+    b"\x04",
     b"a",
     b"a\0",
     b"aa",
@@ -155,9 +161,40 @@ fn paths_of_any_bytes_are_in_order(rt: HostRuntime) -> Result<(), Fail> {
     for value in VALUES_ASCENDING {
         push_paths(rt.alloc(), &conf, &mut paths, value)?;
     }
-    assert_eq!(rt; paths.len(), 58);
+    assert_eq!(rt; paths.len(), 76);
     for (i, path) in paths.iter().enumerate() {
         compare_one(&rt, &paths, i, path);
+    }
+    Ok(())
+}
+
+const TYPES: u16 = 260;
+
+// a configuration of `t1`, `t2` and so on
+fn conf_of_many(alloc: Global) -> Result<Conf, Fail> {
+    let mut text = Vec::from_slice(alloc, b"suffix \"t1=x\"\n")?;
+    for i in 1..=TYPES {
+        let line = format!(in alloc; "attributetype ( 1.{i} NAME 't{i}'~\n")?;
+        text.extend_from_slice(line.as_bytes())?;
+    }
+    conf_of(alloc, &text)
+}
+
+// Type numbers of one digit in the code of a path, and of two.
+#[test]
+fn paths_are_in_the_order_of_many_types(rt: HostRuntime) -> Result<(), Fail> {
+    let conf = conf_of_many(rt.alloc())?;
+    let mut last = Path::root(rt.alloc());
+    for i in 1..=TYPES {
+        let name = format!(in rt.alloc(); "t{i}=x,t1=x")?;
+        let path = path_of(rt.alloc(), &conf, &name)?;
+        let shown = format!(in rt.alloc(); "/{i}=x")?;
+        assert_eq!(rt;
+            steps_shown(rt.alloc(), &path)?.as_slice(),
+            shown.as_bytes()
+        );
+        assert!(rt; last < path, "{i}");
+        last = path;
     }
     Ok(())
 }

@@ -74,7 +74,7 @@ pub fn steps_shown(alloc: Global, path: &Path) -> Result<Vec<u8>, AllocError> {
             digits = 0;
             number = 0;
         } else if digits == 3 {
-            out.push(byte - 2)?;
+            out.push(byte)?;
         } else {
             digits = digits.saturating_add(1);
             number = number.wrapping_mul(254).wrapping_add(u32::from(byte - 2));
