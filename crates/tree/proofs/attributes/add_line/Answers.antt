@@ -1,4 +1,4 @@
-use Rattle.std.proofs.Common.{◌≡◌, ◌∙◌, sym, subst, ap, cond, refl, true, false, Bool, Err, Ok, List, ℕ}
+use Rattle.std.proofs.Common.{◌≡◌, ◌∙◌, sym, subst, ap, cond, refl, true, false, Bool, Err, Ok, List}
 use Rattle.std.proofs.lemmas.Bool.{not-false, not-true}
 use Rattle.schema.specs.declared.code.Code.TheVariants.{AttributeOrValueExists}
 use Rattle.schema.specs.Values.{Value}

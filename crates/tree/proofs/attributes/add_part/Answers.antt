@@ -1,4 +1,4 @@
-use Rattle.std.proofs.Common.{◌≡◌, ◌∙◌, sym, subst, ap, cond, refl, true, false, Bool, List, ℕ, length, not}
+use Rattle.std.proofs.Common.{◌≡◌, ◌∙◌, sym, subst, ap, cond, refl, true, false, Bool, List, length, not}
 use Rattle.std.proofs.lemmas.Bool.{ltb-true}
 use Rattle.schema.specs.Values.{Value}
 use Rattle.tree.specs.Entries.{values_of, push_value}

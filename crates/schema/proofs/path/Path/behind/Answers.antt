@@ -1,4 +1,4 @@
-use Rattle.std.proofs.Common.{◌≡◌, ℕ, List, ap, ◌∙◌, length, drop, arith}
+use Rattle.std.proofs.Common.{◌≡◌, ◌∙◌, length, drop, arith}
 use Rattle.schema.specs.Packed.{pack}
 use Rattle.schema.proofs.Unpacked.{reads_as, is_packed}
 use Rattle.schema.proofs.PackedPaths.{front_fits, rest_packed}

@@ -1,6 +1,6 @@
 use Rattle.std.proofs.Common.{◌≡◌, ap, ◌∙◌}
 use Rattle.schema.specs.Paths.{parent_of}
-use Rattle.schema.specs.Packed.{pack, unpack}
+use Rattle.schema.specs.Packed.{pack}
 use Rattle.schema.proofs.Unpacked.{reads_as, is_packed}
 use Rattle.schema.proofs.path.Path.parent.Goals as goal
 use Rattle.schema.proofs.path.Path.parent.Goals.{In_ok-from_slice}
