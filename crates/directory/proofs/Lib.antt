@@ -5,3 +5,4 @@ pub mod EntryText
 pub mod LoadLaw
 pub mod DumpText
 pub mod LoadSteps
+pub mod Examples

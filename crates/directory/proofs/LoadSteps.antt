@@ -10,13 +10,14 @@ use Rattle.tree.specs.Directories.{Entries}
 use Rattle.directory.specs.Runs.{State, counted, outcome, after_records, loading, Loads}
 use Rattle.directory.specs.Steps.{ends}
 use Rattle.directory.specs.Loading.{is_refused, IsLoaded, Explains, loaded_after, IsUnderWay, LoadsAll, RefusesNext, LoadsUpTo, StopsAt}
+use Rattle.directory.specs.Folds.{LoadsOver, RefusesOver, StopsOver}
 use Rattle.directory.specs.declared.loading.LoadFault.{LoadFault}
 use Rattle.directory.specs.declared.loading.LoadFault.TheVariants as faults
 use Rattle.directory.specs.declared.reason.Reason.{Reason}
 use Rattle.directory.specs.declared.reason.Outcome.{Outcome}
 use Rattle.directory.specs.declared.reason.Outcome.TheVariants.{Nothing, Accepted, Refused}
 use Rattle.directory.proofs.Records.{takes_nothing, takes_more, counted_entries, settled, ended_is, last_refused}
-use Rattle.directory.proofs.Whole.{after_text}
+use Rattle.directory.proofs.Whole.{readings_are, after_all}
 
 keeps_refused : (s : State) (line : ℕ) (d : Entries) (out : Outcome) → is_refused out ≡ false → (counted false s line d out).refused ≡ s.refused
 keeps_refused s line d Nothing h = refl
@@ -63,26 +64,50 @@ module _ (rules : Rules) (old : Entries) where
     stops faults.OutOfMemory k = tt
     stops (faults.Refused at why) k = subst (λ n. RefusesNext rules old all n why) (sym k.0) (refuses why k.1)
 
--- ---- a whole text
+-- ---- over the records of any source
 
 module _ (rules : Rules) where
-  loads : (text : List ℕ) (now : Entries) → LoadsAll rules finite.empty now (Some (records text)) → Loads rules text now
-  loads text now h =
-      let is : loading rules text ≡ loaded_after rules finite.empty h.under_way.front = after_text rules Content false finite.empty text h.under_way.front h.left h.under_way.parts (inl h.over) in
+  all_over : (text : List ℕ) (now : Entries) → LoadsAll rules finite.empty now (Some (records text)) → LoadsOver rules (Some text) now
+  all_over text now h =
+      let is : loaded_after rules finite.empty (records text) ≡ loaded_after rules finite.empty h.under_way.front = after_all rules Content false finite.empty (records text) h.under_way.front h.left h.under_way.parts (inl h.over) in
       record {
+        given = records text;
+        are = refl;
         entries = h.under_way.entries ∙ ap (λ (x : State). x.entries) (sym is);
         all = ap (λ (x : State). x.refused) is ∙ h.under_way.refused;
       }
 
-  pub loads_of : (left : Option (List ℕ)) (all : Option (List Raw)) → all ≡ option_map records left → (now : Entries) → LoadsAll rules finite.empty now all → IfSome left (λ text. Loads rules text now)
-  loads_of None all is now h = tt
-  loads_of (Some text) all is now h = loads text now (subst (λ x. LoadsAll rules finite.empty now x) is h)
+  pub loads_over : (left : Option (List ℕ)) (all : Option (List Raw)) → all ≡ option_map records left → (now : Entries) → LoadsAll rules finite.empty now all → LoadsOver rules left now
+  loads_over None all is now h = record { given = h.under_way.front; are = tt; entries = h.under_way.entries; all = h.under_way.refused }
+  loads_over (Some text) all is now h = all_over text now (subst (λ x. LoadsAll rules finite.empty now x) is h)
 
-  refused_at : (text : List ℕ) (line : ℕ) (why : Reason) → RefusesNext rules finite.empty (Some (records text)) line why → (loading rules text).refused ≡ (line, why) ∷ []
-  refused_at text line why h = ap (λ (x : State). x.refused) (after_text rules Content false finite.empty text h.front h.left h.parts (inr h.ended)) ∙ h.refused
+  refuses_over : (left : Option (List ℕ)) (line : ℕ) (why : Reason) → RefusesNext rules finite.empty (option_map records left) line why → RefusesOver rules left line why
+  refuses_over None line why h = record { given = h.front; are = tt; refused = h.refused }
+  refuses_over (Some text) line why h = record {
+    given = records text;
+    are = refl;
+    refused = ap (λ (x : State). x.refused) (after_all rules Content false finite.empty (records text) h.front h.left h.parts (inr h.ended)) ∙ h.refused;
+  }
 
-  pub stops_of : (left : Option (List ℕ)) (all : Option (List Raw)) → all ≡ option_map records left → (f : LoadFault) → LoadsUpTo f rules finite.empty all → IfSome left (λ text. StopsAt f rules text)
-  stops_of None all is f h = tt
-  stops_of (Some text) all is faults.Read h = tt
-  stops_of (Some text) all is faults.OutOfMemory h = tt
-  stops_of (Some text) all is (faults.Refused line why) h = refused_at text line why (subst (λ x. RefusesNext rules finite.empty x line why) is h)
+  pub stops_over : (left : Option (List ℕ)) (all : Option (List Raw)) → all ≡ option_map records left → (f : LoadFault) → LoadsUpTo f rules finite.empty all → StopsOver f rules left
+  stops_over left all is faults.Read h = tt
+  stops_over left all is faults.OutOfMemory h = tt
+  stops_over left all is (faults.Refused line why) h = refuses_over left line why (subst (λ x. RefusesNext rules finite.empty x line why) is h)
+
+  -- ---- over a text
+
+  loading_is : (text : List ℕ) (given : List Raw) → given ≡ records text → loading rules text ≡ loaded_after rules finite.empty given
+  loading_is text given are = ap (after_records rules Content false finite.empty) (readings_are Content text) ∙ ap (loaded_after rules finite.empty) (sym are)
+
+  pub loads_of : (left : Option (List ℕ)) (now : Entries) → LoadsOver rules left now → IfSome left (λ text. Loads rules text now)
+  loads_of None now h = tt
+  loads_of (Some text) now h = record {
+    entries = h.entries ∙ ap (λ (x : State). x.entries) (sym (loading_is text h.given h.are));
+    all = ap (λ (x : State). x.refused) (loading_is text h.given h.are) ∙ h.all;
+  }
+
+  pub stops_of : (left : Option (List ℕ)) (f : LoadFault) → StopsOver f rules left → IfSome left (λ text. StopsAt f rules text)
+  stops_of None f h = tt
+  stops_of (Some text) faults.Read h = tt
+  stops_of (Some text) faults.OutOfMemory h = tt
+  stops_of (Some text) (faults.Refused line why) h = ap (λ (x : State). x.refused) (loading_is text h.given h.are) ∙ h.refused

@@ -16,12 +16,13 @@ use Rattle.tree.specs.Directories.{Entries}
 use Rattle.directory.specs.Runs.{State, start, take_up, outcome, step, after, after_records}
 use Rattle.directory.specs.Stands.{read_as, state_after, Ran, BrokeOff}
 use Rattle.directory.specs.Faults.{Went, BrokenOff}
+use Rattle.directory.specs.Folds.{AreRecords, RanOver, BrokeOver}
 use Rattle.directory.specs.Reports.{report}
 use Rattle.directory.specs.declared.runs.Tally.{Tally}
 use Rattle.directory.specs.declared.runs.RunFault.{RunFault}
 
 -- a text's records, each with its line and what it reads as
-readings_are : (mode : Mode) (text : List ℕ) → readings mode text ≡ map (read_as mode) (records text)
+pub readings_are : (mode : Mode) (text : List ℕ) → readings mode text ≡ map (read_as mode) (records text)
 unfolding readings
 readings_are mode text = refl
 
@@ -48,46 +49,86 @@ module _ (rules : Rules) (mode : Mode) (go_on : Bool) (old : Entries) where
       ∙ after_parts (map (read_as mode) front) (map (read_as mode) left)
       ∙ ended_stays (state_after rules mode go_on old front) (map (read_as mode) left) ended
 
-  pub after_text : (text : List ℕ) (front : List Raw) (left : Option (List Raw)) → Takes (Some (records text)) left front → (IsEnd left ⊎ ((state_after rules mode go_on old front).ended ≡ true)) → after rules mode go_on old text ≡ state_after rules mode go_on old front
-  after_text text front left parts over = ap (after_records rules mode go_on old) (readings_are mode text) ∙ after_all (records text) front left parts over
-
   module _ (now : Entries) (a b : Written) where
-    went : (text : List ℕ) (t : Tally) → Ran rules mode go_on old now (Some (records text)) t a b → Went rules mode go_on old now text t a b
-    went text t h =
-        let is : state_after rules mode go_on old h.front ≡ after rules mode go_on old text = sym (after_text text h.front h.left h.reached.parts h.over) in
+    -- ---- over the records of any source
+
+    all_over : (text : List ℕ) (t : Tally) → Ran rules mode go_on old now (Some (records text)) t a b → RanOver rules mode go_on old now (Some text) t a b
+    all_over text t h =
+        let is : state_after rules mode go_on old h.front ≡ state_after rules mode go_on old (records text) = sym (after_all (records text) h.front h.left h.reached.parts h.over) in
         record {
-          entries = h.reached.entries ∙ ap (λ (s : State). s.entries) is;
-          accepted = h.reached.accepted ∙ ap (λ (s : State). s.accepted) is;
-          refused = h.reached.refused ∙ ap (λ (s : State). length s.refused) is;
+          given = records text;
+          are = refl;
+          leaves = record {
+            entries = h.reached.entries ∙ ap (λ (s : State). s.entries) is;
+            accepted = h.reached.accepted ∙ ap (λ (s : State). s.accepted) is;
+            refused = h.reached.refused ∙ ap (λ (s : State). length s.refused) is;
+          };
           written = subst (λ (s : State). Took a b (report s.refused)) is h.written;
         }
 
-    others_of : Option (List Raw) → List (ℕ × Result Record Fault)
-    others_of None = []
-    others_of (Some left) = map (read_as mode) left
-
-    parts_of : (text : List ℕ) (front : List Raw) (left : Option (List Raw)) → Takes (Some (records text)) left front → readings mode text ≡ map (read_as mode) front ++ others_of left
-    unfolding others_of
-    parts_of text front None parts = absurd parts
-    parts_of text front (Some left) parts = readings_are mode text ∙ ap (map (read_as mode)) parts ∙ map-append (read_as mode) front left
-
-    broken : (text : List ℕ) (f : RunFault) → BrokeOff rules mode go_on old now (Some (records text)) f a b → BrokenOff rules mode go_on old now text f a b
-    broken text f h = record {
-      front = map (read_as mode) h.front;
-      others = others_of h.left;
-      parts = parts_of text h.front h.left h.reached.parts;
-      entries = h.reached.entries;
-      accepted = h.reached.accepted;
-      refused = h.reached.refused;
+    -- where the bytes aren't known, the records are those that were taken
+    taken_over : (t : Tally) → Ran rules mode go_on old now None t a b → RanOver rules mode go_on old now None t a b
+    taken_over t h = record {
+      given = h.front;
+      are = tt;
+      leaves = record { entries = h.reached.entries; accepted = h.reached.accepted; refused = h.reached.refused };
       written = h.written;
     }
 
-    pub went_of : (left : Option (List ℕ)) (all : Option (List Raw)) → all ≡ option_map records left → (answer : Result Tally RunFault) → IfOk answer (λ t. Ran rules mode go_on old now all t a b) → IfOk answer (λ t. IfSome left (λ text. Went rules mode go_on old now text t a b))
-    went_of left all is (Err f) h = tt
-    went_of None all is (Ok t) h = tt
-    went_of (Some text) all is (Ok t) h = went text t (subst (λ o. Ran rules mode go_on old now o t a b) is h)
+    pub ran_over : (left : Option (List ℕ)) (all : Option (List Raw)) → all ≡ option_map records left → (answer : Result Tally RunFault) → IfOk answer (λ t. Ran rules mode go_on old now all t a b) → IfOk answer (λ t. RanOver rules mode go_on old now left t a b)
+    ran_over left all is (Err f) h = tt
+    ran_over None all is (Ok t) h = taken_over t (subst (λ o. Ran rules mode go_on old now o t a b) is h)
+    ran_over (Some text) all is (Ok t) h = all_over text t (subst (λ o. Ran rules mode go_on old now o t a b) is h)
 
-    pub broken_of : (left : Option (List ℕ)) (all : Option (List Raw)) → all ≡ option_map records left → (answer : Result Tally RunFault) → IfErr answer (λ f. BrokeOff rules mode go_on old now all f a b) → IfErr answer (λ f. IfSome left (λ text. BrokenOff rules mode go_on old now text f a b))
-    broken_of left all is (Ok t) h = tt
-    broken_of None all is (Err f) h = tt
-    broken_of (Some text) all is (Err f) h = broken text f (subst (λ o. BrokeOff rules mode go_on old now o f a b) is h)
+    others_of : Option (List Raw) → List Raw
+    others_of None = []
+    others_of (Some left) = left
+
+    parts_of : (text : Option (List ℕ)) (front : List Raw) (left : Option (List Raw)) → Takes (option_map records text) left front → AreRecords text (front ++ others_of left)
+    unfolding others_of
+    parts_of None front left parts = tt
+    parts_of (Some text) front None parts = absurd parts
+    parts_of (Some text) front (Some left) parts = sym parts
+
+    pub broke_over : (left : Option (List ℕ)) (all : Option (List Raw)) → all ≡ option_map records left → (answer : Result Tally RunFault) → IfErr answer (λ f. BrokeOff rules mode go_on old now all f a b) → IfErr answer (λ f. BrokeOver rules mode go_on old now left f a b)
+    broke_over left all is (Ok t) h = tt
+    broke_over left all is (Err f) h = record {
+      front = h.front;
+      others = others_of h.left;
+      are = parts_of left h.front h.left (subst (λ o. Takes o h.left h.front) is h.reached.parts);
+      leaves = record { entries = h.reached.entries; accepted = h.reached.accepted; refused = h.reached.refused };
+      written = h.written;
+    }
+
+    -- ---- over a text
+
+    went : (text : List ℕ) (t : Tally) → RanOver rules mode go_on old now (Some text) t a b → Went rules mode go_on old now text t a b
+    went text t h =
+        let is : state_after rules mode go_on old h.given ≡ after rules mode go_on old text = ap (state_after rules mode go_on old) h.are ∙ ap (after_records rules mode go_on old) (sym (readings_are mode text)) in
+        record {
+          entries = h.leaves.entries ∙ ap (λ (s : State). s.entries) is;
+          accepted = h.leaves.accepted ∙ ap (λ (s : State). s.accepted) is;
+          refused = h.leaves.refused ∙ ap (λ (s : State). length s.refused) is;
+          written = subst (λ (s : State). Took a b (report s.refused)) is h.written;
+        }
+
+    broken : (text : List ℕ) (f : RunFault) → BrokeOver rules mode go_on old now (Some text) f a b → BrokenOff rules mode go_on old now text f a b
+    broken text f h = record {
+      front = map (read_as mode) h.front;
+      others = map (read_as mode) h.others;
+      parts = readings_are mode text ∙ ap (map (read_as mode)) (sym h.are) ∙ map-append (read_as mode) h.front h.others;
+      entries = h.leaves.entries;
+      accepted = h.leaves.accepted;
+      refused = h.leaves.refused;
+      written = h.written;
+    }
+
+    pub went_of : (left : Option (List ℕ)) (answer : Result Tally RunFault) → IfOk answer (λ t. RanOver rules mode go_on old now left t a b) → IfOk answer (λ t. IfSome left (λ text. Went rules mode go_on old now text t a b))
+    went_of left (Err f) h = tt
+    went_of None (Ok t) h = tt
+    went_of (Some text) (Ok t) h = went text t h
+
+    pub broken_of : (left : Option (List ℕ)) (answer : Result Tally RunFault) → IfErr answer (λ f. BrokeOver rules mode go_on old now left f a b) → IfErr answer (λ f. IfSome left (λ text. BrokenOff rules mode go_on old now text f a b))
+    broken_of left (Ok t) h = tt
+    broken_of None (Err f) h = tt
+    broken_of (Some text) (Err f) h = broken text f h

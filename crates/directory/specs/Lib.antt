@@ -5,3 +5,4 @@ pub mod Steps
 pub mod Stands
 pub mod Dumps
 pub mod Loading
+pub mod Folds

@@ -7,6 +7,7 @@ ghost use Rattle.ldif_lines.specs.Reader.{source_of, is_failed, records_left};
 ghost use Rattle.ldif_lines.specs.View.{texts};
 ghost use Rattle.directory.specs.Runs.{outcome, Loads};
 ghost use Rattle.directory.specs.Loading.{IsLoaded, Explains, LoadsAll, LoadsUpTo, StopsAt, PullFailures};
+ghost use Rattle.directory.specs.Folds.{LoadsOver, StopsOver};
 
 use crate::applying::carry_out;
 use crate::directory::Directory;
@@ -81,6 +82,8 @@ fn load_rest<S: Source>(
 pub fn load_tree<S: Source>(alloc: Global, conf: &Conf, source: &mut S) -> Result<Tree, LoadFault>
     requires { (S.seen source.old).failed < 2 ^ 64 - 1 }
     ensures rules { IfOk result (λ t. t.rules ≡ conf.now) }
+    ensures fold { IfOk result (λ t. LoadsOver conf.now (S.seen source.old).left t.entries) }
+    ensures refused_fold { IfErr result (λ f. StopsOver f conf.now (S.seen source.old).left) }
     ensures loads { IfOk result (λ t. IfSome (S.seen source.old).left (λ text. Loads conf.now text t.entries)) }
     ensures stops { IfErr result (λ f. IfSome (S.seen source.old).left (λ text. StopsAt f conf.now text)) }
     ensures pulls { OnOk result ((S.seen source.new).failed ≡ (S.seen source.old).failed) }
@@ -99,6 +102,8 @@ pub fn load_tree<S: Source>(alloc: Global, conf: &Conf, source: &mut S) -> Resul
 pub fn load<S: Source>(alloc: Global, conf: Conf, source: &mut S) -> Result<Directory, LoadFault>
     requires { (S.seen source.old).failed < 2 ^ 64 - 1 }
     ensures rules { IfOk result (λ d. d.rules ≡ conf) }
+    ensures fold { IfOk result (λ d. LoadsOver conf (S.seen source.old).left d.entries) }
+    ensures refused_fold { IfErr result (λ f. StopsOver f conf (S.seen source.old).left) }
     ensures loads { IfOk result (λ d. IfSome (S.seen source.old).left (λ text. Loads conf text d.entries)) }
     ensures stops { IfErr result (λ f. IfSome (S.seen source.old).left (λ text. StopsAt f conf text)) }
     ensures pulls { OnOk result ((S.seen source.new).failed ≡ (S.seen source.old).failed) }

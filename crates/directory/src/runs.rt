@@ -9,6 +9,7 @@ ghost use Rattle.directory.specs.Reports.{report_line};
 ghost use Rattle.directory.specs.Steps.{IsTaken, IsBrokenOff};
 ghost use Rattle.directory.specs.Stands.{Ran, BrokeOff};
 ghost use Rattle.directory.specs.Faults.{Went, BrokenOff, Failures};
+ghost use Rattle.directory.specs.Folds.{RanOver, BrokeOver};
 ghost use Rattle.ldif_lines.specs.Reader.{source_of, is_failed, records_left, bytes_left};
 
 use crate::directory::Directory;
@@ -145,6 +146,8 @@ pub fn run<S: Source, W: Sink>(
     requires source { (S.seen source.old).failed < 2 ^ 64 - 1 }
     requires sink { (W.written sink.old).failed < 2 ^ 64 - 1 }
     ensures rules { dir.new.rules ≡ dir.old.rules }
+    ensures fold { IfOk result (λ t. RanOver dir.old.rules mode go_on dir.old.entries dir.new.entries (S.seen source.old).left t (W.written sink.old) (W.written sink.new)) }
+    ensures broken_fold { IfErr result (λ f. BrokeOver dir.old.rules mode go_on dir.old.entries dir.new.entries (S.seen source.old).left f (W.written sink.old) (W.written sink.new)) }
     ensures went { IfOk result (λ t. IfSome (S.seen source.old).left (λ text. Went dir.old.rules mode go_on dir.old.entries dir.new.entries text t (W.written sink.old) (W.written sink.new))) }
     ensures broken { IfErr result (λ f. IfSome (S.seen source.old).left (λ text. BrokenOff dir.old.rules mode go_on dir.old.entries dir.new.entries text f (W.written sink.old) (W.written sink.new))) }
     ensures pulls { OnOk result ((S.seen source.new).failed ≡ (S.seen source.old).failed) }

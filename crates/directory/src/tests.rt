@@ -1,5 +1,7 @@
 //! Tests of runs, dumps and loading.
 
+mod memory;
+
 use crate::{Directory, LoadFault, Reason, RunFault, Tally, load, load_tree, run};
 use device::{Sink, Source, TrySink, TrySource};
 use ldif::{Fault, Mode, WriteFault};

@@ -1,0 +1,206 @@
+-- Worked examples, by computation.
+use Rattle.std.proofs.Common.{◌≡◌, ℕ, ◌+◌, Bool, true, false, cond, not, List, [], ◌∷◌, ◌++◌, Some, None, Ok, Err, refl, sym, ap, ◌∙◌, nat_le, is_some}
+use Rattle.std.specs.List.{flat_map}
+use Rattle.std.specs.Prelude.{codes, ⊤, Result}
+use Rattle.std.specs.Fmt.{digits}
+use Rattle.std.specs.Cmp.{IsTotalOrder}
+use Rattle.std.specs.FinMap as finite
+use Rattle.std.specs.Str.{is_utf8, chars}
+use lib.Utf8.{encode}
+use Rattle.ldif_lines.specs.Records.{continuation, joined, joined_block, body_of, body_of_block, with_first, records_from}
+use Rattle.ldif_lines.specs.Folding.{folded}
+use Rattle.ldif.specs.Line.{form_of, value_of, value_line}
+use Rattle.ldif.specs.Reading as reading
+use Rattle.ldif.specs.Contents.{readings, write_content}
+use Rattle.ldif.specs.Writing.{is_plain, line_text}
+use Rattle.ldif.specs.declared.fault.Fault.TheVariants as faults
+use Rattle.ldif.specs.declared.record.Attr.{Attr}
+use Rattle.ldif.specs.declared.record.Record.TheVariants as kinds
+use Rattle.ldif.specs.declared.record.Mode.TheVariants.{Content}
+use Rattle.schema.specs.declared.code.Code.{Code}
+use Rattle.schema.specs.declared.code.Code.TheVariants as result
+use Rattle.schema.specs.Configurations.{object_class, text_type}
+use Rattle.schema.specs.Each as each_part
+use Rattle.schema.specs.Names.{part_of, name_of_text, text_of_name}
+use Rattle.schema.specs.Paths.{Steps, path_cmp}
+use Rattle.schema.specs.Rdns.{put_pair, step_of}
+use Rattle.schema.specs.Rules.{Rules, below, located, name_text}
+use Rattle.schema.specs.Types.{type_of}
+use Rattle.schema.specs.Values.{norm}
+use Rattle.tree.specs.Adds.{add, add_at, added}
+use Rattle.tree.specs.Directories.{Entries, rdn_in, rdns_from}
+use Rattle.tree.specs.Entries.{Facts, push_value, add_lines, with_rdn, lines_of}
+use Rattle.directory.specs.Runs.{State, start, of_change, take_up, outcome, step, after_records, after, content_of, dump, Loads}
+use Rattle.directory.specs.Loading.{StopsAt}
+use Rattle.directory.specs.declared.loading.LoadFault.TheVariants as loads
+use Rattle.directory.specs.Reports.{report, report_line}
+use Rattle.directory.specs.declared.reason.Reason.{Reason}
+use Rattle.directory.specs.declared.reason.Reason.TheVariants as reasons
+
+-- what a text is read by
+unfoldable on_texts : ⊤
+unfolding continuation joined joined_block body_of body_of_block with_first records_from form_of value_of value_line reading.each reading.content_line reading.body reading.entry reading.after_version reading.first_of_text readings after_records step outcome
+on_texts = tt
+
+-- what a name and attribute lines come to
+unfoldable on_entries : ⊤
+unfolding is_utf8 chars encode each_part.each part_of name_of_text put_pair step_of below located type_of norm add push_value add_lines with_rdn
+on_entries = tt
+
+-- what an entry is written by
+unfoldable on_writing : ⊤
+unfolding write_content name_text text_of_name rdns_from lines_of is_plain line_text folded
+on_writing = tt
+
+-- a line with its end
+abbrev ended : List ℕ → List ℕ
+ended line = line ++ 10 ∷ []
+
+abbrev domain : List ℕ
+domain = ended (codes "objectClass: domain")
+
+abbrev person : List ℕ
+person = ended (codes "objectClass: person")
+
+-- objectClass and the types dc and cn, below dc=ex
+abbrev rules : Rules
+rules = record {
+  types = object_class ∷ text_type (codes "0.9.2342.19200300.100.1.25", codes "dc") ∷ text_type (codes "2.5.4.3", codes "cn") ∷ [];
+  suffix = ((1, codes "ex") ∷ []) ∷ [];
+}
+
+-- ---- reports
+
+a_code : report ((4, reasons.Code result.NoSuchObject) ∷ []) ≡ ended (codes "line 4: 32 noSuchObject")
+unfolding report_line digits
+a_code = refl
+
+a_fault_after_a_code : report ((10, reasons.Code result.InvalidDnSyntax) ∷ (127, reasons.Fault faults.Base64) ∷ []) ≡ ended (codes "line 10: 34 invalidDNSyntax") ++ ended (codes "line 127: L4 base64")
+unfolding report_line digits
+a_fault_after_a_code = refl
+
+-- ---- refused records change nothing, whatever the directory
+
+abbrev refusing : Entries → List (ℕ × Reason) → Bool → State
+refusing d refused over = record { entries = d; accepted = 0; refused = refused; ended = over }
+
+other_version : (d : Entries) → after rules Content false d (ended (codes "version: 2") ++ ended (codes "dn: dc=ex")) ≡ refusing d ((1, reasons.Fault faults.Version) ∷ []) true
+unfolding on_texts
+other_version d = refl
+
+-- a version alone is no record that counts
+version_alone : (d : Entries) → after rules Content false d (ended (codes "version: 1")) ≡ start d
+unfolding on_texts
+version_alone d = refl
+
+-- a name beside the suffix on line 1, and on line 5, after a comment, a text that is no name
+abbrev two_refused : List ℕ
+two_refused = ended (codes "dn: cn=a,dc=no") ++ person ++ ended [] ++ ended (codes "# note") ++ ended (codes "dn: x")
+
+stops_at_the_first : (d : Entries) → after rules Content false d two_refused ≡ refusing d ((1, reasons.Code result.NoSuchObject) ∷ []) true
+unfolding on_texts on_entries
+stops_at_the_first d = refl
+
+goes_on_to_the_second : (d : Entries) → after rules Content true d two_refused ≡ refusing d ((1, reasons.Code result.NoSuchObject) ∷ (5, reasons.Code result.InvalidDnSyntax) ∷ []) false
+unfolding on_texts on_entries
+goes_on_to_the_second d = refl
+
+-- ---- two records into the directory with no entry
+
+abbrev root : Facts
+root = record { rdn = (1, codes "ex") ∷ []; attrs = (0, codes "domain" ∷ []) ∷ (1, codes "ex" ∷ []) ∷ [] }
+
+abbrev ann : Facts
+ann = record { rdn = (2, codes "Ann") ∷ []; attrs = (2, codes "ann" ∷ []) ∷ (0, codes "person" ∷ []) ∷ [] }
+
+-- a value's normal form has small letters
+abbrev at_ann : Steps
+at_ann = ((2, codes "ann") ∷ []) ∷ []
+
+abbrev with_root : Entries
+with_root = finite.insert finite.empty [] root
+
+abbrev with_both : Entries
+with_both = finite.insert with_root at_ann ann
+
+abbrev two_records : List ℕ
+two_records = ended (codes "dn: DC=ex") ++ domain ++ ended [] ++ ended (codes "dn: CN=Ann,dc=EX") ++ ended (codes "cn: ann") ++ person
+
+root_lines : List Attr
+root_lines = record { name = codes "objectClass"; value = codes "domain" } ∷ []
+
+ann_lines : List Attr
+ann_lines = record { name = codes "cn"; value = codes "ann" } ∷ record { name = codes "objectClass"; value = codes "person" } ∷ []
+
+-- not there yet, the parent there, room for one more
+placed : (found orphan full : Bool) (next : Entries) → found ≡ false → orphan ≡ false → full ≡ false → cond found (Err result.EntryAlreadyExists) (cond orphan (Err result.NoSuchObject) (cond full (Err result.AdminLimitExceeded) (added next))) ≡ added next
+placed true orphan full next new parent room = cc
+placed false true full next new parent room = cc
+placed false false true next new parent room = cc
+placed false false false next new parent room = refl
+
+root_placed : add rules finite.empty (codes "DC=ex") root_lines ≡ added with_root
+unfolding on_texts on_entries add_at root_lines
+root_placed = placed _ _ _ with_root (ap is_some (finite.get-empty path_cmp [])) refl (ap (nat_le 4294967295) (finite.len-empty path_cmp Facts))
+
+-- the state after a record with this outcome of its add
+abbrev next : State → ℕ → Result Entries Code → State
+next s line o = take_up false s line (of_change s.entries false o)
+
+-- the order of paths is total (`order_of_paths`)
+module _ (total : IsTotalOrder path_cmp) where
+  root_found : finite.get with_root [] ≡ Some root
+  root_found = finite.get-insert total finite.empty [] root []
+
+  ann_new : finite.get with_root at_ann ≡ None
+  ann_new = finite.get-insert total finite.empty [] root at_ann ∙ finite.get-empty path_cmp at_ann
+
+  one_there : finite.len with_root ≡ 1
+  one_there =
+      finite.len-insert total finite.empty [] root
+      ∙ ap (λ o. cond (is_some o) (finite.len (finite.empty {X = Facts} {R = path_cmp})) (finite.len (finite.empty {X = Facts} {R = path_cmp}) + 1)) (finite.get-empty path_cmp [])
+      ∙ ap (λ n. n + 1) (finite.len-empty path_cmp Facts)
+
+  ann_placed : add rules with_root (codes "CN=Ann,dc=EX") ann_lines ≡ added with_both
+  unfolding on_texts on_entries add_at ann_lines
+  ann_placed = placed _ _ _ with_both (ap is_some ann_new) (ap (λ o. not (is_some o)) root_found) (ap (nat_le 4294967295) one_there)
+
+  two_are_added : after rules Content false finite.empty two_records ≡ record { entries = with_both; accepted = 2; refused = []; ended = false }
+  unfolding on_texts root_lines ann_lines
+  two_are_added =
+      ap (λ o. step rules Content false (next (start finite.empty) 1 o) (4, Ok (kinds.Content (codes "CN=Ann,dc=EX") ann_lines))) root_placed
+      ∙ ap (next (record { entries = with_root; accepted = 1; refused = []; ended = false }) 4) ann_placed
+
+  -- ---- loading
+
+  two_load : Loads rules two_records with_both
+  two_load = record { entries = ap (λ (s : State). s.entries) (sym two_are_added); all = ap (λ (s : State). s.refused) two_are_added }
+
+loading_stops : StopsAt (loads.Refused 1 (reasons.Code result.NoSuchObject)) rules two_refused
+loading_stops = ap (λ (s : State). s.refused) (stops_at_the_first finite.empty)
+
+-- ---- a dump, parents first
+
+abbrev in_order : List (Steps × Facts)
+in_order = ([], root) ∷ (at_ann, ann) ∷ []
+
+abbrev both : Entries
+both = finite.from_sorted in_order
+
+ann_stands : finite.get both at_ann ≡ Some ann
+ann_stands = finite.get-from_sorted path_cmp in_order at_ann tt
+
+written_root : write_content (content_of rules both ([], root)) ≡ ended (codes "dn: dc=ex") ++ domain ++ ended (codes "dc: ex") ++ ended []
+unfolding on_writing
+written_root = refl
+
+written_ann : write_content (content_of rules both (at_ann, ann)) ≡ ended (codes "dn: cn=Ann,dc=ex") ++ ended (codes "cn: ann") ++ person ++ ended []
+unfolding on_writing
+written_ann = ap (λ o. write_content (record { dn = name_text rules (rdn_in o ∷ []); attrs = lines_of rules.types ann.attrs })) ann_stands
+
+dumped : dump rules both ≡ ended (codes "dn: dc=ex") ++ domain ++ ended (codes "dc: ex") ++ ended [] ++ ended (codes "dn: cn=Ann,dc=ex") ++ ended (codes "cn: ann") ++ person ++ ended []
+unfolding dump on_writing
+dumped =
+    ap (λ es. flat_map (λ x. write_content (content_of rules both x)) es) (finite.entries-from_sorted path_cmp in_order tt)
+    ∙ ap (λ bs. bs ++ write_content (content_of rules both (at_ann, ann)) ++ []) written_root
+    ∙ ap (λ bs. ended (codes "dn: dc=ex") ++ domain ++ ended (codes "dc: ex") ++ ended [] ++ bs ++ []) written_ann
