@@ -1,1 +1,3 @@
 pub mod Statuses
+pub mod Folds
+pub mod Messages

@@ -1,6 +1,7 @@
 //! The files of a directory: its configuration and its entries.
 ghost use Rattle.std.specs.Prelude.{◌≡◌, ◌<◌, ◌-◌, ◌^◌, IfOk, IfErr, IfSome};
 ghost use Rattle.directory.specs.Runs.{dump};
+ghost use Rattle.slaptools.specs.Folds.{IsLoaded};
 ghost use Rattle.slaptools.specs.Statuses.{status_of_fault};
 ghost use Rattle.slaptools.specs.declared.messages.Status.TheVariants.{Failed};
 
@@ -94,7 +95,9 @@ fn configuration<F: Folder>(alloc: Global, folder: &mut F, db: &str) -> Result<C
     }
 }
 
-fn fault_of(alloc: Global, name: &str, fault: LoadFault) -> Fault {
+fn fault_of(alloc: Global, name: &str, fault: LoadFault) -> Fault
+    ensures { status_of_fault result ≡ Failed }
+{
     match fault {
         LoadFault::Read => Fault::cannot_read(alloc, name),
         LoadFault::OutOfMemory => Fault::OutOfMemory,
@@ -107,7 +110,9 @@ pub fn load_directory<F: Folder>(
     alloc: Global,
     folder: &mut F,
     db: &str,
-) -> Result<Directory, Fault> {
+) -> Result<Directory, Fault>
+    ensures { IfOk result (λ d. IsLoaded d.rules d.entries) }
+{
     let conf = configuration(alloc, folder, db)?;
     let name = path(alloc, db, "data.ldif")?;
     let Some(mut source) = open(alloc, folder, name.as_str())? else {
@@ -125,7 +130,9 @@ pub fn store_directory<F: Folder>(
     folder: &mut F,
     db: &str,
     dir: &Directory,
-) -> Result<(), Fault> {
+) -> Result<(), Fault>
+    ensures { IfErr result (λ f. status_of_fault f ≡ Failed) }
+{
     let name = path(alloc, db, "data.ldif")?;
     store(alloc, folder, name.as_str(), dir)
 }

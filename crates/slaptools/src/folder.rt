@@ -1,6 +1,7 @@
 //! Files by their paths.
 ghost use Rattle.std.specs.Prelude.{◌≡◌, ◌<◌, ◌-◌, ◌^◌, ℕ, List, IfOk, IfSome};
 ghost use Rattle.directory.specs.Dumps.{Writes};
+ghost use Rattle.slaptools.specs.declared.folder.FolderFault.TheVariants.{OutOfMemory};
 
 use device::{Sink, Source};
 use ldif::WriteFault;
@@ -14,12 +15,16 @@ pub enum FolderFault {
 }
 
 impl From<AllocError> for FolderFault {
+    ghost from_gives = { λ _ f. f ≡ OutOfMemory };
+
     fn from(_: AllocError) -> FolderFault {
         FolderFault::OutOfMemory
     }
 }
 
 impl<T: Drop> From<AllocFailed<T>> for FolderFault {
+    ghost from_gives = { λ _ f. f ≡ OutOfMemory };
+
     fn from(_: AllocFailed<T>) -> FolderFault {
         FolderFault::OutOfMemory
     }

@@ -1,6 +1,7 @@
 //! How a command ends, and what it says on standard error.
 ghost use Rattle.std.specs.Prelude.{◌≡◌, ◌≤◌, ◌<◌, ◌-◌, ◌^◌, ◌⊎◌};
 ghost use Rattle.slaptools.specs.declared.messages.Fault.TheVariants.{OutOfMemory};
+ghost use Rattle.slaptools.specs.Messages.{IsSaid};
 ghost use Rattle.slaptools.specs.Statuses.{status_number, status_of_fault, status_of_tally};
 
 use device::{Sink, push_all};
@@ -150,7 +151,7 @@ fn line_of(alloc: Global, fault: &Fault) -> Result<String, AllocError> {
 /// Writes a text, and answers the status that is wanted, or `Failed` where it can't be written.
 pub fn say<W: Sink>(sink: &mut W, text: &str, status: Status) -> Status
     requires { (W.written sink.old).failed < 2 ^ 64 - 1 }
-    ensures { (result ≡ status) ⊎ (result ≡ Status.Failed) }
+    ensures { IsSaid (W.written sink.old) (W.written sink.new) text.now status result }
 {
     match push_all(sink, text.as_bytes()) {
         Ok(()) => status,

@@ -1,5 +1,8 @@
 //! slapadd: the content records of an LDIF text are added to a directory.
-ghost use Rattle.std.specs.Prelude.{◌≡◌, ◌<◌, ◌-◌, ◌^◌, OnOk, IfErr};
+ghost use Rattle.std.specs.Prelude.{◌≡◌, ◌<◌, ◌-◌, ◌^◌, OnOk, IfOk, IfErr};
+ghost use Rattle.ldif.specs.declared.record.Mode.TheVariants.{Content};
+ghost use Rattle.directory.specs.Folds.{RanOver};
+ghost use Rattle.slaptools.specs.Folds.{IsAdded};
 
 use crate::cli::AddOptions;
 use crate::database::{load_directory, open_present, store_directory};
@@ -22,6 +25,8 @@ fn add_all<S: Source, E: Sink>(
 ) -> Result<Tally, Status>
     requires source { (S.seen source.old).failed < 2 ^ 64 - 1 }
     requires err { (E.written err.old).failed < 2 ^ 64 - 1 }
+    ensures rules { dir.new.rules ≡ dir.old.rules }
+    ensures ran { IfOk result (λ t. RanOver dir.old.rules Content go_on dir.old.entries dir.new.entries (S.seen source.old).left t (E.written err.old) (E.written err.new)) }
     ensures ok { OnOk result ((E.written err.new).failed ≡ (E.written err.old).failed) }
     ensures err { IfErr result (λ s. s ≡ Status.Failed) }
 {
@@ -43,7 +48,10 @@ fn add_records<F: Folder, S: Source, E: Sink>(
 ) -> Result<Tally, Status>
     requires input { (S.seen input.old).failed < 2 ^ 64 - 1 }
     requires err { (E.written err.old).failed < 2 ^ 64 - 1 }
-    ensures { OnOk result ((E.written err.new).failed ≡ (E.written err.old).failed) }
+    ensures rules { dir.new.rules ≡ dir.old.rules }
+    ensures added { IfOk result (λ t. IsAdded dir.old.rules asked.now.go_on dir.old.entries dir.new.entries t (E.written err.old) (E.written err.new)) }
+    ensures ok { OnOk result ((E.written err.new).failed ≡ (E.written err.old).failed) }
+    ensures err { IfErr result (λ s. s ≡ Status.Failed) }
 {
     let Some(name) = asked.file else {
         return add_all(alloc, dir, input, "input", asked.go_on, err);
