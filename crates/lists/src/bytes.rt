@@ -54,8 +54,14 @@ impl Bytes {
     pub fn from_slice(alloc: Global, bytes: &[u8]) -> Result<Self, AllocError>
         ensures { IfOk result (λ b. b ≡ bytes.now) }
     {
+        if bytes.len() > FEW {
+            let many = Vec::from_slice(alloc, bytes)?;
+            return Ok(Bytes::from_vec(many));
+        }
+        let mut few = [0; FEW];
+        few[..bytes.len()].copy_from_slice(bytes);
         Ok(Bytes {
-            bytes: SmallVec::from_slice(alloc, bytes)?,
+            bytes: SmallVec::from_buf_and_len(alloc, few, bytes.len()),
         })
     }
 
