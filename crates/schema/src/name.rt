@@ -77,11 +77,11 @@ fn pieces_of<'a>(alloc: Global, text: &'a [u8]) -> Result<Vec<&'a [u8]>, AllocEr
 fn parts_of(alloc: Global, pieces: &[&[u8]]) -> Result<Sequence<(Bytes, Bytes)>, PathFault>
     ensures { Gives (λ n. n) result (each part_of (map (λ x. x.now) pieces.now)) }
 {
-    let mut parts = Sequence::new(alloc);
+    let mut parts = Vec::with_capacity(alloc, pieces.len())?;
     for piece in pieces {
         parts.push(part_of(alloc, piece)?)?;
     }
-    Ok(parts)
+    Ok(Sequence::from_vec(parts))
 }
 
 /// The type and the value of each RDN of a name, its own first; `InvalidDnSyntax` where the text is no name.

@@ -112,11 +112,11 @@ fn copy_pairs(
 ) -> Result<Sequence<(TypeId, Bytes)>, AllocError>
     ensures { IfOk result (λ s. s ≡ pairs.now) }
 {
-    let mut copied = Sequence::new(alloc);
+    let mut copied = Vec::with_capacity(alloc, pairs.len())?;
     for (number, value) in pairs {
         copied.push((*number, value.copy(alloc)?))?;
     }
-    Ok(copied)
+    Ok(Sequence::from_vec(copied))
 }
 
 impl Rdn {
