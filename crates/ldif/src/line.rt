@@ -43,6 +43,8 @@ pub fn without_end(text: &[u8]) -> &[u8]
     &text[..len]
 }
 
+// Kept apart, since most values are plain, and its tables would be laid out for them too.
+#[inline(never)]
 #[tactic(auto, unfolding(crate::specs::Line::decoded))]
 fn decode(alloc: Global, text: &[u8]) -> Result<Bytes, LdifFault>
     ensures { Gives result (decoded text.now) }

@@ -38,7 +38,11 @@ fn is_safe_byte(b: u8) -> bool
 fn are_safe(value: &[u8]) -> bool
     ensures { result ≡ list_all is_safe_byte value.now }
 {
-    value.iter().all(|b| is_safe_byte(*b))
+    let mut safe = true;
+    for b in value {
+        safe &= is_safe_byte(*b);
+    }
+    safe
 }
 
 fn ends_with(text: &[u8], byte: u8) -> bool
