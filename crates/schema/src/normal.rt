@@ -38,14 +38,14 @@ fn tidy_text(alloc: Global, bytes: &[u8]) -> Result<Vec<u8>, AllocError>
 fn is_tidy(bytes: &[u8]) -> bool
     ensures { result ≡ is_tidy_after true bytes.now }
 {
+    let mut tidy = true;
     let mut after_space = true;
     for b in bytes {
-        if *b == b' ' && after_space {
-            return false;
-        }
-        after_space = *b == b' ';
+        let space = *b == b' ';
+        tidy &= !(space && after_space);
+        after_space = space;
     }
-    !after_space
+    tidy && !after_space
 }
 
 fn lower(alloc: Global, bytes: &[u8]) -> Result<Bytes, AllocError>
