@@ -21,7 +21,11 @@ fn is_plain_byte(b: u8) -> bool
 fn are_plain(text: &[u8]) -> bool
     ensures { result ≡ list_all is_plain_byte text.now }
 {
-    text.iter().all(|b| is_plain_byte(*b))
+    let mut plain = true;
+    for b in text {
+        plain &= is_plain_byte(*b);
+    }
+    plain
 }
 
 fn is_type_text(text: &[u8]) -> bool
@@ -33,7 +37,11 @@ fn is_type_text(text: &[u8]) -> bool
 fn are_inner(value: &[u8]) -> bool
     ensures { result ≡ list_all is_inner_byte value.now }
 {
-    value.iter().all(|b| is_plain_byte(*b) || *b == b' ')
+    let mut inner = true;
+    for b in value {
+        inner &= is_plain_byte(*b) || *b == b' ';
+    }
+    inner
 }
 
 fn is_plain_value(value: &[u8]) -> bool
