@@ -39,7 +39,7 @@ const fn many(
 }
 
 /// Names of 10,000 and 100,000 RDNs, and values of 100,000 and 1,000,000 bytes.
-pub fn texts() -> [Text; 7] {
+pub fn texts() -> [Text; 8] {
     [
         many("short RDNs", "a=bcd", ",a=bcd", 9_999, 99_999),
         many(
@@ -51,6 +51,7 @@ pub fn texts() -> [Text; 7] {
         ),
         many("spaced RDNs", "cn = a b", ", cn = a b", 9_999, 99_999),
         many("escaped RDNs", "ou=a\\2C b", ",ou=a\\2C b", 9_999, 99_999),
+        many("two parts", "a=b+c=d", ",a=b+c=d", 9_999, 99_999),
         many("plain value", "cn=", "abcdefghij", 10_000, 100_000),
         many("pairs", "cn=", "\\2C", 33_333, 333_333),
         many("escapes", "cn=", "\\,", 50_000, 500_000),
