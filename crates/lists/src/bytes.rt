@@ -58,11 +58,9 @@ impl Bytes {
             let many = Vec::from_slice(alloc, bytes)?;
             return Ok(Bytes::from_vec(many));
         }
-        let mut few = [0; FEW];
-        few[..bytes.len()].copy_from_slice(bytes);
-        Ok(Bytes {
-            bytes: SmallVec::from_buf_and_len(alloc, few, bytes.len()),
-        })
+        let mut few = SmallVec::new(alloc);
+        few.extend_from_slice(bytes)?;
+        Ok(Bytes { bytes: few })
     }
 
     /// The same bytes again.
