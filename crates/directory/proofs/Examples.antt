@@ -14,7 +14,7 @@ use Rattle.ldif.specs.Reading as reading
 use Rattle.ldif.specs.Contents.{readings, write_content}
 use Rattle.ldif.specs.Writing.{is_plain, line_text}
 use Rattle.ldif.specs.declared.fault.Fault.TheVariants as faults
-use Rattle.ldif.specs.declared.record.Attr.{Attr}
+use Rattle.ldif.specs.Attrs.{Attr}
 use Rattle.ldif.specs.declared.record.Record.TheVariants as kinds
 use Rattle.ldif.specs.declared.record.Mode.TheVariants.{Content}
 use Rattle.schema.specs.declared.code.Code.{Code}

@@ -3,7 +3,7 @@ use Rattle.std.specs.Prelude.{◌≡◌, ℕ, Some, List, [], ◌∷◌, ◌++�
 use Rattle.std.specs.List.{flat_map}
 use Rattle.std.specs.FinMap as finite
 use Rattle.device.specs.Device.{Written, Took, Broke}
-use Rattle.ldif.specs.declared.record.Attr.{Attr}
+use Rattle.ldif.specs.Attrs.{Attr}
 use Rattle.ldif.specs.declared.write.WriteFault.{WriteFault}
 use Rattle.ldif.specs.declared.write.WriteFault.TheVariants as faults
 use Rattle.ldif.specs.Contents.{written_attr, write_content}

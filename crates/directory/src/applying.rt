@@ -18,7 +18,7 @@ pub(crate) fn apply_record(
     alloc: Global,
     tree: &mut Tree,
     conf: &Conf,
-    asked: &Record,
+    asked: &Record<'_>,
     mode: Mode,
 ) -> Result<(), Refusal>
     requires { tree.old.rules ≡ conf.now }
@@ -57,7 +57,7 @@ pub(crate) fn carry_out(
     }
 }
 
-fn accepted(asked: &Record) -> Outcome
+fn accepted(asked: &Record<'_>) -> Outcome
     ensures { result ≡ (if is_empty asked.now then Outcome.Nothing else Outcome.Accepted) }
 {
     match asked {

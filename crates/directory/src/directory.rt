@@ -71,7 +71,7 @@ impl Directory {
 
     /// Carries out a record (RFC 4511, 4.6 to 4.9), or refuses it with the code of the first check that fails. A refusal,
     /// also for want of memory, changes nothing.
-    pub fn apply(&mut self, asked: &Record, mode: Mode) -> Result<(), Refusal>
+    pub fn apply(&mut self, asked: &Record<'_>, mode: Mode) -> Result<(), Refusal>
         ensures rules { self.new.rules ≡ self.old.rules }
         ensures gives { Gives (λ _. self.new.entries) result (apply self.old.rules mode self.old.entries asked.now) }
         ensures err { OnErr result (self.new ≡ self.old) }

@@ -5,7 +5,7 @@ use Rattle.ldif.specs.declared.fault.Fault.{Fault}
 use Rattle.ldif.specs.declared.fault.LdifFault.{LdifFault}
 use Rattle.ldif.specs.declared.fault.LdifFault.TheVariants as errors
 use Rattle.ldif.specs.declared.record.Control.{Control}
-use Rattle.ldif.specs.declared.record.Attr.{Attr}
+use Rattle.ldif.specs.Attrs.{Attr}
 use Rattle.ldif.specs.Gives.{◌>>=◌, Fails}
 use Rattle.ldif.specs.Line.{value_line, same_name}
 use Rattle.ldif.specs.Controls.{control_of}

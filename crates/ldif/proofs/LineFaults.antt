@@ -8,7 +8,7 @@ use Rattle.base64.specs.declared.decode.DecodeError.{DecodeError}
 use Rattle.ldif_lines.specs.Records.{begins_with}
 use Rattle.ldif.specs.declared.fault.Fault.{Fault}
 use Rattle.ldif.specs.declared.fault.Fault.TheVariants.{DnMissing, Continuation, Version, Base64, Url, ColonMissing, ChangetypeUnknown, OtherAttribute, PartMissing, StrayLine, ChangetypeMissing, ChangetypeInContent, Word}
-use Rattle.ldif.specs.declared.record.Attr.{Attr}
+use Rattle.ldif.specs.Attrs.{Attr}
 use Rattle.ldif.specs.Gives.{◌>>=◌}
 use Rattle.ldif.specs.Line.{without_front, without_end, or_base64, decoded, form_of, value_at, value_of, value_line}
 use Rattle.ldif.specs.Forms.{IsCoded, is_no_colon}

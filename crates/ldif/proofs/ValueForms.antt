@@ -11,7 +11,7 @@ use Rattle.base64.proofs.EngineFacts.{decode_of-encode_of, decode_of_strict, fro
 use Rattle.ldif_lines.specs.Records.{begins_with}
 use Rattle.ldif.specs.declared.fault.Fault.{Fault}
 use Rattle.ldif.specs.declared.fault.Fault.TheVariants.{Url, ColonMissing, Continuation}
-use Rattle.ldif.specs.declared.record.Attr.{Attr}
+use Rattle.ldif.specs.Attrs.{Attr}
 use Rattle.ldif.specs.Gives.{◌>>=◌}
 use Rattle.ldif.specs.Line.{without_front, without_end, or_base64, decoded, form_of, is_colon, value_at, value_of, value_line}
 use Rattle.ldif.specs.Forms.{IsCoded, IsBare, IsForm, IsValueLine}

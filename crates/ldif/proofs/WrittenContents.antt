@@ -7,7 +7,7 @@ use Rattle.ldif_lines.specs.Records.{Raw, records}
 use Rattle.ldif_lines.specs.Folding.{folded, written_block, written_blocks, begins_line, IsWritable, AreWritable, raw_block, with_first_flag}
 use Rattle.ldif.specs.declared.fault.Fault.{Fault}
 use Rattle.ldif.specs.declared.fault.Fault.TheVariants.{DnMissing, ChangetypeInContent, Version}
-use Rattle.ldif.specs.declared.record.Attr.{Attr}
+use Rattle.ldif.specs.Attrs.{Attr}
 use Rattle.ldif.specs.declared.record.Record.{Record}
 use Rattle.ldif.specs.declared.record.Mode.TheVariants.{Content}
 use Rattle.ldif.specs.Gives.{◌>>=◌}

@@ -4,7 +4,7 @@ use Rattle.std.specs.List.{flat_map, list_all, AllByRecursion}
 use Rattle.ldif_lines.specs.Records.{records}
 use Rattle.ldif_lines.specs.Folding.{begins_line, is_line_byte}
 use Rattle.ldif.specs.declared.fault.Fault.{Fault}
-use Rattle.ldif.specs.declared.record.Attr.{Attr}
+use Rattle.ldif.specs.Attrs.{Attr}
 use Rattle.ldif.specs.declared.record.Mode.{Mode}
 use Rattle.ldif.specs.declared.record.Record.{Record}
 use Rattle.ldif.specs.declared.record.Record.TheVariants as variants

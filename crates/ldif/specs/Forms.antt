@@ -4,7 +4,7 @@ use Rattle.std.specs.List.{list_all}
 use Rattle.base64.specs.GeneralPurpose.{encode_of, IsBytes}
 use Rattle.base64.specs.Engines.{standard}
 use Rattle.ldif_lines.specs.Records.{begins_with}
-use Rattle.ldif.specs.declared.record.Attr.{Attr}
+use Rattle.ldif.specs.Attrs.{Attr}
 use Rattle.ldif.specs.declared.record.Control.{Control}
 use Rattle.ldif.specs.declared.record.Mod.{Mod}
 use Rattle.ldif.specs.declared.record.Op.{Op}

@@ -2,8 +2,10 @@ pub mod Gives
 pub mod Faults
 pub mod Line
 pub mod Controls
+pub mod LineValues
 pub mod Reading
 pub mod Writing
+pub mod Attrs
 pub mod Contents
 pub mod Forms
 pub mod Earliest

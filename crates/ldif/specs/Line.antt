@@ -8,7 +8,7 @@ use Rattle.base64.specs.declared.decode.DecodeError.{DecodeError}
 use Rattle.ldif_lines.specs.Records.{begins_with}
 use Rattle.ldif.specs.declared.fault.Fault.{Fault}
 use Rattle.ldif.specs.declared.fault.Fault.TheVariants.{ColonMissing, Url, Base64, Continuation}
-use Rattle.ldif.specs.declared.record.Attr.{Attr}
+use Rattle.ldif.specs.Attrs.{Attr}
 use Rattle.ldif.specs.Gives.{◌>>=◌}
 
 -- without the spaces at the front

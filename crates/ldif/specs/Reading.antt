@@ -6,7 +6,7 @@ use Rattle.std.specs.List.{onto_first}
 use Rattle.std.specs.Str.{bytes_eq}
 use Rattle.ldif.specs.declared.fault.Fault.{Fault}
 use Rattle.ldif.specs.declared.fault.Fault.TheVariants.{DnMissing, Version, ColonMissing, ChangetypeUnknown, OtherAttribute, PartMissing, StrayLine, ChangetypeMissing, ChangetypeInContent, Word}
-use Rattle.ldif.specs.declared.record.Attr.{Attr}
+use Rattle.ldif.specs.Attrs.{Attr}
 use Rattle.ldif.specs.declared.record.Control.{Control}
 use Rattle.ldif.specs.declared.record.Mod.{Mod}
 use Rattle.ldif.specs.declared.record.Op.{Op}

@@ -7,33 +7,24 @@ ghost use Rattle.ldif.specs.Reading.{texts, content_line, each};
 
 use crate::fault::{Fault, LdifFault};
 use crate::line::value_line;
-use crate::record::Attr;
+use crate::value::Attr;
 use crate::word::same_name;
-use lists::{Bytes, Sequence};
+use lists::Sequence;
 use std::alloc::Global;
 
-fn attribute_line(alloc: Global, line: &[u8]) -> Result<Attr, LdifFault>
-    ensures { Gives result (value_line line.now) }
-{
-    let (name, value) = value_line(alloc, line)?;
-    let name = Bytes::from_slice(alloc, name)?;
-    Ok(Attr { name, value })
-}
-
 #[tactic(auto, unfolding(crate::specs::Reading::content_line))]
-fn content_line(alloc: Global, line: &[u8]) -> Result<Attr, LdifFault>
+fn content_line(alloc: Global, line: &[u8]) -> Result<Attr<'_>, LdifFault>
     ensures { Gives result (content_line line.now) }
 {
-    let (name, value) = value_line(alloc, line)?;
-    if same_name(name, b"changetype") {
+    let attr = value_line(alloc, line)?;
+    if same_name(attr.name(), b"changetype") {
         return Err(LdifFault::Fault(Fault::ChangetypeInContent));
     }
-    let name = Bytes::from_slice(alloc, name)?;
-    Ok(Attr { name, value })
+    Ok(attr)
 }
 
 /// The attributes of a content record.
-pub fn contents_of(alloc: Global, lines: &[Vec<u8>]) -> Result<Sequence<Attr>, LdifFault>
+pub fn contents_of(alloc: Global, lines: &[Vec<u8>]) -> Result<Sequence<Attr<'_>>, LdifFault>
     ensures { Gives result (each content_line (texts lines.now)) }
 {
     let mut attrs = Vec::with_capacity(alloc, lines.len())?;
@@ -44,12 +35,12 @@ pub fn contents_of(alloc: Global, lines: &[Vec<u8>]) -> Result<Sequence<Attr>, L
 }
 
 /// The attributes of an add.
-pub fn attributes_of(alloc: Global, lines: &[Vec<u8>]) -> Result<Sequence<Attr>, LdifFault>
+pub fn attributes_of(alloc: Global, lines: &[Vec<u8>]) -> Result<Sequence<Attr<'_>>, LdifFault>
     ensures { Gives result (each value_line (texts lines.now)) }
 {
     let mut attrs = Vec::with_capacity(alloc, lines.len())?;
     for line in lines {
-        attrs.push(attribute_line(alloc, line)?)?;
+        attrs.push(value_line(alloc, line)?)?;
     }
     Ok(Sequence::from_vec(attrs))
 }

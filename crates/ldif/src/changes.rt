@@ -25,11 +25,11 @@ fn part<'a>(
     match lines {
         [] => Err(LdifFault::Fault(Fault::PartMissing)),
         [line, rest @ ..] => {
-            let (name, value) = value_line(alloc, line)?;
-            if !same_name(name, keyword) {
+            let attr = value_line(alloc, line)?;
+            if !same_name(attr.name(), keyword) {
                 return Err(LdifFault::Fault(Fault::PartMissing));
             }
-            Ok((value, rest))
+            Ok((attr.into_value(alloc)?, rest))
         }
     }
 }
@@ -54,12 +54,12 @@ fn new_superior_of(alloc: Global, lines: &[Vec<u8>]) -> Result<Option<Bytes>, Ld
     match lines {
         [] => Ok(None),
         [line, rest @ ..] => {
-            let (name, value) = value_line(alloc, line)?;
-            if !same_name(name, b"newsuperior") {
+            let attr = value_line(alloc, line)?;
+            if !same_name(attr.name(), b"newsuperior") {
                 return Err(LdifFault::Fault(Fault::StrayLine));
             }
             nothing_more(alloc, rest)?;
-            Ok(Some(value))
+            Ok(Some(attr.into_value(alloc)?))
         }
     }
 }
@@ -95,7 +95,7 @@ fn renaming(
     dn: Bytes,
     controls: Sequence<Control>,
     lines: &[Vec<u8>],
-) -> Result<Record, LdifFault>
+) -> Result<Record<'_>, LdifFault>
     ensures { Gives result (renaming dn controls (texts lines.now)) }
 {
     let (newrdn, rest) = part(alloc, b"newrdn", lines)?;
@@ -111,13 +111,13 @@ fn renaming(
 }
 
 #[tactic(auto, unfolding(crate::specs::Reading::change))]
-fn change(
+fn change<'a>(
     alloc: Global,
     dn: Bytes,
     controls: Sequence<Control>,
     word: &[u8],
-    lines: &[Vec<u8>],
-) -> Result<Record, LdifFault>
+    lines: &'a [Vec<u8>],
+) -> Result<Record<'a>, LdifFault>
     ensures { Gives result (change dn controls word.now (texts lines.now)) }
 {
     if is_word(word, b"add") {
@@ -150,7 +150,7 @@ pub fn after_controls(
     dn: Bytes,
     controls: Sequence<Control>,
     lines: &[Vec<u8>],
-) -> Result<Record, LdifFault>
+) -> Result<Record<'_>, LdifFault>
     ensures { Gives result (after_controls add dn controls (texts lines.now)) }
 {
     match lines {
@@ -165,9 +165,9 @@ pub fn after_controls(
             })
         }
         [line, rest @ ..] => {
-            let (name, value) = value_line(alloc, line)?;
-            if same_name(name, b"changetype") {
-                return change(alloc, dn, controls, value.as_slice(), rest);
+            let attr = value_line(alloc, line)?;
+            if same_name(attr.name(), b"changetype") {
+                return change(alloc, dn, controls, attr.value(), rest);
             }
             if !add {
                 return Err(LdifFault::Fault(Fault::ChangetypeMissing));

@@ -71,7 +71,7 @@ fn control_value(alloc: Global, rest: &[u8]) -> Result<Option<Bytes>, LdifFault>
 {
     match rest {
         [] => Ok(None),
-        [b':', text @ ..] => Ok(Some(form_of(alloc, text)?)),
+        [b':', text @ ..] => Ok(Some(form_of(alloc, text)?.into_bytes(alloc)?)),
         _ => Err(LdifFault::Fault(Fault::Word)),
     }
 }

@@ -5,7 +5,7 @@ ghost use Rattle.std.specs.List.{list_all, flat_map, AllByRecursion};
 ghost use Rattle.base64.specs.GeneralPurpose.{IsBytes};
 ghost use Rattle.ldif_lines.specs.Folding.{IsWritable};
 ghost use Rattle.ldif.specs.declared.fault.Fault.{Fault};
-ghost use Rattle.ldif.specs.declared.record.Attr.{Attr};
+ghost use Rattle.ldif.specs.Attrs.{Attr};
 ghost use Rattle.ldif.specs.declared.record.Mode.{Mode};
 ghost use Rattle.ldif.specs.declared.record.Mode.TheVariants.{Content};
 ghost use Rattle.ldif.specs.declared.record.Record.{Record};

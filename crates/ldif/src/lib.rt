@@ -10,6 +10,7 @@ mod line;
 mod modify;
 mod read;
 mod record;
+mod value;
 mod word;
 mod write;
 
@@ -21,7 +22,8 @@ pub use laws::{
 };
 pub use ldif_lines::{RawRecord, ReadFault, Reader};
 pub use read::read_record;
-pub use record::{Attr, Control, Mod, Mode, Op, Record};
+pub use record::{Control, Mod, Mode, Op, Record};
+pub use value::Attr;
 pub use write::{WriteFault, put_line, write_line};
 
 #[cfg(test)]

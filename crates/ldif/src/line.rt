@@ -3,9 +3,11 @@
 ghost use Rattle.std.specs.Prelude.{◌≡◌, ◌<◌, List, ℕ, position, length, IfSome};
 ghost use Rattle.ldif_lines.specs.Records.{begins_with};
 ghost use Rattle.ldif.specs.Gives.{Gives, GivesBy};
+ghost use Rattle.ldif.specs.LineValues.{bytes_in};
 ghost use Rattle.ldif.specs.Line.{without_front, without_end, decoded, form_of, is_colon, value_of, value_line};
 
 use crate::fault::{Fault, LdifFault};
+use crate::value::{Attr, LineValue};
 use base64::DecodeAllocError;
 use base64::engine::general_purpose::STANDARD;
 use lists::Bytes;
@@ -58,13 +60,16 @@ fn decode(alloc: Global, text: &[u8]) -> Result<Bytes, LdifFault>
 
 /// The value, by what stands after the first colon.
 #[tactic(auto, unfolding(crate::specs::Line::form_of))]
-pub fn form_of(alloc: Global, rest: &[u8]) -> Result<Bytes, LdifFault>
-    ensures { Gives result (form_of rest.now) }
+pub fn form_of(alloc: Global, rest: &[u8]) -> Result<LineValue<'_>, LdifFault>
+    ensures { GivesBy bytes_in result (form_of rest.now) }
 {
     match rest {
-        [b':', text @ ..] => decode(alloc, without_end(without_front(text))),
+        [b':', text @ ..] => {
+            let bytes = decode(alloc, without_end(without_front(text)))?;
+            Ok(LineValue::Decoded(bytes))
+        }
         [b'<', ..] => Err(LdifFault::Fault(Fault::Url)),
-        _ => Ok(Bytes::from_slice(alloc, without_front(rest))?),
+        _ => Ok(LineValue::Plain(without_front(rest))),
     }
 }
 
@@ -76,22 +81,22 @@ fn colon_in(line: &[u8]) -> Option<usize>
 }
 
 #[tactic(auto, unfolding(crate::specs::Line::value_of))]
-fn value_of(alloc: Global, line: &[u8]) -> Result<(&[u8], Bytes), LdifFault>
-    ensures { GivesBy (λ x. record { name = x.0.now; value = x.1 }) result (value_of line.now) }
+fn value_of(alloc: Global, line: &[u8]) -> Result<Attr<'_>, LdifFault>
+    ensures { Gives result (value_of line.now) }
 {
     match colon_in(line) {
         None | Some(0) => Err(LdifFault::Fault(Fault::ColonMissing)),
         Some(at) => {
             let value = form_of(alloc, &line[at + 1..])?;
-            Ok((&line[..at], value))
+            Ok(Attr::of_line(&line[..at], value))
         }
     }
 }
 
 /// The name and the value of a line of a record.
 #[tactic(auto, unfolding(crate::specs::Line::value_line))]
-pub fn value_line(alloc: Global, line: &[u8]) -> Result<(&[u8], Bytes), LdifFault>
-    ensures { GivesBy (λ x. record { name = x.0.now; value = x.1 }) result (value_line line.now) }
+pub fn value_line(alloc: Global, line: &[u8]) -> Result<Attr<'_>, LdifFault>
+    ensures { Gives result (value_line line.now) }
 {
     match line {
         [b' ', ..] => Err(LdifFault::Fault(Fault::Continuation)),

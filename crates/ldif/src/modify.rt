@@ -37,11 +37,11 @@ fn op_of(name: &[u8]) -> Result<Op, LdifFault>
 fn value_under(alloc: Global, attr: &[u8], line: &[u8]) -> Result<Bytes, LdifFault>
     ensures { Gives result (value_under attr.now line.now) }
 {
-    let (name, value) = value_line(alloc, line)?;
-    if !same_name(name, attr) {
+    let said = value_line(alloc, line)?;
+    if !same_name(said.name(), attr) {
         return Err(LdifFault::Fault(Fault::OtherAttribute));
     }
-    Ok(value)
+    Ok(said.into_value(alloc)?)
 }
 
 fn values_under(alloc: Global, attr: &[u8], lines: &[Vec<u8>]) -> Result<Sequence<Bytes>, LdifFault>
@@ -61,9 +61,9 @@ fn block(alloc: Global, lines: &[Vec<u8>]) -> Result<Mod, LdifFault>
     match lines {
         [] => Err(LdifFault::Fault(Fault::ColonMissing)),
         [first, rest @ ..] => {
-            let (name, value) = value_line(alloc, first)?;
-            let op = op_of(name)?;
-            let attr = Bytes::from_slice(alloc, without_end(value.as_slice()))?;
+            let said = value_line(alloc, first)?;
+            let op = op_of(said.name())?;
+            let attr = Bytes::from_slice(alloc, without_end(said.value()))?;
             let values = values_under(alloc, attr.as_slice(), rest)?;
             Ok(Mod { op, attr, values })
         }

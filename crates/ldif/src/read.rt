@@ -37,18 +37,18 @@ fn controls_of<'a>(
     let mut rest = lines;
     'walk: while !rest.is_empty() {
         let (line, after) = split_line(rest);
-        let (name, value) = value_line(alloc, line)?;
-        if !same_name(name, b"control") {
+        let attr = value_line(alloc, line)?;
+        if !same_name(attr.name(), b"control") {
             return Ok((controls, rest));
         }
-        controls.push(control_of(alloc, value.as_slice())?)?;
+        controls.push(control_of(alloc, attr.value())?)?;
         rest = after;
     }
     Ok((controls, rest))
 }
 
 #[tactic(auto, unfolding(crate::specs::Reading::body))]
-fn body(alloc: Global, mode: Mode, dn: Bytes, lines: &[Vec<u8>]) -> Result<Record, LdifFault>
+fn body(alloc: Global, mode: Mode, dn: Bytes, lines: &[Vec<u8>]) -> Result<Record<'_>, LdifFault>
     ensures { Gives result (body mode dn (texts lines.now)) }
 {
     match mode {
@@ -64,23 +64,23 @@ fn body(alloc: Global, mode: Mode, dn: Bytes, lines: &[Vec<u8>]) -> Result<Recor
 }
 
 #[tactic(auto, unfolding(crate::specs::Reading::entry))]
-fn entry(alloc: Global, mode: Mode, lines: &[Vec<u8>]) -> Result<Record, LdifFault>
+fn entry(alloc: Global, mode: Mode, lines: &[Vec<u8>]) -> Result<Record<'_>, LdifFault>
     ensures { Gives result (entry mode (texts lines.now)) }
 {
     match lines {
         [] => Err(LdifFault::Fault(Fault::DnMissing)),
         [line, rest @ ..] => {
-            let (name, value) = value_line(alloc, line)?;
-            if !same_name(name, b"dn") {
+            let attr = value_line(alloc, line)?;
+            if !same_name(attr.name(), b"dn") {
                 return Err(LdifFault::Fault(Fault::DnMissing));
             }
-            body(alloc, mode, value, rest)
+            body(alloc, mode, attr.into_value(alloc)?, rest)
         }
     }
 }
 
 #[tactic(auto, unfolding(crate::specs::Reading::after_version))]
-fn after_version(alloc: Global, mode: Mode, lines: &[Vec<u8>]) -> Result<Record, LdifFault>
+fn after_version(alloc: Global, mode: Mode, lines: &[Vec<u8>]) -> Result<Record<'_>, LdifFault>
     ensures { Gives result (after_version mode (texts lines.now)) }
 {
     match lines {
@@ -90,17 +90,17 @@ fn after_version(alloc: Global, mode: Mode, lines: &[Vec<u8>]) -> Result<Record,
 }
 
 #[tactic(auto, unfolding(crate::specs::Reading::first_of_text))]
-fn first_of_text(alloc: Global, mode: Mode, lines: &[Vec<u8>]) -> Result<Record, LdifFault>
+fn first_of_text(alloc: Global, mode: Mode, lines: &[Vec<u8>]) -> Result<Record<'_>, LdifFault>
     ensures { Gives result (first_of_text mode (texts lines.now)) }
 {
     match lines {
         [] => Err(LdifFault::Fault(Fault::DnMissing)),
         [line, rest @ ..] => {
-            let (name, value) = value_line(alloc, line)?;
-            if !same_name(name, b"version") {
+            let attr = value_line(alloc, line)?;
+            if !same_name(attr.name(), b"version") {
                 return entry(alloc, mode, lines);
             }
-            if value.as_slice() != b"1".as_slice() {
+            if attr.value() != b"1".as_slice() {
                 return Err(LdifFault::Fault(Fault::Version));
             }
             after_version(alloc, mode, rest)
@@ -112,7 +112,7 @@ fn first_of_text(alloc: Global, mode: Mode, lines: &[Vec<u8>]) -> Result<Record,
 ///
 /// The answer is what the record asks for, or the fault of its earliest line that has one; at one line `Continuation`,
 /// `ColonMissing`, `Url` and `Base64` come in this order and before any other. `OutOfMemory` says that memory ran out.
-pub fn read_record(alloc: Global, raw: &RawRecord, mode: Mode) -> Result<Record, LdifFault>
+pub fn read_record(alloc: Global, raw: &RawRecord, mode: Mode) -> Result<Record<'_>, LdifFault>
     ensures { Gives result (reading mode raw.now.first (texts raw.now.lines.items)) }
 {
     if raw.first {

@@ -1,13 +1,7 @@
 //! What a record asks for.
 
+use crate::value::Attr;
 use lists::{Bytes, Sequence};
-
-/// An attribute's name and one value of it, as a line has them.
-#[derive(Debug, Drop)]
-pub struct Attr {
-    pub name: Bytes,
-    pub value: Bytes,
-}
 
 /// What the records of a text are.
 #[derive(Clone, Copy, Debug, PartialEq, Eq)]
@@ -44,17 +38,17 @@ pub struct Mod {
 
 /// A record (RFC 2849, "ldif-attrval-record" and "ldif-change-record").
 #[derive(Debug, Drop)]
-pub enum Record {
+pub enum Record<'a> {
     /// A version line alone.
     Empty,
     Content {
         dn: Bytes,
-        attrs: Sequence<Attr>,
+        attrs: Sequence<Attr<'a>>,
     },
     Add {
         dn: Bytes,
         controls: Sequence<Control>,
-        attrs: Sequence<Attr>,
+        attrs: Sequence<Attr<'a>>,
     },
     Delete {
         dn: Bytes,

@@ -1,6 +1,6 @@
 -- One line of an add, and one part of an RDN.
 use Rattle.std.proofs.Common.{◌≡◌, ℕ, Bool, cond, List, Result, Ok, Err, sym, ap, ◌∙◌}
-use Rattle.ldif.specs.declared.record.Attr.{Attr}
+use Rattle.ldif.specs.Attrs.{Attr}
 use Rattle.schema.specs.declared.code.Code.{Code}
 use Rattle.schema.specs.declared.code.Code.TheVariants.{AttributeOrValueExists}
 use Rattle.schema.specs.declared.types.AttributeType.{AttributeType}

@@ -76,19 +76,19 @@ fn put_value(
 }
 
 // a line's type and value
-fn line_value(alloc: Global, conf: &Conf, line: &Attr) -> Result<(TypeId, Value), Refusal>
+fn line_value(alloc: Global, conf: &Conf, line: &Attr<'_>) -> Result<(TypeId, Value), Refusal>
     ensures gives { Gives (λ x. (x.0, x.1.raw)) result (line_value conf.now.types line.now) }
     ensures known { IfOk result (λ x. x.0 < length conf.now.types) }
     ensures normal { IfOk result (λ x. x.1.norm ≡ norm_at conf.now.types x.0 x.1.raw) }
 {
-    let Some(t) = conf.type_of(line.name.as_slice()) else {
+    let Some(t) = conf.type_of(line.name()) else {
         return Err(Refusal::Code(Code::UndefinedAttributeType));
     };
-    let value = conf.make_value(alloc, t, line.value.as_slice())?;
+    let value = conf.make_value(alloc, t, line.value())?;
     Ok((t, value))
 }
 
-fn add_line(alloc: Global, conf: &Conf, attrs: &mut Attributes, line: &Attr) -> Result<(), Refusal>
+fn add_line(alloc: Global, conf: &Conf, attrs: &mut Attributes, line: &Attr<'_>) -> Result<(), Refusal>
     requires { IsMade conf.now.types attrs.old.entries }
     ensures made { OnOk result (IsMade conf.now.types attrs.new.entries) }
     ensures gives { Gives (λ _. attributes_of attrs.new.entries) result (add_line conf.now.types (attributes_of attrs.old.entries) line.now) }
@@ -106,7 +106,7 @@ fn add_line_by_norm(
     conf: &Conf,
     attrs: &mut Attributes,
     norms: &mut BTreeSet<(TypeId, Bytes)>,
-    line: &Attr,
+    line: &Attr<'_>,
 ) -> Result<(), Refusal>
     requires made { IsMade conf.now.types attrs.old.entries }
     requires norms { AreNormsOf norms.old attrs.old.entries }
@@ -123,20 +123,20 @@ fn add_line_by_norm(
 }
 
 // how many runs of lines with one name there are, which is how many attributes where each stands together
-fn runs_in(lines: &[Attr]) -> usize {
+fn runs_in(lines: &[Attr<'_>]) -> usize {
     let mut count = 0usize;
     let mut last: &[u8] = b"";
     for line in lines {
-        if line.name.as_slice() != last {
+        if line.name() != last {
             count = count.saturating_add(1);
         }
-        last = line.name.as_slice();
+        last = line.name();
     }
     count
 }
 
 #[tactic(auto, unfolding(crate::specs::Entries::add_lines))]
-fn attributes_of_few(alloc: Global, conf: &Conf, lines: &[Attr]) -> Result<Attributes, Refusal>
+fn attributes_of_few(alloc: Global, conf: &Conf, lines: &[Attr<'_>]) -> Result<Attributes, Refusal>
     ensures made { IfOk result (λ attrs. IsMade conf.now.types attrs.entries) }
     ensures gives { Gives (λ attrs. attributes_of attrs.entries) result (add_lines conf.now.types [] lines.now) }
 {
@@ -148,7 +148,7 @@ fn attributes_of_few(alloc: Global, conf: &Conf, lines: &[Attr]) -> Result<Attri
 }
 
 #[tactic(auto, unfolding(crate::specs::Entries::add_lines))]
-fn attributes_of_many(alloc: Global, conf: &Conf, lines: &[Attr]) -> Result<Attributes, Refusal>
+fn attributes_of_many(alloc: Global, conf: &Conf, lines: &[Attr<'_>]) -> Result<Attributes, Refusal>
     ensures made { IfOk result (λ attrs. IsMade conf.now.types attrs.entries) }
     ensures gives { Gives (λ attrs. attributes_of attrs.entries) result (add_lines conf.now.types [] lines.now) }
 {
@@ -164,7 +164,7 @@ fn attributes_of_many(alloc: Global, conf: &Conf, lines: &[Attr]) -> Result<Attr
 pub(crate) fn attributes_of(
     alloc: Global,
     conf: &Conf,
-    lines: &[Attr],
+    lines: &[Attr<'_>],
 ) -> Result<Attributes, Refusal>
     ensures made { IfOk result (λ attrs. IsMade conf.now.types attrs.entries) }
     ensures gives { Gives (λ attrs. attributes_of attrs.entries) result (add_lines conf.now.types [] lines.now) }

@@ -2,7 +2,7 @@
 
 ghost use Rattle.std.specs.Prelude.{◌≡◌, Some, Ok, List, ℕ};
 ghost use Rattle.std.specs.FinMap as finite;
-ghost use Rattle.ldif.specs.declared.record.Attr.{Attr};
+ghost use Rattle.ldif.specs.Attrs.{Attr};
 ghost use Rattle.ldif.specs.Contents.{IsWritten};
 ghost use Rattle.schema.specs.Paths.{Steps};
 ghost use Rattle.schema.specs.Rules.{Rules, IsRules};

@@ -31,7 +31,7 @@ pub fn plan(
     alloc: Global,
     tree: &Tree,
     conf: &Conf,
-    asked: &Record,
+    asked: &Record<'_>,
     mode: Mode,
 ) -> Result<Plan, Refusal>
     requires { tree.now.rules ≡ conf.now }
@@ -47,7 +47,7 @@ fn change_of(
     alloc: Global,
     tree: &Tree,
     conf: &Conf,
-    asked: &Record,
+    asked: &Record<'_>,
     mode: Mode,
 ) -> Result<Change, Refusal>
     requires { tree.now.rules ≡ conf.now }
@@ -97,7 +97,7 @@ fn add_of(
     tree: &Tree,
     conf: &Conf,
     dn: &[u8],
-    lines: &[Attr],
+    lines: &[Attr<'_>],
 ) -> Result<Change, Refusal>
     requires { tree.now.rules ≡ conf.now }
     ensures change { IfOk result (λ c. IsChange tree.now c) }
@@ -119,7 +119,7 @@ fn add_at(
     tree: &Tree,
     conf: &Conf,
     place: Located,
-    lines: &[Attr],
+    lines: &[Attr<'_>],
 ) -> Result<Change, Refusal>
     requires rules { tree.now.rules ≡ conf.now }
     requires rdns { AllByRecursion (IsRdn conf.now.types) place.rdns }

@@ -41,15 +41,15 @@ fn push_controls(out: &mut Vec<u8>, controls: &[Control]) -> Result<(), AllocErr
     Ok(())
 }
 
-fn push_attrs(out: &mut Vec<u8>, attrs: &[Attr]) -> Result<(), AllocError> {
+fn push_attrs(out: &mut Vec<u8>, attrs: &[Attr<'_>]) -> Result<(), AllocError> {
     for attr in attrs {
         push_words(
             out,
             &[
                 b" [",
-                attr.name.as_slice(),
+                attr.name(),
                 b"=",
-                attr.value.as_slice(),
+                attr.value(),
                 b"]",
             ],
         )?;

@@ -1,6 +1,6 @@
 use Rattle.std.proofs.Common.{◌≡◌, List, Ok, sym, ap, ◌∙◌, ◌+◌, get_or, drop}
 use Rattle.std.proofs.lemmas.Result.{err_from_is_err_and}
-use Rattle.ldif.specs.declared.record.Attr.{Attr}
+use Rattle.ldif.specs.Attrs.{Attr}
 use Rattle.ldif.specs.Reading.{each, texts, items_of}
 use Rattle.ldif.specs.Reading.{content_line}
 use Rattle.ldif.proofs.Each.{with_front, nothing_front, goes_on, ends, is_done}
