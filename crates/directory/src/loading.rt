@@ -69,7 +69,10 @@ fn load_rest<S: Source>(
 {
     'records: loop {
         match reader.next() {
-            Ok(Some(raw)) => load_record(alloc, tree, conf, &raw)?,
+            Ok(Some(raw)) => {
+                load_record(alloc, tree, conf, &raw)?;
+                reader.reuse(raw);
+            }
             Ok(None) => return Ok(()),
             Err(ReadFault::OutOfMemory) => return Err(LoadFault::OutOfMemory),
             Err(_) => return Err(LoadFault::Read),

@@ -123,6 +123,7 @@ fn run_rest<S: Source, W: Sink>(
                 if take_record(alloc, dir, &raw, sink, mode, go_on, &mut tally)? {
                     return Ok(tally);
                 }
+                reader.reuse(raw);
             }
             Ok(None) => return Ok(tally),
             Err(ReadFault::OutOfMemory) => return Err(RunFault::OutOfMemory(tally)),

@@ -5,6 +5,7 @@ ghost use Rattle.ldif_lines.specs.Drafts.{add, append_last};
 ghost use Rattle.ldif_lines.specs.View.{draft_of, texts};
 
 use crate::line::begins_with;
+use crate::spare::Spare;
 use std::alloc::{AllocError, Global};
 
 /// Adds the bytes to the last of the lines.
@@ -30,7 +31,13 @@ pub struct Draft {
 impl Draft {
     /// Adds a line of the block, which is not empty.
     #[tactic(auto, unfolding(crate::specs::Drafts::add_by))]
-    pub fn add(&mut self, alloc: Global, number: u64, line: &[u8]) -> Result<(), AllocError>
+    pub fn add(
+        &mut self,
+        alloc: Global,
+        spare: &mut Spare,
+        number: u64,
+        line: &[u8],
+    ) -> Result<(), AllocError>
         ensures { OnOk result (draft_of self.new ≡ add (draft_of self.old) (number, line.now)) }
     {
         let continues = begins_with(line, b' ');
@@ -48,7 +55,7 @@ impl Draft {
             self.line = number;
         }
         self.in_comment = false;
-        self.lines.push(Vec::from_slice(alloc, line)?)?;
+        self.lines.push(spare.take_line(alloc, line)?)?;
         Ok(())
     }
 }

@@ -6,6 +6,7 @@ mod laws;
 mod line;
 mod raw_record;
 mod reader;
+mod spare;
 #[cfg(test)]
 mod tests;
 mod text;

@@ -96,7 +96,7 @@ impl<'a, S: Source> Reader<'a, S> {
     {
         Reader {
             source,
-            text: Text::new(Vec::new(alloc)),
+            text: Text::new(alloc, Vec::new(alloc)),
             alloc,
             pulled: false,
             failed: false,
@@ -129,7 +129,7 @@ impl<'a, S: Source> Reader<'a, S> {
         if !self.pulled {
             match pull_all(self.alloc, &mut *self.source) {
                 Ok(bytes) => {
-                    self.text = Text::new(bytes);
+                    self.text = Text::new(self.alloc, bytes);
                     self.pulled = true;
                 }
                 Err(fault) => {
@@ -145,5 +145,17 @@ impl<'a, S: Source> Reader<'a, S> {
                 Err(ReadFault::OutOfMemory)
             }
         }
+    }
+
+    /// Takes back a record that was read, so that a later one can use its memory.
+    #[tactic(auto, unfolding(crate::specs::Reader::records_left, crate::specs::Reader::bytes_left))]
+    pub fn reuse(&mut self, record: RawRecord)
+        ensures same_reference { self.new.source.ghost_name ≡ self.old.source.ghost_name }
+        ensures source { source_of self.new ≡ source_of self.old }
+        ensures records { records_left S.seen self.new ≡ records_left S.seen self.old }
+        ensures bytes { bytes_left S.seen self.new ≡ bytes_left S.seen self.old }
+        ensures failed { is_failed self.new ≡ is_failed self.old }
+    {
+        self.text.reuse(record.lines);
     }
 }

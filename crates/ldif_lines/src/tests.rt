@@ -22,8 +22,13 @@ fn write_record(alloc: Global, out: &mut Vec<u8>, record: &RawRecord) -> Result<
     Ok(())
 }
 
-/// The records that a reader gives and its faults, until three calls after the first of its ends or faults.
-fn shown<S: Source>(alloc: Global, reader: &mut Reader<'_, S>) -> Result<Vec<u8>, AllocError>
+/// The records that a reader gives and its faults, until three calls after the first of its ends or faults. The reader may
+/// take each record back.
+fn shown<S: Source>(
+    alloc: Global,
+    reader: &mut Reader<'_, S>,
+    gives_back: bool,
+) -> Result<Vec<u8>, AllocError>
     requires { (S.seen (source_of reader.old)).failed ≡ 0 }
     ensures { reader.new.source.ghost_name ≡ reader.old.source.ghost_name }
 {
@@ -33,6 +38,9 @@ fn shown<S: Source>(alloc: Global, reader: &mut Reader<'_, S>) -> Result<Vec<u8>
         match reader.next() {
             Ok(Some(record)) => {
                 write_record(alloc, &mut out, &record)?;
+                if gives_back {
+                    reader.reuse(record);
+                }
                 continue;
             }
             Ok(None) => {}
@@ -52,7 +60,14 @@ fn read_text<S: Source>(alloc: Global, source: &mut S) -> Result<Vec<u8>, AllocE
     requires { (S.seen source.old).failed ≡ 0 }
 {
     let mut reader = Reader::new(alloc, source);
-    shown(alloc, &mut reader)
+    shown(alloc, &mut reader, false)
+}
+
+fn read_giving_back<S: Source>(alloc: Global, source: &mut S) -> Result<Vec<u8>, AllocError>
+    requires { (S.seen source.old).failed ≡ 0 }
+{
+    let mut reader = Reader::new(alloc, source);
+    shown(alloc, &mut reader, true)
 }
 
 #[test]
@@ -177,5 +192,48 @@ fn a_failed_source_is_no_end(rt: HostRuntime) -> Result<(), Fail> {
     let got = read_text(rt.alloc(), &mut source)?;
     assert_eq!(rt; got.as_slice(), b"1+|dn: x\n3|dn: y\n".as_slice());
     assert_eq!(rt; source.failures(), 0);
+    Ok(())
+}
+
+/// A text with lines of many lengths, in records of few and of many.
+fn long_and_short(alloc: Global) -> Result<Vec<u8>, AllocError> {
+    let mut text = Vec::from_slice(
+        alloc,
+        b"dn: the first\ncn: abc\n def\nsn: ghi\n\n#c\n\ndn: y\n\ndn: many\n",
+    )?;
+    for _ in 0..30 {
+        text.extend_from_slice(b"cn: line\n")?;
+    }
+    text.extend_from_slice(b"\ndn: long\ncn: ")?;
+    text.extend_from_slice(&[b'x'; 5000])?;
+    text.extend_from_slice(b"\n\ndn: z\ncn: q\n r\n#c\n d\n\ndn: the last\nsn: of all")?;
+    Ok(text)
+}
+
+fn shown_long_and_short(alloc: Global) -> Result<Vec<u8>, AllocError> {
+    let mut want = Vec::from_slice(
+        alloc,
+        b"1+|dn: the first|cn: abcdef|sn: ghi\n8|dn: y\n10|dn: many",
+    )?;
+    for _ in 0..30 {
+        want.extend_from_slice(b"|cn: line")?;
+    }
+    want.extend_from_slice(b"\n42|dn: long|cn: ")?;
+    want.extend_from_slice(&[b'x'; 5000])?;
+    want.extend_from_slice(b"\n45|dn: z|cn: qr\n51|dn: the last|sn: of all\n")?;
+    Ok(want)
+}
+
+/// A record that is given back leaves nothing of itself in a later one.
+#[test]
+fn records_given_back(rt: HostRuntime) -> Result<(), Fail> {
+    let text = long_and_short(rt.alloc())?;
+    let want = shown_long_and_short(rt.alloc())?;
+    let mut source = TrySource::new(text.as_slice(), 8192, None);
+    let kept = read_text(rt.alloc(), &mut source)?;
+    assert_eq!(rt; kept.as_slice(), want.as_slice());
+    let mut source = TrySource::new(text.as_slice(), 8192, None);
+    let given = read_giving_back(rt.alloc(), &mut source)?;
+    assert_eq!(rt; given.as_slice(), want.as_slice());
     Ok(())
 }

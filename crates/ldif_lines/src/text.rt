@@ -7,13 +7,11 @@ ghost use Rattle.ldif_lines.specs.View.{view, texts};
 use crate::draft::Draft;
 use crate::line::split_line;
 use crate::raw_record::RawRecord;
+use crate::spare::Spare;
 use std::alloc::{AllocError, Global};
 
 /// How many bytes are read at least before their memory is given back.
 const MANY: usize = 65536;
-
-/// As many lines as most records have at most.
-const USUAL_LINES: usize = 24;
 
 /// A record, and where the text goes on behind it.
 #[derive(Drop)]
@@ -40,6 +38,7 @@ fn finished(draft: Draft, first: bool, at: usize, before: u64) -> Found
 /// The first record from a place on, which has so many lines before it.
 fn record_from(
     alloc: Global,
+    spare: &mut Spare,
     text: &[u8],
     at: usize,
     before: u64,
@@ -55,7 +54,7 @@ fn record_from(
     let mut draft = Draft {
         line: 0,
         in_comment: false,
-        lines: Vec::with_capacity(alloc, USUAL_LINES)?,
+        lines: spare.take_list(alloc)?,
     };
     let mut end = at;
     let mut count = before;
@@ -64,7 +63,7 @@ fn record_from(
         end += len;
         count += 1;
         if !line.is_empty() {
-            draft.add(alloc, count, line)?;
+            draft.add(alloc, spare, count, line)?;
         } else if draft.lines.is_empty() {
             draft.in_comment = false;
         } else {
@@ -86,6 +85,7 @@ pub struct Text {
     before: u64,
     /// Whether no record was read yet.
     first: bool,
+    spare: Spare,
     ghost in_range: { at ≤ length bytes.items },
     ghost counted: { before + (length bytes.items - at) < 2 ^ 64 },
 }
@@ -93,7 +93,7 @@ pub struct Text {
 impl Text {
     ghost use Rattle.ldif_lines.specs.Reader.{text_records};
 
-    pub fn new(bytes: Vec<u8>) -> Text
+    pub fn new(alloc: Global, bytes: Vec<u8>) -> Text
         ensures bytes { result.bytes ≡ bytes }
         ensures at { result.at ≡ 0 }
         ensures before { result.before ≡ 0 }
@@ -104,6 +104,7 @@ impl Text {
             at: 0,
             before: 0,
             first: true,
+            spare: Spare::new(alloc),
         }
     }
 
@@ -127,6 +128,14 @@ impl Text {
         self.at = 0;
     }
 
+    /// Takes back the lines of a record that was read.
+    pub fn reuse(&mut self, lines: Vec<Vec<u8>>)
+        ensures records { text_records self.new ≡ text_records self.old }
+        ensures left { length self.new.bytes.items - self.new.at ≡ length self.old.bytes.items - self.old.at }
+    {
+        self.spare.keep(lines);
+    }
+
     /// The next record, or `None` where no record is left.
     pub fn next_record(&mut self, alloc: Global) -> Result<Option<RawRecord>, AllocError>
         ensures record { IfOk result (λ found. MatchOption found
@@ -135,7 +144,14 @@ impl Text {
         ensures falls { IfOk result (λ found. IfSome found (λ _. length self.new.bytes.items - self.new.at < length self.old.bytes.items - self.old.at)) }
     {
         self.give_back();
-        match record_from(alloc, &self.bytes, self.at, self.before, self.first)? {
+        match record_from(
+            alloc,
+            &mut self.spare,
+            &self.bytes,
+            self.at,
+            self.before,
+            self.first,
+        )? {
             None => Ok(None),
             Some(found) => {
                 self.at = found.at;

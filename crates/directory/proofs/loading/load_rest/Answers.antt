@@ -1,4 +1,4 @@
-use Rattle.std.proofs.Common.{IfSome, [], ◌∷◌, refl, ◌∙◌, subst}
+use Rattle.std.proofs.Common.{IfSome, [], ◌∷◌, refl, ◌∙◌, ap, subst}
 use Rattle.std.proofs.lemmas.Result.{err_from_is_err_and}
 use Rattle.ldif.specs.declared.record.Mode.TheVariants.{Content}
 use Rattle.ldif.specs.Reading.{reading}
@@ -32,13 +32,13 @@ returns-in_err-load_record-in-Ok-Some-clause-stopped g c =
 
 pub records-preserved : goal.records-preserved
 records-preserved g c = record {
-  source_failures = c.in-Ok-Some.ensures.going ∙ c.records.invariant.source_failures;
-  going = c.in-Ok-Some.ensures.still_good;
-  same_reference = c.in-Ok-Some.ensures.same_reference ∙ c.records.invariant.same_reference;
+  source_failures = ap (λ s. (g.S.Source.seen s).failed) c.reuse.ensures.source ∙ c.in-Ok-Some.ensures.going ∙ c.records.invariant.source_failures;
+  going = c.reuse.ensures.failed ∙ c.in-Ok-Some.ensures.still_good;
+  same_reference = c.reuse.ensures.same_reference ∙ c.in-Ok-Some.ensures.same_reference ∙ c.records.invariant.same_reference;
   rules = c.in_ok-load_record-in-Ok-Some.ensures.rules ∙ c.records.invariant.rules;
-  under_way = goes_on c.args.tree.now.rules c.args.tree.now.entries c.records.tree.entries c.load_record.new.tree.entries
+  under_way = rw c.reuse.ensures.records (goes_on c.args.tree.now.rules c.args.tree.now.entries c.records.tree.entries c.load_record.new.tree.entries
       (records_left g.S.Source.seen c.args.reader.now) (records_left g.S.Source.seen c.records.reader) (records_left g.S.Source.seen c.next.new.self)
       (view c.in-Ok-Some.raw) c.records.invariant.under_way
       (subst (λ o. IfSome o (λ r. Takes (records_left g.S.Source.seen c.records.reader) (records_left g.S.Source.seen c.next.new.self) (view r ∷ []))) c.in-Ok-Some.field-0-is c.in-Ok-Some.ensures.record)
-      (subst (λ (rules : Rules). IsLoaded (outcome rules Content c.records.tree.entries (reading Content c.in-Ok-Some.raw.first (texts c.in-Ok-Some.raw.lines.items))) c.load_record.new.tree.entries) c.records.invariant.rules c.in_ok-load_record-in-Ok-Some.ensures.loaded);
+      (subst (λ (rules : Rules). IsLoaded (outcome rules Content c.records.tree.entries (reading Content c.in-Ok-Some.raw.first (texts c.in-Ok-Some.raw.lines.items))) c.load_record.new.tree.entries) c.records.invariant.rules c.in_ok-load_record-in-Ok-Some.ensures.loaded));
 }

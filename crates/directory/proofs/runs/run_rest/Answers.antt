@@ -46,12 +46,12 @@ returns-then-branch-clause-ran g c =
 
 pub records-preserved : goal.records-preserved
 records-preserved g c = record {
-  source_failures = c.in-Ok-Some.ensures.going ∙ c.records.invariant.source_failures;
+  source_failures = ap (λ s. (g.S.Source.seen s).failed) c.reuse.ensures.source ∙ c.in-Ok-Some.ensures.going ∙ c.records.invariant.source_failures;
   sink_failures = c.in_ok-take_record-in-Ok-Some.ensures.taken.written.failed ∙ c.records.invariant.sink_failures;
-  going = c.in-Ok-Some.ensures.still_good;
-  same_reference = c.in-Ok-Some.ensures.same_reference ∙ c.records.invariant.same_reference;
+  going = c.reuse.ensures.failed ∙ c.in-Ok-Some.ensures.still_good;
+  same_reference = c.reuse.ensures.same_reference ∙ c.in-Ok-Some.ensures.same_reference ∙ c.records.invariant.same_reference;
   rules = c.in_ok-take_record-in-Ok-Some.ensures.rules ∙ c.records.invariant.rules;
-  stands = goes_on c.args.dir.now.rules c.args.mode c.args.go_on c.args.dir.now.entries
+  stands = rw c.reuse.ensures.records (goes_on c.args.dir.now.rules c.args.mode c.args.go_on c.args.dir.now.entries
       c.records.dir.entries c.take_record.new.dir.entries
       (records_left g.S.Source.seen c.args.reader.now) (records_left g.S.Source.seen c.records.reader) (records_left g.S.Source.seen c.next.new.self)
       c.records.tally c.take_record.new.tally
@@ -59,12 +59,13 @@ records-preserved g c = record {
       (view c.in-Ok-Some.raw) c.records.invariant.stands (subst (λ o. IfSome o (λ r. Takes (records_left g.S.Source.seen c.records.reader) (records_left g.S.Source.seen c.next.new.self) (view r ∷ []))) c.in-Ok-Some.field-0-is c.in-Ok-Some.ensures.record)
       c.in_ok-take_record-in-Ok-Some.field-0
       (subst (λ r. Rattle.directory.specs.Steps.IsTaken (outcome r c.args.mode c.records.dir.entries (reading c.args.mode c.in-Ok-Some.raw.first (texts c.in-Ok-Some.raw.lines.items))) c.args.go_on c.in-Ok-Some.raw.line c.take_record.new.dir.entries c.records.tally c.take_record.new.tally (g.W.Sink.written c.records.sink) (g.W.Sink.written c.take_record.new.sink) c.in_ok-take_record-in-Ok-Some.field-0) c.records.invariant.rules c.in_ok-take_record-in-Ok-Some.ensures.taken)
-      c.if-branch.false;
+      c.if-branch.false);
   few =
       let one = counts_few (outcome c.records.dir.rules c.args.mode c.records.dir.entries (reading c.args.mode c.in-Ok-Some.raw.first (texts c.in-Ok-Some.raw.lines.items))).1 c.records.tally in
       let accepted = ap (λ (x : Rattle.directory.specs.declared.runs.Tally.Tally). x.accepted) c.in_ok-take_record-in-Ok-Some.ensures.taken.counts in
       let refused = ap (λ (x : Rattle.directory.specs.declared.runs.Tally.Tally). x.refused) c.in_ok-take_record-in-Ok-Some.ensures.taken.counts in
       let falls = subst (λ o. IfSome o (λ _. bytes_left g.S.Source.seen c.next.new.self < bytes_left g.S.Source.seen c.records.reader)) c.in-Ok-Some.field-0-is c.in-Ok-Some.ensures.falls in
+      let same = c.reuse.ensures.bytes in
       let few = c.records.invariant.few in
-      omega (arith, one, accepted, refused, falls, few);
+      omega (arith, one, accepted, refused, falls, same, few);
 }

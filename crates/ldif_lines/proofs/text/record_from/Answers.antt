@@ -12,11 +12,11 @@ cut_at text l at len e = (rw (take_rest text at) at e) ∙ ap (λ (t : List ℕ)
 
 pub lines-init : goal.lines-init
 lines-init c = record {
-  same = rw c.in_ok-with_capacity.ensures.items (pending-fresh c.args.first 0 (c.args.before + 1) (drop c.args.at c.args.text.now));
+  same = rw c.in_ok-take_list.ensures (pending-fresh c.args.first 0 (c.args.before + 1) (drop c.args.at c.args.text.now));
   counted = c.requires.counted;
   within = c.requires.in_range;
   since = omega arith;
-  begun = rw c.in_ok-with_capacity.ensures.items (λ h. absurd (omega arith));
+  begun = rw c.in_ok-take_list.ensures (λ h. absurd (omega arith));
 }
 
 pub lines-preserved-in_ok-add : goal.lines-preserved-in_ok-add
