@@ -1,4 +1,5 @@
 mod cases;
+mod memory;
 mod shown;
 mod texts;
 mod writing;
