@@ -6,6 +6,7 @@ pub mod Loop
 pub mod Below
 pub mod Named
 pub mod Tables
+pub mod Buckets
 pub mod Orders
 pub mod TextBytes
 pub mod Spelled

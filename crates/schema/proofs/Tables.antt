@@ -1,16 +1,14 @@
 -- Types by their names, one name after the other.
 use Rattle.std.proofs.Common.{◌≡◌, ℕ, ◌+◌, ◌<◌, Bool, true, false, cond, ◌||◌, List, [], ◌∷◌, ◌++◌, length, get_or, take, Option, Some, None, refl, sym, ap, ◌∙◌, arith}
 use Rattle.std.specs.Prelude.{IfSome, position}
-use Rattle.std.specs.HashMap.{HashMap, IsEmpty}
 use Rattle.std.specs.List.{list_any, position_from}
-use Rattle.std.specs.Map.{lookup}
-use Rattle.std.specs.Str.{bytes_eq, str_to_ascii_lowercase}
 use Rattle.std.proofs.lemmas.List.{take_more, length-take}
 use Rattle.std.proofs.lemmas.List.Folds.{list_any-append}
 use Rattle.std.proofs.lemmas.List.Quantifiers.{position-Some}
 use Rattle.std.proofs.lemmas.Iterator.Adapters.{position_from-zero}
 use Rattle.schema.specs.declared.types.AttributeType.{AttributeType}
-use Rattle.schema.specs.Tables.{or_if, FindsTypes}
+use Rattle.schema.specs.declared.name_index.Entry.{Entry}
+use Rattle.schema.specs.Tables.{number_of, or_if, FindsTypes}
 use Rattle.schema.specs.Types.{type_of, is_named, no_type}
 
 pub or_none : (o : Option ℕ) (t : ℕ) → o ≡ or_if o false t
@@ -57,6 +55,7 @@ unfolding type_of
 is_known types text (Some t) e = (position-Some (is_named text) types t no_type (sym e)).0
 is_known types text None e = tt
 
-pub none_found : {S : Type 0} (numbers : HashMap (List ℕ) ℕ S) → IsEmpty numbers → FindsTypes numbers []
+-- nothing is found where there is no type
+pub none_found : (buckets : List (List Entry)) → ((name : List ℕ) → number_of buckets name ≡ None) → FindsTypes buckets []
 unfolding type_of
-none_found numbers none = λ text. ap (lookup (bytes_eq (str_to_ascii_lowercase text))) none
+none_found buckets none = none

@@ -1,6 +1,10 @@
 -- A text in which no space is to go.
-use Rattle.std.proofs.Common.{◌≡◌, ℕ, Bool, true, false, not, ◌&&◌, cond, List, [], ◌∷◌, refl, sym, ap, ◌∙◌}
-use Rattle.schema.specs.Values.{is_space, begins_with_space, one_spaces, without_front, without_end, onto_text, tidy}
+use Rattle.std.proofs.Common.{◌≡◌, ℕ, Bool, true, false, not, ◌&&◌, cond, List, [], ◌∷◌, refl, sym, ap, ◌∙◌, arith}
+use Rattle.schema.specs.Values.{is_space, begins_with_space, one_spaces, without_front, without_end, onto_text, tidy, lower}
+use Rattle.std.specs.List.{list_any}
+use Rattle.std.specs.Char.{is_ascii_uppercase, to_ascii_lowercase}
+use Rattle.std.proofs.lemmas.Bool.{or_parts}
+use Rattle.std.proofs.lemmas.Bool.Decides.{nat_tests}
 use Rattle.schema.specs.Gaps.{is_tidy_after}
 
 second : (a b : Bool) → a && b ≡ true → b ≡ true
@@ -43,3 +47,13 @@ ends space (b ∷ c ∷ cs) h =
 
 pub is_tidy : (bs : List ℕ) → is_tidy_after true bs ≡ true → tidy bs ≡ bs
 is_tidy bs h = ap (λ (t : List ℕ). without_end (one_spaces t)) (front bs h) ∙ ap without_end (gaps true bs h) ∙ ends true bs h
+
+small : (b : ℕ) → is_ascii_uppercase b ≡ false → to_ascii_lowercase b ≡ b
+small b h = grind (arith, nat_tests)
+
+-- without capitals a text is in lower case
+pub no_capital : (bs : List ℕ) → list_any is_ascii_uppercase bs ≡ false → lower bs ≡ bs
+no_capital [] h = refl
+no_capital (b ∷ bs) h =
+    let o = or_parts (is_ascii_uppercase b) (list_any is_ascii_uppercase bs) h in
+    λ j. small b o.0 j ∷ no_capital bs o.1 j

@@ -1,17 +1,34 @@
 -- Attribute types by their names.
-use Rattle.std.specs.Prelude.{◌≡◌, ℕ, Bool, if◌then◌else◌, List, Option, Some, None}
-use Rattle.std.specs.HashMap.{HashMap, get}
-use Rattle.std.specs.Str.{bytes_eq, str_to_ascii_lowercase}
+use Rattle.std.specs.Prelude.{◌≡◌, ℕ, ◌+◌, ◌*◌, ◌-◌, ◌%◌, ◌^◌, Bool, if◌then◌else◌, List, [], ◌∷◌, length, slice_index_or, bit_and, Option, Some, None}
+use Rattle.std.specs.List.{fold}
+use Rattle.std.specs.Str.{str_eq_ignore_ascii_case, str_to_ascii_lowercase}
 use Rattle.schema.specs.declared.types.AttributeType.{AttributeType}
+use Rattle.schema.specs.declared.name_index.Entry.{Entry}
 use Rattle.schema.specs.Types.{type_of}
 
--- the number that a map in lower case has for a text
-abbrev pub number_of : {S : Type 0} → HashMap (List ℕ) ℕ S → List ℕ → Option ℕ
-number_of numbers text = get bytes_eq numbers (str_to_ascii_lowercase text)
+abbrev pub key_with : ℕ → ℕ → ℕ
+key_with key b = (key * 33 % 2 ^ 64 + b) % 2 ^ 64
+
+-- a number for a name, the same in each ASCII case
+unfoldable pub key_of : List ℕ → ℕ
+key_of name = fold key_with 0 (str_to_ascii_lowercase name)
+
+-- which of so many buckets is a name's
+abbrev pub bucket_of : ℕ → List ℕ → ℕ
+bucket_of count name = bit_and (key_of name) (count - 1)
+
+-- the number of the first entry with this name
+abbrev pub number_in : List Entry → List ℕ → Option ℕ
+number_in [] name = None
+number_in (e ∷ es) name = if str_eq_ignore_ascii_case e.name name then Some e.number else number_in es name
+
+-- the number that a name has in its bucket
+abbrev pub number_of : List (List Entry) → List ℕ → Option ℕ
+number_of buckets name = number_in (slice_index_or buckets (bucket_of (length buckets) name) []) name
 
 -- it is that of the first type with this name or OID
-abbrev pub FindsTypes : {S : Type 0} → HashMap (List ℕ) ℕ S → List AttributeType → Type 0
-FindsTypes numbers types = (text : List ℕ) → number_of numbers text ≡ type_of types text
+abbrev pub FindsTypes : List (List Entry) → List AttributeType → Type 0
+FindsTypes buckets types = (name : List ℕ) → number_of buckets name ≡ type_of types name
 
 -- what was there, or else t where a test passes
 abbrev pub or_if : Option ℕ → Bool → ℕ → Option ℕ

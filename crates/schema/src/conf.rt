@@ -7,7 +7,6 @@ ghost use Rattle.schema.specs.Values.{is_valid_at, norm_at};
 ghost use Rattle.schema.specs.Gives.{Makes};
 
 use crate::locate::TypedName;
-use crate::normal::normal_form;
 use crate::path::{Path, Rdn};
 use crate::table::TypeTable;
 use crate::types::{AttributeType, TypeId};
@@ -139,6 +138,6 @@ impl Conf {
         if !is_valid(kind.syntax, raw) {
             return Err(ValueFault::Invalid);
         }
-        Ok(Value::new(normal_form(alloc, kind.family, raw)?, raw)?)
+        Ok(Value::new(alloc, kind.family, raw)?)
     }
 }

@@ -224,7 +224,7 @@ fn typed_name(alloc: Global, types: &TypeTable, text: &[u8]) -> Result<TypedName
     ensures keys { IfOk result (KeysFit types.now) }
 {
     let name = name_of_text(alloc, text)?;
-    typed(alloc, types, name.as_slice())
+    typed(alloc, types, &name)
 }
 
 fn suffix_at(

@@ -10,6 +10,7 @@ mod fault;
 mod laws;
 mod locate;
 mod name;
+mod name_index;
 mod normal;
 mod packing;
 mod path;

@@ -47,18 +47,17 @@ fn one_part(alloc: Global, t: TypeId, value: Bytes) -> Result<Rdn, AllocError>
 }
 
 // an RDN of one part
-fn typed_rdn(alloc: Global, types: &TypeTable, part: &(Bytes, Bytes)) -> Result<Rdn, PathFault>
-    ensures gives { Gives (λ r. r) result (typed_rdn types.now part.now) }
+fn typed_rdn(alloc: Global, types: &TypeTable, kind: &[u8], value: &[u8]) -> Result<Rdn, PathFault>
+    ensures gives { Gives (λ r. r) result (typed_rdn types.now (kind.now, value.now)) }
     ensures one { IfOk result (IsOne types.now) }
 {
-    let value = part.1.as_slice();
-    let Some(t) = types.type_of(part.0.as_slice()) else {
+    let Some(t) = types.type_of(kind) else {
         return Err(PathFault::Code(Code::InvalidDnSyntax));
     };
     if !is_valid(types.at(t).syntax, value) {
         return Err(PathFault::Code(Code::InvalidDnSyntax));
     }
-    Ok(one_part(alloc, t, part.1.copy(alloc)?)?)
+    Ok(one_part(alloc, t, Bytes::from_slice(alloc, value)?)?)
 }
 
 // puts what an RDN comes to behind the others
@@ -96,14 +95,14 @@ fn path_of(alloc: Global, types: &TypeTable, rdns: &[Rdn]) -> Result<Path, Alloc
 fn typed_rdns(
     alloc: Global,
     types: &TypeTable,
-    name: &[(Bytes, Bytes)],
+    name: &[(&[u8], &[u8])],
 ) -> Result<Vec<Rdn>, PathFault>
-    ensures rdns { Gives (λ v. v.items) result (typed types.now name.now) }
+    ensures rdns { Gives (λ v. v.items) result (typed types.now (map (λ p. (p.0.now, p.1.now)) name.now)) }
     ensures one { IfOk result (λ v. AllByRecursion (IsOne types.now) v.items) }
 {
     let mut rdns = Vec::with_capacity(alloc, name.len())?;
-    for part in name {
-        rdns.push(typed_rdn(alloc, types, part)?)?;
+    for (kind, value) in name {
+        rdns.push(typed_rdn(alloc, types, kind, value)?)?;
     }
     Ok(rdns)
 }
@@ -112,9 +111,9 @@ fn typed_rdns(
 pub(crate) fn typed(
     alloc: Global,
     types: &TypeTable,
-    name: &[(Bytes, Bytes)],
+    name: &[(&[u8], &[u8])],
 ) -> Result<TypedName, PathFault>
-    ensures rdns { Gives (λ x. x.rdns.items) result (typed types.now name.now) }
+    ensures rdns { Gives (λ x. x.rdns.items) result (typed types.now (map (λ p. (p.0.now, p.1.now)) name.now)) }
     ensures keys { IfOk result (KeysFit types.now) }
 {
     let rdns = typed_rdns(alloc, types, name)?;
@@ -151,7 +150,7 @@ impl Conf {
         ensures path { IfOk result (λ l. l.path ≡ path_of self.now l.rdns) }
     {
         let name = name_of_text(alloc, text)?;
-        let typed = typed(alloc, self.table(), name.as_slice())?;
+        let typed = typed(alloc, self.table(), &name)?;
         self.below_suffix(alloc, typed)
     }
 }

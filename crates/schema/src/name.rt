@@ -9,7 +9,6 @@ ghost use Rattle.schema.specs.Gives.{Gives};
 
 use crate::code::Code;
 use crate::fault::PathFault;
-use lists::{Bytes, Sequence};
 use std::alloc::{AllocError, Global};
 
 fn is_plain_byte(b: u8) -> bool
@@ -62,15 +61,15 @@ fn equals_in(text: &[u8]) -> Option<usize>
 
 // `type=value`
 #[tactic(auto, unfolding(crate::specs::Names::part_of))]
-fn part_of(alloc: Global, text: &[u8]) -> Result<(Bytes, Bytes), PathFault>
-    ensures { Gives (λ p. p) result (part_of text.now) }
+fn part_of(text: &[u8]) -> Result<(&[u8], &[u8]), PathFault>
+    ensures { Gives (λ p. (p.0.now, p.1.now)) result (part_of text.now) }
 {
     let Some(at) = equals_in(text) else {
         return Err(PathFault::Code(Code::InvalidDnSyntax));
     };
-    if is_type_text(&text[..at]) && is_plain_value(&text[at + 1..]) {
-        let kind = Bytes::from_slice(alloc, &text[..at])?;
-        Ok((kind, Bytes::from_slice(alloc, &text[at + 1..])?))
+    let (kind, value) = (&text[..at], &text[at + 1..]);
+    if is_type_text(kind) && is_plain_value(value) {
+        Ok((kind, value))
     } else {
         Err(PathFault::Code(Code::InvalidDnSyntax))
     }
@@ -82,26 +81,26 @@ fn pieces_of<'a>(alloc: Global, text: &'a [u8]) -> Result<Vec<&'a [u8]>, AllocEr
     text.split(|b| *b == b',').collect(alloc)
 }
 
-fn parts_of(alloc: Global, pieces: &[&[u8]]) -> Result<Sequence<(Bytes, Bytes)>, PathFault>
-    ensures { Gives (λ n. n) result (each part_of (map (λ x. x.now) pieces.now)) }
+fn parts_of<'a>(alloc: Global, pieces: &[&'a [u8]]) -> Result<Vec<(&'a [u8], &'a [u8])>, PathFault>
+    ensures { Gives (λ v. map (λ p. (p.0.now, p.1.now)) v.items) result (each part_of (map (λ x. x.now) pieces.now)) }
 {
     let mut parts = Vec::with_capacity(alloc, pieces.len())?;
     for piece in pieces {
-        parts.push(part_of(alloc, piece)?)?;
+        parts.push(part_of(piece)?)?;
     }
-    Ok(Sequence::from_vec(parts))
+    Ok(parts)
 }
 
 /// The type and the value of each RDN of a name, its own first; `InvalidDnSyntax` where the text is no name.
 #[tactic(auto, unfolding(crate::specs::Names::name_of_text))]
-pub(crate) fn name_of_text(
+pub(crate) fn name_of_text<'a>(
     alloc: Global,
-    text: &[u8],
-) -> Result<Sequence<(Bytes, Bytes)>, PathFault>
-    ensures { Gives (λ n. n) result (name_of_text text.now) }
+    text: &'a [u8],
+) -> Result<Vec<(&'a [u8], &'a [u8])>, PathFault>
+    ensures { Gives (λ v. map (λ p. (p.0.now, p.1.now)) v.items) result (name_of_text text.now) }
 {
     if text.is_empty() {
-        return Ok(Sequence::new(alloc));
+        return Ok(Vec::new(alloc));
     }
     let pieces = pieces_of(alloc, text)?;
     parts_of(alloc, &pieces)

@@ -1,6 +1,8 @@
 //! Normal forms of values, by family of matching rules (RFC 4517, 4.2).
 
-ghost use Rattle.std.specs.Prelude.{◌≡◌, true, IfOk, OnOk};
+ghost use Rattle.std.specs.Prelude.{◌≡◌, true, IfOk, IsTrue, OnOk};
+ghost use Rattle.std.specs.List.{list_any};
+ghost use Rattle.std.specs.Char.{is_ascii_uppercase};
 ghost use Rattle.schema.specs.Values.{norm, tidy, lower};
 ghost use Rattle.schema.specs.Gaps.{with_gap, is_tidy_after};
 
@@ -38,14 +40,36 @@ fn tidy_text(alloc: Global, bytes: &[u8]) -> Result<Vec<u8>, AllocError>
 fn is_tidy(bytes: &[u8]) -> bool
     ensures { result ≡ is_tidy_after true bytes.now }
 {
-    let mut tidy = true;
-    let mut after_space = true;
-    for b in bytes {
-        let space = *b == b' ';
-        tidy &= !(space && after_space);
-        after_space = space;
+    if bytes.is_empty() || bytes[0] == b' ' {
+        return false;
     }
-    tidy && !after_space
+    let mut tidy = true;
+    for i in 1..bytes.len() {
+        tidy &= !(bytes[i - 1] == b' ' && bytes[i] == b' ');
+    }
+    tidy && bytes[bytes.len() - 1] != b' '
+}
+
+/// Whether a value needs no space taken away to be in its normal form.
+#[tactic(auto, using(crate::proofs::Tidy::is_tidy), unfolding(crate::specs::Values::norm))]
+pub(crate) fn is_tidy_under(family: Family, bytes: &[u8]) -> bool
+    ensures { IsTrue result → norm family bytes.now ≡ lower bytes.now }
+{
+    match family {
+        Family::Ignore => is_tidy(bytes),
+        Family::Oid => true,
+    }
+}
+
+/// Whether there is an ASCII capital.
+pub(crate) fn has_capital(bytes: &[u8]) -> bool
+    ensures { result ≡ list_any is_ascii_uppercase bytes.now }
+{
+    let mut found = false;
+    for b in bytes {
+        found |= b.is_ascii_uppercase();
+    }
+    found
 }
 
 fn lower(alloc: Global, bytes: &[u8]) -> Result<Bytes, AllocError>

@@ -2,23 +2,22 @@
 
 ghost use Rattle.std.specs.Prelude.{◌≡◌, ◌<◌, ◌≤◌, IfOk, IfSome, OnOk, ℕ, List, length};
 ghost use Rattle.std.specs.List.{list_any};
-ghost use Rattle.std.specs.Str.{str_eq_ignore_ascii_case, str_to_ascii_lowercase};
+ghost use Rattle.std.specs.Str.{str_eq_ignore_ascii_case};
 ghost use Rattle.schema.specs.Tables.{FindsTypes, number_of, or_if};
 ghost use Rattle.schema.specs.Types.{is_named, type_of, type_at};
 
-use crate::types::{AttributeType, TypeId, type_at, type_of};
+use crate::name_index::NameIndex;
+use crate::types::{AttributeType, TypeId, type_at};
 use lists::{Bytes, Sequence};
 use std::alloc::{AllocError, Global};
-use std::collections::HashMap;
 use std::marker::Model;
 
 /// Attribute types, each at its number. A contract sees them as a list.
 #[derive(Debug, Drop)]
 pub(crate) struct TypeTable {
     types: Sequence<AttributeType>,
-    // the number of the first type with a name or OID, in ASCII lower case
-    numbers: HashMap<Bytes, TypeId>,
-    alloc: Global,
+    // the number of the first type with a name or OID
+    numbers: NameIndex,
 }
 
 impl Model for TypeTable {
@@ -33,40 +32,16 @@ impl Model for TypeTable {
     ghost invariant = { λ t. (length t.types ≤ 65535) × FindsTypes t.numbers t.types };
 }
 
-fn in_lower_case(alloc: Global, name: &[u8]) -> Result<Bytes, AllocError>
-    ensures { IfOk result (λ b. b ≡ str_to_ascii_lowercase name.now) }
-{
-    let mut bytes = Bytes::from_slice(alloc, name)?;
-    bytes.make_ascii_lowercase();
-    Ok(bytes)
-}
-
-// puts a number at a name, where none is there
-fn add_name(
-    alloc: Global,
-    numbers: &mut HashMap<Bytes, TypeId>,
-    name: &[u8],
-    t: TypeId,
-) -> Result<(), AllocError>
-    ensures { OnOk result ((text : List ℕ) → number_of numbers.new text ≡ or_if (number_of numbers.old text) (str_eq_ignore_ascii_case name.now text) t) }
-{
-    let key = in_lower_case(alloc, name)?;
-    if !numbers.contains_key(&key) {
-        numbers.insert(key, t)?;
-    }
-    Ok(())
-}
-
 fn add_names(
     alloc: Global,
-    numbers: &mut HashMap<Bytes, TypeId>,
+    numbers: &mut NameIndex,
     names: &[Bytes],
     t: TypeId,
 ) -> Result<(), AllocError>
     ensures { OnOk result ((text : List ℕ) → number_of numbers.new text ≡ or_if (number_of numbers.old text) (list_any (λ n. str_eq_ignore_ascii_case n text) names.now) t) }
 {
     for name in names {
-        add_name(alloc, numbers, name.as_slice(), t)?;
+        numbers.add(alloc, name.as_slice(), t)?;
     }
     Ok(())
 }
@@ -74,28 +49,26 @@ fn add_names(
 // puts a type's number at its OID and names, where none is there
 fn add_type(
     alloc: Global,
-    numbers: &mut HashMap<Bytes, TypeId>,
+    numbers: &mut NameIndex,
     new: &AttributeType,
     t: TypeId,
 ) -> Result<(), AllocError>
     ensures { OnOk result ((text : List ℕ) → number_of numbers.new text ≡ or_if (number_of numbers.old text) (is_named text new.now) t) }
 {
-    add_name(alloc, numbers, new.oid.as_slice(), t)?;
+    numbers.add(alloc, new.oid.as_slice(), t)?;
     add_names(alloc, numbers, new.names.as_slice(), t)
 }
 
-fn numbers_of(alloc: Global, types: &[AttributeType]) -> Result<HashMap<Bytes, TypeId>, AllocError>
+fn numbers_of(alloc: Global, types: &[AttributeType]) -> Result<NameIndex, AllocError>
     requires { length types.now ≤ 65535 }
-    ensures { IfOk result (λ m. FindsTypes m types.now) }
+    ensures { IfOk result (λ x. FindsTypes x types.now) }
 {
-    let mut numbers = HashMap::new(alloc);
+    // most types have one name, and an OID
+    let count = (2 * types.len()).next_power_of_two();
+    let mut numbers = NameIndex::with_buckets(alloc, count)?;
     for i in 0..types.len() {
-        add_type(
-            alloc,
-            &mut numbers,
-            &types[i],
-            TypeId::from_number(i as u16),
-        )?;
+        let t = TypeId::from_number(i as u16);
+        add_type(alloc, &mut numbers, &types[i], t)?;
     }
     Ok(numbers)
 }
@@ -109,7 +82,6 @@ impl TypeTable {
         Ok(TypeTable {
             types: Sequence::from_vec(types),
             numbers,
-            alloc,
         })
     }
 
@@ -124,10 +96,7 @@ impl TypeTable {
         ensures place { result ≡ type_of self.now name.now }
         ensures known { IfSome result (λ t. t < length self.now) }
     {
-        match in_lower_case(self.alloc, name) {
-            Ok(key) => self.numbers.get(&key).copied(),
-            Err(_) => type_of(self.as_slice(), name),
-        }
+        self.numbers.get(name)
     }
 
     pub(crate) fn at(&self, t: TypeId) -> &AttributeType

@@ -1,9 +1,9 @@
 //! Attribute types.
 
-ghost use Rattle.std.specs.Prelude.{◌≡◌, ◌<◌, ◌≤◌, IfSome, length};
+ghost use Rattle.std.specs.Prelude.{◌≡◌, ◌<◌, length};
 ghost use Rattle.std.specs.List.{list_any};
 ghost use Rattle.std.specs.Str.{str_eq_ignore_ascii_case};
-ghost use Rattle.schema.specs.Types.{is_named, printed_name, type_of, type_at};
+ghost use Rattle.schema.specs.Types.{is_named, printed_name, type_at};
 
 use lists::{Bytes, Sequence};
 use std::marker::Model;
@@ -96,26 +96,6 @@ impl AttributeType {
             [first, ..] => first.as_slice(),
             [] => self.oid.as_slice(),
         }
-    }
-}
-
-#[tactic(auto, unfolding(crate::specs::Types::type_of))]
-fn place_of(types: &[AttributeType], name: &[u8]) -> Option<usize>
-    ensures place { result ≡ type_of types.now name.now }
-    ensures bound { IfSome result (λ k. k < length types.now) }
-{
-    types.iter().position(|t| t.is_named(name))
-}
-
-/// The number of the first type with this name or OID, without ASCII case.
-pub(crate) fn type_of(types: &[AttributeType], name: &[u8]) -> Option<TypeId>
-    requires { length types.now ≤ 65535 }
-    ensures place { result ≡ type_of types.now name.now }
-    ensures known { IfSome result (λ t. t < length types.now) }
-{
-    match place_of(types, name) {
-        Some(place) => Some(TypeId::from_number(place as u16)),
-        None => None,
     }
 }
 

@@ -1,16 +1,20 @@
 //! Values of attribute types.
 
-ghost use Rattle.std.specs.Prelude.{◌≡◌, ◌↔◌, ◌≢◌, [], false, IfOk, Err};
+ghost use Rattle.std.specs.Prelude.{◌≡◌, ◌↔◌, ◌≢◌, ◌++◌, [], false, IfOk, Err};
 ghost use Rattle.std.specs.List.{list_all};
 ghost use Rattle.std.specs.Str.{is_utf8};
-ghost use Rattle.schema.specs.Values.{is_valid, is_oid_byte};
+ghost use Rattle.schema.specs.Values.{is_valid, is_oid_byte, lower, norm};
 
-use crate::types::Syntax;
+use crate::normal::{has_capital, is_tidy_under, normal_form};
+use crate::types::{Family, Syntax};
 use lists::Bytes;
 use std::alloc::{AllocError, AllocFailed, Global};
 use std::default::MadeWith;
 use std::marker::Model;
 use thiserror::Error;
+
+// twice as many bytes need no allocation
+const FEW: usize = 8;
 
 /// A value as written, and its normal form under the equality rule of its type. A contract sees the two.
 #[derive(Debug, Drop)]
@@ -43,9 +47,26 @@ impl MadeWith<Global> for Value {
     }
 }
 
+// a value in ASCII lower case, and behind it as written
+fn lower_and_raw(alloc: Global, raw: &[u8]) -> Result<Bytes, AllocError>
+    ensures { IfOk result (λ b. b ≡ lower raw.now ++ raw.now) }
+{
+    if raw.len() <= FEW {
+        let mut few = Bytes::from_slice(alloc, raw)?;
+        few.make_ascii_lowercase();
+        few.extend_from_slice(raw)?;
+        return Ok(few);
+    }
+    let mut many = Vec::with_capacity(alloc, 2 * raw.len())?;
+    many.extend_from_slice(raw)?;
+    many.make_ascii_lowercase();
+    many.extend_from_slice(raw)?;
+    Ok(Bytes::from_vec(many))
+}
+
 impl Value {
     // The value that is written so and has this normal form.
-    pub(crate) fn new(norm: Bytes, raw: &[u8]) -> Result<Value, AllocError>
+    fn joined(norm: Bytes, raw: &[u8]) -> Result<Value, AllocError>
         requires { raw.now ≢ [] }
         ensures { IfOk result (λ v. v ≡ record { raw = raw.now; norm = norm }) }
     {
@@ -56,6 +77,25 @@ impl Value {
         }
         bytes.extend_from_slice(raw)?;
         Ok(Value { bytes, norm_len })
+    }
+
+    // The value that is written so, where its type is of this family.
+    pub(crate) fn new(alloc: Global, family: Family, raw: &[u8]) -> Result<Value, AllocError>
+        requires { raw.now ≢ [] }
+        ensures { IfOk result (λ v. v ≡ record { raw = raw.now; norm = norm family raw.now }) }
+    {
+        if !is_tidy_under(family, raw) {
+            return Value::joined(normal_form(alloc, family, raw)?, raw);
+        }
+        let bytes = if has_capital(raw) {
+            lower_and_raw(alloc, raw)?
+        } else {
+            Bytes::from_slice(alloc, raw)?
+        };
+        Ok(Value {
+            bytes,
+            norm_len: raw.len(),
+        })
     }
 
     /// The value as written.

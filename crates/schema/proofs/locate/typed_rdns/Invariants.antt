@@ -6,8 +6,8 @@ use Rattle.schema.specs.Rules.{typed_rdn}
 use Rattle.schema.proofs.Loop.{with_front}
 use Rattle.schema.proofs.locate.typed_rdns.Given as goal
 
-abbrev pub invariant-loop-part : goal.invariant-loop-part
-invariant-loop-part l = record {
-  read : with_front l.rdns.items (each (typed_rdn l.types) (map (λ p. p) (drop l.part-index l.name))) ≡ each (typed_rdn l.types) l.name;
+abbrev pub invariant-loop-kind : goal.invariant-loop-kind
+invariant-loop-kind l = record {
+  read : with_front l.rdns.items (each (typed_rdn l.types) (map (λ p. (p.0.now, p.1.now)) (drop l.kind-index l.name))) ≡ each (typed_rdn l.types) (map (λ p. (p.0.now, p.1.now)) l.name);
   one : AllByRecursion (IsOne l.types) l.rdns.items;
 }

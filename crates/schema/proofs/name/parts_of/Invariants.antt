@@ -5,4 +5,4 @@ use Rattle.schema.proofs.Loop.{with_front}
 use Rattle.schema.proofs.name.parts_of.Given as goal
 
 abbrev pub invariant-loop-piece : goal.invariant-loop-piece
-invariant-loop-piece l = with_front l.parts.items (each part_of (map (λ x. x.now) (drop l.piece-index l.pieces))) ≡ each part_of (map (λ x. x.now) l.pieces)
+invariant-loop-piece l = with_front (map (λ p. (p.0.now, p.1.now)) l.parts.items) (each part_of (map (λ x. x.now) (drop l.piece-index l.pieces))) ≡ each part_of (map (λ x. x.now) l.pieces)
