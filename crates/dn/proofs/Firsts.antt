@@ -1,5 +1,5 @@
 -- The part, and the RDN, at the front of a text.
-use Rattle.std.proofs.Common.{◌≡◌, ℕ, Bool, true, false, cond, eqb, List, [], ◌∷◌, ◌++◌, length, take, ◌-◌, Result, Ok, Err, refl, sym, ap, subst, ◌∙◌, append_assoc}
+use Rattle.std.proofs.Common.{◌≡◌, ℕ, Bool, true, false, cond, eqb, List, [], ◌∷◌, ◌++◌, length, Result, Ok, Err, refl, sym, ap, subst, ◌∙◌}
 use Rattle.std.proofs.lemmas.Bool.{eqb-true}
 use Rattle.std.proofs.lemmas.List.{take-append-drop}
 use Rattle.std.specs.List.{prefix_len}
@@ -11,11 +11,11 @@ use Rattle.dn.specs.Gives.{Fails}
 use Rattle.dn.specs.Spelling.{spaces}
 use Rattle.dn.specs.Names.{Part, is_type_byte}
 use Rattle.dn.specs.Reading.{◌>>=◌, value_of, is_space, skip, type_in, after_type, after_equals, part_at, part_of}
-use Rattle.dn.specs.Cuts.{piece, behind, is_separator, first_value, first_part, Holds}
+use Rattle.dn.specs.Cuts.{piece, behind, is_separator, first_value, first_part, part_from}
+use Rattle.dn.specs.Texts.{Starts}
 use Rattle.dn.proofs.Pieces.{P, B, space_apart, type_apart, front_of_piece, rest_of_piece, behind_rest}
 use Rattle.dn.proofs.Runs.{skipped}
 use Rattle.dn.proofs.Parts.{equals_found}
-use Rattle.dn.proofs.Holding.{front_is}
 
 -- ---- a part
 
@@ -114,33 +114,30 @@ module _ (total : Got) (ty rest : List ℕ) (total_is : total ≡ from_text ty r
     unfolding from_text
     value_in = total_is ∙ ap reads equals ∙ ap (λ (x : List ℕ). first_value x >>= with_type ty) (sym from_is)
 
-    pub part_read : (value behind : List ℕ) (p : Part) → first_value from ≡ before behind value → p ≡ (ty, value) → total ≡ before behind p
-    part_read value behind p h is = value_in ∙ ap (λ (r : Result (List ℕ × List ℕ) Fault). r >>= with_type ty) h ∙ ap (before behind) (sym is)
+-- the type, the equals sign and what follows it stand in the text
+pub starts : (t ty after rest v from : List ℕ) → ty ≡ type_in t → after ≡ after_type t → rest ≡ skip after → after_equals ty rest ≡ Ok v → from ≡ skip v → Starts t ty from
+starts t ty after rest v from is behind_is rest_is equals from_is =
+    let s2 = skipped after in
+    let s3 = skipped v in
+    record {
+      before = s2.0;
+      behind = s3.0;
+      is =
+          sym (take-append-drop (prefix_len is_type_byte t) t)
+          ∙ ap (λ (x : List ℕ). x ++ after_type t) (sym is)
+          ∙ ap (λ (x : List ℕ). ty ++ x) (sym behind_is ∙ s2.1
+          ∙ ap (λ (x : List ℕ). spaces s2.0 ++ x) (sym rest_is ∙ (equals_found ty rest v equals).0
+          ∙ ap (λ (x : List ℕ). 61 ∷ x) (s3.1 ∙ ap (λ (x : List ℕ). spaces s3.0 ++ x) (sym from_is))));
+    }
 
-    -- the type, the value and what is between them stand in the text
-    pub stands : (t after value behind : List ℕ) → ty ≡ type_in t → after ≡ after_type t → rest ≡ skip after → from ≡ value ++ behind → Holds (take (length t - length behind) t) ty value
-    stands t after value behind is behind_is rest_is ends =
-        let s2 = skipped after in
-        let s3 = skipped v in
-        let between = spaces s2.0 ++ 61 ∷ spaces s3.0 in
-        record {
-          between = between;
-          is =
-              front_is t (ty ++ (between ++ value)) behind (
-              sym (take-append-drop (prefix_len is_type_byte t) t)
-              ∙ ap (λ (x : List ℕ). x ++ after_type t) (sym is)
-              ∙ ap (λ (x : List ℕ). ty ++ x) (sym behind_is ∙ s2.1
-              ∙ ap (λ (x : List ℕ). spaces s2.0 ++ x) (sym rest_is ∙ (equals_found ty rest v equals).0
-              ∙ ap (λ (x : List ℕ). 61 ∷ x) (s3.1 ∙ ap (λ (x : List ℕ). spaces s3.0 ++ x) (sym from_is ∙ ends)))
-              ∙ sym (append_assoc (spaces s2.0) (61 ∷ spaces s3.0) (value ++ behind))
-              ∙ sym (append_assoc between value behind))
-              ∙ sym (append_assoc ty (between ++ value) behind)
-              );
-        }
+-- ---- a value behind a type
 
-    pub value_fails : (e : NameFault) (p : List ℕ) → p ≡ P from → Fails e (value_of p) → Fails e total
-    value_fails errors.OutOfMemory p is h = tt
-    value_fails (errors.Fault fault) p is h = value_in ∙ ap (λ (r : Result (List ℕ) Fault). (r >>= before (B from)) >>= with_type ty) (ap value_of (sym is) ∙ h)
+pub part_read : (ty from value behind : List ℕ) (p : Part) → first_value from ≡ before behind value → p ≡ (ty, value) → part_from ty from ≡ before behind p
+part_read ty from value behind p h is = ap (λ (r : Result (List ℕ × List ℕ) Fault). r >>= with_type ty) h ∙ ap (before behind) (sym is)
+
+pub value_fails : (ty from : List ℕ) (e : NameFault) (p : List ℕ) → p ≡ P from → Fails e (value_of p) → Fails e (part_from ty from)
+value_fails ty from errors.OutOfMemory p is h = tt
+value_fails ty from (errors.Fault fault) p is h = ap (λ (r : Result (List ℕ) Fault). (r >>= before (B from)) >>= with_type ty) (ap value_of (sym is) ∙ h)
 
 pub value_of_piece : (from p rest v : List ℕ) → p ≡ P from → rest ≡ B from → value_of p ≡ Ok v → first_value from ≡ before rest v
 value_of_piece from p rest v is behind_is h =

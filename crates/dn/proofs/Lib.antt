@@ -1,4 +1,5 @@
 pub mod Octets
+pub mod Joined
 pub mod Drafts
 pub mod Holding
 pub mod Pieces

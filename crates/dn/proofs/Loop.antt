@@ -10,11 +10,11 @@ use Rattle.dn.specs.declared.faults.NameFault.{NameFault}
 use Rattle.dn.specs.declared.faults.NameFault.TheVariants as errors
 use Rattle.dn.specs.Gives.{Fails}
 use Rattle.dn.specs.Reading.{◌>>=◌}
-use Rattle.dn.specs.Cuts.{piece, behind, first_by, first_part, first_rdn, after_first, begins_with_plus}
+use Rattle.dn.specs.Cuts.{piece, behind, first_by, first_part, first_rdn, parts_behind, parts_from, after_first, begins_with_plus}
 use Rattle.dn.proofs.Parts.{same_ok}
 use Rattle.dn.proofs.Pieces.{shorter}
 use Rattle.dn.proofs.Firsts.{before}
-use Rattle.dn.proofs.Steps.{Found, parts_behind, with_part, parts_from, rdn_first, names, names_in, names_behind, names_from, name_first}
+use Rattle.dn.proofs.Steps.{Found, with_part, rdn_first, names, names_in, names_behind, names_from, name_first}
 
 pub with_front : {Y : Type 0} → List Y → Result (List Y) Fault → Result (List Y) Fault
 with_front front (Ok ys) = Ok (front ++ ys)
@@ -52,10 +52,11 @@ unfolding onto
 one_part p (Ok t) = refl
 one_part p (Err e) = refl
 
-pub parts_begin : (text : List ℕ) (p : Part) (rest : List ℕ) (new : Parts) → first_part text ≡ before rest p → new ≡ [] ++ p ∷ [] → onto new (parts_behind rest) ≡ first_rdn text
-parts_begin text p rest new h is =
-    ap (λ (ps : Parts). onto ps (parts_behind rest)) is ∙ one_part p (parts_behind rest)
-    ∙ sym (rdn_first text ∙ ap (λ (r : Result (Part × List ℕ) Fault). r >>= parts_from) h)
+pub parts_begin : (p : Part) (rest : List ℕ) (new : Parts) → new ≡ p ∷ [] → onto new (parts_behind rest) ≡ parts_from (p, rest)
+parts_begin p rest new is = ap (λ (ps : Parts). onto ps (parts_behind rest)) is ∙ one_part p (parts_behind rest)
+
+pub first_read : (text : List ℕ) (p : Part) (rest : List ℕ) → first_part text ≡ before rest p → first_rdn text ≡ parts_from (p, rest)
+first_read text p rest h = rdn_first text ∙ ap (λ (r : Result (Part × List ℕ) Fault). r >>= parts_from) h
 
 pub parts_fail : (text : List ℕ) (e : NameFault) → Fails e (first_part text) → Fails e (first_rdn text)
 parts_fail text errors.OutOfMemory h = tt
@@ -152,5 +153,13 @@ unfolding parts_behind
 no_plus [] h = refl
 no_plus (b ∷ bs) h = ap (λ (t : Bool). cond t (first_rdn bs) (found [] (b ∷ bs))) h
 
+pub one_only : (p : Part) (rest : List ℕ) → begins_with_plus rest ≡ false → parts_from (p, rest) ≡ before rest (p ∷ [])
+one_only p rest plain = ap (with_part p) (no_plus rest plain)
+
 pub one_plain : (text : List ℕ) (p : Part) (rest : List ℕ) → first_part text ≡ before rest p → begins_with_plus rest ≡ false → first_rdn text ≡ before rest (p ∷ [])
 one_plain text p rest h plain = rdn_first text ∙ ap (λ (r : Result (Part × List ℕ) Fault). r >>= parts_from) h ∙ ap (with_part p) (no_plus rest plain)
+
+pub two_plain : (text : List ℕ) (p : Part) (rest more : List ℕ) (q : Part) (end : List ℕ) → first_part text ≡ before rest p → rest ≡ 43 ∷ more → first_part more ≡ before end q → begins_with_plus end ≡ false → first_rdn text ≡ before end (p ∷ q ∷ [])
+unfolding parts_behind
+two_plain text p rest more q end h is g plain =
+    first_read text p rest h ∙ ap (λ (x : List ℕ). parts_from (p, x)) is ∙ ap (with_part p) (one_plain more q end g plain)

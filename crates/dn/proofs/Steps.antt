@@ -7,7 +7,7 @@ use Rattle.std.proofs.lemmas.List.{append-nil}
 use Rattle.dn.specs.declared.faults.Fault.{Fault}
 use Rattle.dn.specs.Names.{Part, Parts, Rdns}
 use Rattle.dn.specs.Reading.{◌>>=◌, each, part_of, escapes, cut_raw, rdn_of}
-use Rattle.dn.specs.Cuts.{piece, behind, is_comma, is_separator, after_first, first_part, first_rdn}
+use Rattle.dn.specs.Cuts.{piece, behind, is_comma, is_separator, after_first, first_part, first_rdn, parts_behind, parts_from}
 use Rattle.dn.proofs.Pieces.{P, B, split, ends_is}
 use Rattle.dn.proofs.Firsts.{before}
 use Rattle.dn.proofs.Wholes.{IsWhole, cut_at, cut_none}
@@ -82,19 +82,11 @@ last_comma e (b ∷ bs) h = last_comma_by e (not e && is_separator b) b bs (behi
 abbrev pub Found : Type 0
 Found = Result (Parts × List ℕ) Fault
 
--- the parts that follow
-unfoldable pub parts_behind : List ℕ → Found
-parts_behind [] = Ok ([], [])
-parts_behind (s ∷ more) = cond (eqb s 43) (first_rdn more) (Ok ([], s ∷ more))
-
 abbrev pub with_part : Part → Found → Found
 with_part p r = r >>= λ t. Ok (p ∷ t.0, t.1)
 
 abbrev onto_part : Part → Result Parts Fault → Result Parts Fault
 onto_part p r = r >>= λ ps. Ok (p ∷ ps)
-
-abbrev pub parts_from : Part × List ℕ → Found
-parts_from s = with_part s.0 (parts_behind s.1)
 
 no_more : (q : Result Part Fault) → ((q >>= λ p. onto_part p (Ok [])) >>= before []) ≡ ((q >>= before []) >>= parts_from)
 unfolding parts_behind

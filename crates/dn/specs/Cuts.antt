@@ -33,6 +33,19 @@ first_part = first_by is_separator part_of
 abbrev pub first_rdn : List ℕ → Result (Parts × List ℕ) Fault
 first_rdn = first_by is_comma rdn_of
 
+-- a part whose type was read, from its value on
+abbrev pub part_from : List ℕ → List ℕ → Result (Part × List ℕ) Fault
+part_from ty text = first_value text >>= λ s. Ok ((ty, s.0), s.1)
+
+-- the parts that follow, where a plus sign comes next
+unfoldable pub parts_behind : List ℕ → Result (Parts × List ℕ) Fault
+parts_behind [] = Ok ([], [])
+parts_behind (b ∷ bs) = if b == 43 then first_rdn bs else Ok ([], b ∷ bs)
+
+-- an RDN whose first part was read, by what stands behind that
+abbrev pub parts_from : Part × List ℕ → Result (Parts × List ℕ) Fault
+parts_from s = parts_behind s.1 >>= λ t. Ok (s.0 ∷ t.0, t.1)
+
 abbrev pub ends_piece : List ℕ → Bool
 ends_piece [] = true
 ends_piece (b ∷ bs) = is_separator b
@@ -49,11 +62,6 @@ abbrev pub ends_in_space : List ℕ → Bool
 ends_in_space [] = false
 ends_in_space (b ∷ []) = is_space b
 ends_in_space (b ∷ c ∷ bs) = ends_in_space (c ∷ bs)
-
--- a text that begins with a type and ends with a value
-pub record Holds (text ty value : List ℕ) : Type 0 where
-  pub between : List ℕ
-  pub is : text ≡ ty ++ (between ++ value)
 
 -- an RDN was read and put at the end, and this is left
 abbrev pub Pushes : Rdns → Rdns → List ℕ → Result (Parts × List ℕ) Fault → Type 0

@@ -7,3 +7,5 @@ pub mod Drafts
 pub mod Gives
 pub mod Faults
 pub mod Examples
+pub mod Texts
+pub mod Places

@@ -4,14 +4,17 @@
 mod faults;
 mod laws;
 mod names;
+mod part;
 mod read;
 mod split;
+mod text;
 mod value;
 mod write;
 
 pub use faults::{Fault, NameFault};
 pub use laws::{spelled_names_are_read, texts_spell_one_name, written_names_are_read};
-pub use names::{Ava, Name, Rdn};
+pub use names::{Name, Rdn};
+pub use part::Ava;
 pub use read::read_name;
 pub use write::write_name;
 

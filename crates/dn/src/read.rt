@@ -1,18 +1,19 @@
 //! Names are read.
 
-ghost use Rattle.std.specs.Prelude.{◌≡◌, ◌==◌, not, true, false, length, Ok, IfOk, IfErr, IfSome, OnOk};
+ghost use Rattle.std.specs.Prelude.{◌≡◌, ◌==◌, ◌++◌, not, true, false, length, Ok, IfOk, IfErr, IfSome, OnOk};
 ghost use Rattle.std.specs.List.{list_all, prefix_len};
-ghost use Rattle.dn.specs.Names.{Rdns, is_type_byte, is_type, is_part};
+ghost use Rattle.dn.specs.Names.{Rdns, is_type, is_part};
 ghost use Rattle.dn.specs.Spelling.{Spells};
-ghost use Rattle.dn.specs.Reading.{is_space, skip, type_in, after_type, after_equals, each, cut_raw, rdn_of, name_of};
-ghost use Rattle.dn.specs.Cuts.{first_part, first_rdn, Holds, Pushes};
+ghost use Rattle.dn.specs.Reading.{is_space, skip, after_equals, each, cut_raw, rdn_of, name_of};
+ghost use Rattle.dn.specs.Cuts.{first_value, first_part, first_rdn, part_from, parts_from, Pushes};
+ghost use Rattle.dn.specs.Texts.{Starts};
 ghost use Rattle.dn.specs.Gives.{Gives, Fails};
 
 use crate::faults::{Fault, NameFault};
-use crate::names::{Ava, Name, Rdn, is_type_byte};
+use crate::names::{Name, Rdn};
+use crate::part::{Ava, split_type};
 use crate::split::{after_first, after_plus, begins_with_plus, split_piece};
-use crate::value::{split_plain, value_of};
-use smallvec::SmallVec;
+use crate::value::{Plain, split_plain, value_of};
 use std::alloc::Global;
 
 fn spaces_in(text: &[u8]) -> usize
@@ -26,21 +27,6 @@ fn skip(text: &[u8]) -> &[u8]
     ensures { result.now ≡ skip text.now }
 {
     text.split_at(spaces_in(text)).1
-}
-
-fn type_len(text: &[u8]) -> usize
-    ensures { result ≡ prefix_len is_type_byte text.now }
-{
-    text.iter().take_while(|b| is_type_byte(**b)).count()
-}
-
-/// A type, which may be empty, and what follows it.
-fn split_type(text: &[u8]) -> (&[u8], &[u8])
-    ensures ty_text { result.0.now ≡ type_in text.now }
-    ensures rest { result.1.now ≡ after_type text.now }
-    ensures bytes { list_all is_type_byte result.0.now ≡ true }
-{
-    text.split_at(type_len(text))
 }
 
 /// What follows the equals sign that is due behind a type.
@@ -60,34 +46,91 @@ fn after_equals<'a>(ty_text: &[u8], rest: &'a [u8]) -> Result<&'a [u8], NameFaul
     }
 }
 
-/// A part that is spelled without an escape, and what stands behind it.
+/// A part from its type on, and of that the type and what follows the equals sign and spaces.
 #[derive(Clone, Copy)]
-struct Plain<'a> {
+struct Start<'a> {
     text: &'a [u8],
     ty_text: &'a [u8],
-    value: &'a [u8],
-    behind: &'a [u8],
+    rest: &'a [u8],
 }
 
-/// The part at the front of a text, where it is spelled without an escape.
+/// The part at the front of a text as far as its value.
 #[inline(always)]
-fn plain_in(text: &[u8]) -> Option<Plain<'_>>
-    ensures exact { IfSome result (λ p. first_part text.now ≡ Ok ((p.ty_text.now, p.value.now), p.behind.now)) }
-    ensures ty_text { IfSome result (λ p. is_type p.ty_text.now ≡ true) }
-    ensures text { IfSome result (λ p. Holds p.text.now p.ty_text.now p.value.now) }
+fn start_in(text: &[u8]) -> Result<Start<'_>, NameFault>
+    ensures exact { IfOk result (λ s. first_part text.now ≡ part_from s.ty_text.now s.rest.now) }
+    ensures err { IfErr result (λ e. Fails e (first_part text.now)) }
+    ensures ty_text { IfOk result (λ s. is_type s.ty_text.now ≡ true) }
+    ensures text { IfOk result (λ s. Starts s.text.now s.ty_text.now s.rest.now) }
 {
     let text = skip(text);
     let (ty_text, rest) = split_type(text);
-    let Ok(value) = after_equals(ty_text, skip(rest)) else {
+    let rest = skip(after_equals(ty_text, skip(rest))?);
+    Ok(Start {
+        text,
+        ty_text,
+        rest,
+    })
+}
+
+/// The part with this value, where it is short.
+#[inline(always)]
+fn short_part(start: Start<'_>, plain: Plain<'_>) -> Option<Ava>
+    requires ty_text { is_type start.ty_text.now ≡ true }
+    requires text { Starts start.text.now start.ty_text.now start.rest.now }
+    requires value { start.rest.now ≡ plain.value.now ++ plain.after.now }
+    ensures same { IfSome result (λ part. part ≡ (start.entry.ty_text.now, plain.entry.value.now)) }
+    ensures good { IfSome result (λ part. is_part part ≡ true) }
+{
+    let end = start.text.len() - plain.after.len();
+    Ava::short(start.text, end, start.ty_text, plain.value)
+}
+
+/// The part at the front of a text, where it is short and spelled without an escape, and what stands behind it.
+#[inline(always)]
+fn short_in(text: &[u8]) -> Option<(Ava, &[u8])>
+    ensures exact { IfSome result (λ r. first_part text.now ≡ Ok (r.0, r.1.now)) }
+    ensures good { IfSome result (λ r. is_part r.0 ≡ true) }
+{
+    let Ok(start) = start_in(text) else {
         return None;
     };
-    let (value, after, behind) = split_plain(skip(value))?;
-    Some(Plain {
-        text: &text[..text.len() - after.len()],
-        ty_text,
-        value,
+    let plain = split_plain(start.rest)?;
+    let part = short_part(start, plain)?;
+    Some((part, plain.behind))
+}
+
+/// A part with a value up to the first separator that is not escaped, and what stands from there on.
+fn escaped_part<'a>(alloc: Global, start: Start<'a>) -> Result<(Ava, &'a [u8]), NameFault>
+    requires { is_type start.ty_text.now ≡ true }
+    ensures exact { Gives (λ r. (r.0, r.1.now)) result (part_from start.entry.ty_text.now start.entry.rest.now) }
+    ensures good { IfOk result (λ r. is_part r.0 ≡ true) }
+{
+    let (piece, behind) = split_piece(start.rest);
+    let value = value_of(alloc, piece)?;
+    Ok((
+        Ava::of_type(alloc, start.ty_text, value.as_slice())?,
         behind,
-    })
+    ))
+}
+
+/// The same, where it is known whether the value is spelled without an escape.
+fn part_of<'a>(
+    alloc: Global,
+    start: Start<'a>,
+    plain: Option<Plain<'a>>,
+) -> Result<(Ava, &'a [u8]), NameFault>
+    requires ty_text { is_type start.ty_text.now ≡ true }
+    requires plain { IfSome plain (λ p. first_value start.rest.now ≡ Ok (p.value.now, p.behind.now)) }
+    ensures exact { Gives (λ r. (r.0, r.1.now)) result (part_from start.entry.ty_text.now start.entry.rest.now) }
+    ensures good { IfOk result (λ r. is_part r.0 ≡ true) }
+{
+    match plain {
+        Some(plain) => Ok((
+            Ava::of_type(alloc, start.ty_text, plain.value)?,
+            plain.behind,
+        )),
+        None => escaped_part(alloc, start),
+    }
 }
 
 /// The part at the front of a text, up to the first separator that is not escaped, and what stands from there on.
@@ -95,54 +138,53 @@ fn part_in(alloc: Global, text: &[u8]) -> Result<(Ava, &[u8]), NameFault>
     ensures exact { Gives (λ r. (r.0, r.1.now)) result (first_part text.now) }
     ensures good { IfOk result (λ r. is_part r.0 ≡ true) }
 {
-    let text = skip(text);
-    let (ty_text, rest) = split_type(text);
-    let rest = skip(after_equals(ty_text, skip(rest))?);
-    let (piece, behind) = split_piece(rest);
-    let value = value_of(alloc, piece)?;
-    Ok((Ava::of_type(alloc, ty_text, value.as_slice())?, behind))
+    let start = start_in(text)?;
+    part_of(alloc, start, split_plain(start.rest))
 }
 
-/// The same, for parts that are mostly spelled without an escape.
-fn next_part(alloc: Global, text: &[u8]) -> Result<(Ava, &[u8]), NameFault>
-    ensures exact { Gives (λ r. (r.0, r.1.now)) result (first_part text.now) }
-    ensures good { IfOk result (λ r. is_part r.0 ≡ true) }
+/// The RDN with this first part, up to the first comma that is not escaped, and what stands from there on.
+fn rdn_from<'a>(alloc: Global, part: Ava, behind: &'a [u8]) -> Result<(Rdn, &'a [u8]), NameFault>
+    requires { is_part part ≡ true }
+    ensures { Gives (λ r. (r.0, r.1.now)) result (parts_from (part, behind.now)) }
 {
-    if let Some(plain) = plain_in(text) {
-        let part = Ava::of_text(alloc, plain.text, plain.ty_text, plain.value)?;
-        return Ok((part, plain.behind));
+    if !begins_with_plus(behind) {
+        return Ok((Rdn::one(part), behind));
     }
-    part_in(alloc, text)
-}
-
-/// The RDN at the front of a text, up to the first comma that is not escaped, and what stands from there on.
-fn rdn_in(alloc: Global, text: &[u8]) -> Result<(Rdn, &[u8]), NameFault>
-    ensures { Gives (λ r. (r.0, r.1.now)) result (first_rdn text.now) }
-{
-    let (part, mut rest) = part_in(alloc, text)?;
-    let mut parts = SmallVec::from_buf(alloc, [part]);
+    let mut parts = vec![in alloc; part]?;
+    let mut rest = behind;
     while let Some(more) = after_plus(rest) {
-        let (part, behind) = next_part(alloc, more)?;
+        let (part, behind) = part_in(alloc, more)?;
         parts.push(part)?;
         rest = behind;
     }
-    Ok((Rdn::from_parts(parts), rest))
+    Ok((Rdn::many(parts), rest))
 }
 
-/// Puts the RDN at the front of a text at the end of a name, and answers what stands behind it.
+/// Puts the RDN at the front of a text at the end of a name, and answers what stands behind it. Most RDNs have one short part
+/// or two: those are made in place.
 #[inline(always)]
 fn push_rdn<'a>(alloc: Global, name: &mut Name, text: &'a [u8]) -> Result<&'a [u8], NameFault>
     ensures ok { IfOk result (λ rest. Pushes name.old name.new rest.now (first_rdn text.now)) }
     ensures err { IfErr result (λ e. Fails e (first_rdn text.now)) }
 {
-    if let Some(plain) = plain_in(text) {
-        if !begins_with_plus(plain.behind) {
-            let part = Ava::of_text(alloc, plain.text, plain.ty_text, plain.value)?;
-            name.push(Rdn::of_part(alloc, part))?;
-            return Ok(plain.behind);
+    let start = start_in(text)?;
+    let plain = split_plain(start.rest);
+    if let Some(plain) = plain {
+        if let Some(part) = short_part(start, plain) {
+            let Some(more) = after_plus(plain.behind) else {
+                name.push(Rdn::one(part))?;
+                return Ok(plain.behind);
+            };
+            if let Some((second, end)) = short_in(more) {
+                if !begins_with_plus(end) {
+                    name.push(Rdn::two(part, second))?;
+                    return Ok(end);
+                }
+            }
         }
     }
-    let (rdn, behind) = rdn_in(alloc, text)?;
+    let (part, behind) = part_of(alloc, start, plain)?;
+    let (rdn, behind) = rdn_from(alloc, part, behind)?;
     name.push(rdn)?;
     Ok(behind)
 }

@@ -215,18 +215,30 @@ fn kept_len(text: &[u8]) -> usize
     len
 }
 
-/// The value that a text without spaces at its front begins with, where it is spelled without an escape; what follows it, and
-/// what of that follows the spaces.
-pub(crate) fn split_plain(text: &[u8]) -> Option<(&[u8], &[u8], &[u8])>
-    ensures read { IfSome result (λ s. first_value text.now ≡ Ok (s.0.now, s.2.now)) }
-    ensures split { IfSome result (λ s. text.now ≡ s.0.now ++ s.1.now) }
+/// A value that is spelled without an escape, what follows it, and what of that follows the spaces.
+#[derive(Clone, Copy)]
+pub(crate) struct Plain<'a> {
+    pub(crate) value: &'a [u8],
+    pub(crate) after: &'a [u8],
+    pub(crate) behind: &'a [u8],
+}
+
+/// The value that a text without spaces at its front begins with, where it is spelled without an escape.
+#[inline(always)]
+pub(crate) fn split_plain(text: &[u8]) -> Option<Plain<'_>>
+    ensures read { IfSome result (λ s. first_value text.now ≡ Ok (s.value.now, s.behind.now)) }
+    ensures split { IfSome result (λ s. text.now ≡ s.value.now ++ s.after.now) }
 {
     let (plain, behind) = text.split_at(plain_len(text));
     if !ends_piece(behind) || begins_form(plain) {
         return None;
     }
     let (value, after) = text.split_at(kept_len(plain));
-    Some((value, after, behind))
+    Some(Plain {
+        value,
+        after,
+        behind,
+    })
 }
 
 /// The value that a text without spaces at its front spells.

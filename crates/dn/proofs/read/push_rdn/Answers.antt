@@ -1,12 +1,49 @@
-use Rattle.std.proofs.Common.{[], ◌∷◌, ap, sym, ◌∙◌}
-use Rattle.dn.specs.Names.{Part, Parts}
-use Rattle.dn.proofs.Firsts.{before}
-use Rattle.dn.proofs.Loop.{one_plain}
+use Rattle.std.proofs.Common.{ap, subst, sym, ◌∙◌}
+use Rattle.std.proofs.lemmas.Result.{err_from_is_err_and}
+use Rattle.dn.specs.Names.{Parts}
+use Rattle.dn.specs.Gives.{Fails}
+use Rattle.dn.proofs.Firsts.{before, part_read}
+use Rattle.dn.proofs.Loop.{one_plain, two_plain, first_read, parts_fail}
 use Rattle.dn.proofs.read.push_rdn.Goals as goal
+
+pub returns-in_err-start-clause-err : goal.returns-in_err-start-clause-err
+returns-in_err-start-clause-err c =
+    let p = err_from_is_err_and c.from_residual.result c.from_residual.ensures.1 in
+    rw (p.1, p.2) (parts_fail c.args.text.now c.in_err-start.field-0.0 c.in_err-start.ensures.err)
+
+pub returns-in_default-after_plus-clause-ok : goal.returns-in_default-after_plus-clause-ok
+returns-in_default-after_plus-clause-ok c =
+    let start = c.in_ok-start.start in
+    let behind = c.in-Some.plain.behind.now in
+    let part = c.in-Some-short_part.part in
+    let read = c.in_ok-start.ensures.exact ∙ part_read start.ty_text.now start.rest.now c.in-Some.plain.value.now behind part c.in-Some.ensures.read c.in-Some-short_part.ensures.same in
+    let one = one_plain c.args.text.now part behind read c.in_default-after_plus.ensures.none in
+    (c.one.result, one ∙ ap (λ (ps : Parts). before behind ps) (sym c.one.ensures), c.in_ok-push.ensures.ok)
 
 pub returns-then-not-begins_with_plus-clause-ok : goal.returns-then-not-begins_with_plus-clause-ok
 returns-then-not-begins_with_plus-clause-ok c =
-    let plain = c.in-Some.plain in
-    let read = one_plain c.args.text.now (plain.ty_text.now, plain.value.now) plain.behind.now c.in-Some.ensures.exact (sym c.begins_with_plus.ensures ∙ c.if-not-begins_with_plus.true) in
-    let rdn_is = c.of_part.ensures ∙ ap (λ (p : Part). p ∷ []) c.in_ok-part.ensures.same in
-    (c.of_part.result, read ∙ ap (λ (ps : Parts). before plain.behind.now ps) (sym rdn_is), c.in_ok-push.ensures.ok)
+    let start = c.in_ok-start.start in
+    let behind = c.in-Some.plain.behind.now in
+    let end = c.in-Some-short_in.end.now in
+    let part = c.in-Some-short_part.part in
+    let read = c.in_ok-start.ensures.exact ∙ part_read start.ty_text.now start.rest.now c.in-Some.plain.value.now behind part c.in-Some.ensures.read c.in-Some-short_part.ensures.same in
+    let two = two_plain c.args.text.now part behind c.in-Some-after_plus.more.now c.in-Some-short_in.second end read c.in-Some-after_plus.ensures.some c.in-Some-short_in.ensures.exact (sym c.begins_with_plus.ensures ∙ c.if-not-begins_with_plus.true) in
+    (c.two.result, two ∙ ap (λ (ps : Parts). before end ps) (sym c.two.ensures), c.in_ok-push-2.ensures.ok)
+
+pub returns-in_err-part-clause-err : goal.returns-in_err-part-clause-err
+returns-in_err-part-clause-err c =
+    let p = err_from_is_err_and c.from_residual-in_err-part.result c.from_residual-in_err-part.ensures.1 in
+    let e = c.in_err-part.field-0.0 in
+    rw (p.1, p.2) (parts_fail c.args.text.now e (subst (Fails e) (sym c.in_ok-start.ensures.exact) c.in_err-part.ensures.exact))
+
+pub returns-in_err-rdn-clause-err : goal.returns-in_err-rdn-clause-err
+returns-in_err-rdn-clause-err c =
+    let p = err_from_is_err_and c.from_residual-in_err-rdn.result c.from_residual-in_err-rdn.ensures.1 in
+    let e = c.in_err-rdn.field-0.0 in
+    let read = first_read c.args.text.now c.in_ok-part.part c.in_ok-part.behind.now (c.in_ok-start.ensures.exact ∙ c.in_ok-part.ensures.exact) in
+    rw (p.1, p.2) (subst (Fails e) (sym read) c.in_err-rdn.ensures)
+
+pub returns-clause-ok : goal.returns-clause-ok
+returns-clause-ok c =
+    let read = first_read c.args.text.now c.in_ok-part.part c.in_ok-part.behind.now (c.in_ok-start.ensures.exact ∙ c.in_ok-part.ensures.exact) in
+    (c.in_ok-rdn.rdn, read ∙ c.in_ok-rdn.ensures, c.in_ok-push-3.ensures.ok)

@@ -1,13 +1,12 @@
 use Rattle.std.proofs.Common.{◌≡◌, true, length}
 use Rattle.dn.specs.Names.{is_rdn}
-use Rattle.dn.specs.Cuts.{first_rdn}
-use Rattle.dn.proofs.Steps.{parts_behind}
+use Rattle.dn.specs.Cuts.{parts_behind, parts_from}
 use Rattle.dn.proofs.Loop.{onto}
-use Rattle.dn.proofs.read.rdn_in.Given as goal
+use Rattle.dn.proofs.read.rdn_from.Given as goal
 
 abbrev pub invariant-loop-more : goal.invariant-loop-more
 invariant-loop-more l = record {
-  same : onto l.parts.items (parts_behind l.rest) ≡ first_rdn l.text;
+  same : onto l.parts.items (parts_behind l.rest) ≡ parts_from (l.fn.part, l.behind);
   good : is_rdn l.parts.items ≡ true;
 }
 

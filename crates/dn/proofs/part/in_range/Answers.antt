@@ -3,7 +3,7 @@ use Rattle.std.proofs.lemmas.Bool.{lt-ltb}
 use Rattle.std.proofs.lemmas.List.{get_or_default}
 use Rattle.std.proofs.lemmas.List.Sums.{list_all-from_AllPass}
 use Rattle.dn.specs.Names.{is_byte}
-use Rattle.dn.proofs.names.in_range.Goals as goal
+use Rattle.dn.proofs.part.in_range.Goals as goal
 
 pub returns-clause-in_range : goal.returns-clause-in_range
 returns-clause-in_range c =

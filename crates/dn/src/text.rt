@@ -1,0 +1,134 @@
+//! The bytes of a part.
+
+ghost use Rattle.std.specs.Prelude.{◌≡◌, ◌≤◌, ◌+◌, [], ◌∷◌, ◌++◌, length, take, IfOk, IfSome};
+ghost use Rattle.dn.specs.Texts.{EndsAt};
+
+use std::alloc::{AllocError, Global};
+use std::marker::Model;
+
+/// As many bytes as need no allocation.
+const FEW: usize = 24;
+
+#[derive(Debug, Drop)]
+enum Place {
+    // how many there are, in a word of their own: bytes behind an odd one are slow to move
+    Few(u32, [u8; FEW]),
+    Many(Vec<u8>),
+}
+
+/// Bytes in order; a few of them take no allocation. A contract sees the list of them.
+#[derive(Debug)]
+pub(crate) struct Text {
+    place: Place,
+}
+
+// A call of its own, so that a caller's proof need not tell the two places apart.
+impl Drop for Text {
+    fn drop(self) {
+        let Text { place } = self;
+        drop(place);
+    }
+}
+
+impl Model for Text {
+    ghost use Rattle.std.specs.Prelude.{List, ℕ};
+    ghost use Rattle.dn.specs.Places.{bytes_in, IsWithin};
+
+    ghost Value = { List ℕ };
+
+    ghost view = { λ t. bytes_in t.place };
+
+    ghost invariant = { λ t. IsWithin t.place };
+}
+
+impl Text {
+    pub(crate) fn empty() -> Text
+        ensures { result ≡ [] }
+    {
+        Text::few([0; FEW], 0)
+    }
+
+    /// The first bytes of these.
+    #[inline(always)]
+    fn few(bytes: [u8; FEW], len: usize) -> Text
+        requires { len ≤ 24 }
+        ensures { result ≡ take len bytes }
+    {
+        Text {
+            place: Place::Few(len as u32, bytes),
+        }
+    }
+
+    fn many(bytes: Vec<u8>) -> Text
+        ensures { result ≡ bytes.items }
+    {
+        Text {
+            place: Place::Many(bytes),
+        }
+    }
+
+    pub(crate) fn as_slice(&self) -> &[u8]
+        ensures { result.now ≡ self.now }
+    {
+        match &self.place {
+            Place::Few(len, bytes) => &bytes[..*len as usize],
+            Place::Many(bytes) => bytes.as_slice(),
+        }
+    }
+
+    /// A type, an equals sign and a value.
+    pub(crate) fn of_part(alloc: Global, ty_text: &[u8], value: &[u8]) -> Result<Text, AllocError>
+        ensures { IfOk result (λ text. text ≡ ty_text.now ++ 61 ∷ value.now) }
+    {
+        let len = ty_text.len() + 1 + value.len();
+        if len <= FEW {
+            return Ok(Text::few(joined(ty_text, value), len));
+        }
+        let mut bytes = Vec::with_capacity(alloc, len)?;
+        bytes.extend_from_slice(ty_text)?;
+        bytes.push(b'=')?;
+        bytes.extend_from_slice(value)?;
+        Ok(Text::many(bytes))
+    }
+
+    /// The same, where a few bytes suffice, of a text that goes on behind the value.
+    #[inline(always)]
+    pub(crate) fn of_few(text: &[u8], end: usize, ty_text: &[u8], value: &[u8]) -> Option<Text>
+        requires { EndsAt text.now ty_text.now value.now end }
+        ensures { IfSome result (λ text. text ≡ ty_text.now ++ 61 ∷ value.now) }
+    {
+        let len = ty_text.len() + 1 + value.len();
+        if len > FEW {
+            return None;
+        }
+        Some(Text::few(few_of(text, end, ty_text, value), len))
+    }
+}
+
+// Most parts are written without spaces round the equals sign: then a piece of a fixed length is copied.
+#[inline(always)]
+fn few_of(text: &[u8], end: usize, ty_text: &[u8], value: &[u8]) -> [u8; FEW]
+    requires few { length ty_text.now + 1 + length value.now ≤ 24 }
+    requires text { EndsAt text.now ty_text.now value.now end }
+    ensures { take (length ty_text.now + 1 + length value.now) result ≡ ty_text.now ++ 61 ∷ value.now }
+{
+    if end == ty_text.len() + 1 + value.len() {
+        if let Some(chunk) = text.first_chunk::<FEW>() {
+            return *chunk;
+        }
+    }
+    joined(ty_text, value)
+}
+
+#[inline(never)]
+fn joined(ty_text: &[u8], value: &[u8]) -> [u8; FEW]
+    requires { length ty_text.now + 1 + length value.now ≤ 24 }
+    ensures { take (length ty_text.now + 1 + length value.now) result ≡ ty_text.now ++ 61 ∷ value.now }
+{
+    let mut bytes = [0; FEW];
+    let value_at = ty_text.len() + 1;
+    bytes[..ty_text.len()].copy_from_slice(ty_text);
+    bytes[ty_text.len()] = b'=';
+    bytes[value_at..value_at + value.len()].copy_from_slice(value);
+    bytes
+}
