@@ -1,19 +1,34 @@
 -- Names with numbers, in buckets.
-use Rattle.std.proofs.Common.{◌≡◌, ◌≢◌, ℕ, zero, suc, ◌<◌, Bool, true, false, cond, List, [], ◌∷◌, ◌++◌, length, get_or, Some, None, refl, sym, ◌∙◌, arith}
-use Rattle.std.specs.Prelude.{nat_eq, slice_set}
-use Rattle.std.specs.List.{AllByRecursion}
+use Rattle.std.proofs.Common.{ap, ◌≡◌, ◌≢◌, ℕ, zero, suc, ◌<◌, ◌+◌, ◌-◌, ◌*◌, ◌%◌, bit_and, bit_or, Bool, true, false, cond, List, [], ◌∷◌, ◌++◌, length, get_or, Some, None, refl, sym, ◌∙◌, arith}
+use Rattle.std.specs.Prelude.{nat_eq, nat_lt, slice_set, ◌^◌, ◌==◌}
+use Rattle.std.specs.Char.{to_ascii_lowercase}
+use Rattle.std.specs.List.{AllByRecursion, fold}
+use Rattle.std.proofs.lemmas.Bool.{agree_below_at, ltb-true}
 use Rattle.std.specs.Str.{str_eq_ignore_ascii_case, str_to_ascii_lowercase}
-use Rattle.std.proofs.lemmas.Bool.Decides.{nat_tests}
+use Rattle.std.proofs.lemmas.Bool.Decides.{nat_tests, Decides-eqb}
 use Rattle.std.proofs.lemmas.List.{length-set, get_or-set_same, get_or-set_other}
 use Rattle.std.proofs.lemmas.Slice.Eq.{bytes_eq-Decides}
 use Rattle.schema.specs.declared.name_index.Entry.{Entry}
-use Rattle.schema.specs.Tables.{key_of, bucket_of, number_in, number_of, or_if}
+use Rattle.schema.specs.Tables.{case_bit, key_with, key_of, bucket_of, number_in, number_of, or_if}
 use Rattle.schema.proofs.Tables.{or_none}
+
+same_bit : (b : ℕ) → bit_or (to_ascii_lowercase b) case_bit ≡ bit_or b case_bit
+same_bit b = by (nat_lt b 91) refl
+  where
+    by : (low : Bool) → nat_lt b 91 ≡ low → bit_or (to_ascii_lowercase b) case_bit ≡ bit_or b case_bit
+    by true h = (Decides-eqb (bit_or (to_ascii_lowercase b) case_bit) (bit_or b case_bit)).0 (agree_below_at (λ b. bit_or (to_ascii_lowercase b) case_bit == bit_or b case_bit) (λ _. true) 91 b refl (ltb-true b 91 h))
+    by false h = ap (λ c. bit_or c case_bit) (let same : to_ascii_lowercase b ≡ b = grind (arith, nat_tests) in same)
+
+in_lower_case : (key : ℕ) (name : List ℕ) → fold key_with key name ≡ fold key_with key (str_to_ascii_lowercase name)
+in_lower_case key [] = refl
+in_lower_case key (b ∷ bs) = in_lower_case (key_with key b) bs ∙ (λ j. fold key_with ((key * 33 % 2 ^ 64 + sym (same_bit b) j) % 2 ^ 64) (str_to_ascii_lowercase bs))
 
 -- names alike but for case have one key
 same_bucket : (count : ℕ) (a b : List ℕ) → str_eq_ignore_ascii_case a b ≡ true → bucket_of count a ≡ bucket_of count b
 unfolding key_of
-same_bucket count a b h = rw ((bytes_eq-Decides (str_to_ascii_lowercase a) (str_to_ascii_lowercase b)).0 h) refl
+same_bucket count a b h =
+    let alike : str_to_ascii_lowercase a ≡ str_to_ascii_lowercase b = (bytes_eq-Decides (str_to_ascii_lowercase a) (str_to_ascii_lowercase b)).0 h in
+    ap (λ key. bit_and key (count - 1)) (in_lower_case 0 a ∙ ap (fold key_with 0) alike ∙ sym (in_lower_case 0 b))
 
 in_push : (es : List Entry) (e : Entry) (text : List ℕ) → number_in (es ++ e ∷ []) text ≡ or_if (number_in es text) (str_eq_ignore_ascii_case e.name text) e.number
 in_push [] e text = refl

@@ -1,17 +1,21 @@
 -- Attribute types by their names.
-use Rattle.std.specs.Prelude.{◌≡◌, ℕ, ◌+◌, ◌*◌, ◌-◌, ◌%◌, ◌^◌, Bool, if◌then◌else◌, List, [], ◌∷◌, length, slice_index_or, bit_and, Option, Some, None}
+use Rattle.std.specs.Prelude.{◌≡◌, ℕ, ◌+◌, ◌*◌, ◌-◌, ◌%◌, ◌^◌, Bool, if◌then◌else◌, List, [], ◌∷◌, length, slice_index_or, bit_and, bit_or, Option, Some, None}
 use Rattle.std.specs.List.{fold}
-use Rattle.std.specs.Str.{str_eq_ignore_ascii_case, str_to_ascii_lowercase}
+use Rattle.std.specs.Str.{str_eq_ignore_ascii_case}
 use Rattle.schema.specs.declared.types.AttributeType.{AttributeType}
 use Rattle.schema.specs.declared.name_index.Entry.{Entry}
 use Rattle.schema.specs.Types.{type_of}
 
+-- in ASCII a capital and its small letter differ in this bit
+abbrev pub case_bit : ℕ
+case_bit = 32
+
 abbrev pub key_with : ℕ → ℕ → ℕ
-key_with key b = (key * 33 % 2 ^ 64 + b) % 2 ^ 64
+key_with key b = (key * 33 % 2 ^ 64 + bit_or b case_bit) % 2 ^ 64
 
 -- a number for a name, the same in each ASCII case
 unfoldable pub key_of : List ℕ → ℕ
-key_of name = fold key_with 0 (str_to_ascii_lowercase name)
+key_of name = fold key_with 0 name
 
 -- which of so many buckets is a name's
 abbrev pub bucket_of : ℕ → List ℕ → ℕ

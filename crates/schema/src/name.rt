@@ -11,6 +11,9 @@ use crate::code::Code;
 use crate::fault::PathFault;
 use std::alloc::{AllocError, Global};
 
+// a name seldom has more RDNs
+const USUAL_COUNT: usize = 8;
+
 fn is_plain_byte(b: u8) -> bool
     ensures { result ≡ is_plain_byte b }
 {
@@ -78,7 +81,9 @@ fn part_of(text: &[u8]) -> Result<(&[u8], &[u8]), PathFault>
 fn pieces_of<'a>(alloc: Global, text: &'a [u8]) -> Result<Vec<&'a [u8]>, AllocError>
     ensures { IfOk result (λ v. map (λ x. x.now) v.items ≡ slice_split is_comma text.now) }
 {
-    text.split(|b| *b == b',').collect(alloc)
+    let mut pieces = Vec::with_capacity(alloc, USUAL_COUNT)?;
+    pieces.extend(text.split(|b| *b == b','))?;
+    Ok(pieces)
 }
 
 fn parts_of<'a>(alloc: Global, pieces: &[&'a [u8]]) -> Result<Vec<(&'a [u8], &'a [u8])>, PathFault>

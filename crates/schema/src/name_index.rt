@@ -9,6 +9,9 @@ use lists::{Bytes, Sequence};
 use std::alloc::{AllocError, Global};
 use std::marker::Model;
 
+/// In ASCII a capital and its small letter differ in this bit.
+const CASE_BIT: u8 = 0x20;
+
 /// A name or OID of a type, and the type's number.
 #[derive(Debug, Drop)]
 pub(crate) struct Entry {
@@ -40,9 +43,7 @@ fn key_of(name: &[u8]) -> u64
 {
     let mut key: u64 = 0;
     for b in name {
-        key = key
-            .wrapping_mul(33)
-            .wrapping_add(b.to_ascii_lowercase() as u64);
+        key = key.wrapping_mul(33).wrapping_add((*b | CASE_BIT) as u64);
     }
     key
 }

@@ -45,7 +45,7 @@ fn is_tidy(bytes: &[u8]) -> bool
     }
     let mut tidy = true;
     for i in 1..bytes.len() {
-        tidy &= !(bytes[i - 1] == b' ' && bytes[i] == b' ');
+        tidy &= !((bytes[i - 1] == b' ') & (bytes[i] == b' '));
     }
     tidy && bytes[bytes.len() - 1] != b' '
 }

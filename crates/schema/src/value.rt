@@ -159,7 +159,11 @@ fn is_text(bytes: &[u8]) -> bool
 fn are_oid_bytes(bytes: &[u8]) -> bool
     ensures { result ≡ list_all is_oid_byte bytes.now }
 {
-    bytes.iter().all(|b| *b < 128 && *b != b' ')
+    let mut fit = true;
+    for b in bytes {
+        fit &= *b < 128 && *b != b' ';
+    }
+    fit
 }
 
 /// Whether a syntax has this value.
