@@ -1,5 +1,7 @@
 //! Names, each with what it reads as and how it is written, by RFC 4514.
 
+mod memory;
+
 use crate::{Ava, Name, NameFault, Rdn, read_name, write_name};
 use std::alloc::{AllocError, Global};
 use std::default::MadeWith;

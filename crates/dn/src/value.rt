@@ -32,7 +32,11 @@ enum State {
 pub(crate) fn may_stand(b: u8) -> bool
     ensures { result ≡ may_stand b }
 {
-    !matches!(b, 0 | b'"' | b'+' | b',' | b';' | b'<' | b'>' | b'\\')
+    // letters first: most bytes are letters
+    if b > b'>' {
+        return b != b'\\';
+    }
+    !matches!(b, 0 | b'"' | b'+' | b',' | b';' | b'<' | b'>')
 }
 
 fn may_follow(b: u8) -> bool

@@ -11,7 +11,10 @@ use std::env;
 use std::io::Print;
 use std::rt::Clock;
 use texts::{Text, texts};
-use timing::{Times, time};
+use timing::{Sizes, Times, time_sizes};
+
+/// How often all texts are timed.
+const ROUNDS: usize = 6;
 
 /// Hundredths as a decimal number.
 fn decimal(alloc: Global, hundredths: u64) -> Result<String, AllocError> {
@@ -26,37 +29,56 @@ fn ratio(a: u64, b: u64) -> u64 {
 /// A line with the bytes of a text, the nanoseconds a byte of the plain loop and of reading, the second in times of the first,
 /// and reading in times of that of the smaller text; then the hash, so that the loop is not left out.
 fn print_row(
-    rt: &(impl Clock + Print),
+    rt: &impl Print,
     alloc: Global,
     label: &str,
-    text: &str,
-    smaller: Option<Times>,
-) -> Result<Times> {
-    let times = time(rt, alloc, text)?;
-    let growth = match smaller {
-        Some(smaller) => ratio(times.read, smaller.read),
-        None => 100,
-    };
+    bytes: usize,
+    times: Times,
+    smaller: Times,
+) -> Result<()> {
     println!(rt;
         "{:<13}{:>9}{:>8}{:>8}{:>8}{:>8}  {:x}",
         label,
-        text.len(),
+        bytes,
         decimal(alloc, times.plain / 10)?.as_str(),
         decimal(alloc, times.read / 10)?.as_str(),
         decimal(alloc, ratio(times.read, times.plain))?.as_str(),
-        decimal(alloc, growth)?.as_str(),
+        decimal(alloc, ratio(times.read, smaller.read))?.as_str(),
         times.hash
     )?;
-    Ok(times)
+    Ok(())
 }
 
-fn print_times(rt: &(impl Clock + Print), alloc: Global) -> Result<()> {
-    println!(rt; "text             bytes    loop    read   times  growth  hash")?;
+fn print_rows(rt: &impl Print, alloc: Global, text: &Text, sizes: Sizes) -> Result<()> {
+    let small = text.len(text.small);
+    let large = text.len(text.large);
+    print_row(rt, alloc, text.label, small, sizes.small, sizes.small)?;
+    print_row(rt, alloc, text.label, large, sizes.large, sizes.small)
+}
+
+/// Each text once.
+fn time_texts(clock: &impl Clock, alloc: Global) -> Result<Vec<Sizes>> {
+    let mut all = Vec::new(alloc);
     for text in texts() {
-        let small = text.spelled(alloc, text.small)?;
-        let small = print_row(rt, alloc, text.label, small.as_str(), None)?;
-        let large = text.spelled(alloc, text.large)?;
-        print_row(rt, alloc, text.label, large.as_str(), Some(small))?;
+        all.push(time_sizes(clock, alloc, &text)?)?;
+    }
+    Ok(all)
+}
+
+/// All texts in turn, so that what else a machine does for a while spoils no text, and the best times of each.
+fn print_times(rt: &(impl Clock + Print), alloc: Global) -> Result<()> {
+    let mut best = time_texts(rt, alloc)?;
+    for _ in 1..ROUNDS {
+        let again = time_texts(rt, alloc)?;
+        best = best
+            .iter()
+            .zip(again.iter())
+            .map(|(best, sizes)| best.best(*sizes))
+            .collect(alloc)?;
+    }
+    println!(rt; "text             bytes    loop    read   times  growth  hash")?;
+    for (text, sizes) in texts().iter().zip(best.iter()) {
+        print_rows(rt, alloc, text, *sizes)?;
     }
     Ok(())
 }

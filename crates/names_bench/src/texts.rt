@@ -12,6 +12,13 @@ pub struct Text {
 }
 
 impl Text {
+    /// How many bytes the start has, and the rest that many times.
+    pub fn len(&self, times: usize) -> usize {
+        self.start
+            .len()
+            .saturating_add(self.again.len().saturating_mul(times))
+    }
+
     /// The start, and the rest that many times.
     pub fn spelled(&self, alloc: Global, times: usize) -> Result<String, AllocError> {
         let mut text = String::from_str(alloc, self.start)?;

@@ -1,5 +1,6 @@
 //! The best time of several.
 
+use crate::texts::Text;
 use anyhow::Result;
 use dn::read_name;
 use std::alloc::Global;
@@ -7,7 +8,7 @@ use std::rt::Clock;
 use std::time::{Duration, Instant};
 
 /// How many bytes are gone through for each best time.
-const BYTES: usize = 200_000_000;
+const BYTES: usize = 50_000_000;
 
 /// The best times in picoseconds a byte, and the hash of the bytes.
 #[derive(Clone, Copy)]
@@ -15,6 +16,34 @@ pub struct Times {
     pub plain: u64,
     pub read: u64,
     pub hash: u64,
+}
+
+impl Times {
+    /// The better of each.
+    fn best(self, other: Times) -> Times {
+        Times {
+            plain: self.plain.min(other.plain),
+            read: self.read.min(other.read),
+            hash: self.hash,
+        }
+    }
+}
+
+/// The times of a text in its two sizes.
+#[derive(Clone, Copy)]
+pub struct Sizes {
+    pub small: Times,
+    pub large: Times,
+}
+
+impl Sizes {
+    /// The better of each.
+    pub fn best(self, other: Sizes) -> Sizes {
+        Sizes {
+            small: self.small.best(other.small),
+            large: self.large.best(other.large),
+        }
+    }
 }
 
 /// A hash of the bytes. Each step needs the one before, so that they are gone through one by one.
@@ -32,7 +61,7 @@ fn picoseconds_a_byte(time: Duration, bytes: usize) -> u64 {
 }
 
 /// The plain loop and the reading of a name in turn.
-pub fn time(clock: &impl Clock, alloc: Global, text: &str) -> Result<Times> {
+fn time(clock: &impl Clock, alloc: Global, text: &str) -> Result<Times> {
     let mut best = Times {
         plain: u64::MAX,
         read: u64::MAX,
@@ -49,4 +78,14 @@ pub fn time(clock: &impl Clock, alloc: Global, text: &str) -> Result<Times> {
         best.read = best.read.min(picoseconds_a_byte(read, text.len()));
     }
     Ok(best)
+}
+
+/// A text in both sizes.
+pub fn time_sizes(clock: &impl Clock, alloc: Global, text: &Text) -> Result<Sizes> {
+    let small = text.spelled(alloc, text.small)?;
+    let large = text.spelled(alloc, text.large)?;
+    Ok(Sizes {
+        small: time(clock, alloc, small.as_str())?,
+        large: time(clock, alloc, large.as_str())?,
+    })
 }
