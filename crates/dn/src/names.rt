@@ -5,9 +5,10 @@ ghost use Rattle.std.specs.List.{list_all};
 ghost use Rattle.dn.specs.Names.{is_part, is_rdn, is_name};
 
 use crate::part::Ava;
+use smallvec::SmallVec;
 use std::alloc::{AllocError, Global};
+use std::default::MadeWith;
 use std::marker::Model;
-use std::slice;
 
 fn are_parts(parts: &[Ava]) -> bool
     ensures { result ≡ list_all is_part parts.now }
@@ -15,18 +16,10 @@ fn are_parts(parts: &[Ava]) -> bool
     parts.iter().all(|part| part.is_part())
 }
 
-/// Where the parts of an RDN lie: mostly there are one or two of them.
-#[derive(Debug, Drop)]
-enum Parts {
-    One(Ava),
-    Two([Ava; 2]),
-    Many(Vec<Ava>),
-}
-
 /// The parts of an RDN, one or more. A contract sees the list of them.
 #[derive(Debug)]
 pub struct Rdn {
-    parts: Parts,
+    parts: SmallVec<Ava, 2>,
 }
 
 // A call of its own, so that a caller's proof need not tell the places apart.
@@ -40,13 +33,12 @@ impl Drop for Rdn {
 impl Model for Rdn {
     ghost use Rattle.std.specs.Prelude.{◌≡◌, true, List, ℕ};
     ghost use Rattle.dn.specs.Names.{is_rdn};
-    ghost use Rattle.dn.specs.Places.{parts_in};
 
     ghost Value = { List (List ℕ × List ℕ) };
 
-    ghost view = { λ r. parts_in r.parts };
+    ghost view = { λ r. r.parts.items };
 
-    ghost invariant = { λ r. is_rdn (parts_in r.parts) ≡ true };
+    ghost invariant = { λ r. is_rdn r.parts.items ≡ true };
 }
 
 impl Rdn {
@@ -61,23 +53,23 @@ impl Rdn {
     }
 
     #[inline(always)]
-    pub(crate) fn one(part: Ava) -> Rdn
+    pub(crate) fn one(alloc: Global, part: Ava) -> Rdn
         requires { is_part part ≡ true }
         ensures { result ≡ part ∷ [] }
     {
         Rdn {
-            parts: Parts::One(part),
+            parts: SmallVec::from_buf_and_len(alloc, [part, Ava::made_with(alloc)], 1),
         }
     }
 
     #[inline(always)]
-    pub(crate) fn two(first: Ava, second: Ava) -> Rdn
+    pub(crate) fn two(alloc: Global, first: Ava, second: Ava) -> Rdn
         requires first { is_part first ≡ true }
         requires second { is_part second ≡ true }
         ensures { result ≡ first ∷ second ∷ [] }
     {
         Rdn {
-            parts: Parts::Two([first, second]),
+            parts: SmallVec::from_buf(alloc, [first, second]),
         }
     }
 
@@ -86,7 +78,7 @@ impl Rdn {
         ensures { result ≡ parts.items }
     {
         Rdn {
-            parts: Parts::Many(parts),
+            parts: SmallVec::from_vec(parts),
         }
     }
 
@@ -95,11 +87,7 @@ impl Rdn {
         ensures parts { result.now ≡ self.now }
         ensures good { is_rdn self.now ≡ true }
     {
-        match &self.parts {
-            Parts::One(part) => slice::from_ref(part),
-            Parts::Two(parts) => parts.as_slice(),
-            Parts::Many(parts) => parts.as_slice(),
-        }
+        self.parts.as_slice()
     }
 }
 

@@ -148,7 +148,7 @@ fn rdn_from<'a>(alloc: Global, part: Ava, behind: &'a [u8]) -> Result<(Rdn, &'a 
     ensures { Gives (λ r. (r.0, r.1.now)) result (parts_from (part, behind.now)) }
 {
     if !begins_with_plus(behind) {
-        return Ok((Rdn::one(part), behind));
+        return Ok((Rdn::one(alloc, part), behind));
     }
     let mut parts = vec![in alloc; part]?;
     let mut rest = behind;
@@ -172,12 +172,12 @@ fn push_rdn<'a>(alloc: Global, name: &mut Name, text: &'a [u8]) -> Result<&'a [u
     if let Some(plain) = plain {
         if let Some(part) = short_part(start, plain) {
             let Some(more) = after_plus(plain.behind) else {
-                name.push(Rdn::one(part))?;
+                name.push(Rdn::one(alloc, part))?;
                 return Ok(plain.behind);
             };
             if let Some((second, end)) = short_in(more) {
                 if !begins_with_plus(end) {
-                    name.push(Rdn::two(part, second))?;
+                    name.push(Rdn::two(alloc, part, second))?;
                     return Ok(end);
                 }
             }
