@@ -100,6 +100,7 @@ fn short_in(text: &[u8]) -> Option<(Ava, &[u8])>
 }
 
 /// A part with a value up to the first separator that is not escaped, and what stands from there on.
+#[inline(always)]
 fn escaped_part<'a>(alloc: Global, start: Start<'a>) -> Result<(Ava, &'a [u8]), NameFault>
     requires { is_type start.ty_text.now ≡ true }
     ensures exact { Gives (λ r. (r.0, r.1.now)) result (part_from start.entry.ty_text.now start.entry.rest.now) }
@@ -114,6 +115,7 @@ fn escaped_part<'a>(alloc: Global, start: Start<'a>) -> Result<(Ava, &'a [u8]), 
 }
 
 /// The same, where it is known whether the value is spelled without an escape.
+#[inline(always)]
 fn part_of<'a>(
     alloc: Global,
     start: Start<'a>,
@@ -143,6 +145,7 @@ fn part_in(alloc: Global, text: &[u8]) -> Result<(Ava, &[u8]), NameFault>
 }
 
 /// The RDN with this first part, up to the first comma that is not escaped, and what stands from there on.
+#[inline(always)]
 fn rdn_from<'a>(alloc: Global, part: Ava, behind: &'a [u8]) -> Result<(Rdn, &'a [u8]), NameFault>
     requires { is_part part ≡ true }
     ensures { Gives (λ r. (r.0, r.1.now)) result (parts_from (part, behind.now)) }
