@@ -88,7 +88,12 @@ fn line_value(alloc: Global, conf: &Conf, line: &Attr<'_>) -> Result<(TypeId, Va
     Ok((t, value))
 }
 
-fn add_line(alloc: Global, conf: &Conf, attrs: &mut Attributes, line: &Attr<'_>) -> Result<(), Refusal>
+fn add_line(
+    alloc: Global,
+    conf: &Conf,
+    attrs: &mut Attributes,
+    line: &Attr<'_>,
+) -> Result<(), Refusal>
     requires { IsMade conf.now.types attrs.old.entries }
     ensures made { OnOk result (IsMade conf.now.types attrs.new.entries) }
     ensures gives { Gives (λ _. attributes_of attrs.new.entries) result (add_line conf.now.types (attributes_of attrs.old.entries) line.now) }

@@ -43,16 +43,7 @@ fn push_controls(out: &mut Vec<u8>, controls: &[Control]) -> Result<(), AllocErr
 
 fn push_attrs(out: &mut Vec<u8>, attrs: &[Attr<'_>]) -> Result<(), AllocError> {
     for attr in attrs {
-        push_words(
-            out,
-            &[
-                b" [",
-                attr.name(),
-                b"=",
-                attr.value(),
-                b"]",
-            ],
-        )?;
+        push_words(out, &[b" [", attr.name(), b"=", attr.value(), b"]"])?;
     }
     Ok(())
 }
