@@ -1,9 +1,10 @@
 #!/bin/sh
 # Refuses each allocation of a run in turn, and sees that the directory and the report are those of the records that it counts;
-# and each allocation of the reading of a record, and sees out of memory or the record, and nothing else: refuse_memory.sh [N]
+# and each of the reading of a record, and of the reading and writing of a name, and sees out of memory or the right answer, and
+# nothing else: refuse_memory.sh [N]
 #
-# A copy of `directory`, and one of `ldif`, get a test for each number of allocations from 0 to N - 1 that are made before the
-# call, and `rt try` refuses the N-th in each. N (300 by default) has to be more than what a call takes.
+# A copy of the crate gets a test for each number of allocations from 0 to N - 1 that are made before the call, and `rt try`
+# refuses the N-th in each. N (300 by default) has to be more than what a call takes.
 set -eu
 refused=${1:-300}
 top=$(realpath "$(dirname "$0")/..")
@@ -61,5 +62,6 @@ fail() {
     exit 1
 }
 
+refuse dn 'write_between(&rt, rt.alloc(),'
 refuse ldif 'read_between(&rt, rt.alloc(), 0,' 'read_between(&rt, rt.alloc(), 1,' 'read_between(&rt, rt.alloc(), 2,'
 refuse directory 'run_between(&rt, rt.alloc(),'

@@ -1,4 +1,4 @@
-//! A name that is read and written while one allocation is refused: `bench/refuse_names.sh` refuses each in turn, and elsewhere
+//! A name that is read and written while one allocation is refused: `bench/refuse_memory.sh` refuses each in turn, and elsewhere
 //! none is.
 
 use super::shown_name;
