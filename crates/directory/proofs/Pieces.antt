@@ -12,11 +12,12 @@ pub begins : (a : Written) (whole : List ℕ) → SoFar a a whole whole
 begins a whole = record { front = []; parts = refl; written = took_none a }
 
 module _ (a b c : Written) (whole rest : List ℕ) (h : SoFar a b whole rest) where
-  pub goes_on : (xs more : List ℕ) → rest ≡ xs ++ more → Took b c xs → SoFar a c whole more
-  goes_on xs more is k = record {
-    front = h.front ++ xs;
-    parts = h.parts ∙ ap (λ ys. h.front ++ ys) is ∙ sym (append_assoc h.front xs more);
-    written = took_more a b c h.front xs (h.front ++ xs) h.written k refl;
+  -- of the next piece something is left
+  pub goes_further : (xs more left : List ℕ) → rest ≡ xs ++ more → SoFar b c xs left → SoFar a c whole (left ++ more)
+  goes_further xs more left is k = record {
+    front = h.front ++ k.front;
+    parts = h.parts ∙ ap (λ ys. h.front ++ ys) (is ∙ ap (λ ys. ys ++ more) k.parts ∙ append_assoc k.front left more) ∙ sym (append_assoc h.front k.front (left ++ more));
+    written = took_more a b c h.front k.front (h.front ++ k.front) h.written k.written refl;
   }
 
   breaks : (xs more : List ℕ) → rest ≡ xs ++ more → Broke b c xs → Broke a c whole
@@ -42,19 +43,12 @@ module _ (a b c : Written) (whole rest : List ℕ) (h : SoFar a b whole rest) wh
   ends (Ok u) k = subst (λ ys. Took a c ys) (sym h.parts) (took_more a b c h.front rest (h.front ++ rest) h.written k refl)
   ends (Err e) k = stops e rest [] (sym (append-nil rest)) k
 
-pub is_done : (a b : Written) (whole : List ℕ) → SoFar a b whole [] → Took a b whole
-is_done a b whole h = subst (λ ys. Took a b ys) (sym (h.parts ∙ append-nil h.front)) h.written
+-- nothing was written yet
+pub nothing_yet : (a : Written) (whole left : List ℕ) → left ≡ whole → SoFar a a whole left
+nothing_yet a whole left is = subst (SoFar a a whole) (sym is) (begins a whole)
 
 pub want_at_once : (a : Written) (whole : List ℕ) → Begun a a whole
 want_at_once a whole = record { rest = whole; so_far = begins a whole }
-
-abbrev failed : WriteFault → Result (Unit {0}) WriteFault
-failed e = Err e
-
--- a line that was not written whole
-pub line_stops : (e : WriteFault) (a b : Written) (bytes : List ℕ) → (failed e ≡ failed faults.Device → Broke a b bytes) → (failed e ≡ failed faults.OutOfMemory → b ≡ a) → Writes (Err e) a b bytes
-line_stops faults.Device a b bytes device memory = device refl
-line_stops faults.OutOfMemory a b bytes device memory = subst (λ x. Begun a x bytes) (sym (memory refl)) (want_at_once a bytes)
 
 -- what was put at the end, of what is to come there
 pub put_on : (out longer xs rest more total : List ℕ) → longer ≡ out ++ xs → rest ≡ xs ++ more → out ++ rest ≡ total → longer ++ more ≡ total

@@ -31,6 +31,11 @@ Writes (Ok u) a b bytes = Took a b bytes
 Writes (Err faults.Device) a b bytes = Broke a b bytes
 Writes (Err faults.OutOfMemory) a b bytes = Begun a b bytes
 
+-- of the bytes a beginning was written and the rest is left, or as many were written as came before the fault
+abbrev pub WritesOn : Result (Unit {0}) WriteFault → Written → Written → List ℕ → List ℕ → Type 0
+WritesOn (Ok u) a b bytes left = SoFar a b bytes left
+WritesOn (Err e) a b bytes left = Writes (Err e) a b bytes
+
 abbrev pub attr_of : List ℕ → Value → Attr
 attr_of name v = record { name = name; value = v.raw }
 

@@ -6,7 +6,7 @@ ghost use Rattle.std.specs.List.{AllByRecursion};
 ghost use Rattle.ldif.specs.Writing.{written_line};
 ghost use Rattle.tree.specs.Stored.{facts_of, IsMade, IsMadeAttribute};
 ghost use Rattle.directory.specs.Runs.{dump};
-ghost use Rattle.directory.specs.Dumps.{Writes, values_text, attributes_text, entry_text};
+ghost use Rattle.directory.specs.Dumps.{Writes, WritesOn, values_text, attributes_text, entry_text};
 
 use crate::directory::Directory;
 use device::{Device, Sink, push_all};
@@ -14,6 +14,9 @@ use ldif::{WriteFault, put_line};
 use schema::{Conf, Path, Value};
 use std::alloc::{AllocError, Global};
 use tree::{Entry, Names};
+
+// so many bytes are handed on at once
+const PIECE: usize = 65536;
 
 // the lines of values under one name
 fn put_values(
@@ -62,9 +65,24 @@ fn put_entry(
     put_attributes(alloc, out, conf, entry)
 }
 
+// hands on all bytes, and forgets them
+fn pass_on<W: Sink>(sink: &mut W, text: &mut Vec<u8>) -> Result<(), WriteFault>
+    requires { (W.written sink.old).failed < 2 ^ 64 - 1 }
+    ensures writes { Writes result (W.written sink.old) (W.written sink.new) text.old.items }
+    ensures empty { OnOk result (text.new.items ≡ []) }
+{
+    match push_all(sink, text.as_slice()) {
+        Ok(()) => {
+            text.clear();
+            Ok(())
+        }
+        Err(Device) => Err(WriteFault::Device),
+    }
+}
+
 impl Directory {
-    // the content record of the entry at a path, in place of what `out` holds
-    fn text_of(
+    // the content record of the entry at a path, behind what `out` holds
+    fn put_record(
         &self,
         alloc: Global,
         names: &mut Names<'_>,
@@ -76,14 +94,13 @@ impl Directory {
         requires there { finite.get self.now.entries path.now ≡ Some (facts_of entry.now) }
         requires made { IsMade self.now.rules.types entry.now.attrs }
         ensures names { names.new ≡ self.now }
-        ensures text { OnOk result (out.new.items ≡ entry_text self.now.rules self.now.entries (path.now, entry.now)) }
+        ensures text { OnOk result (out.new.items ≡ out.old.items ++ entry_text self.now.rules self.now.entries (path.now, entry.now)) }
     {
-        out.clear();
         let name = names.name_of(alloc, path, entry)?;
         put_entry(alloc, out, self.conf(), name.as_slice(), entry)
     }
 
-    // writes the content record of the entry at a path, and an empty line; `text` is room for it
+    // puts the content record of the entry at a path behind a text, and hands the text on where it is long
     fn write_entry<W: Sink>(
         &self,
         alloc: Global,
@@ -98,18 +115,19 @@ impl Directory {
         requires there { finite.get self.now.entries path.now ≡ Some (facts_of entry.now) }
         requires made { IsMade self.now.rules.types entry.now.attrs }
         ensures names { names.new ≡ self.now }
-        ensures writes { Writes result (W.written sink.old) (W.written sink.new) (entry_text self.now.rules self.now.entries (path.now, entry.now)) }
+        ensures writes { WritesOn result (W.written sink.old) (W.written sink.new) (text.old.items ++ entry_text self.now.rules self.now.entries (path.now, entry.now)) text.new.items }
     {
-        if self.text_of(alloc, names, path, entry, text).is_err() {
+        if self.put_record(alloc, names, path, entry, text).is_err() {
             return Err(WriteFault::OutOfMemory);
         }
-        match push_all(sink, text.as_slice()) {
-            Ok(()) => Ok(()),
-            Err(Device) => Err(WriteFault::Device),
+        if text.len() < PIECE {
+            return Ok(());
         }
+        pass_on(sink, text)
     }
 
-    /// Writes each entry as a content record, in the order of paths (RFC 2849). On a fault a beginning was written.
+    /// Writes each entry as a content record, in the order of paths (RFC 2849), in pieces of some 64 KiB. On a fault a
+    /// beginning was written.
     pub fn dump<W: Sink>(&self, alloc: Global, sink: &mut W) -> Result<(), WriteFault>
         requires { (W.written sink.old).failed < 2 ^ 64 - 1 }
         ensures { Writes result (W.written sink.old) (W.written sink.new) (dump self.now.rules self.now.entries) }
@@ -122,6 +140,6 @@ impl Directory {
         for (path, entry) in self.tree().range(&root) {
             self.write_entry(alloc, sink, &mut names, path, entry, &mut text)?;
         }
-        Ok(())
+        pass_on(sink, &mut text)
     }
 }

@@ -1,6 +1,7 @@
 //! Tests of runs, dumps and loading.
 
 mod memory;
+mod pieces;
 
 use crate::{Directory, LoadFault, Reason, RunFault, Tally, load, load_tree, run};
 use device::{Sink, Source, TrySink, TrySource};

@@ -4,7 +4,7 @@ use Rattle.std.specs.FinMap as finite
 use Rattle.schema.specs.Rules.{Rules}
 use Rattle.tree.specs.Directories.{Entries}
 use Rattle.directory.specs.Runs.{after_records}
-use Rattle.slaptools.specs.Folds.{IsLoaded}
+use Rattle.slaptools.specs.Ends.{IsLoaded}
 
 pub nothing_loaded : (rules : Rules) (d : Entries) → d ≡ finite.empty → IsLoaded rules d
 unfolding after_records

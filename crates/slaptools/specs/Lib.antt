@@ -1,3 +1,3 @@
 pub mod Statuses
-pub mod Folds
+pub mod Ends
 pub mod Messages

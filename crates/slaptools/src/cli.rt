@@ -1,4 +1,6 @@
 //! The command line.
+ghost use Rattle.std.specs.Prelude.{◌≡◌, ◌≤◌, Ok, length};
+
 use clap::{Arg, ArgAction, ArgMatches, Command, Error};
 use std::alloc::{AllocError, Global};
 use std::convert::AsStr;
@@ -111,10 +113,12 @@ pub fn help(alloc: Global) -> Result<String, AllocError> {
     slaptools(alloc)?.render_help()
 }
 
-/// What the words ask for, the first being the program's name.
+/// What the words ask for, the first being the program's name. Where it stands alone, that is the help.
 ///
 /// An error says what is wrong with them, or is the help, where they ask for it.
-pub fn read<'a, W: AsStr>(alloc: Global, words: &'a [W]) -> Result<Request<'a>, Error> {
+pub fn read<'a, W: AsStr>(alloc: Global, words: &'a [W]) -> Result<Request<'a>, Error>
+    ensures { length words.now ≤ 1 → result ≡ Ok Request.Help }
+{
     if words.len() <= 1 {
         return Ok(Request::Help);
     }

@@ -1,5 +1,6 @@
 //! One command, from its words to its status.
-ghost use Rattle.std.specs.Prelude.{◌≡◌, ◌<◌, ◌≤◌, ◌-◌, ◌^◌};
+ghost use Rattle.std.specs.Prelude.{◌≡◌, ◌<◌, ◌≤◌, ◌-◌, ◌^◌, ◌⊎◌, length};
+ghost use Rattle.device.specs.Device.{Took};
 
 use crate::cli::{self, Request};
 use crate::folder::Folder;
@@ -15,6 +16,7 @@ use std::convert::AsStr;
 fn print<O: Sink, E: Sink>(alloc: Global, text: &str, out: &mut O, err: &mut E) -> Status
     requires out { (O.written out.old).failed < 2 ^ 64 - 1 }
     requires err { (E.written err.old).failed < 2 ^ 64 - 1 }
+    ensures { ((result ≡ Status.Done) × Took (O.written out.old) (O.written out.new) text.now) ⊎ (result ≡ Status.Failed) }
 {
     match push_all(out, text.as_bytes()) {
         Ok(()) => Status::Done,
@@ -25,6 +27,7 @@ fn print<O: Sink, E: Sink>(alloc: Global, text: &str, out: &mut O, err: &mut E) 
 fn print_help<O: Sink, E: Sink>(alloc: Global, out: &mut O, err: &mut E) -> Status
     requires out { (O.written out.old).failed < 2 ^ 64 - 1 }
     requires err { (E.written err.old).failed < 2 ^ 64 - 1 }
+    ensures { (result ≡ Status.Done) ⊎ (result ≡ Status.Failed) }
 {
     match cli::help(alloc) {
         Ok(text) => print(alloc, text.as_str(), out, err),
@@ -60,7 +63,8 @@ pub fn command<W: AsStr, F: Folder, S: Source, O: Sink, E: Sink>(
     requires input { (S.seen input.old).failed < 2 ^ 64 - 1 }
     requires out { (O.written out.old).failed < 2 ^ 64 - 1 }
     requires err { (E.written err.old).failed < 2 ^ 64 - 1 }
-    ensures { result ≤ 3 }
+    ensures range { result ≤ 3 }
+    ensures help { length words.now ≤ 1 → (result ≡ 0) ⊎ (result ≡ 3) }
 {
     let status = match cli::read(alloc, words) {
         Ok(Request::Help) => print_help(alloc, out, err),

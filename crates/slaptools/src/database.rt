@@ -1,7 +1,7 @@
 //! The files of a directory: its configuration and its entries.
 ghost use Rattle.std.specs.Prelude.{◌≡◌, ◌<◌, ◌-◌, ◌^◌, IfOk, IfErr, IfSome};
 ghost use Rattle.directory.specs.Runs.{dump};
-ghost use Rattle.slaptools.specs.Folds.{IsLoaded};
+ghost use Rattle.slaptools.specs.Ends.{IsLoaded};
 ghost use Rattle.slaptools.specs.Statuses.{status_of_fault};
 ghost use Rattle.slaptools.specs.declared.messages.Status.TheVariants.{Failed};
 

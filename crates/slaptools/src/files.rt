@@ -1,12 +1,11 @@
 //! The files of the system.
 ghost use Rattle.std.specs.Prelude.{◌≡◌};
 
-use crate::buffered::BufferedSink;
 use crate::folder::{Folder, FolderFault, Text};
-use device::{Device, OfRead, OfWrite};
+use device::{OfRead, OfWrite};
 use std::alloc::{AllocError, Global};
 use std::fs::{self, OpenFile};
-use std::io::{self, ErrorKind, Write};
+use std::io::{self, ErrorKind};
 use std::rt::Files as HostFiles;
 
 impl From<io::Error> for FolderFault {
@@ -18,12 +17,6 @@ impl From<io::Error> for FolderFault {
     }
 }
 
-impl From<Device> for FolderFault {
-    fn from(_: Device) -> FolderFault {
-        FolderFault::Device
-    }
-}
-
 /// The files of the system.
 #[derive(Drop)]
 pub struct Files<'r, R> {
@@ -32,18 +25,6 @@ pub struct Files<'r, R> {
 
 fn beside(alloc: Global, name: &str) -> Result<String, AllocError> {
     format!(in alloc; "{name}.new")
-}
-
-fn write_to<W: Write + Drop, T: Text>(
-    alloc: Global,
-    writer: W,
-    text: &T,
-) -> Result<(), FolderFault> {
-    let mut sink = OfWrite::new(writer);
-    let mut gathered = BufferedSink::new(alloc, &mut sink)?;
-    text.write(alloc, &mut gathered)?;
-    gathered.flush()?;
-    Ok(())
 }
 
 impl<'r, R: HostFiles + AllocGlobal> Files<'r, R> {
@@ -61,7 +42,8 @@ impl<'r, R: HostFiles + AllocGlobal> Files<'r, R> {
 
     fn write_in_place<T: Text>(&self, name: &str, text: &T) -> Result<(), FolderFault> {
         let mut file = fs::create(self.rt, name)?;
-        write_to(self.rt.alloc(), &mut file, text)
+        text.write(self.rt.alloc(), &mut OfWrite::new(&mut file))?;
+        Ok(())
     }
 
     /// Writes a new file with the permissions of the one that it is to replace.
@@ -70,7 +52,7 @@ impl<'r, R: HostFiles + AllocGlobal> Files<'r, R> {
         if let Ok(found) = fs::metadata(self.rt, name) {
             OpenFile::set_permissions(&file, found.permissions())?;
         }
-        write_to(self.rt.alloc(), &mut file, text)?;
+        text.write(self.rt.alloc(), &mut OfWrite::new(&mut file))?;
         file.sync_all()?;
         Ok(())
     }

@@ -1,7 +1,6 @@
 //! Tools for an LDAP directory that is kept as LDIF, without a server.
 #![tactic(auto)]
 
-mod buffered;
 mod cli;
 mod command;
 mod database;

@@ -2,7 +2,7 @@
 ghost use Rattle.std.specs.Prelude.{◌≡◌, ◌<◌, ◌-◌, ◌^◌, OnOk, IfOk, IfErr};
 ghost use Rattle.ldif.specs.declared.record.Mode.TheVariants.{Content};
 ghost use Rattle.directory.specs.Folds.{RanOver};
-ghost use Rattle.slaptools.specs.Folds.{IsAdded};
+ghost use Rattle.slaptools.specs.Ends.{IsAdded, RunEnds, AddEnds};
 
 use crate::cli::AddOptions;
 use crate::database::{load_directory, open_present, store_directory};
@@ -72,6 +72,7 @@ fn add_and_store<F: Folder, S: Source, E: Sink>(
 ) -> Status
     requires input { (S.seen input.old).failed < 2 ^ 64 - 1 }
     requires err { (E.written err.old).failed < 2 ^ 64 - 1 }
+    ensures { RunEnds dir.rules asked.now.go_on dir.entries (E.written err.old) (E.written err.new) result }
 {
     let tally = match add_records(alloc, asked, &mut dir, folder, input, err) {
         Ok(tally) => tally,
@@ -100,6 +101,7 @@ pub fn slapadd<F: Folder, S: Source, E: Sink>(
 ) -> Status
     requires input { (S.seen input.old).failed < 2 ^ 64 - 1 }
     requires err { (E.written err.old).failed < 2 ^ 64 - 1 }
+    ensures { AddEnds asked.now.go_on (E.written err.old) (E.written err.new) result }
 {
     match load_directory(alloc, folder, asked.db) {
         Ok(dir) => add_and_store(alloc, asked, dir, folder, input, err),

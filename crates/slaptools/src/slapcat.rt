@@ -1,12 +1,14 @@
 //! slapcat: a directory is printed as LDIF.
-ghost use Rattle.std.specs.Prelude.{◌≡◌, ◌<◌, ◌-◌, ◌^◌};
+ghost use Rattle.std.specs.Prelude.{◌≡◌, ◌<◌, ◌-◌, ◌^◌, OnOk, is_some};
+ghost use Rattle.device.specs.Device.{Took};
+ghost use Rattle.directory.specs.Runs.{dump};
+ghost use Rattle.slaptools.specs.Ends.{Dumps, IsDumped, CatEnds};
 
-use crate::buffered::BufferedSink;
 use crate::cli::CatOptions;
 use crate::database::{load_directory, store};
 use crate::folder::Folder;
 use crate::messages::{Fault, Status, tell};
-use device::{Device, Sink};
+use device::Sink;
 use directory::Directory;
 use ldif::WriteFault;
 use std::alloc::Global;
@@ -14,35 +16,45 @@ use std::mem;
 
 fn print<O: Sink>(alloc: Global, dir: &Directory, out: &mut O) -> Result<(), Fault>
     requires { (O.written out.old).failed < 2 ^ 64 - 1 }
+    ensures { OnOk result (Took (O.written out.old) (O.written out.new) (dump dir.now.rules dir.now.entries)) }
 {
-    let mut gathered = BufferedSink::new(alloc, out)?;
-    match dir.dump(alloc, &mut gathered) {
-        Ok(()) => {}
-        Err(WriteFault::Device) => return Err(Fault::cannot_write(alloc, "output")),
-        Err(WriteFault::OutOfMemory) => return Err(Fault::OutOfMemory),
-    }
-    match gathered.flush() {
+    match dir.dump(alloc, out) {
         Ok(()) => Ok(()),
-        Err(Device) => Err(Fault::cannot_write(alloc, "output")),
+        Err(WriteFault::Device) => Err(Fault::cannot_write(alloc, "output")),
+        Err(WriteFault::OutOfMemory) => Err(Fault::OutOfMemory),
     }
 }
 
-fn write_out<F: Folder, O: Sink>(
+fn dump_to<F: Folder, O: Sink>(
+    alloc: Global,
+    dir: &Directory,
+    file: Option<&str>,
+    folder: &mut F,
+    out: &mut O,
+) -> Result<(), Fault>
+    requires { (O.written out.old).failed < 2 ^ 64 - 1 }
+    ensures { OnOk result (Dumps (is_some file.entry) dir.now.rules dir.now.entries (O.written out.old) (O.written out.new)) }
+{
+    match file {
+        Some(name) => store(alloc, folder, name, dir),
+        None => print(alloc, dir, out),
+    }
+}
+
+fn load_and_dump<F: Folder, O: Sink>(
     alloc: Global,
     asked: &CatOptions<'_>,
     folder: &mut F,
     out: &mut O,
 ) -> Result<(), Fault>
     requires { (O.written out.old).failed < 2 ^ 64 - 1 }
+    ensures { OnOk result (IsDumped (is_some asked.now.file) (O.written out.old) (O.written out.new)) }
 {
     let dir = load_directory(alloc, folder, asked.db)?;
-    let written = match asked.file {
-        Some(name) => store(alloc, folder, name, &dir),
-        None => print(alloc, &dir, out),
-    };
+    let dumped = dump_to(alloc, &dir, asked.file, folder, out);
     // The process is about to end, which frees the entries at once.
     mem::forget(dir);
-    written
+    dumped
 }
 
 /// Writes the directory in a folder to the file, or to `out`.
@@ -55,8 +67,9 @@ pub fn slapcat<F: Folder, O: Sink, E: Sink>(
 ) -> Status
     requires out { (O.written out.old).failed < 2 ^ 64 - 1 }
     requires err { (E.written err.old).failed < 2 ^ 64 - 1 }
+    ensures { CatEnds (is_some asked.now.file) (O.written out.old) (O.written out.new) result }
 {
-    match write_out(alloc, asked, folder, out) {
+    match load_and_dump(alloc, asked, folder, out) {
         Ok(()) => Status::Done,
         Err(fault) => tell(alloc, err, &fault),
     }

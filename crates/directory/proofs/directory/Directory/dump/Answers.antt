@@ -1,6 +1,7 @@
-use Rattle.std.proofs.Common.{◌≡◌, List, filter, refl, sym, ap, ◌∙◌, subst}
+use Rattle.std.proofs.Common.{◌≡◌, ℕ, List, ◌++◌, filter, refl, sym, ap, ◌∙◌, subst, append_assoc}
 use Rattle.std.specs.FinMap as finite
 use Rattle.std.specs.List.{AllByRecursion}
+use Rattle.std.proofs.lemmas.List.{append-nil}
 use Rattle.std.proofs.lemmas.Result.{err_from_is_err_and}
 use Rattle.schema.specs.Paths.{Steps, begins}
 use Rattle.tree.specs.Directories.{IsDirectory}
@@ -25,22 +26,26 @@ loop-path-init g c =
       failures = refl;
       names = c.new-names.ensures ∙ c.tree-2.ensures;
       there = subst (AllByRecursion (IsThere d.rules d.entries)) (sym c.into_iter-path-iterator.ensures.into_iter_gives) (all_in d.rules d.entries items root c.root-root.ensures seen c.order_of_paths.ensures.total is made);
-      so_far = subst (SoFar (g.W.Sink.written c.args.sink.now) (g.W.Sink.written c.args.sink.now) (dump d.rules d.entries))
-          (dump_is d.rules d.entries items root c.root-root.ensures seen ∙ ap (entries_text d.rules d.entries) (sym c.into_iter-path-iterator.ensures.into_iter_gives))
-          (pieces.begins (g.W.Sink.written c.args.sink.now) (dump d.rules d.entries));
+      so_far = pieces.nothing_yet (g.W.Sink.written c.args.sink.now) (dump d.rules d.entries) _
+          (ap (λ (bs : List ℕ). bs ++ entries_text d.rules d.entries c.into_iter-path-iterator.result) c.new-text.ensures.items
+          ∙ sym (dump_is d.rules d.entries items root c.root-root.ensures seen ∙ ap (entries_text d.rules d.entries) (sym c.into_iter-path-iterator.ensures.into_iter_gives)));
     }
 
 pub loop-path-preserved : goal.loop-path-preserved
 loop-path-preserved g c =
     let d : Directory = c.args.self.now in
     let left : List (Steps × Stored) = c.next.new.self in
+    let text : List ℕ = c.loop-path.text.items in
+    let entry : List ℕ = entry_text d.rules d.entries (c.in-Some.path.now, c.in-Some.entry.now) in
+    let next : text ++ entries_text d.rules d.entries c.loop-path.path-iterator ≡ (text ++ entry) ++ entries_text d.rules d.entries left =
+    ap (λ (es : List (Steps × Stored)). text ++ entries_text d.rules d.entries es) c.in-Some.ensures.steps ∙ sym (append_assoc text entry (entries_text d.rules d.entries left)) in
     record {
-      failures = c.in_ok-write_entry.ensures.writes.failed ∙ c.loop-path.invariant.failures;
+      failures = c.in_ok-write_entry.ensures.writes.written.failed ∙ c.loop-path.invariant.failures;
       names = c.in_ok-write_entry.ensures.names;
       there = (subst (AllByRecursion (IsThere d.rules d.entries)) c.in-Some.ensures.steps c.loop-path.invariant.there).1;
-      so_far = pieces.goes_on (g.W.Sink.written c.args.sink.now) (g.W.Sink.written c.loop-path.sink) (g.W.Sink.written c.write_entry.new.sink)
-          (dump d.rules d.entries) (entries_text d.rules d.entries c.loop-path.path-iterator) c.loop-path.invariant.so_far
-          (entry_text d.rules d.entries (c.in-Some.path.now, c.in-Some.entry.now)) (entries_text d.rules d.entries left) (ap (entries_text d.rules d.entries) c.in-Some.ensures.steps) c.in_ok-write_entry.ensures.writes;
+      so_far = pieces.goes_further (g.W.Sink.written c.args.sink.now) (g.W.Sink.written c.loop-path.sink) (g.W.Sink.written c.write_entry.new.sink)
+          (dump d.rules d.entries) (text ++ entries_text d.rules d.entries c.loop-path.path-iterator) c.loop-path.invariant.so_far
+          (text ++ entry) (entries_text d.rules d.entries left) c.write_entry.new.text.items next c.in_ok-write_entry.ensures.writes;
     }
 
 pub returns-in_err-write_entry : goal.returns-in_err-write_entry
@@ -48,6 +53,20 @@ returns-in_err-write_entry g c =
     let p = err_from_is_err_and c.from_residual.result c.from_residual.ensures.1 in
     let d : Directory = c.args.self.now in
     let left : List (Steps × Stored) = c.next.new.self in
+    let text : List ℕ = c.loop-path.text.items in
+    let entry : List ℕ = entry_text d.rules d.entries (c.in-Some.path.now, c.in-Some.entry.now) in
+    let next : text ++ entries_text d.rules d.entries c.loop-path.path-iterator ≡ (text ++ entry) ++ entries_text d.rules d.entries left =
+    ap (λ (es : List (Steps × Stored)). text ++ entries_text d.rules d.entries es) c.in-Some.ensures.steps ∙ sym (append_assoc text entry (entries_text d.rules d.entries left)) in
     rw (p.1, p.2) (pieces.stops (g.W.Sink.written c.args.sink.now) (g.W.Sink.written c.loop-path.sink) (g.W.Sink.written c.write_entry.new.sink)
-    (dump d.rules d.entries) (entries_text d.rules d.entries c.loop-path.path-iterator) c.loop-path.invariant.so_far
-    c.in_err-write_entry.field-0.0 (entry_text d.rules d.entries (c.in-Some.path.now, c.in-Some.entry.now)) (entries_text d.rules d.entries left) (ap (entries_text d.rules d.entries) c.in-Some.ensures.steps) c.in_err-write_entry.ensures.writes)
+    (dump d.rules d.entries) (text ++ entries_text d.rules d.entries c.loop-path.path-iterator) c.loop-path.invariant.so_far
+    c.in_err-write_entry.field-0.0 (text ++ entry) (entries_text d.rules d.entries left) next c.in_err-write_entry.ensures.writes)
+
+pub returns : goal.returns
+returns g c =
+    let d : Directory = c.args.self.now in
+    let text : List ℕ = c.loop-path.text.items in
+    let rest : text ++ entries_text d.rules d.entries c.loop-path.path-iterator ≡ text =
+    ap (λ (es : List (Steps × Stored)). text ++ entries_text d.rules d.entries es) c.in-None.ensures.steps.0 ∙ append-nil text in
+    pieces.ends (g.W.Sink.written c.args.sink.now) (g.W.Sink.written c.loop-path.sink) (g.W.Sink.written c.pass_on.new.sink)
+    (dump d.rules d.entries) text (subst (SoFar (g.W.Sink.written c.args.sink.now) (g.W.Sink.written c.loop-path.sink) (dump d.rules d.entries)) rest c.loop-path.invariant.so_far)
+    c.pass_on.result c.pass_on.ensures.writes

@@ -1,4 +1,4 @@
-use Rattle.std.proofs.Common.{◌≡◌}
+use Rattle.std.proofs.Common.{◌≡◌, ◌++◌}
 use Rattle.std.specs.List.{AllByRecursion}
 use Rattle.directory.specs.Runs.{dump}
 use Rattle.directory.specs.Dumps.{SoFar, IsThere, entries_text}
@@ -9,5 +9,5 @@ invariant-loop-path g l = record {
   failures : (g.W.Sink.written l.sink).failed ≡ (g.W.Sink.written l.fn.sink).failed;
   names : l.names ≡ l.self;
   there : AllByRecursion (IsThere l.self.rules l.self.entries) l.path-iterator;
-  so_far : SoFar (g.W.Sink.written l.fn.sink) (g.W.Sink.written l.sink) (dump l.self.rules l.self.entries) (entries_text l.self.rules l.self.entries l.path-iterator);
+  so_far : SoFar (g.W.Sink.written l.fn.sink) (g.W.Sink.written l.sink) (dump l.self.rules l.self.entries) (l.text.items ++ entries_text l.self.rules l.self.entries l.path-iterator);
 }
