@@ -1,0 +1,137 @@
+"""The words, names and lines that cases are made of, good ones and faulty ones.
+
+$T stands for a type of the configuration and $N for a name.
+"""
+import base64
+
+import model
+
+TYPES = {
+    b"dc": b"0.9.2342.19200300.100.1.25", b"cn": b"2.5.4.3", b"sn": b"2.5.4.4", b"ou": b"2.5.4.11", b"o": b"2.5.4.10",
+    b"description": b"2.5.4.13", b"uid": b"0.9.2342.19200300.100.1.1", b"mail": b"0.9.2342.19200300.100.1.3",
+    b"userPassword": b"2.5.4.35", b"structuralObjectClass": b"2.5.21.9", b"entryUUID": b"1.3.6.1.1.16.4",
+    b"creatorsName": b"2.5.18.3", b"createTimestamp": b"2.5.18.1", b"entryCSN": b"1.3.6.1.4.1.4203.666.1.7",
+    b"title": b"2.5.4.12", b"telephoneNumber": b"2.5.4.20", b"x-y_z": b"1.1", b"A1": b"1.2.3", b"CamelCase": b"00.05",
+    b"a": b"2.5.4.00", b"aTypeWhoseNameAloneIsSeventySixBytesLongAndSoFillsALineBeforeItsValueBeginsX": b"9.9.9",
+}
+WORDS = [
+    b"a", b"b", b"ab", b"A", b"x1", b"ex", b"org", b"my org", b"a  b", b"a   B", b"a-b", b"_", b".", b"-", b"1.2",
+    b"Bob", b"bob", b"BOB", b"long" * 20, b"z" * 70, b"0", b"a.b_c-d e", b"x y z",
+]
+
+# lines of a dir.conf that say nothing, aren't known, look like a continuation, and aren't read so far
+IDLE_LINES = [b"", b"", b"# note", b"#", b'#suffix "dc=no"', b"# \xff\x00 note", b"#\t"]
+KEYWORDS = [
+    b"overlay x", b"attributetypes ( 1.1 )", b"attributetype(", b'suffix"dc=ex"', b"\r", b"include x", b"\xffsuffix",
+    b")", b"index,", b'"', b"Attributetyp",
+]
+OPEN_LINES = [
+    [b" x"], [b"\tx"], [b" "], [b"\t"], [b" # c"], [b' suffix "dc=ex"'], [b"# c", b" d"], [b"", b" d"],
+    [b"# c", b"\td"], [b"attributetype ( 9.9", b" NAME 'n' )"],
+]
+OTHER_LINES = [
+    b"objectclass ( 9.9 NAME 'domain' )", b"objectclass", b"ObjectClass ( 2.5.6.0 )", b"attributetype",
+    b"attributetype ", b"attributetype ( )", b"attributetype ( 9.9 NAME 'n' )", b"index cn eq", b"index",
+    b"Index no sub",
+]
+# a definition; what changes only its blanks; and what is put in place of a part of it
+DEFINITION = b"attributetype ( 9.8.7 NAME 'n7' EQUALITY caseIgnoreMatch SYNTAX " + model.TEXT + b" )"
+BLANK_EDITS = [(b"( ", b"("), (b" )", b")"), (b"NAME '", b"NAME'"), (b"' E", b"'E")]
+DEFINITION_EDITS = [
+    (b" )", b" SINGLE-VALUE )"), (b" )", b""), (b" )", b" ) )"), (b" )", b" ) x"), (b" )", b" ) #"), (b" )", b" )\0"),
+    (b" )", b")"), (b" )", b" $ )"), (b" )", b" )\t "), (b" )", b" X-A 'b' )"), (b" )", b" OBSOLETE )"),
+    (b" )", b"{64} )"), (b" )", b"{} )"), (b".15 )", b".26 )"), (b"( ", b""), (b"( ", b"("), (b" ( ", b"\t(\t"),
+    (b"( ", b"( $ "), (b"( ", b"( ( "), (b"9.8.7", b"9"), (b"9.8.7", b"0"), (b"9.8.7", b"007.1"), (b"9.8.7", b"9.8.7."),
+    (b"9.8.7", b".9.8"), (b"9.8.7", b"9..8"), (b"9.8.7", b"x"), (b"9.8.7", b"9.8x"), (b"9.8.7 ", b""),
+    (b"9.8.7", b"'9.8.7'"), (b"9.8.7", b"9" * 60 + b".1"), (b"'n7'", b"( 'n7' )"), (b"'n7'", b"'n7 '"),
+    (b"'n7'", b"'1n7'"), (b"'n7'", b"'-n'"), (b"'n7'", b"'_n'"), (b"'n7'", b"'n.1'"), (b"'n7'", b"'n;x'"),
+    (b"'n7'", b"'n\xc3\xa9'"), (b"'n7'", b"'n\0'"), (b"'n7'", b"''"), (b"'n7'", b"'n-_-'"), (b"'n7'", b"n7"),
+    (b"'n7'", b'"n7"'), (b"'n7'", b"n7'"), (b"'n7'", b"'n7"), (b"'n7'", b"'" + b"n" * 300 + b"'"),
+    (b"'n7'", b"'n7' 'n8'"), (b"NAME '", b"NAME'"), (b"' E", b"'E"), (b"NAME", b"name"), (b"NAME", b"NAMES"),
+    (b" NAME", b"\t\tNAME"), (b"EQUALITY", b"Equality"), (b"EQUALITY", b"ORDERING"),
+    (b"EQUALITY caseIgnoreMatch ", b""), (b"SYNTAX", b"syntax"), (b"SYNTAX", b"DESC 'x' SYNTAX"),
+    (b"SYNTAX", b"SUP cn SYNTAX"), (b"caseIgnoreMatch", b"CASEIGNOREMATCH"), (b"caseIgnoreMatch", b"caseExactMatch"),
+    (b"caseIgnoreMatch", b"'caseIgnoreMatch'"), (b"caseIgnoreMatch", b"2.5.13.2"),
+    (b"NAME 'n7' EQUALITY caseIgnoreMatch", b"EQUALITY caseIgnoreMatch NAME 'n7'"),
+    (b"9.8.7 NAME 'n7'", b"NAME 'n7' 9.8.7"), (b" ", b"\x0b"), (b"attributetype", b"ATTRIBUTETYPE"),
+]
+BAD_SUFFIXES = [
+    b"", b"=", b"ex", b"nosuch=ex", b"$T", b"$T=", b"=ex", b"$T = ex", b"$T=ex ", b"$T=a+$T=b", b"$T=a,", b",$T=a",
+    b"$T=a, $T=b", b"$T=a,,$T=b", b"$T=\xc3\xa9", b"$T=\xff", b"$T=\\61", b"$T=a\tb", b'$T=a"', b"$T=#61", b"$T=a=b",
+    b"$T=a;b", b"objectClass=a b", b"objectClass=", b"$T=a,nosuch=b", b"nosuch=a,$T=b", b"$T;x=a", b"$T=a\0", b"  ",
+]
+SUFFIX_LINES = [
+    b'suffix "$N"', b"suffix $N", b'suffix "$N"\t', b"suffix $N\t", b'suffix " $N"', b'suffix "$N "', b'suffix ""$N""',
+    b'suffix "$N', b'suffix $N"', b"suffix \t\t $N   ", b'suffix "', b'suffix ""', b"suffix", b"suffix   ", b"suffix\t",
+    b"suffix '$N'", b'suffix "$N" x', b'suffix "$N"\r', b"suffix $N\0", b'suffix "$N,"', b'suffix ",$N"',
+    b'suffix "$N" "$N"', b"suffix\x0b$N", b'suffix\t"$N" ', b'suffix "$N;"', b"sUFFIX $N", b'suffix "\t$N"',
+    b"suffix ($N)", b"suffix $N $N",
+]
+
+BAD_NAMES = [
+    b"$T = a,$N", b" $T=a,$N", b"$T=a,$N ", b"$T=a+$T=b,$N", b"$T=,$N", b"$T,$N", b"=a,$N", b",$N", b"$N,",
+    b"nosuch=a,$N", b"$T=\\61,$N", b"$T=#61,$N", b'$T="a",$N', b"$T=a;$N", b"$T=a=b,$N", b"$T=\xc3\xa9,$N",
+    b"$T=\xff,$N", b"$T=a\tb,$N", b"$T=a/b,$N", b"$T;x=a,$N", b"$T=a,,$N", b"$T=a ,$N", b"$T= a,$N", b"x y=a,$N",
+    b"objectClass=a b,$N", b"1.2.3.4=a,$N", b"$T=a\0,$N", b"$T=a\x7f,$N", b"$T=a\n,$N", b"$T=a\r,$N", b" ", b"ex",
+    b"$T=a", b"nosuch=a", b"$T=a:b,$N", b"$T=\xc2\xa0,$N", b"$T=a\\2Cb,$N", b"$T=a\\,$N", b"$T=a@b,$N", b"$N;",
+    b"$T=o'n,$N", b"$T=a*,$N", b"$T=(a),$N",
+]
+NO_UTF8 = [
+    b"\xff", b"\xc3", b"a\xc3", b"\xe9", b"\xc0\x80", b"\xed\xa0\x80", b"\xf4\x90\x80\x80", b"\xf8\x88\x80\x80\x80",
+    b"\x80", b"\xe2\x82", b"a\xc3 b", b"\xf0\x82\x82\xac", b"\xc1\xbf", b"\xe0\x80\x80", b"\xf5\x80\x80\x80",
+    b"\xed\xbf\xbf",
+]
+NO_BASE64 = [
+    b"YQ", b"YQ=", b"!", b"YR==", b"Y Q==", b"YQ==x", b"=", b"YQ==YQ==", b"YWI", b"YWJ=", b"Y===", b"====", b"YQ==\t",
+    b"YQ-_", b"YQ== YQ==", b"\xff", b"YWJj=", b"YWJjZ", b"YQ==\0", b"AA==A", b"/w=",
+]
+# lines that don't belong into a record, by the fault or code that most of them come to
+ODD_LINES = {
+    17: [
+        b"nosuch: a", b"$T;x: a", b"$T : a", b"control: 1.2.3", b"version: 1", b"dn: dc=ex", b"$T;binary:: YQ==",
+        b"-: a", b"\t$T: a", b"1.2.3.4.5: a", b"$T\0: a", b"\xff: a", b"$T\r: a", b"3.$T: a"],
+    21: [
+        b"$T:", b"$T: ", b"$T::", b"$T:: ", b"objectClass:", b"objectClass: a b", b"objectClass: \xc3\xa9",
+        b"objectClass: a ", b"objectClass:: IA==", b"objectClass:: /w==", b"objectClass::"]
+    + [b"$T: " + text for text in NO_UTF8] + [b"$T:: " + base64.b64encode(text) for text in NO_UTF8],
+    "L4": [b"$T:: " + text for text in NO_BASE64],
+    "L5": [b"$T:< file:///x", b"cn:<", b"changetype:< a", b"nosuch:< b"],
+    "L6": [
+        b"foo", b"-", b": a", b":: YQ==", b":<", b"\t", b"- ", b":", b"\xff", b"\0", b"dn", b"changetype", b"dn dc=ex",
+        b"\rx"],
+    "L12": [
+        b"changetype: add", b"ChangeType: delete", b"changetype:", b"CHANGETYPE:: YWRk", b"changetype:: !",
+        b"changetype:< a", b"changetype : add", b"changetype;x: add"],
+    "many": [
+        b"foo", b"$T:: !", b"$T:< x", b"nosuch: a", b"$T:", b"changetype: add", b"$T: \xff", b"-", b"dn: x",
+        b"objectClass: x"],
+}
+# and lines that don't belong at the beginning of one
+FIRST_LINES = {
+    "L1": [b"dn : dc=ex", b"ndn: dc=ex", b"control: 1.1", b"cn: a", b"version: 1"],
+    "L2": [b" ", b" x", b"  ", b" dn: dc=ex", b" -", b" #", b" :", b" cn:< x"],
+    "L3": [
+        b"version: 2", b"version:", b"version: 1 ", b"version:: MSA=", b"version:1  ", b"version: 001",
+        b"version:: IDE=", b"version: 1\0", b"VERSION: x", b"version:: Mg=="],
+    "dn": [b"dn:: !", b"dn:: ZGM9ZXg", b"dn:: ZGM9ZXh=", b"dn:< file:///x"],
+}
+VERSIONS = [b"version: 1", b"version:1", b"VERSION:: MQ==", b"version:  1"]
+# values that are equal, or are alike and not equal
+PAIRS = [
+    ("É", "é"), ("ß", "SS"), ("a\tb", "a b"), ("\u00a0a", "a"), ("  ", " "), ("K", "\u212a"), ("e\u0301", "\u00e9"),
+    ("a\n", "a"), ("a ", "A"), ("x\u3000", "x"), ("a-b", "ab"), ("7", "07"), ("\uff21", "A"),
+]
+STRANGE = [text.encode() for text in (
+    "é", "ÉCOLE", "日本", "\U0001F600x", "\0", "a\0b", "\u00a0", "\u2003 x", "\ufeff", "\ud7ff", "\ue000",
+    "\U0010ffff", "\u0800", "\u0080", "\uffff", " a", "a ", ":a", "<a", ": a", "#a", " ", "  ", "-", ":", "<", "#", "=", "a:b",
+    "\t", "\ta", "a\nb", "a\r", "\r\n", "\ra", "a\x7f", "\x01\x1f", "\n", "a\n b")]
+TOKENS = [
+    b"\n", b"\r\n", b"\r", b" ", b"\n ", b"\n\n", b"#", b"\n#", b":", b"::", b":<", b"-", b"=", b",", b"+", b"\0",
+    b"\xff", b"\xc3", b"\xc3\xa9", b"\t", b";", b"\\", b'"', b"(", b")", b"'", b"$", b"version: 1\n", b"dn: ",
+    b"\ndn: ", b"changetype: add\n", b"objectClass: ", b"a", b"A", b"  ", b"==", b"\n \n", b"{64}", b"\x0b",
+    b"\xef\xbb\xbf",
+]
+TINY = [
+    b"", b"\n", b"\r\n", b"\r", b"#", b" ", b"\n\n \n", b"version: 1", b"version: 1\n\n", b"#x\n y\n\n", b"\0",
+    b"\xef\xbb\xbfdn: x",
+]
