@@ -1,13 +1,18 @@
--- A path with the name of the entry there, kept for the entries below it.
-use Rattle.std.specs.Prelude.{◌≡◌, ℕ, List, [], Option, Some, None}
+-- Paths with the names of the entries there, kept for the entries below them.
+use Rattle.std.specs.Prelude.{◌≡◌, ℕ, List, [], ◌∷◌, Option, Some, None}
+use Rattle.std.specs.List.{AllByRecursion}
 use Rattle.schema.specs.Paths.{Steps}
 use Rattle.schema.specs.Rules.{Rules}
 use Rattle.tree.specs.Directories.{Entries, name_of_entry}
 
--- the name is that of the entry at the path, if there are any
-abbrev pub IsNamed : Rules → Entries → Option (Steps × List ℕ) → Type 0
-IsNamed rules d None = Unit {0}
-IsNamed rules d (Some a) = a.1 ≡ name_of_entry rules d a.0
+-- each name is that of the entry at its path
+abbrev pub AreNamed : Rules → Entries → List (Steps × List ℕ) → Type 0
+AreNamed rules d kept = AllByRecursion (λ (a : Steps × List ℕ). a.1 ≡ name_of_entry rules d a.0) kept
+
+abbrev pub last_of : List (Steps × List ℕ) → Option (Steps × List ℕ)
+last_of [] = None
+last_of (a ∷ []) = Some a
+last_of (a ∷ b ∷ rest) = last_of (b ∷ rest)
 
 -- the path is there, and this one
 abbrev pub IsFor : Steps → Option (Steps × List ℕ) → Type 0

@@ -1,14 +1,14 @@
 //! The names of entries, one after the other.
 
-ghost use Rattle.std.specs.Prelude.{◌≡◌, ◌++◌, ◌∷◌, true, false, Some, IfOk, OnOk, IsTrue};
+ghost use Rattle.std.specs.Prelude.{◌≡◌, ◌++◌, ◌∷◌, Some, IfOk, IsTrue};
 ghost use Rattle.std.specs.FinMap as finite;
 ghost use Rattle.schema.specs.Names.{part_text};
-ghost use Rattle.schema.specs.Paths.{is_root, parent_of};
+ghost use Rattle.schema.specs.Paths.{parent_of};
 ghost use Rattle.schema.specs.Rdns.{IsRdn};
 ghost use Rattle.schema.specs.Rules.{written_part};
 ghost use Rattle.tree.specs.Directories.{name_of_entry};
 ghost use Rattle.tree.specs.Stored.{facts_of};
-ghost use Rattle.tree.specs.Above.{IsNamed, IsFor, name_in};
+ghost use Rattle.tree.specs.Above.{AreNamed, IsFor, last_of, name_in};
 
 use crate::entry::Entry;
 use crate::naming::push_rdn;
@@ -21,19 +21,19 @@ use std::marker::Model;
 /// As many bytes as most RDNs take at most.
 const RDN_ROOM: usize = 64;
 
-/// Names the entries of a tree. It keeps the name of the entry above the last one, which all beside that one share. A
-/// contract sees the directory of the tree.
+/// Names the entries of a tree. It keeps the names of the entries above the last one, each right below the one before it. So
+/// in the order of paths no name is put together anew from the suffix on. A contract sees the directory of the tree.
 #[derive(Drop)]
 pub struct Names<'a> {
     tree: &'a Tree,
     conf: &'a Conf,
-    // a path, and the name of the entry there
-    above: Option<(Path, Bytes)>,
+    // paths, and the names of the entries there
+    kept: Vec<(Path, Bytes)>,
 }
 
 impl<'a> Model for Names<'a> {
     ghost use Rattle.std.specs.Prelude.{◌≡◌};
-    ghost use Rattle.tree.specs.Above.{IsNamed};
+    ghost use Rattle.tree.specs.Above.{AreNamed};
     ghost use Rattle.tree.specs.Trees as trees;
 
     ghost Value = { trees.Directory };
@@ -42,10 +42,24 @@ impl<'a> Model for Names<'a> {
 
     ghost view = { λ n. n.tree.now };
 
-    ghost invariant = { λ n. (n.tree.now.rules ≡ n.conf.now) × IsNamed n.conf.now n.tree.now.entries n.above };
+    ghost invariant = { λ n. (n.tree.now.rules ≡ n.conf.now) × AreNamed n.conf.now n.tree.now.entries n.kept.items };
 }
 
-// whether the second path goes on from the first by one step
+// how many of the paths are left when those at the end that aren't above this one are taken away
+fn count_above(kept: &[(Path, Bytes)], path: &Path) -> usize {
+    let mut count = kept.len();
+    while count > 0 && !is_above(&kept[count - 1].0, path) {
+        count -= 1;
+    }
+    count
+}
+
+// whether the second path goes on from the first
+fn is_above(above: &Path, path: &Path) -> bool {
+    above.len() < path.len() && above.begins(path)
+}
+
+// whether it goes on by one step
 fn is_parent(above: &Path, path: &Path) -> bool
     ensures { IsTrue result → above.now ≡ parent_of path.now }
 {
@@ -55,64 +69,24 @@ fn is_parent(above: &Path, path: &Path) -> bool
     path.len() - above.len() == 1 && above.begins(path)
 }
 
-// the path above, and the name of the entry there
-fn name_above(
-    alloc: Global,
-    tree: &Tree,
-    conf: &Conf,
-    path: &Path,
-) -> Result<(Path, Bytes), AllocError>
-    requires made { tree.now.rules ≡ conf.now }
-    requires below { is_root path.now ≡ false }
-    requires there { finite.contains_key tree.now.entries path.now ≡ true }
-    ensures path { IfOk result (λ a. a.0 ≡ parent_of path.now) }
-    ensures name { IfOk result (λ a. a.1 ≡ name_of_entry conf.now tree.now.entries a.0) }
+// whether the last path is the one above this one
+fn is_for(kept: &[(Path, Bytes)], path: &Path) -> bool
+    ensures { IsTrue result → IsFor (parent_of path.now) (last_of kept.now) }
 {
-    tree.is_directory();
-    let above = path.parent(alloc)?;
-    let name = tree.name_of(alloc, conf, &above)?;
-    Ok((above, name))
-}
-
-// whether the path above is at hand
-fn is_for(above: &Option<(Path, Bytes)>, path: &Path) -> bool
-    ensures { IsTrue result → IsFor (parent_of path.now) above.now }
-{
-    match above {
-        Some((above, _)) => is_parent(above, path),
-        None => false,
+    match kept {
+        [.., (above, _)] => is_parent(above, path),
+        [] => false,
     }
 }
 
-// the name at hand
-fn name_in(above: &Option<(Path, Bytes)>) -> &[u8]
-    ensures { result.now ≡ name_in above.now }
+// the last name
+fn name_in(kept: &[(Path, Bytes)]) -> &[u8]
+    ensures { result.now ≡ name_in (last_of kept.now) }
 {
-    match above {
-        Some((_, name)) => name.as_slice(),
-        None => b"",
+    match kept {
+        [.., (_, name)] => name.as_slice(),
+        [] => b"",
     }
-}
-
-// Has the path above and the name there at hand.
-fn find_above(
-    alloc: Global,
-    tree: &Tree,
-    conf: &Conf,
-    path: &Path,
-    above: &mut Option<(Path, Bytes)>,
-) -> Result<(), AllocError>
-    requires made { tree.now.rules ≡ conf.now }
-    requires below { is_root path.now ≡ false }
-    requires there { finite.contains_key tree.now.entries path.now ≡ true }
-    requires named { IsNamed conf.now tree.now.entries above.old }
-    ensures named { IsNamed conf.now tree.now.entries above.new }
-    ensures found { OnOk result (IsFor (parent_of path.now) above.new) }
-{
-    if !is_for(above, path) {
-        *above = Some(name_above(alloc, tree, conf, path)?);
-    }
-    Ok(())
 }
 
 // an RDN, a comma and the name above
@@ -127,16 +101,62 @@ fn name_below(alloc: Global, conf: &Conf, rdn: &Rdn, above: &[u8]) -> Result<Byt
     Ok(Bytes::from_vec(text))
 }
 
+// the name of the entry at a path, made of the name above it where that is kept last
+fn name_by(
+    alloc: Global,
+    tree: &Tree,
+    conf: &Conf,
+    kept: &[(Path, Bytes)],
+    path: &Path,
+    entry: &Entry,
+) -> Result<Bytes, AllocError>
+    requires made { tree.now.rules ≡ conf.now }
+    requires there { finite.get tree.now.entries path.now ≡ Some (facts_of entry.now) }
+    requires named { AreNamed conf.now tree.now.entries kept.now }
+    ensures { IfOk result (λ n. n ≡ name_of_entry conf.now tree.now.entries path.now) }
+{
+    conf.rules_hold();
+    tree.is_directory();
+    if path.is_root() || !is_for(kept, path) {
+        return tree.name_of(alloc, conf, path);
+    }
+    name_below(alloc, conf, entry.rdn(), name_in(kept))
+}
+
+// Keeps what is above the path, and last the path right above it.
+fn keep_above(
+    alloc: Global,
+    tree: &Tree,
+    conf: &Conf,
+    kept: &mut Vec<(Path, Bytes)>,
+    path: &Path,
+) -> Result<(), AllocError>
+    requires made { tree.now.rules ≡ conf.now }
+    requires named { AreNamed conf.now tree.now.entries kept.old.items }
+    ensures { AreNamed conf.now tree.now.entries kept.new.items }
+{
+    kept.truncate(count_above(kept.as_slice(), path));
+    if path.is_root() || is_for(kept.as_slice(), path) {
+        return Ok(());
+    }
+    let above = path.parent(alloc)?;
+    if let Some(entry) = tree.get(&above) {
+        let name = name_by(alloc, tree, conf, kept.as_slice(), &above, entry)?;
+        kept.push((above, name))?;
+    }
+    Ok(())
+}
+
 impl<'a> Names<'a> {
     /// Names the entries of a tree. `conf` is the configuration that the tree was made with.
-    pub fn new(tree: &'a Tree, conf: &'a Conf) -> Names<'a>
+    pub fn new(alloc: Global, tree: &'a Tree, conf: &'a Conf) -> Names<'a>
         requires { tree.now.rules ≡ conf.now }
         ensures { result ≡ tree.now }
     {
         Names {
             tree,
             conf,
-            above: None,
+            kept: Vec::new(alloc),
         }
     }
 
@@ -151,12 +171,14 @@ impl<'a> Names<'a> {
         ensures same { self.new ≡ self.old }
         ensures name { IfOk result (λ n. n ≡ name_of_entry self.old.rules self.old.entries path.now) }
     {
-        self.conf.rules_hold();
-        self.tree.is_directory();
-        if path.is_root() {
-            return self.tree.name_of(alloc, self.conf, path);
-        }
-        find_above(alloc, self.tree, self.conf, path, &mut self.above)?;
-        name_below(alloc, self.conf, entry.rdn(), name_in(&self.above))
+        keep_above(alloc, self.tree, self.conf, &mut self.kept, path)?;
+        name_by(
+            alloc,
+            self.tree,
+            self.conf,
+            self.kept.as_slice(),
+            path,
+            entry,
+        )
     }
 }
