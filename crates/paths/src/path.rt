@@ -177,7 +177,8 @@ impl Path {
         }
     }
 
-    pub(crate) fn bytes(&self) -> &[u8]
+    /// The path as one byte string. The order of these, byte by byte, is the order of paths.
+    pub fn bytes(&self) -> &[u8]
         ensures { result.now ≡ pack self.now }
     {
         self.bytes.as_slice()
