@@ -2,7 +2,6 @@
 
 mod memory;
 mod pieces;
-mod up_and_down;
 
 use crate::{Directory, LoadFault, Reason, RunFault, Tally, load, load_tree, run};
 use device::{Sink, Source, TrySink, TrySource};

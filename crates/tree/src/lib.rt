@@ -1,7 +1,6 @@
 //! Entries, the tree of a directory, and what a record does to it.
 #![tactic(auto)]
 
-mod attribute_values;
 mod attributes;
 mod entry;
 mod laws;
@@ -14,8 +13,8 @@ mod refusal;
 #[cfg(test)]
 mod tests;
 mod tree;
+mod values;
 
-pub use attribute_values::Values;
 pub use entry::Entry;
 pub use laws::{
     adding_keeps_a_directory, an_entry_adds_itself, empty_is_a_directory, own_content_is_written,
@@ -26,3 +25,4 @@ pub use plans::Plan;
 pub use range::Below;
 pub use refusal::Refusal;
 pub use tree::Tree;
+pub use values::Values;

@@ -1,4 +1,0 @@
-pub mod Orders
-pub mod PackOrder
-pub mod Unpacked
-pub mod PackedPaths

@@ -1,3 +1,0 @@
-pub mod Paths
-pub mod PathLaws
-pub mod Packed
