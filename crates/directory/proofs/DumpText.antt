@@ -4,7 +4,7 @@ use Rattle.std.specs.List.{flat_map, AllByRecursion}
 use Rattle.std.specs.FinMap as finite
 use Rattle.std.specs.Cmp.{IsTotalOrder}
 use Rattle.ldif.specs.Contents.{write_content}
-use Rattle.schema.specs.Paths.{Steps, path_cmp, begins}
+use Rattle.paths.specs.Paths.{Steps, path_cmp, begins}
 use Rattle.schema.specs.Rules.{Rules}
 use Rattle.tree.specs.Entries.{Facts}
 use Rattle.tree.specs.Directories.{Entries, IsDirectory}

@@ -4,11 +4,11 @@ use Rattle.std.specs.List.{flat_map}
 use Rattle.std.proofs.lemmas.Grind.{flat_map-append}
 use Rattle.ldif.specs.Contents.{written_attr, write_content}
 use Rattle.ldif.specs.Writing.{written_line}
-use Rattle.schema.specs.declared.types.AttributeType.{AttributeType}
-use Rattle.schema.specs.Values.{Value}
-use Rattle.schema.specs.Types.{name_of}
+use Rattle.values.specs.declared.types.AttributeType.{AttributeType}
+use Rattle.values.specs.Values.{Value}
+use Rattle.values.specs.Types.{name_of}
 use Rattle.tree.specs.Entries.{lines_of, attribute_lines}
-use Rattle.schema.specs.Paths.{Steps}
+use Rattle.paths.specs.Paths.{Steps}
 use Rattle.schema.specs.Rules.{Rules}
 use Rattle.tree.specs.Directories.{Entries, name_of_entry}
 use Rattle.tree.specs.Stored.{Stored, StoredAttribute, attributes_of, raws}

@@ -22,11 +22,11 @@ use Rattle.schema.specs.declared.code.Code.TheVariants as result
 use Rattle.schema.specs.Configurations.{object_class, text_type}
 use Rattle.schema.specs.Each as each_part
 use Rattle.schema.specs.Names.{part_of, name_of_text, text_of_name}
-use Rattle.schema.specs.Paths.{Steps, path_cmp}
+use Rattle.paths.specs.Paths.{Steps, path_cmp}
 use Rattle.schema.specs.Rdns.{put_pair, step_of}
 use Rattle.schema.specs.Rules.{Rules, below, located, name_text}
-use Rattle.schema.specs.Types.{type_of}
-use Rattle.schema.specs.Values.{norm}
+use Rattle.values.specs.Types.{type_of}
+use Rattle.values.specs.Values.{norm}
 use Rattle.tree.specs.Adds.{add, add_at, added}
 use Rattle.tree.specs.Directories.{Entries, rdn_in, rdns_from}
 use Rattle.tree.specs.Entries.{Facts, push_value, add_lines, with_rdn, lines_of}

@@ -13,7 +13,7 @@ use Rattle.ldif.specs.declared.fault.Fault.{Fault}
 use Rattle.ldif.specs.declared.record.Record.{Record}
 use Rattle.ldif.specs.declared.record.Mode.TheVariants.{Content}
 use Rattle.ldif.specs.Contents.{Written, IsWritten, write_content, readings, reading_of, as_record}
-use Rattle.schema.specs.Paths.{Step, Steps, path_cmp}
+use Rattle.paths.specs.Paths.{Step, Steps, path_cmp}
 use Rattle.schema.specs.Rules.{Rules, IsRules}
 use Rattle.tree.specs.Entries.{Facts}
 use Rattle.tree.specs.Directories.{Entries, IsDirectory, content_at}

@@ -7,9 +7,9 @@ use Rattle.ldif.specs.Attrs.{Attr}
 use Rattle.ldif.specs.declared.write.WriteFault.{WriteFault}
 use Rattle.ldif.specs.declared.write.WriteFault.TheVariants as faults
 use Rattle.ldif.specs.Contents.{written_attr, write_content}
-use Rattle.schema.specs.declared.types.AttributeType.{AttributeType}
-use Rattle.schema.specs.Values.{Value}
-use Rattle.schema.specs.Paths.{Steps}
+use Rattle.values.specs.declared.types.AttributeType.{AttributeType}
+use Rattle.values.specs.Values.{Value}
+use Rattle.paths.specs.Paths.{Steps}
 use Rattle.schema.specs.Rules.{Rules}
 use Rattle.tree.specs.Directories.{Entries, content_at}
 use Rattle.tree.specs.Entries.{lines_of}

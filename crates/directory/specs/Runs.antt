@@ -9,7 +9,7 @@ use Rattle.ldif.specs.declared.record.Mode.{Mode}
 use Rattle.ldif.specs.declared.record.Mode.TheVariants.{Content}
 use Rattle.ldif.specs.Contents.{Written, readings, write_content}
 use Rattle.schema.specs.declared.code.Code.{Code}
-use Rattle.schema.specs.Paths.{Steps}
+use Rattle.paths.specs.Paths.{Steps}
 use Rattle.schema.specs.Rules.{Rules}
 use Rattle.tree.specs.Entries.{Facts}
 use Rattle.tree.specs.Directories.{Entries, content_at}

@@ -135,7 +135,7 @@ impl Directory {
         self.tree().is_directory();
         schema::order_of_paths();
         let root = Path::root(alloc);
-        let mut names = Names::new(self.tree(), self.conf());
+        let mut names = Names::new(alloc, self.tree(), self.conf());
         let mut text = Vec::new(alloc);
         for (path, entry) in self.tree().range(&root) {
             self.write_entry(alloc, sink, &mut names, path, entry, &mut text)?;

@@ -2,6 +2,7 @@
 
 mod memory;
 mod pieces;
+mod up_and_down;
 
 use crate::{Directory, LoadFault, Reason, RunFault, Tally, load, load_tree, run};
 use device::{Sink, Source, TrySink, TrySource};

@@ -6,17 +6,18 @@ use Rattle.std.proofs.lemmas.Bool.{and_parts, lt-ltb}
 use Rattle.std.proofs.lemmas.Bool.Decides.{nat_tests}
 use Rattle.std.proofs.lemmas.List.Folds.{list_all-append}
 use Rattle.std.proofs.lemmas.List.Quantifiers.{position-Some}
-use Rattle.schema.specs.declared.types.AttributeType.{AttributeType}
+use Rattle.values.specs.declared.types.AttributeType.{AttributeType}
 use Rattle.schema.specs.declared.code.Code.{Code}
 use Rattle.schema.specs.declared.code.Code.TheVariants.{InvalidDnSyntax, NoSuchObject}
 use Rattle.schema.specs.Each.{◌>>=◌, each}
-use Rattle.schema.specs.Types.{is_named, type_of, no_type, is_known}
-use Rattle.schema.specs.Values.{is_valid_at}
+use Rattle.values.specs.Types.{is_named, type_of, no_type, is_known}
+use Rattle.values.specs.Values.{is_valid_at}
 use Rattle.schema.specs.Rdns.{Parts, IsRdn, step_of, is_plain_byte, is_inner_byte, is_plain_value}
 use Rattle.schema.specs.Names.{NamePart, Name, is_comma, is_equals, is_type_text, part_cut, part_of, name_of_text, part_text, text_of_name}
 use Rattle.schema.specs.Rules.{Rules, IsRules, typed_part, typed_rdn, typed, same_step, below, located, written_part, name_text}
 use Rattle.schema.proofs.Spelled.{IsNamePart, value_inner, type_plain}
-use Rattle.schema.proofs.Locating.{all_append, all_reverse, all_mapped, written_is_part}
+use Rattle.paths.proofs.Unpacked.{all_append}
+use Rattle.schema.proofs.Locating.{all_reverse, all_mapped, written_is_part}
 
 both : (a b : Bool) → a ≡ true → b ≡ true → (a && b) ≡ true
 both a b h k = ap (λ x. x && b) h ∙ k

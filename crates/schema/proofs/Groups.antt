@@ -3,7 +3,7 @@ use Rattle.std.proofs.Common.{◌≡◌, ℕ, ◌+◌, ◌<◌, ◌≤◌, Bool,
 use Rattle.std.specs.Prelude.{◌==◌}
 use Rattle.std.specs.Char.{is_ascii_digit}
 use Rattle.std.proofs.lemmas.List.{drop_more, drop_all}
-use Rattle.schema.specs.Types.{due_after, are_groups}
+use Rattle.values.specs.Types.{due_after, are_groups}
 
 by_some : (d e due next rest_false rest_true : Bool) → cond d (Some false) (cond (e && not due) (Some true) None) ≡ Some next
     → cond d rest_false (e && not due && rest_true) ≡ cond next rest_true rest_false

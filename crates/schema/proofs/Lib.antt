@@ -1,16 +1,9 @@
-pub mod Spaces
-pub mod Tidy
-pub mod Joined
-pub mod Texts
 pub mod Loop
 pub mod Below
 pub mod Named
-pub mod Tables
-pub mod Buckets
-pub mod Orders
-pub mod TextBytes
 pub mod Spelled
 pub mod Locating
+pub mod Steps
 pub mod Found
 pub mod Groups
 pub mod Through
@@ -18,6 +11,3 @@ pub mod Ends
 pub mod Numbered
 pub mod Whole
 pub mod Examples
-pub mod PackOrder
-pub mod Unpacked
-pub mod PackedPaths

@@ -8,16 +8,17 @@ use Rattle.std.proofs.lemmas.Bool.{and_parts, ne_eqb}
 use Rattle.std.proofs.lemmas.Bool.Decides.{nat_tests}
 use Rattle.std.proofs.lemmas.List.{reverse-append, reverse-reverse}
 use Rattle.std.proofs.lemmas.Cmp.{tied_itself}
-use Rattle.schema.specs.declared.types.AttributeType.{AttributeType}
+use Rattle.values.specs.declared.types.AttributeType.{AttributeType}
 use Rattle.schema.specs.declared.code.Code.{Code}
 use Rattle.schema.specs.declared.code.Code.TheVariants.{InvalidDnSyntax, NoSuchObject}
 use Rattle.schema.specs.Each.{◌>>=◌, each}
-use Rattle.schema.specs.Types.{printed_name, name_of, type_at, is_known, is_oid, are_groups, is_name, is_name_byte, is_type_name, is_reserved, first_or}
+use Rattle.values.specs.Types.{printed_name, name_of, type_at, is_known, is_oid, are_groups, is_name, is_name_byte, is_type_name, is_reserved, first_or}
 use Rattle.schema.specs.Rdns.{Parts, IsRdn, step_of, is_plain_byte}
 use Rattle.schema.specs.Names.{Name, is_type_text}
 use Rattle.schema.specs.Rules.{Rules, IsRules, IsType, typed_part, typed_rdn, typed, below, located, written_part, name_text}
 use Rattle.schema.proofs.Named.{type_is, is_type_at}
-use Rattle.schema.specs.PathLaws.{step_total}
+use Rattle.paths.specs.PathLaws.{step_total}
+use Rattle.paths.proofs.Unpacked.{all_append}
 use Rattle.schema.proofs.Spelled.{IsNamePart, name_read}
 
 both : (a b : Bool) → a ≡ true → b ≡ true → (a && b) ≡ true
@@ -120,10 +121,6 @@ pub printed_isnt_reserved : (rules : Rules) (t : ℕ) → IsRules rules → is_k
 printed_isnt_reserved rules t h known = printed_free (type_at rules.types t) (is_type_at rules t h known)
 
 -- ---- from RDNs to their name and back
-
-pub all_append : {X : Type 0} (P : X → Type 0) (xs ys : List X) → AllByRecursion P xs → AllByRecursion P ys → AllByRecursion P (xs ++ ys)
-all_append P [] ys h g = g
-all_append P (x ∷ xs) ys h g = (h.0, all_append P xs ys h.1 g)
 
 pub all_reverse : {X : Type 0} (P : X → Type 0) (xs : List X) → AllByRecursion P xs → AllByRecursion P (reverse xs)
 all_reverse P [] h = tt

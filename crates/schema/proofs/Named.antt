@@ -5,8 +5,8 @@ use Rattle.std.specs.List.{list_any, position_or_len, AllByRecursion, IsDistinct
 use Rattle.std.specs.Str.{str_eq_ignore_ascii_case, str_to_ascii_lowercase}
 use Rattle.std.proofs.lemmas.Bool.{ltb-true, lt-ltb, or_parts, or_left}
 use Rattle.std.proofs.lemmas.Cmp.{nat_list_eq_equiv}
-use Rattle.schema.specs.declared.types.AttributeType.{AttributeType}
-use Rattle.schema.specs.Types.{names_of, is_named, type_of, printed_name, name_of, type_at, is_known, first_or}
+use Rattle.values.specs.declared.types.AttributeType.{AttributeType}
+use Rattle.values.specs.Types.{names_of, is_named, type_of, printed_name, name_of, type_at, is_known, first_or}
 use Rattle.schema.specs.Rules.{share_name, Rules, IsRules, IsType}
 
 same_word : (a : List ℕ) → str_eq_ignore_ascii_case a a ≡ true

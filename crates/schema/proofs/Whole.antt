@@ -4,11 +4,11 @@ use Rattle.std.specs.Prelude.{nat_lt, nat_le, codes, is_some}
 use Rattle.std.specs.List.{list_any, AllByRecursion, IsDistinct}
 use Rattle.std.proofs.lemmas.Bool.{or_parts, lt-ltb}
 use Rattle.std.proofs.lemmas.Bool.Decides.{nat_tests}
-use Rattle.schema.specs.declared.types.AttributeType.{AttributeType}
+use Rattle.values.specs.declared.types.AttributeType.{AttributeType}
 use Rattle.schema.specs.declared.code.Code.{Code}
 use Rattle.schema.specs.declared.conf_fault.ConfFaultKind.{ConfFaultKind}
 use Rattle.schema.specs.declared.conf_fault.ConfFaultKind.TheVariants.{Keyword, Form, Twice, Suffix, TooManyTypes}
-use Rattle.schema.specs.Types.{is_oid, is_type_name, are_groups}
+use Rattle.values.specs.Types.{is_oid, is_type_name, are_groups}
 use Rattle.schema.specs.Rdns.{Parts, IsRdn}
 use Rattle.schema.specs.Names.{Name, name_of_text}
 use Rattle.schema.specs.Rules.{IsRules, IsType, share_name}

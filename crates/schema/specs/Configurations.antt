@@ -7,10 +7,10 @@ use Rattle.std.specs.Str.Lines.{strip_carriage_return}
 use Rattle.schema.specs.declared.conf_fault.ConfFaultKind.{ConfFaultKind}
 use Rattle.schema.specs.declared.conf_fault.ConfFaultKind.TheVariants.{Keyword, Form, Twice, Suffix, TooManyTypes}
 use Rattle.schema.specs.declared.code.Code.{Code}
-use Rattle.schema.specs.declared.types.AttributeType.{AttributeType}
-use Rattle.schema.specs.declared.types.Syntax.TheVariants as syntaxes
-use Rattle.schema.specs.declared.types.Family.TheVariants as families
-use Rattle.schema.specs.Types.{is_oid, is_type_name}
+use Rattle.values.specs.declared.types.AttributeType.{AttributeType}
+use Rattle.values.specs.declared.types.Syntax.TheVariants as syntaxes
+use Rattle.values.specs.declared.types.Family.TheVariants as families
+use Rattle.values.specs.Types.{is_oid, is_type_name}
 use Rattle.schema.specs.Rdns.{Parts}
 use Rattle.schema.specs.Names.{Name, name_of_text}
 use Rattle.schema.specs.Rules.{Rules, typed, share_name}

@@ -3,8 +3,8 @@ use Rattle.std.specs.Prelude.{◌≡◌, Bool, true, false, Result, Ok, Err}
 use Rattle.schema.specs.declared.code.Code.{Code}
 use Rattle.schema.specs.declared.fault.PathFault.{PathFault}
 use Rattle.schema.specs.declared.fault.PathFault.TheVariants as faults
-use Rattle.schema.specs.declared.value.ValueFault.{ValueFault}
-use Rattle.schema.specs.declared.value.ValueFault.TheVariants as value_faults
+use Rattle.values.specs.declared.value.ValueFault.{ValueFault}
+use Rattle.values.specs.declared.value.ValueFault.TheVariants as value_faults
 
 abbrev pub Fails : {Y : Type 0} → PathFault → Result Y Code → Type 0
 Fails faults.OutOfMemory said = Unit {0}

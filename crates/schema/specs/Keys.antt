@@ -1,7 +1,7 @@
 -- RDNs beside what they come to.
 use Rattle.std.specs.Prelude.{◌≡◌, ◌<◌, List, map, reverse, length, Option, None, Some}
 use Rattle.std.specs.List.{AllByRecursion}
-use Rattle.schema.specs.declared.types.AttributeType.{AttributeType}
+use Rattle.values.specs.declared.types.AttributeType.{AttributeType}
 use Rattle.schema.specs.declared.locate.TypedName.{TypedName}
 use Rattle.schema.specs.Rdns.{Parts, step_of}
 

@@ -2,10 +2,10 @@
 use Rattle.std.specs.Prelude.{◌≡◌, ℕ, Bool, true, not, ◌&&◌, ◌||◌, ◌==◌, nat_eq, nat_lt, if◌then◌else◌, List, [], ◌∷◌, map, length, slice_index, ◌-◌}
 use Rattle.std.specs.List.{list_all, AllByRecursion, IsDistinct}
 use Rattle.std.specs.Char.{is_ascii_alphanumeric}
-use Rattle.schema.specs.declared.types.AttributeType.{AttributeType}
-use Rattle.schema.specs.Types.{is_known}
-use Rattle.schema.specs.Values.{is_valid_at, norm_at}
-use Rattle.schema.specs.Paths.{Pair, Step}
+use Rattle.values.specs.declared.types.AttributeType.{AttributeType}
+use Rattle.values.specs.Types.{is_known}
+use Rattle.values.specs.Values.{is_valid_at, norm_at}
+use Rattle.paths.specs.Paths.{Pair, Step}
 
 -- a type's number and a value as written
 abbrev pub Part : Type 0

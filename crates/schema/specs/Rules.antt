@@ -2,12 +2,12 @@
 use Rattle.std.specs.Prelude.{◌≡◌, ℕ, ◌≤◌, Bool, true, nat_lt, if◌then◌else◌, List, [], ◌∷◌, ◌++◌, map, length, reverse, Option, Some, None, Result, Ok, Err}
 use Rattle.std.specs.List.{list_any, list_all, AllByRecursion, IsDistinct}
 use Rattle.std.specs.Ordering.{is_eq}
-use Rattle.schema.specs.declared.types.AttributeType.{AttributeType}
+use Rattle.values.specs.declared.types.AttributeType.{AttributeType}
 use Rattle.schema.specs.declared.code.Code.{Code}
 use Rattle.schema.specs.declared.code.Code.TheVariants.{InvalidDnSyntax, NoSuchObject}
-use Rattle.schema.specs.Types.{names_of, is_named, type_of, name_of, is_oid, is_type_name}
-use Rattle.schema.specs.Values.{is_valid_at}
-use Rattle.schema.specs.Paths.{Step, Steps, step_cmp}
+use Rattle.values.specs.Types.{names_of, is_named, type_of, name_of, is_oid, is_type_name}
+use Rattle.values.specs.Values.{is_valid_at}
+use Rattle.paths.specs.Paths.{Step, Steps, step_cmp}
 use Rattle.schema.specs.Rdns.{Parts, step_of, IsRdn}
 use Rattle.schema.specs.Each.{◌>>=◌, each}
 use Rattle.schema.specs.Names.{Name, NamePart, name_of_text, text_of_name}

@@ -2,18 +2,16 @@
 
 ghost use Rattle.std.specs.Prelude.{◌≡◌, ◌<◌, ◌≤◌, IfSome, length, map, reverse};
 ghost use Rattle.schema.specs.Rdns.{step_of};
-ghost use Rattle.schema.specs.Types.{type_of, name_of, type_at};
-ghost use Rattle.schema.specs.Values.{is_valid_at, norm_at};
+ghost use Rattle.values.specs.Types.{type_of, name_of, type_at};
+ghost use Rattle.values.specs.Values.{is_valid_at, norm_at};
 ghost use Rattle.schema.specs.Gives.{Makes};
 
 use crate::locate::TypedName;
-use crate::path::{Path, Rdn};
-use crate::table::TypeTable;
-use crate::types::{AttributeType, TypeId};
-use crate::value::{Value, ValueFault, is_valid};
 use lists::Sequence;
+use paths::{Path, Rdn};
 use std::alloc::Global;
 use std::marker::Model;
+use values::{AttributeType, TypeId, TypeTable, Value, ValueFault, is_valid};
 
 /// The configuration of a directory. A contract sees it as its rules.
 #[derive(Debug, Drop)]

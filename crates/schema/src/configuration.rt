@@ -4,7 +4,7 @@ ghost use Rattle.std.specs.Prelude.{◌≡◌, ◌∷◌, ◌++◌, [], IfOk, If
 ghost use Rattle.std.specs.List.{list_any, slice_split};
 ghost use Rattle.std.specs.Option.{option_map};
 ghost use Rattle.std.specs.Str.Lines.{strip_carriage_return};
-ghost use Rattle.schema.specs.Types.{is_named};
+ghost use Rattle.values.specs.Types.{is_named};
 ghost use Rattle.schema.specs.Rules.{share_name};
 ghost use Rattle.schema.specs.Configurations.{is_line_feed, numbered, conf_lines, says_nothing, begins_blank, is_first, text_type, object_class, added, placed, type_line, types_of, without_end, is_quoted, unquoted, suffix_text, typed_name, suffix_at, suffix_line, suffix_of, rules_of, conf_of};
 ghost use Rattle.schema.specs.Names.{name_of_text};
@@ -18,11 +18,10 @@ use crate::definition::{definition_of, is_built_in};
 use crate::fault::PathFault;
 use crate::locate::{TypedName, typed};
 use crate::name::name_of_text;
-use crate::table::TypeTable;
-use crate::types::{AttributeType, Family, Syntax};
 use crate::word::{begins_with, skip, split_first_word};
 use lists::{Bytes, Sequence};
 use std::alloc::{AllocError, Global};
+use values::{AttributeType, Family, Syntax, TypeTable};
 
 // the text cut at its line feeds
 fn parts_of<'a>(alloc: Global, text: &'a [u8]) -> Result<Vec<&'a [u8]>, AllocError>

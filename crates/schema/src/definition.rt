@@ -3,7 +3,7 @@
 ghost use Rattle.std.specs.Prelude.{◌≡◌};
 ghost use Rattle.std.specs.Option.{option_map};
 ghost use Rattle.std.specs.List.{list_all};
-ghost use Rattle.schema.specs.Types.{is_name_byte, is_name, is_reserved, is_type_name, due_after, is_oid};
+ghost use Rattle.values.specs.Types.{is_name_byte, is_name, is_reserved, is_type_name, due_after, is_oid};
 ghost use Rattle.schema.specs.Configurations.{names_at, rule_at, syntax_at, ends_there, head_at, tail_ends, definition_of, is_built_in};
 
 use crate::word::{keyword_at, quoted_at, sign_at, skip, word_at};

@@ -1,14 +1,8 @@
-//! Laws of names, values and paths, for the crates above.
+//! Laws of names, for the crates above.
 
-ghost use Rattle.std.specs.Prelude.{◌≡◌, ℕ, ◌++◌, ◌∷◌, [], true, false, Ok, Some, nat_lt, List};
+ghost use Rattle.std.specs.Prelude.{◌≡◌, ℕ, true, false, Ok, Some, nat_lt, List};
 ghost use Rattle.std.specs.List.{list_all, AllByRecursion};
-ghost use Rattle.std.specs.FinMap as finite;
-ghost use Rattle.std.specs.Cmp.{IsTotalOrder};
-ghost use Rattle.std.specs.declared.cmp.Ordering.TheVariants.{Less};
-ghost use Rattle.schema.specs.declared.types.AttributeType.{AttributeType};
-ghost use Rattle.schema.specs.Types.{type_of, name_of, is_known, is_reserved};
-ghost use Rattle.schema.specs.Values.{is_valid_at};
-ghost use Rattle.schema.specs.Paths.{Step, Steps, path_cmp};
+ghost use Rattle.values.specs.Types.{type_of, name_of, is_known, is_reserved};
 ghost use Rattle.schema.specs.Rdns.{Parts, IsRdn};
 ghost use Rattle.schema.specs.Names.{is_type_text};
 ghost use Rattle.schema.specs.Rules.{Rules, IsRules, located, name_text, located_at};
@@ -30,16 +24,4 @@ pub fn written_names_are_located()
 /// The RDNs at which a name is located are good ones.
 pub fn located_rdns_are_good()
     ensures { (rules : Rules) (text : List ℕ) (rs : List Parts) → located rules text ≡ located_at rs → AllByRecursion (IsRdn rules.types) rs }
-{}
-
-/// Valid values are bytes.
-pub fn valid_values_are_bytes()
-    ensures { (types : List AttributeType) (t : ℕ) (value : List ℕ) → is_valid_at types t value ≡ true → list_all (λ b. nat_lt b 256) value ≡ true }
-{}
-
-/// Paths are in a total order, in which each comes after its parent, and only equal ones tie.
-pub fn order_of_paths()
-    ensures total { IsTotalOrder path_cmp }
-    ensures exact { finite.IsAntisymmetric path_cmp }
-    ensures parent_first { (p : Steps) (s : Step) → path_cmp p (p ++ s ∷ []) ≡ Less }
 {}

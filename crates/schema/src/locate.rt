@@ -1,8 +1,7 @@
 //! Where a name stands under a configuration.
 
-ghost use Rattle.std.specs.Prelude.{◌≡◌, ◌<◌, ◌∷◌, ◌++◌, [], ◌≤◌, IfOk, IfSome, OnOk, IsTrue, map, reverse, length};
+ghost use Rattle.std.specs.Prelude.{◌≡◌, ◌<◌, ◌∷◌, ◌++◌, [], ◌≤◌, IfOk, IfSome, IsTrue, map, reverse, length};
 ghost use Rattle.std.specs.List.{AllByRecursion};
-ghost use Rattle.schema.specs.Packed.{step_code};
 ghost use Rattle.schema.specs.Rdns.{step_of};
 ghost use Rattle.schema.specs.Keys.{IsOne, KeysFit};
 ghost use Rattle.schema.specs.Rules.{typed_rdn, typed, below, located, path_of};
@@ -12,17 +11,10 @@ use crate::code::Code;
 use crate::conf::Conf;
 use crate::fault::PathFault;
 use crate::name::name_of_text;
-use crate::normal::normal_form;
-use crate::packing::push_single;
-use crate::path::{Path, Rdn};
-use crate::table::TypeTable;
-use crate::types::TypeId;
-use crate::value::is_valid;
 use lists::{Bytes, Sequence};
+use paths::{Draft, Path, Rdn};
 use std::alloc::{AllocError, Global};
-
-// the packed path of a name seldom takes more bytes
-const USUAL_LEN: usize = 64;
+use values::{TypeId, TypeTable, is_valid, normal_form};
 
 /// Where a name stands: its path, and its RDNs below the suffix, from the suffix down.
 #[derive(Debug, Drop)]
@@ -60,21 +52,16 @@ fn typed_rdn(alloc: Global, types: &TypeTable, kind: &[u8], value: &[u8]) -> Res
     Ok(one_part(alloc, t, Bytes::from_slice(alloc, value)?)?)
 }
 
-// puts what an RDN comes to behind the others
+// goes down by what an RDN comes to
 #[tactic(auto, unfolding(crate::specs::Rdns::step_of, crate::specs::Rdns::put_pair))]
-fn push_rdn(
-    alloc: Global,
-    types: &TypeTable,
-    rdn: &Rdn,
-    out: &mut Vec<u8>,
-) -> Result<(), AllocError>
+fn step_down(alloc: Global, types: &TypeTable, path: Draft, rdn: &Rdn) -> Result<Draft, AllocError>
     requires { IsOne types.now rdn.now }
-    ensures { OnOk result (out.new.items ≡ out.old.items ++ step_code (step_of types.now rdn.now)) }
+    ensures { IfOk result (λ d. d ≡ path ++ step_of types.now rdn.now ∷ []) }
 {
     match rdn.parts() {
         [(t, value)] => {
             let norm = normal_form(alloc, types.at(*t).family, value.as_slice())?;
-            push_single(out, *t, norm.as_slice())
+            path.with(*t, norm.as_slice())
         }
         _ => unreachable!(),
     }
@@ -85,11 +72,11 @@ fn path_of(alloc: Global, types: &TypeTable, rdns: &[Rdn]) -> Result<Path, Alloc
     requires { AllByRecursion (IsOne types.now) rdns.now }
     ensures { IfOk result (λ p. p ≡ map (step_of types.now) (reverse rdns.now)) }
 {
-    let mut bytes = Vec::with_capacity(alloc, USUAL_LEN)?;
+    let mut path = Draft::new(alloc)?;
     for i in (0..rdns.len()).rev() {
-        push_rdn(alloc, types, &rdns[i], &mut bytes)?;
+        path = step_down(alloc, types, path, &rdns[i])?;
     }
-    Ok(Path::from_bytes(bytes))
+    Ok(path.into_path())
 }
 
 fn typed_rdns(

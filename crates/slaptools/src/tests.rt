@@ -6,6 +6,7 @@ use std::process::Abort;
 use std::test::Fail;
 
 mod faults;
+mod many;
 mod rows;
 
 /// The configuration of the rows: `dc`, `cn` and `description`, below `dc=ex`.

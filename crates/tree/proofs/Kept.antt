@@ -12,7 +12,7 @@ use Rattle.std.proofs.lemmas.Bool.{and_cases, not-false, leb-false}
 use Rattle.ldif.specs.Attrs.{Attr}
 use Rattle.schema.specs.declared.code.Code.{Code}
 use Rattle.schema.specs.declared.code.Code.TheVariants.{EntryAlreadyExists, NoSuchObject, ObjectClassViolation, ConstraintViolation, AdminLimitExceeded}
-use Rattle.schema.specs.Paths.{Step, Steps, path_cmp, parent_of, is_root}
+use Rattle.paths.specs.Paths.{Step, Steps, path_cmp, parent_of, is_root}
 use Rattle.schema.specs.Rdns.{Parts, IsRdn, step_of}
 use Rattle.schema.specs.Rules.{Rules, IsRules, root_rdn, first_rdn, located, located_at, path_of}
 use Rattle.schema.specs.Each.{◌>>=◌}

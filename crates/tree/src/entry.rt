@@ -2,7 +2,7 @@
 
 ghost use Rattle.std.specs.Prelude.{◌≡◌};
 
-use crate::values::Values;
+use crate::attribute_values::Values;
 use indexmap::IndexMap;
 use indexmap::map::Iter;
 use schema::{Rdn, TypeId};

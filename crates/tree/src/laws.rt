@@ -4,7 +4,7 @@ ghost use Rattle.std.specs.Prelude.{◌≡◌, Some, Ok, List, ℕ};
 ghost use Rattle.std.specs.FinMap as finite;
 ghost use Rattle.ldif.specs.Attrs.{Attr};
 ghost use Rattle.ldif.specs.Contents.{IsWritten};
-ghost use Rattle.schema.specs.Paths.{Steps};
+ghost use Rattle.paths.specs.Paths.{Steps};
 ghost use Rattle.schema.specs.Rules.{Rules, IsRules};
 ghost use Rattle.tree.specs.Entries.{Facts};
 ghost use Rattle.tree.specs.Directories.{Entries, IsDirectory, content_at};

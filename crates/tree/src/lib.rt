@@ -1,6 +1,7 @@
 //! Entries, the tree of a directory, and what a record does to it.
 #![tactic(auto)]
 
+mod attribute_values;
 mod attributes;
 mod entry;
 mod laws;
@@ -13,8 +14,8 @@ mod refusal;
 #[cfg(test)]
 mod tests;
 mod tree;
-mod values;
 
+pub use attribute_values::Values;
 pub use entry::Entry;
 pub use laws::{
     adding_keeps_a_directory, an_entry_adds_itself, empty_is_a_directory, own_content_is_written,
@@ -25,4 +26,3 @@ pub use plans::Plan;
 pub use range::Below;
 pub use refusal::Refusal;
 pub use tree::Tree;
-pub use values::Values;

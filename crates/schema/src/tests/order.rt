@@ -1,8 +1,7 @@
 //! Paths in their order, and one above another.
 
 use crate::tests::shown::{CONF, conf_of, rdns_shown, steps_shown};
-use crate::{Conf, Path, PathFault, RdnKey};
-use lists::{Bytes, Sequence};
+use crate::{Conf, Path, PathFault};
 use std::alloc::{AllocError, Global};
 use std::cmp::Ordering;
 use std::process::Abort;
@@ -98,76 +97,6 @@ fn paths_above_others(rt: HostRuntime) -> Result<(), Fail> {
     Ok(())
 }
 
-type Pairs<'a> = &'a [(&'a [u8], &'a [u8])];
-
-// the key of an RDN with these types and normal values
-fn key_of(alloc: Global, conf: &Conf, pairs: Pairs) -> Result<RdnKey, Fail> {
-    let mut key = Sequence::new(alloc);
-    for (name, value) in pairs {
-        let Some(t) = conf.type_of(name) else {
-            return Err("no such type")?;
-        };
-        key.push((t, Bytes::from_slice(alloc, value)?))?;
-    }
-    Ok(RdnKey::new(key))
-}
-
-// Each byte of a value, and values that begin one another, as the first of two steps, alone, and beside a second pair.
-const VALUES_ASCENDING: [&[u8]; 25] = [
-    b"",
-    b"\0",
-    b"\0\0",
-    b"\0\x01",
-    b"\0\xff",
-    b"\x01",
-    b"\x01\x03",
-    b"\x02",
-    b"\x02\x02",
-    b"\x02\x03",
-    b"\x03",
-    b"\x04",
-    b"a",
-    b"a\0",
-    b"aa",
-    b"b",
-    b"\x7f",
-    b"\x80",
-    b"\xfc",
-    b"\xfc\xff",
-    b"\xfd",
-    b"\xfd\0",
-    b"\xfe",
-    b"\xff",
-    b"\xff\xff",
-];
-
-fn push_paths(alloc: Global, conf: &Conf, paths: &mut Vec<Path>, value: &[u8]) -> Result<(), Fail> {
-    let mut path = Path::root(alloc);
-    path.push(key_of(alloc, conf, &[(b"dc", value)])?)?;
-    paths.push(path.copy(alloc)?)?;
-    path.push(key_of(alloc, conf, &[(b"objectClass", b"")])?)?;
-    paths.push(path)?;
-    let mut path = Path::root(alloc);
-    path.push(key_of(alloc, conf, &[(b"dc", value), (b"objectClass", b"")])?)?;
-    paths.push(path)?;
-    Ok(())
-}
-
-#[test]
-fn paths_of_any_bytes_are_in_order(rt: HostRuntime) -> Result<(), Fail> {
-    let conf = conf_of(rt.alloc(), CONF)?;
-    let mut paths = Vec::new(rt.alloc());
-    paths.push(Path::root(rt.alloc()))?;
-    for value in VALUES_ASCENDING {
-        push_paths(rt.alloc(), &conf, &mut paths, value)?;
-    }
-    assert_eq!(rt; paths.len(), 76);
-    for (i, path) in paths.iter().enumerate() {
-        compare_one(&rt, &paths, i, path);
-    }
-    Ok(())
-}
-
 const TYPES: u16 = 260;
 
 // a configuration of `t1`, `t2` and so on
@@ -196,26 +125,6 @@ fn paths_are_in_the_order_of_many_types(rt: HostRuntime) -> Result<(), Fail> {
         assert!(rt; last < path, "{i}");
         last = path;
     }
-    Ok(())
-}
-
-#[test]
-fn steps_up_and_down(rt: HostRuntime) -> Result<(), Fail> {
-    let conf = conf_of(rt.alloc(), CONF)?;
-    let mut path = Path::root(rt.alloc());
-    assert!(rt; path.is_root());
-    assert_eq!(rt; path.len(), 0);
-    assert!(rt; path.parent(rt.alloc())?.is_root());
-    path.push(key_of(rt.alloc(), &conf, &[(b"cn", b"a")])?)?;
-    path.push(key_of(rt.alloc(), &conf, &[(b"cn", b"b")])?)?;
-    let low = path_of(rt.alloc(), &conf, "cn=b,cn=a,dc=ex")?;
-    assert!(rt; path == low);
-    assert!(rt; !path.is_root());
-    assert_eq!(rt; path.len(), 2);
-    assert!(rt; path.copy(rt.alloc())? == low);
-    let parent = path.parent(rt.alloc())?;
-    assert!(rt; parent == path_of(rt.alloc(), &conf, "cn=a,dc=ex")?);
-    assert!(rt; parent < path);
     Ok(())
 }
 

@@ -1,6 +1,6 @@
 use Rattle.std.proofs.Common.{◌≡◌, ℕ, List, ◌++◌, sym, ap, ◌∙◌, subst}
 use Rattle.std.specs.List.{AllByRecursion}
-use Rattle.schema.specs.Types.{name_of}
+use Rattle.values.specs.Types.{name_of}
 use Rattle.tree.specs.Stored.{StoredAttribute, IsMadeAttribute}
 use Rattle.directory.specs.Dumps.{values_text, attributes_text}
 use Rattle.directory.proofs.EntryText.{first_attribute, no_attribute}

@@ -1,6 +1,6 @@
 use Rattle.std.proofs.Common.{List, ◌∷◌, [], ◌++◌, map, ap, ◌∙◌}
 use Rattle.std.proofs.lemmas.Result.{err_from_is_err_and}
-use Rattle.schema.specs.declared.types.AttributeType.{AttributeType}
+use Rattle.values.specs.declared.types.AttributeType.{AttributeType}
 use Rattle.schema.specs.Configurations.{types_of, type_line, object_class}
 use Rattle.schema.proofs.Through.{goes_on, ends, is_done}
 use Rattle.schema.proofs.configuration.types_of.Goals as goal

@@ -1,5 +1,5 @@
 use Rattle.std.proofs.Common.{true, sym}
-use Rattle.schema.specs.Types.{are_groups}
+use Rattle.values.specs.Types.{are_groups}
 use Rattle.schema.proofs.Groups.{goes_on, stops, is_over}
 use Rattle.schema.proofs.definition.is_oid.Goals as goal
 

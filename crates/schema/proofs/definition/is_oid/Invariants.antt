@@ -1,5 +1,5 @@
 use Rattle.std.proofs.Common.{◌≡◌, drop, true}
-use Rattle.schema.specs.Types.{are_groups}
+use Rattle.values.specs.Types.{are_groups}
 use Rattle.schema.proofs.definition.is_oid.Given as goal
 
 abbrev pub invariant-loop-b : goal.invariant-loop-b

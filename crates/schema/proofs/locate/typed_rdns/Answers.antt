@@ -5,7 +5,7 @@ use Rattle.schema.specs.Each.{each}
 use Rattle.schema.specs.Keys.{IsOne}
 use Rattle.schema.specs.Rdns.{Parts}
 use Rattle.schema.specs.Rules.{typed_rdn}
-use Rattle.schema.proofs.Locating.{all_append}
+use Rattle.paths.proofs.Unpacked.{all_append}
 use Rattle.schema.proofs.Loop.{with_front, nothing_front, goes_on, ends, is_done}
 use Rattle.schema.proofs.locate.typed_rdns.Goals as goal
 

@@ -3,7 +3,7 @@ use Rattle.std.specs.FinMap as finite
 use Rattle.std.specs.List.{AllByRecursion}
 use Rattle.std.proofs.lemmas.List.{append-nil}
 use Rattle.std.proofs.lemmas.Result.{err_from_is_err_and}
-use Rattle.schema.specs.Paths.{Steps, begins}
+use Rattle.paths.specs.Paths.{Steps, begins}
 use Rattle.tree.specs.Directories.{IsDirectory}
 use Rattle.tree.specs.Stored.{Stored, IsMade}
 use Rattle.tree.specs.Trees.{Directory, seen_entries}

@@ -1,7 +1,7 @@
 use Rattle.std.proofs.Common.{◌≡◌, ℕ, ◌≤◌, ◌-◌, List, ap, sym, ◌∙◌, length, reverse, map, take, drop, Result, Ok, arith}
 use Rattle.std.proofs.lemmas.List.{drop-map, length-map, length-reverse}
 use Rattle.schema.specs.declared.code.Code.{Code}
-use Rattle.schema.specs.Paths.{Steps, begins}
+use Rattle.paths.specs.Paths.{Steps, begins}
 use Rattle.schema.specs.Rdns.{Parts, step_of}
 use Rattle.schema.proofs.Below.{isnt_below, is_below, reversed_front, begins_long}
 use Rattle.schema.proofs.conf.Conf.below_suffix.Goals as goal

@@ -1,0 +1,4 @@
+pub mod Orders
+pub mod PackOrder
+pub mod Unpacked
+pub mod PackedPaths

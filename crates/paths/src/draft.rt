@@ -1,0 +1,56 @@
+//! Paths that are put together.
+
+ghost use Rattle.std.specs.Prelude.{◌≡◌, ◌++◌, ◌∷◌, [], IfOk};
+
+use crate::packing::push_single;
+use crate::path::Path;
+use std::alloc::{AllocError, Global};
+use std::marker::Model;
+use values::TypeId;
+
+// most paths take fewer bytes
+const USUAL_LEN: usize = 64;
+
+/// A path that is put together, step by step. A contract sees it as the list of its steps.
+#[derive(Drop)]
+pub struct Draft {
+    bytes: Vec<u8>,
+}
+
+impl Model for Draft {
+    ghost use Rattle.std.specs.Prelude.{List, ℕ};
+    ghost use Rattle.paths.specs.Packed.{unpack, IsPacked};
+
+    ghost Value = { List (List (ℕ × List ℕ)) };
+
+    ghost view = { λ d. unpack d.bytes.items };
+
+    ghost invariant = { λ d. IsPacked d.bytes.items };
+}
+
+impl Draft {
+    /// No step yet.
+    pub fn new(alloc: Global) -> Result<Draft, AllocError>
+        ensures { IfOk result (λ d. d ≡ []) }
+    {
+        Ok(Draft {
+            bytes: Vec::with_capacity(alloc, USUAL_LEN)?,
+        })
+    }
+
+    /// One step more, of one pair of a type and a normal value.
+    pub fn with(self, t: TypeId, norm: &[u8]) -> Result<Draft, AllocError>
+        ensures { IfOk result (λ d. d ≡ self ++ ((t, norm.now) ∷ []) ∷ []) }
+    {
+        let mut bytes = self.bytes;
+        push_single(&mut bytes, t, norm)?;
+        Ok(Draft { bytes })
+    }
+
+    /// The path of these steps.
+    pub fn into_path(self) -> Path
+        ensures { result ≡ self }
+    {
+        Path::from_bytes(self.bytes)
+    }
+}

@@ -1,7 +1,0 @@
-use Rattle.std.proofs.Common.{◌≡◌, drop}
-use Rattle.std.specs.List.{fold}
-use Rattle.schema.specs.Tables.{key_with, key_of}
-use Rattle.schema.proofs.name_index.key_of.Given as goal
-
-abbrev pub invariant-loop-b : goal.invariant-loop-b
-invariant-loop-b l = fold key_with l.key (drop l.b-index l.name) ≡ key_of l.name

@@ -1,6 +1,0 @@
-use Rattle.std.proofs.Common.{rules}
-use Rattle.schema.proofs.Tables.{is_known}
-use Rattle.schema.proofs.table.TypeTable.type_of.Goals as goal
-
-pub returns-clause-known : goal.returns-clause-known
-returns-clause-known c = is_known c.args.self.now c.args.name.now c.get.result (search rules)

@@ -1,0 +1,5 @@
+pub mod Types
+pub mod Tables
+pub mod Values
+pub mod Gaps
+pub mod Joined

@@ -1,0 +1,111 @@
+//! Attribute types that are found by their names.
+
+ghost use Rattle.std.specs.Prelude.{◌≡◌, ◌<◌, ◌≤◌, IfOk, IfSome, OnOk, ℕ, List, length};
+ghost use Rattle.std.specs.List.{list_any};
+ghost use Rattle.std.specs.Str.{str_eq_ignore_ascii_case};
+ghost use Rattle.values.specs.Tables.{FindsTypes, number_of, or_if};
+ghost use Rattle.values.specs.Types.{is_named, type_of, type_at};
+
+use crate::name_index::NameIndex;
+use crate::types::{AttributeType, TypeId, type_at};
+use lists::{Bytes, Sequence};
+use std::alloc::{AllocError, Global};
+use std::marker::Model;
+
+/// Attribute types, each at its number. A contract sees them as a list.
+#[derive(Debug, Drop)]
+pub struct TypeTable {
+    types: Sequence<AttributeType>,
+    // the number of the first type with a name or OID
+    numbers: NameIndex,
+}
+
+impl Model for TypeTable {
+    ghost use Rattle.std.specs.Prelude.{◌≤◌, List, length};
+    ghost use Rattle.values.specs.declared.types.AttributeType.{AttributeType};
+    ghost use Rattle.values.specs.Tables.{FindsTypes};
+
+    ghost Value = { List AttributeType };
+
+    ghost view = { λ t. t.types };
+
+    ghost invariant = { λ t. (length t.types ≤ 65535) × FindsTypes t.numbers t.types };
+}
+
+fn add_names(
+    alloc: Global,
+    numbers: &mut NameIndex,
+    names: &[Bytes],
+    t: TypeId,
+) -> Result<(), AllocError>
+    ensures { OnOk result ((text : List ℕ) → number_of numbers.new text ≡ or_if (number_of numbers.old text) (list_any (λ n. str_eq_ignore_ascii_case n text) names.now) t) }
+{
+    for name in names {
+        numbers.add(alloc, name.as_slice(), t)?;
+    }
+    Ok(())
+}
+
+// puts a type's number at its OID and names, where none is there
+fn add_type(
+    alloc: Global,
+    numbers: &mut NameIndex,
+    new: &AttributeType,
+    t: TypeId,
+) -> Result<(), AllocError>
+    ensures { OnOk result ((text : List ℕ) → number_of numbers.new text ≡ or_if (number_of numbers.old text) (is_named text new.now) t) }
+{
+    numbers.add(alloc, new.oid.as_slice(), t)?;
+    add_names(alloc, numbers, new.names.as_slice(), t)
+}
+
+fn numbers_of(alloc: Global, types: &[AttributeType]) -> Result<NameIndex, AllocError>
+    requires { length types.now ≤ 65535 }
+    ensures { IfOk result (λ x. FindsTypes x types.now) }
+{
+    // most types have one name, and an OID
+    let count = (2 * types.len()).next_power_of_two();
+    let mut numbers = NameIndex::with_buckets(alloc, count)?;
+    for i in 0..types.len() {
+        let t = TypeId::from_number(i as u16);
+        add_type(alloc, &mut numbers, &types[i], t)?;
+    }
+    Ok(numbers)
+}
+
+impl TypeTable {
+    /// The types of this list, each at its place.
+    pub fn new(alloc: Global, types: Vec<AttributeType>) -> Result<TypeTable, AllocError>
+        requires { length types.items ≤ 65535 }
+        ensures { IfOk result (λ t. t ≡ types.items) }
+    {
+        let numbers = numbers_of(alloc, &types)?;
+        Ok(TypeTable {
+            types: Sequence::from_vec(types),
+            numbers,
+        })
+    }
+
+    /// The types, each at its number.
+    pub fn as_slice(&self) -> &[AttributeType]
+        ensures { result.now ≡ self.now }
+    {
+        self.types.as_slice()
+    }
+
+    /// The number of the first type with this name or OID, without ASCII case.
+    pub fn type_of(&self, name: &[u8]) -> Option<TypeId>
+        ensures place { result ≡ type_of self.now name.now }
+        ensures known { IfSome result (λ t. t < length self.now) }
+    {
+        self.numbers.get(name)
+    }
+
+    /// The type of a number.
+    pub fn at(&self, t: TypeId) -> &AttributeType
+        requires { t < length self.now }
+        ensures { result.now ≡ type_at self.now t }
+    {
+        type_at(self.as_slice(), t)
+    }
+}

@@ -1,0 +1,109 @@
+//! Attribute types.
+
+ghost use Rattle.std.specs.Prelude.{◌≡◌, ◌<◌, length};
+ghost use Rattle.std.specs.List.{list_any};
+ghost use Rattle.std.specs.Str.{str_eq_ignore_ascii_case};
+ghost use Rattle.values.specs.Types.{is_named, printed_name, type_at};
+
+use lists::{Bytes, Sequence};
+use std::marker::Model;
+
+/// The number of an attribute type in one configuration, 0 for `objectClass`. A contract sees it as that number.
+#[derive(Clone, Copy, Debug, PartialEq, Eq, PartialOrd, Ord, Hash)]
+pub struct TypeId {
+    number: u16,
+}
+
+impl Model for TypeId {
+    ghost use Rattle.std.specs.Prelude.{ℕ};
+
+    ghost Value = { ℕ };
+
+    ghost view = { λ t. t.number };
+
+    ghost inverse = { λ n. record { number = n } };
+}
+
+impl TypeId {
+    /// The type of `objectClass`, which every configuration has.
+    pub const OBJECT_CLASS: TypeId = TypeId { number: 0 };
+
+    /// The type of this number.
+    pub fn from_number(number: u16) -> TypeId
+        ensures { result ≡ number }
+    {
+        TypeId { number }
+    }
+
+    /// Its number.
+    pub fn number(self) -> u16
+        ensures { result ≡ self }
+    {
+        self.number
+    }
+}
+
+/// Which values an attribute type takes (RFC 4517, 3.3).
+#[derive(Clone, Copy, Debug, PartialEq, Eq)]
+pub enum Syntax {
+    /// Directory String and its kin: UTF-8, not empty.
+    Text,
+    /// OID: ASCII without spaces, not empty.
+    Oid,
+}
+
+/// How two values of an attribute type are compared (RFC 4517, 4.2).
+#[derive(Clone, Copy, Debug, PartialEq, Eq)]
+pub enum Family {
+    /// caseIgnoreMatch
+    Ignore,
+    /// objectIdentifierMatch
+    Oid,
+}
+
+/// An attribute type (RFC 4512, 4.1.2).
+#[derive(Debug, Drop)]
+pub struct AttributeType {
+    /// Its numeric OID.
+    pub oid: Bytes,
+    /// Its names, the first of which it is printed by.
+    pub names: Sequence<Bytes>,
+    pub syntax: Syntax,
+    pub family: Family,
+    /// Whether an entry has at most one value of it.
+    pub single_value: bool,
+}
+
+fn has_name(names: &[Bytes], text: &[u8]) -> bool
+    ensures { result ≡ list_any (λ n. str_eq_ignore_ascii_case n text.now) names.now }
+{
+    names
+        .iter()
+        .any(|name| name.as_slice().eq_ignore_ascii_case(text))
+}
+
+impl AttributeType {
+    /// Whether this is one of its names or its OID, without ASCII case.
+    pub fn is_named(&self, text: &[u8]) -> bool
+        ensures { result ≡ is_named text.now self.now }
+    {
+        self.oid.as_slice().eq_ignore_ascii_case(text) || has_name(self.names.as_slice(), text)
+    }
+
+    /// Its first name, or its OID where it has none.
+    pub fn printed_name(&self) -> &[u8]
+        ensures { result.now ≡ printed_name self.now }
+    {
+        match self.names.as_slice() {
+            [first, ..] => first.as_slice(),
+            [] => self.oid.as_slice(),
+        }
+    }
+}
+
+pub(crate) fn type_at(types: &[AttributeType], t: TypeId) -> &AttributeType
+    requires { t < length types.now }
+    ensures { result.now ≡ type_at types.now t }
+{
+    &types[t.number() as usize]
+}

@@ -1,0 +1,177 @@
+//! Values of attribute types.
+
+ghost use Rattle.std.specs.Prelude.{◌≡◌, ◌↔◌, ◌≢◌, ◌++◌, [], false, IfOk, Err};
+ghost use Rattle.std.specs.List.{list_all};
+ghost use Rattle.std.specs.Str.{is_utf8};
+ghost use Rattle.values.specs.Values.{is_valid, is_oid_byte, lower, norm};
+
+use crate::normal::{has_capital, is_tidy_under, normal_form};
+use crate::types::{Family, Syntax};
+use lists::Bytes;
+use std::alloc::{AllocError, AllocFailed, Global};
+use std::default::MadeWith;
+use std::marker::Model;
+use thiserror::Error;
+
+// twice as many bytes need no allocation
+const FEW: usize = 8;
+
+/// A value as written, and its normal form under the equality rule of its type. A contract sees the two.
+#[derive(Debug, Drop)]
+pub struct Value {
+    // the normal form, and behind it the value as written, unless that is the same
+    bytes: Bytes,
+    norm_len: usize,
+}
+
+impl Model for Value {
+    ghost use Rattle.std.specs.Prelude.{◌≤◌, length, take};
+    ghost use Rattle.values.specs.Values as values;
+    ghost use Rattle.values.specs.Joined.{raw_in};
+
+    ghost Value = { values.Value };
+
+    ghost coded = { values.value_code };
+
+    ghost view = { λ v. record { raw = raw_in v.norm_len v.bytes; norm = take v.norm_len v.bytes } };
+
+    ghost invariant = { λ v. v.norm_len ≤ length v.bytes };
+}
+
+impl MadeWith<Global> for Value {
+    fn made_with(alloc: Global) -> Value {
+        Value {
+            bytes: Bytes::from_vec(Vec::new(alloc)),
+            norm_len: 0,
+        }
+    }
+}
+
+// a value in ASCII lower case, and behind it as written
+fn lower_and_raw(alloc: Global, raw: &[u8]) -> Result<Bytes, AllocError>
+    ensures { IfOk result (λ b. b ≡ lower raw.now ++ raw.now) }
+{
+    if raw.len() <= FEW {
+        let mut few = Bytes::from_slice(alloc, raw)?;
+        few.make_ascii_lowercase();
+        few.extend_from_slice(raw)?;
+        return Ok(few);
+    }
+    let mut many = Vec::with_capacity(alloc, 2 * raw.len())?;
+    many.extend_from_slice(raw)?;
+    many.make_ascii_lowercase();
+    many.extend_from_slice(raw)?;
+    Ok(Bytes::from_vec(many))
+}
+
+impl Value {
+    // The value that is written so and has this normal form.
+    fn joined(norm: Bytes, raw: &[u8]) -> Result<Value, AllocError>
+        requires { raw.now ≢ [] }
+        ensures { IfOk result (λ v. v ≡ record { raw = raw.now; norm = norm }) }
+    {
+        let norm_len = norm.len();
+        let mut bytes = norm;
+        if bytes.as_slice() == raw {
+            return Ok(Value { bytes, norm_len });
+        }
+        bytes.extend_from_slice(raw)?;
+        Ok(Value { bytes, norm_len })
+    }
+
+    /// The value that is written so, where its type is of this family.
+    pub fn new(alloc: Global, family: Family, raw: &[u8]) -> Result<Value, AllocError>
+        requires { raw.now ≢ [] }
+        ensures { IfOk result (λ v. v ≡ record { raw = raw.now; norm = norm family raw.now }) }
+    {
+        if !is_tidy_under(family, raw) {
+            return Value::joined(normal_form(alloc, family, raw)?, raw);
+        }
+        let bytes = if has_capital(raw) {
+            lower_and_raw(alloc, raw)?
+        } else {
+            Bytes::from_slice(alloc, raw)?
+        };
+        Ok(Value {
+            bytes,
+            norm_len: raw.len(),
+        })
+    }
+
+    /// The value as written.
+    pub fn raw(&self) -> &[u8]
+        ensures { result.now ≡ self.now.raw }
+    {
+        let bytes = self.bytes.as_slice();
+        if bytes.len() == self.norm_len {
+            bytes
+        } else {
+            &bytes[self.norm_len..]
+        }
+    }
+
+    /// Its normal form.
+    pub fn norm(&self) -> &[u8]
+        ensures { result.now ≡ self.now.norm }
+    {
+        &self.bytes.as_slice()[..self.norm_len]
+    }
+}
+
+/// Why bytes are no value of a type.
+#[derive(Debug, Drop, Error)]
+pub enum ValueFault {
+    /// The type's syntax has no such value.
+    #[error("the value is not valid for the type's syntax")]
+    Invalid,
+    #[error("out of memory")]
+    OutOfMemory,
+}
+
+impl From<AllocError> for ValueFault {
+    ghost use Rattle.std.specs.Prelude.{◌≡◌};
+    ghost use Rattle.values.specs.declared.value.ValueFault.TheVariants.{OutOfMemory};
+
+    ghost from_gives = { λ _ e. e ≡ OutOfMemory };
+
+    fn from(_: AllocError) -> ValueFault {
+        ValueFault::OutOfMemory
+    }
+}
+
+impl<T: Drop> From<AllocFailed<T>> for ValueFault {
+    ghost use Rattle.std.specs.Prelude.{◌≡◌};
+    ghost use Rattle.values.specs.declared.value.ValueFault.TheVariants.{OutOfMemory};
+
+    ghost from_gives = { λ _ e. e ≡ OutOfMemory };
+
+    fn from(_: AllocFailed<T>) -> ValueFault {
+        ValueFault::OutOfMemory
+    }
+}
+
+fn is_text(bytes: &[u8]) -> bool
+    ensures { result ≡ is_utf8 bytes.now }
+{
+    str::from_utf8(bytes).is_ok()
+}
+
+fn are_oid_bytes(bytes: &[u8]) -> bool
+    ensures { result ≡ list_all is_oid_byte bytes.now }
+{
+    let mut fit = true;
+    for b in bytes {
+        fit &= *b < 128 && *b != b' ';
+    }
+    fit
+}
+
+/// Whether a syntax has this value.
+pub fn is_valid(syntax: Syntax, bytes: &[u8]) -> bool
+    ensures { result ≡ is_valid syntax bytes.now }
+{
+    match syntax {
+        Syntax::Text => !bytes.is_empty() && is_text(bytes),
+        Syntax::Oid => !bytes.is_empty() && are_oid_bytes(bytes),
+    }
+}
