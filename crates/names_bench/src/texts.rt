@@ -3,7 +3,7 @@
 use std::alloc::{AllocError, Global};
 
 #[derive(Clone, Copy)]
-pub struct Text {
+pub(crate) struct Text {
     pub label: &'static str,
     start: &'static str,
     again: &'static str,
@@ -13,14 +13,14 @@ pub struct Text {
 
 impl Text {
     /// How many bytes the start has, and the rest that many times.
-    pub fn len(&self, times: usize) -> usize {
+    pub(crate) fn len(&self, times: usize) -> usize {
         self.start
             .len()
             .saturating_add(self.again.len().saturating_mul(times))
     }
 
     /// The start, and the rest that many times.
-    pub fn spelled(&self, alloc: Global, times: usize) -> Result<String, AllocError> {
+    pub(crate) fn spelled(&self, alloc: Global, times: usize) -> Result<String, AllocError> {
         let mut text = String::from_str(alloc, self.start)?;
         for _ in 0..times {
             text.push_str(self.again)?;
@@ -46,7 +46,7 @@ const fn many(
 }
 
 /// Names of 10,000 and 100,000 RDNs, and values of 100,000 and 1,000,000 bytes.
-pub fn texts() -> [Text; 8] {
+pub(crate) fn texts() -> [Text; 8] {
     [
         many("short RDNs", "a=bcd", ",a=bcd", 9_999, 99_999),
         many(

@@ -12,7 +12,7 @@ const BYTES: usize = 50_000_000;
 
 /// The best times in picoseconds a byte, and the hash of the bytes.
 #[derive(Clone, Copy)]
-pub struct Times {
+pub(crate) struct Times {
     pub plain: u64,
     pub read: u64,
     pub hash: u64,
@@ -31,14 +31,14 @@ impl Times {
 
 /// The times of a text in its two sizes.
 #[derive(Clone, Copy)]
-pub struct Sizes {
+pub(crate) struct Sizes {
     pub small: Times,
     pub large: Times,
 }
 
 impl Sizes {
     /// The better of each.
-    pub fn best(self, other: Sizes) -> Sizes {
+    pub(crate) fn best(self, other: Sizes) -> Sizes {
         Sizes {
             small: self.small.best(other.small),
             large: self.large.best(other.large),
@@ -81,7 +81,7 @@ fn time(clock: &impl Clock, alloc: Global, text: &str) -> Result<Times> {
 }
 
 /// A text in both sizes.
-pub fn time_sizes(clock: &impl Clock, alloc: Global, text: &Text) -> Result<Sizes> {
+pub(crate) fn time_sizes(clock: &impl Clock, alloc: Global, text: &Text) -> Result<Sizes> {
     let small = text.spelled(alloc, text.small)?;
     let large = text.spelled(alloc, text.large)?;
     Ok(Sizes {
