@@ -26,7 +26,8 @@ use Rattle.paths.specs.Paths.{Steps, path_cmp}
 use Rattle.schema.specs.Rdns.{put_pair, step_of}
 use Rattle.schema.specs.Rules.{Rules, below, located, name_text}
 use Rattle.values.specs.Types.{type_of}
-use Rattle.values.specs.Values.{norm}
+use Rattle.matching.specs.Forms.{norm}
+use Rattle.matching.specs.Syntaxes.{is_valid}
 use Rattle.tree.specs.Adds.{add, add_at, added}
 use Rattle.tree.specs.Directories.{Entries, rdn_in, rdns_from}
 use Rattle.tree.specs.Entries.{Facts, push_value, add_lines, with_rdn, lines_of}
@@ -44,7 +45,7 @@ on_texts = tt
 
 -- what a name and attribute lines come to
 unfoldable on_entries : ⊤
-unfolding is_utf8 chars encode each_part.each part_of name_of_text put_pair step_of below located type_of norm add push_value add_lines with_rdn
+unfolding is_utf8 chars encode each_part.each part_of name_of_text put_pair step_of below located type_of norm is_valid add push_value add_lines with_rdn
 on_entries = tt
 
 -- what an entry is written by

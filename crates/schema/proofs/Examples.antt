@@ -25,15 +25,15 @@ abbrev pub rules : Rules
 rules = record { types = object_class ∷ text_type (codes "1.2", codes "x") ∷ []; suffix = step 0 (codes "top") ∷ [] }
 
 pub a_name_stands : located rules (codes "2.5.4.0=Person,OBJECTCLASS=Top") ≡ located_at (step 0 (codes "Person") ∷ [])
-unfolding located Rattle.schema.specs.Rules.below Rattle.schema.specs.Names.name_of_text Rattle.schema.specs.Each.each Rattle.schema.specs.Names.part_of Rattle.values.specs.Types.type_of Rattle.schema.specs.Rdns.step_of Rattle.schema.specs.Rdns.put_pair Rattle.values.specs.Values.norm
+unfolding located Rattle.schema.specs.Rules.below Rattle.schema.specs.Names.name_of_text Rattle.schema.specs.Each.each Rattle.schema.specs.Names.part_of Rattle.values.specs.Types.type_of Rattle.schema.specs.Rdns.step_of Rattle.schema.specs.Rdns.put_pair Rattle.matching.specs.Forms.norm Rattle.matching.specs.Syntaxes.is_valid
 a_name_stands = refl
 
 pub path_of_text : path_of rules (step 1 (codes "Big  Bob") ∷ []) ≡ step 1 (codes "big bob") ∷ []
-unfolding Rattle.schema.specs.Rdns.step_of Rattle.schema.specs.Rdns.put_pair Rattle.values.specs.Values.norm
+unfolding Rattle.schema.specs.Rdns.step_of Rattle.schema.specs.Rdns.put_pair Rattle.matching.specs.Forms.norm Rattle.matching.specs.Syntaxes.is_valid
 path_of_text = refl
 
 pub beside_the_suffix : located rules (codes "objectClass=top,objectClass=domain") ≡ Err NoSuchObject
-unfolding located Rattle.schema.specs.Rules.below Rattle.schema.specs.Names.name_of_text Rattle.schema.specs.Each.each Rattle.schema.specs.Names.part_of Rattle.values.specs.Types.type_of Rattle.schema.specs.Rdns.step_of Rattle.schema.specs.Rdns.put_pair Rattle.values.specs.Values.norm
+unfolding located Rattle.schema.specs.Rules.below Rattle.schema.specs.Names.name_of_text Rattle.schema.specs.Each.each Rattle.schema.specs.Names.part_of Rattle.values.specs.Types.type_of Rattle.schema.specs.Rdns.step_of Rattle.schema.specs.Rdns.put_pair Rattle.matching.specs.Forms.norm Rattle.matching.specs.Syntaxes.is_valid
 beside_the_suffix = refl
 
 pub no_name : located rules (codes "x = a,objectClass=top") ≡ Err InvalidDnSyntax

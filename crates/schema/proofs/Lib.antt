@@ -7,7 +7,6 @@ pub mod Steps
 pub mod Found
 pub mod Groups
 pub mod Through
-pub mod Ends
 pub mod Numbered
 pub mod Whole
 pub mod Examples

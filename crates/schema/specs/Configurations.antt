@@ -8,8 +8,9 @@ use Rattle.schema.specs.declared.conf_fault.ConfFaultKind.{ConfFaultKind}
 use Rattle.schema.specs.declared.conf_fault.ConfFaultKind.TheVariants.{Keyword, Form, Twice, Suffix, TooManyTypes}
 use Rattle.schema.specs.declared.code.Code.{Code}
 use Rattle.values.specs.declared.types.AttributeType.{AttributeType}
-use Rattle.values.specs.declared.types.Syntax.TheVariants as syntaxes
-use Rattle.values.specs.declared.types.Family.TheVariants as families
+use Rattle.matching.specs.declared.syntax.Syntax.TheVariants as syntaxes
+use Rattle.matching.specs.declared.family.Family.TheVariants as families
+use Rattle.matching.specs.Forms.{without_end}
 use Rattle.values.specs.Types.{is_oid, is_type_name}
 use Rattle.schema.specs.Rdns.{Parts}
 use Rattle.schema.specs.Names.{Name, name_of_text}
@@ -218,15 +219,6 @@ abbrev pub types_of : List AttributeType → List Line → Result (List Attribut
 types_of types ls = through type_line types ls
 
 -- ---- the suffix
-
--- without the spaces at the end
-abbrev pub onto_text : ℕ → List ℕ → List ℕ
-onto_text b [] = if b == 32 then [] else b ∷ []
-onto_text b (c ∷ cs) = b ∷ c ∷ cs
-
-abbrev pub without_end : List ℕ → List ℕ
-without_end [] = []
-without_end (b ∷ bs) = onto_text b (without_end bs)
 
 -- both ends are `"`
 abbrev pub is_quoted : List ℕ → Bool

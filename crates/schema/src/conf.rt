@@ -11,7 +11,8 @@ use lists::Sequence;
 use paths::{Path, Rdn};
 use std::alloc::Global;
 use std::marker::Model;
-use values::{AttributeType, TypeId, TypeTable, Value, ValueFault, is_valid};
+use matching::is_valid;
+use values::{AttributeType, TypeId, TypeTable, Value, ValueFault};
 
 /// The configuration of a directory. A contract sees it as its rules.
 #[derive(Debug, Drop)]

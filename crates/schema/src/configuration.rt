@@ -6,7 +6,7 @@ ghost use Rattle.std.specs.Option.{option_map};
 ghost use Rattle.std.specs.Str.Lines.{strip_carriage_return};
 ghost use Rattle.values.specs.Types.{is_named};
 ghost use Rattle.schema.specs.Rules.{share_name};
-ghost use Rattle.schema.specs.Configurations.{is_line_feed, numbered, conf_lines, says_nothing, begins_blank, is_first, text_type, object_class, added, placed, type_line, types_of, without_end, is_quoted, unquoted, suffix_text, typed_name, suffix_at, suffix_line, suffix_of, rules_of, conf_of};
+ghost use Rattle.schema.specs.Configurations.{is_line_feed, numbered, conf_lines, says_nothing, begins_blank, is_first, text_type, object_class, added, placed, type_line, types_of, is_quoted, unquoted, suffix_text, typed_name, suffix_at, suffix_line, suffix_of, rules_of, conf_of};
 ghost use Rattle.schema.specs.Names.{name_of_text};
 ghost use Rattle.schema.specs.Gives.{Gives};
 ghost use Rattle.schema.specs.Reads.{Reads};
@@ -21,7 +21,8 @@ use crate::name::name_of_text;
 use crate::word::{begins_with, skip, split_first_word};
 use lists::{Bytes, Sequence};
 use std::alloc::{AllocError, Global};
-use values::{AttributeType, Family, Syntax, TypeTable};
+use matching::{Family, Syntax, trim_end};
+use values::{AttributeType, TypeTable};
 
 // the text cut at its line feeds
 fn parts_of<'a>(alloc: Global, text: &'a [u8]) -> Result<Vec<&'a [u8]>, AllocError>
@@ -182,17 +183,6 @@ fn types_of(alloc: Global, lines: &[(u64, &[u8])]) -> Result<Vec<AttributeType>,
 
 // ---- the suffix
 
-// without the spaces at the end
-fn without_end(text: &[u8]) -> &[u8]
-    ensures { result.now ≡ without_end text.now }
-{
-    let mut end = text.len();
-    while end > 0 && text[end - 1] == b' ' {
-        end -= 1;
-    }
-    &text[..end]
-}
-
 fn is_quoted(text: &[u8]) -> bool
     ensures { result ≡ is_quoted text.now }
 {
@@ -215,7 +205,7 @@ fn unquoted(text: &[u8]) -> &[u8]
 fn suffix_text(line: &[u8]) -> &[u8]
     ensures { result.now ≡ suffix_text line.now }
 {
-    unquoted(without_end(skip(split_first_word(line).1)))
+    unquoted(trim_end(skip(split_first_word(line).1)))
 }
 
 fn typed_name(alloc: Global, types: &TypeTable, text: &[u8]) -> Result<TypedName, PathFault>

@@ -14,7 +14,8 @@ use crate::name::name_of_text;
 use lists::{Bytes, Sequence};
 use paths::{Draft, Path, Rdn};
 use std::alloc::{AllocError, Global};
-use values::{TypeId, TypeTable, is_valid, normal_form};
+use matching::{is_valid, normal_form};
+use values::{TypeId, TypeTable};
 
 /// Where a name stands: its path, and its RDNs below the suffix, from the suffix down.
 #[derive(Debug, Drop)]

@@ -4,6 +4,9 @@ use Rattle.std.proofs.lemmas.Bool.{ne_eqb, eq-eqb}
 use Rattle.std.proofs.lemmas.List.{length-append}
 use Rattle.std.proofs.Math.Seq.{take-length, take-append_seam, drop-append_seam}
 use Rattle.values.specs.Values.{Value}
+use Rattle.matching.specs.declared.family.Family.{Family}
+use Rattle.matching.specs.declared.family.Family.TheVariants as families
+use Rattle.matching.specs.Forms.{norm}
 use Rattle.values.specs.Joined.{raw_in}
 
 abbrev seen : ℕ → List ℕ → Value
@@ -32,3 +35,15 @@ pub both : (n : ℕ) (norm raw bytes : List ℕ) → n ≡ length norm → raw �
 both n norm raw bytes len some is =
     let longer : (length (norm ++ raw) == length norm) ≡ false = ne_eqb (length (norm ++ raw)) (length norm) (λ e. some (no_length raw (omega (arith, length-append norm raw, e)))) in
     rw (is, len, longer, drop-append_seam norm raw, take-append_seam norm raw) refl
+
+-- the normal form of nothing
+pub nothing : (family : Family) → norm family [] ≡ []
+unfolding norm
+nothing families.Ignore = refl
+nothing families.Exact = refl
+nothing families.Numeric = refl
+nothing families.Telephone = refl
+nothing families.Integer = refl
+nothing families.Boolean = refl
+nothing families.Octet = refl
+nothing families.Oid = refl

@@ -1,5 +1,4 @@
 pub mod Types
 pub mod Tables
 pub mod Values
-pub mod Gaps
 pub mod Joined

@@ -4,8 +4,8 @@ use Rattle.std.specs.List.{list_any, list_all}
 use Rattle.std.specs.Char.{is_ascii_alphabetic, is_ascii_alphanumeric, is_ascii_digit}
 use Rattle.std.specs.Str.{str_eq_ignore_ascii_case}
 use Rattle.values.specs.declared.types.AttributeType.{AttributeType}
-use Rattle.values.specs.declared.types.Syntax.TheVariants as syntaxes
-use Rattle.values.specs.declared.types.Family.TheVariants as families
+use Rattle.matching.specs.declared.syntax.Syntax.TheVariants as syntaxes
+use Rattle.matching.specs.declared.family.Family.TheVariants as families
 
 -- its names and its OID, none of which another type has; compared without ASCII case
 abbrev pub names_of : AttributeType → List (List ℕ)

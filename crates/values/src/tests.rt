@@ -1,47 +1,34 @@
 //! Values, and types found by their names.
 
-use crate::{AttributeType, Family, Syntax, TypeTable, Value, is_valid, normal_form};
+use crate::{AttributeType, TypeTable, Value};
 use lists::{Bytes, Sequence};
+use matching::{Family, Syntax};
 use std::alloc::{AllocError, Global};
 use std::test::Fail;
 
 #[test]
-fn values_have_normal_forms(rt: HostRuntime) -> Result<(), Fail> {
-    let cases: [(Family, &[u8], &[u8]); 8] = [
+fn values_keep_both_forms(rt: HostRuntime) -> Result<(), Fail> {
+    let cases: [(Family, &[u8], &[u8]); 13] = [
         (Family::Ignore, b"a b", b"a b"),
         (Family::Ignore, b"Big Bob", b"big bob"),
         (Family::Ignore, b"A longer name", b"a longer name"),
         (Family::Ignore, b"  A  b ", b"a b"),
         (Family::Ignore, b"  ", b""),
-        (Family::Ignore, b"\xc3\x89X", b"\xc3\x89x"),
+        (Family::Ignore, b"", b""),
+        (Family::Exact, b"Ab", b"Ab"),
+        (Family::Exact, b"A  b", b"A b"),
+        (Family::Numeric, b"1 2", b"12"),
+        (Family::Numeric, b"12", b"12"),
+        (Family::Telephone, b"+1 5-X", b"+15x"),
+        (Family::Octet, b"", b""),
         (Family::Oid, b"inetOrgPerson", b"inetorgperson"),
-        (Family::Oid, b"2.5.6.6", b"2.5.6.6"),
     ];
     for (family, raw, norm) in cases {
         let value = Value::new(rt.alloc(), family, raw)?;
         assert_eq!(rt; value.raw(), raw);
         assert_eq!(rt; value.norm(), norm);
-        let form = normal_form(rt.alloc(), family, raw)?;
-        assert_eq!(rt; form.as_slice(), norm);
     }
     Ok(())
-}
-
-#[test]
-fn syntaxes_have_values(rt: HostRuntime) {
-    let cases: [(Syntax, &[u8], bool); 8] = [
-        (Syntax::Text, b"a b", true),
-        (Syntax::Text, b" ", true),
-        (Syntax::Text, b"", false),
-        (Syntax::Text, b"a\x80", false),
-        (Syntax::Oid, b"2.5.6.6", true),
-        (Syntax::Oid, b"", false),
-        (Syntax::Oid, b"a b", false),
-        (Syntax::Oid, b"p\xc3\xa9", false),
-    ];
-    for (syntax, value, want) in cases {
-        assert_eq!(rt; is_valid(syntax, value), want, "{value:?}");
-    }
 }
 
 // a type of text with two names
@@ -95,9 +82,4 @@ fn types_are_printed_by_their_first_name(rt: HostRuntime) -> Result<(), Fail> {
     };
     assert_eq!(rt; table.at(t).printed_name(), b"sn".as_slice());
     Ok(())
-}
-
-#[test]
-fn laws_can_be_called() {
-    crate::valid_values_are_bytes();
 }

@@ -6,6 +6,7 @@ ghost use Rattle.std.specs.Str.{str_eq_ignore_ascii_case};
 ghost use Rattle.values.specs.Types.{is_named, printed_name, type_at};
 
 use lists::{Bytes, Sequence};
+use matching::{Family, Syntax};
 use std::marker::Model;
 
 /// The number of an attribute type in one configuration, 0 for `objectClass`. A contract sees it as that number.
@@ -41,24 +42,6 @@ impl TypeId {
     {
         self.number
     }
-}
-
-/// Which values an attribute type takes (RFC 4517, 3.3).
-#[derive(Clone, Copy, Debug, PartialEq, Eq)]
-pub enum Syntax {
-    /// Directory String and its kin: UTF-8, not empty.
-    Text,
-    /// OID: ASCII without spaces, not empty.
-    Oid,
-}
-
-/// How two values of an attribute type are compared (RFC 4517, 4.2).
-#[derive(Clone, Copy, Debug, PartialEq, Eq)]
-pub enum Family {
-    /// caseIgnoreMatch
-    Ignore,
-    /// objectIdentifierMatch
-    Oid,
 }
 
 /// An attribute type (RFC 4512, 4.1.2).

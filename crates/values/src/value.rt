@@ -1,13 +1,10 @@
 //! Values of attribute types.
 
-ghost use Rattle.std.specs.Prelude.{◌≡◌, ◌↔◌, ◌≢◌, ◌++◌, [], false, IfOk, Err};
-ghost use Rattle.std.specs.List.{list_all};
-ghost use Rattle.std.specs.Str.{is_utf8};
-ghost use Rattle.values.specs.Values.{is_valid, is_oid_byte, lower, norm};
+ghost use Rattle.std.specs.Prelude.{◌≡◌, ◌++◌, [], IfOk};
+ghost use Rattle.matching.specs.Forms.{lower, norm};
 
-use crate::normal::{has_capital, is_tidy_under, normal_form};
-use crate::types::{Family, Syntax};
 use lists::Bytes;
+use matching::{Family, Form, normal_form};
 use std::alloc::{AllocError, AllocFailed, Global};
 use std::default::MadeWith;
 use std::marker::Model;
@@ -67,7 +64,7 @@ fn lower_and_raw(alloc: Global, raw: &[u8]) -> Result<Bytes, AllocError>
 impl Value {
     // The value that is written so and has this normal form.
     fn joined(norm: Bytes, raw: &[u8]) -> Result<Value, AllocError>
-        requires { raw.now ≢ [] }
+        requires { raw.now ≡ [] → norm ≡ [] }
         ensures { IfOk result (λ v. v ≡ record { raw = raw.now; norm = norm }) }
     {
         let norm_len = norm.len();
@@ -81,16 +78,12 @@ impl Value {
 
     /// The value that is written so, where its type is of this family.
     pub fn new(alloc: Global, family: Family, raw: &[u8]) -> Result<Value, AllocError>
-        requires { raw.now ≢ [] }
         ensures { IfOk result (λ v. v ≡ record { raw = raw.now; norm = norm family raw.now }) }
     {
-        if !is_tidy_under(family, raw) {
-            return Value::joined(normal_form(alloc, family, raw)?, raw);
-        }
-        let bytes = if has_capital(raw) {
-            lower_and_raw(alloc, raw)?
-        } else {
-            Bytes::from_slice(alloc, raw)?
+        let bytes = match Form::of(family, raw) {
+            Form::AsWritten => Bytes::from_slice(alloc, raw)?,
+            Form::LowerCase => lower_and_raw(alloc, raw)?,
+            Form::Other => return Value::joined(normal_form(alloc, family, raw)?, raw),
         };
         Ok(Value {
             bytes,
@@ -147,31 +140,5 @@ impl<T: Drop> From<AllocFailed<T>> for ValueFault {
 
     fn from(_: AllocFailed<T>) -> ValueFault {
         ValueFault::OutOfMemory
-    }
-}
-
-fn is_text(bytes: &[u8]) -> bool
-    ensures { result ≡ is_utf8 bytes.now }
-{
-    str::from_utf8(bytes).is_ok()
-}
-
-fn are_oid_bytes(bytes: &[u8]) -> bool
-    ensures { result ≡ list_all is_oid_byte bytes.now }
-{
-    let mut fit = true;
-    for b in bytes {
-        fit &= *b < 128 && *b != b' ';
-    }
-    fit
-}
-
-/// Whether a syntax has this value.
-pub fn is_valid(syntax: Syntax, bytes: &[u8]) -> bool
-    ensures { result ≡ is_valid syntax bytes.now }
-{
-    match syntax {
-        Syntax::Text => !bytes.is_empty() && is_text(bytes),
-        Syntax::Oid => !bytes.is_empty() && are_oid_bytes(bytes),
     }
 }

@@ -1,0 +1,8 @@
+pub mod GapLoop
+pub mod Tidy
+pub mod Again
+pub mod Texts
+pub mod Digits
+pub mod Stretches
+pub mod Ends
+pub mod ValidBytes

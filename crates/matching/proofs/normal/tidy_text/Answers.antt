@@ -1,0 +1,12 @@
+use Rattle.std.proofs.Common.{ap, rules}
+use Rattle.matching.proofs.GapLoop.{more_space, more_other}
+use Rattle.matching.proofs.normal.tidy_text.Goals as goal
+use Rattle.matching.proofs.normal.tidy_text.Goals.{then-b-eq32, else-b-eq32+in_ok-put_gap+in_ok-push}
+
+pub loop-b-preserved : goal.loop-b-preserved
+loop-b-preserved c =
+    elim c.if-b-eq32.branch [
+      | then-b-eq32 w ↦ more_space _ c.loop-b.out.items _ c.loop-b.gap _ _ _ c.loop-b-test.true w.if-b-eq32.true (ap (λ v. v.items) w.out-is) w.gap-is c.loop-b.invariant
+      | else-b-eq32+in_ok-put_gap+in_ok-push w ↦
+          more_other _ c.loop-b.out.items _ c.loop-b.gap _ w.put_gap.new.out.items _ _ c.loop-b-test.true w.if-b-eq32.false (search rules) (search rules) w.gap-is c.loop-b.invariant
+    ]

@@ -1,0 +1,56 @@
+-- Normal forms of values (RFC 4518 for ASCII): two values are equal under a matching rule where their normal forms are (RFC 4517, 4.2).
+use Rattle.std.specs.Prelude.{ℕ, Bool, false, ◌&&◌, not, ◌==◌, if◌then◌else◌, List, [], ◌∷◌, map, filter}
+use Rattle.std.specs.Char.{to_ascii_lowercase}
+use Rattle.matching.specs.declared.family.Family.{Family}
+use Rattle.matching.specs.declared.family.Family.TheVariants as families
+
+abbrev pub is_space : ℕ → Bool
+is_space b = b == 32
+
+abbrev pub begins_with_space : List ℕ → Bool
+begins_with_space [] = false
+begins_with_space (b ∷ bs) = is_space b
+
+-- each run of spaces made one: a space before a space goes away
+abbrev pub one_spaces : List ℕ → List ℕ
+one_spaces [] = []
+one_spaces (b ∷ bs) = if is_space b && begins_with_space bs then one_spaces bs else b ∷ one_spaces bs
+
+-- without the spaces at the front
+abbrev pub without_front : List ℕ → List ℕ
+without_front [] = []
+without_front (b ∷ bs) = if is_space b then without_front bs else b ∷ bs
+
+-- b in front of bs, but a space in front of nothing goes away
+abbrev pub onto_text : ℕ → List ℕ → List ℕ
+onto_text b [] = if is_space b then [] else b ∷ []
+onto_text b (c ∷ cs) = b ∷ c ∷ cs
+
+-- without the spaces at the end
+abbrev pub without_end : List ℕ → List ℕ
+without_end [] = []
+without_end (b ∷ bs) = onto_text b (without_end bs)
+
+-- no spaces at the ends, and one in each gap
+abbrev pub tidy : List ℕ → List ℕ
+tidy bs = without_end (one_spaces (without_front bs))
+
+abbrev pub lower : List ℕ → List ℕ
+lower bs = map to_ascii_lowercase bs
+
+abbrev pub is_no_space : ℕ → Bool
+is_no_space b = not (is_space b)
+
+-- neither a space nor a hyphen
+abbrev pub is_no_filler : ℕ → Bool
+is_no_filler b = not (is_space b) && not (b == 45)
+
+unfoldable pub norm : Family → List ℕ → List ℕ
+norm families.Ignore bs = lower (tidy bs)
+norm families.Exact bs = tidy bs
+norm families.Numeric bs = filter is_no_space bs
+norm families.Telephone bs = lower (filter is_no_filler bs)
+norm families.Integer bs = bs
+norm families.Boolean bs = bs
+norm families.Octet bs = bs
+norm families.Oid bs = lower bs

@@ -1,0 +1,13 @@
+-- Spaces: a text that grows word by word, and a text that needs none taken away.
+use Rattle.std.specs.Prelude.{ℕ, Bool, true, false, not, ◌&&◌, if◌then◌else◌, List, [], ◌∷◌, ◌++◌}
+use Rattle.matching.specs.Forms.{is_space}
+
+-- with a space behind it, where it isn't empty and there was a gap
+abbrev pub with_gap : List ℕ → Bool → List ℕ
+with_gap [] gap = []
+with_gap (o ∷ os) gap = if gap then (o ∷ os) ++ 32 ∷ [] else o ∷ os
+
+-- whether a text ends with no space, and no space follows a space, where one may have come before
+abbrev pub is_tidy_after : Bool → List ℕ → Bool
+is_tidy_after space [] = not space
+is_tidy_after space (b ∷ bs) = if is_space b then not space && is_tidy_after true bs else is_tidy_after false bs

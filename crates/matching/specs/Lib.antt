@@ -1,0 +1,9 @@
+pub mod Syntaxes
+pub mod Integers
+pub mod Numbers
+pub mod Forms
+pub mod Gaps
+pub mod Orders
+pub mod Differences
+pub mod Substrings
+pub mod Places

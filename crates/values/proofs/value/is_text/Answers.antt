@@ -1,6 +1,0 @@
-use Rattle.std.proofs.Common.{◌∙◌}
-use Rattle.values.proofs.Texts.{text_test}
-use Rattle.values.proofs.value.is_text.Goals as goal
-
-pub returns : goal.returns
-returns c = c.is_ok.ensures.value ∙ text_test c.from_utf8.result c.args.bytes.now _ _ c.from_utf8.ensures.cases
