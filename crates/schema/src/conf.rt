@@ -8,10 +8,10 @@ ghost use Rattle.schema.specs.Gives.{Makes};
 
 use crate::locate::TypedName;
 use lists::Sequence;
+use matching::is_valid;
 use paths::{Path, Rdn};
 use std::alloc::Global;
 use std::marker::Model;
-use matching::is_valid;
 use values::{AttributeType, TypeId, TypeTable, Value, ValueFault};
 
 /// The configuration of a directory. A contract sees it as its rules.

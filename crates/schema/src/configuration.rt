@@ -20,8 +20,8 @@ use crate::locate::{TypedName, typed};
 use crate::name::name_of_text;
 use crate::word::{begins_with, skip, split_first_word};
 use lists::{Bytes, Sequence};
-use std::alloc::{AllocError, Global};
 use matching::{Family, Syntax, trim_end};
+use std::alloc::{AllocError, Global};
 use values::{AttributeType, TypeTable};
 
 // the text cut at its line feeds

@@ -21,6 +21,6 @@ pub use configuration::read_conf;
 pub use fault::PathFault;
 pub use laws::{located_rdns_are_good, printed_names_name_their_types, written_names_are_located};
 pub use locate::Located;
-pub use paths::{Path, Rdn, RdnKey, order_of_paths};
 pub use matching::{Family, Syntax, valid_values_are_bytes};
+pub use paths::{Path, Rdn, RdnKey, order_of_paths};
 pub use values::{AttributeType, TypeId, Value, ValueFault};

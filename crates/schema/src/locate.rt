@@ -12,9 +12,9 @@ use crate::conf::Conf;
 use crate::fault::PathFault;
 use crate::name::name_of_text;
 use lists::{Bytes, Sequence};
+use matching::{is_valid, normal_form};
 use paths::{Draft, Path, Rdn};
 use std::alloc::{AllocError, Global};
-use matching::{is_valid, normal_form};
 use values::{TypeId, TypeTable};
 
 /// Where a name stands: its path, and its RDNs below the suffix, from the suffix down.
