@@ -5,16 +5,14 @@ mod code;
 mod conf;
 mod conf_fault;
 mod configuration;
-mod defined;
+mod definition;
 mod fault;
 mod laws;
 mod locate;
 mod name;
-mod rule_names;
 #[cfg(test)]
 mod tests;
-mod type_lines;
-mod type_rules;
+mod word;
 
 pub use code::Code;
 pub use conf::Conf;
