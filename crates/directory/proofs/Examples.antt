@@ -19,7 +19,10 @@ use Rattle.ldif.specs.declared.record.Record.TheVariants as kinds
 use Rattle.ldif.specs.declared.record.Mode.TheVariants.{Content}
 use Rattle.schema.specs.declared.code.Code.{Code}
 use Rattle.schema.specs.declared.code.Code.TheVariants as result
-use Rattle.schema.specs.Configurations.{object_class, text_type}
+use Rattle.matching.specs.declared.family.Family.TheVariants as families
+use Rattle.matching.specs.declared.syntax.Syntax.TheVariants as syntaxes
+use Rattle.values.specs.declared.types.AttributeType.{AttributeType}
+use Rattle.schema.specs.Configurations.{object_class}
 use Rattle.schema.specs.Each as each_part
 use Rattle.schema.specs.Names.{part_of, name_of_text, text_of_name}
 use Rattle.paths.specs.Paths.{Steps, path_cmp}
@@ -63,10 +66,14 @@ domain = ended (codes "objectClass: domain")
 abbrev person : List ℕ
 person = ended (codes "objectClass: person")
 
+-- a type of text
+abbrev text_type : List ℕ → List ℕ → AttributeType
+text_type oid name = record { oid = oid; names = name ∷ []; superior = None; syntax = syntaxes.Text; equality = Some families.Ignore; is_ordered = false; has_substrings = false; single_value = false; is_fixed = false; is_operational = false }
+
 -- objectClass and the types dc and cn, below dc=ex
 abbrev rules : Rules
 rules = record {
-  types = object_class ∷ text_type (codes "0.9.2342.19200300.100.1.25", codes "dc") ∷ text_type (codes "2.5.4.3", codes "cn") ∷ [];
+  types = object_class ∷ text_type (codes "0.9.2342.19200300.100.1.25") (codes "dc") ∷ text_type (codes "2.5.4.3") (codes "cn") ∷ [];
   suffix = ((1, codes "ex") ∷ []) ∷ [];
 }
 

@@ -1,5 +1,5 @@
 -- Which values a syntax has (RFC 4517, 3.3).
-use Rattle.std.specs.Prelude.{ℕ, Bool, ◌&&◌, ◌||◌, not, ◌==◌, nat_lt, List, length, codes}
+use Rattle.std.specs.Prelude.{ℕ, Bool, false, ◌&&◌, ◌||◌, not, ◌==◌, nat_lt, List, length, codes}
 use Rattle.std.specs.List.{list_all}
 use Rattle.std.specs.Char.{is_ascii_digit}
 use Rattle.std.specs.Str.{is_utf8, bytes_eq}
@@ -32,5 +32,6 @@ is_valid syntaxes.Ascii bytes = list_all is_ascii bytes
 is_valid syntaxes.Numeric bytes = is_some_text bytes && list_all is_digit_or_space bytes
 is_valid syntaxes.Boolean bytes = is_boolean bytes
 is_valid syntaxes.Integer bytes = is_integer bytes
+is_valid syntaxes.Name bytes = false
 is_valid syntaxes.Oid bytes = is_some_text bytes && list_all is_oid_byte bytes
 is_valid syntaxes.Octet bytes = list_all is_byte bytes

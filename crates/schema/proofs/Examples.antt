@@ -1,9 +1,13 @@
 -- Worked examples, by computation.
-use Rattle.std.proofs.Common.{◌≡◌, ℕ, List, [], ◌∷◌, refl}
+use Rattle.std.proofs.Common.{◌≡◌, ℕ, false, List, [], ◌∷◌, refl}
 use Rattle.std.specs.Prelude.{codes, Err}
 use Rattle.std.specs.declared.cmp.Ordering.TheVariants.{Less, Greater}
 use Rattle.schema.specs.declared.code.Code.TheVariants.{InvalidDnSyntax, NoSuchObject}
-use Rattle.schema.specs.Configurations.{object_class, text_type}
+use Rattle.std.specs.Prelude.{Some, None}
+use Rattle.matching.specs.declared.family.Family.TheVariants as families
+use Rattle.matching.specs.declared.syntax.Syntax.TheVariants as syntaxes
+use Rattle.values.specs.declared.types.AttributeType.{AttributeType}
+use Rattle.schema.specs.Configurations.{object_class}
 use Rattle.paths.specs.Paths.{Step, path_cmp}
 use Rattle.schema.specs.Rules.{Rules, located, located_at, path_of}
 
@@ -20,9 +24,13 @@ beginning_first = refl
 pub root_first : path_cmp (step 0 (codes "a") ∷ []) [] ≡ Greater
 root_first = refl
 
+-- a type of text
+abbrev pub text_type : List ℕ → List ℕ → AttributeType
+text_type oid name = record { oid = oid; names = name ∷ []; superior = None; syntax = syntaxes.Text; equality = Some families.Ignore; is_ordered = false; has_substrings = false; single_value = false; is_fixed = false; is_operational = false }
+
 -- objectClass and a type x, below objectClass=top
 abbrev pub rules : Rules
-rules = record { types = object_class ∷ text_type (codes "1.2", codes "x") ∷ []; suffix = step 0 (codes "top") ∷ [] }
+rules = record { types = object_class ∷ text_type (codes "1.2") (codes "x") ∷ []; suffix = step 0 (codes "top") ∷ [] }
 
 pub a_name_stands : located rules (codes "2.5.4.0=Person,OBJECTCLASS=Top") ≡ located_at (step 0 (codes "Person") ∷ [])
 unfolding located Rattle.schema.specs.Rules.below Rattle.schema.specs.Names.name_of_text Rattle.schema.specs.Each.each Rattle.schema.specs.Names.part_of Rattle.values.specs.Types.type_of Rattle.schema.specs.Rdns.step_of Rattle.schema.specs.Rdns.put_pair Rattle.matching.specs.Forms.norm Rattle.matching.specs.Syntaxes.is_valid

@@ -8,9 +8,9 @@ use Rattle.std.proofs.lemmas.List.Folds.{list_all-append}
 use Rattle.std.proofs.lemmas.List.Quantifiers.{position-Some}
 use Rattle.values.specs.declared.types.AttributeType.{AttributeType}
 use Rattle.schema.specs.declared.code.Code.{Code}
-use Rattle.schema.specs.declared.code.Code.TheVariants.{InvalidDnSyntax, NoSuchObject}
+use Rattle.schema.specs.declared.code.Code.TheVariants.{InvalidDnSyntax, NamingViolation, NoSuchObject}
 use Rattle.schema.specs.Each.{◌>>=◌, each}
-use Rattle.values.specs.Types.{is_named, type_of, no_type, is_known}
+use Rattle.values.specs.Types.{is_named, type_of, no_type, is_known, has_equality}
 use Rattle.values.specs.Values.{is_valid_at}
 use Rattle.schema.specs.Rdns.{Parts, IsRdn, step_of, is_plain_byte, is_inner_byte, is_plain_value}
 use Rattle.schema.specs.Names.{NamePart, Name, is_comma, is_equals, is_type_text, part_cut, part_of, name_of_text, part_text, text_of_name}
@@ -72,17 +72,21 @@ rdn_is : (types : List AttributeType) (p : NamePart) (r : Parts) → IsPlain p �
 unfolding IsDistinct
 rdn_is types p r plain e = by (type_of types p.0) refl e
   where
-    by : (o : Option ℕ) → type_of types p.0 ≡ o → typed_part types p.1 o ≡ Ok r → IsRdn types r
-    by None is k = absurd cc
-    by (Some t) is k =
+    compared : (t : ℕ) → type_of types p.0 ≡ Some t → (b : Bool) → has_equality types t ≡ b → cond b (cond (is_valid_at types t p.1) (Ok ((t, p.1) ∷ [])) (Err InvalidDnSyntax)) (Err NamingViolation) ≡ Ok r → IsRdn types r
+    compared t is false c k = absurd cc
+    compared t is true c k =
         elim (is_valid_at types t p.1) as (λ b. is_valid_at types t p.1 ≡ b → cond b (Ok ((t, p.1) ∷ [])) (Err InvalidDnSyntax) ≡ Ok r → IsRdn types r) [
           | true ↦ λ v said. subst (IsRdn types) (same_ok ((t, p.1) ∷ []) r said) (record {
-            parts = (record { known = found_is_known types p.0 t is; valid = v; plain = plain }, tt);
+            parts = (record { known = found_is_known types p.0 t is; comparable = c; valid = v; plain = plain }, tt);
             types_apart = (tt, tt);
             one = refl;
           })
           | false ↦ λ v said. absurd cc
         ] refl k
+
+    by : (o : Option ℕ) → type_of types p.0 ≡ o → typed_part types p.1 o ≡ Ok r → IsRdn types r
+    by None is k = absurd cc
+    by (Some t) is k = compared t is (has_equality types t) refl k
 
 pub rdns_are : (types : List AttributeType) (n : Name) (rs : List Parts) → AllByRecursion IsPlain n → typed types n ≡ Ok rs → AllByRecursion (IsRdn types) rs
 unfolding each

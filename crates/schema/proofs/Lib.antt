@@ -5,8 +5,7 @@ pub mod Spelled
 pub mod Locating
 pub mod Steps
 pub mod Found
-pub mod Groups
 pub mod Through
-pub mod Numbered
 pub mod Whole
 pub mod Examples
+pub mod RulePrefix

@@ -10,11 +10,13 @@ use Rattle.std.proofs.lemmas.List.{reverse-append, reverse-reverse}
 use Rattle.std.proofs.lemmas.Cmp.{tied_itself}
 use Rattle.values.specs.declared.types.AttributeType.{AttributeType}
 use Rattle.schema.specs.declared.code.Code.{Code}
-use Rattle.schema.specs.declared.code.Code.TheVariants.{InvalidDnSyntax, NoSuchObject}
+use Rattle.schema.specs.declared.code.Code.TheVariants.{InvalidDnSyntax, NamingViolation, NoSuchObject}
 use Rattle.schema.specs.Each.{◌>>=◌, each}
-use Rattle.values.specs.Types.{printed_name, name_of, type_at, is_known, is_oid, are_groups, is_name, is_name_byte, is_type_name, is_reserved, first_or}
+use Rattle.values.specs.Types.{printed_name, name_of, type_at, is_known, first_or}
+use Rattle.definitions.specs.Naming.{is_oid, are_groups, is_name, is_name_byte, is_type_name, is_reserved}
 use Rattle.schema.specs.Rdns.{Parts, IsRdn, step_of, is_plain_byte}
 use Rattle.schema.specs.Names.{Name, is_type_text}
+use Rattle.values.specs.Values.{is_valid_at}
 use Rattle.schema.specs.Rules.{Rules, IsRules, IsType, typed_part, typed_rdn, typed, below, located, written_part, name_text}
 use Rattle.schema.proofs.Named.{type_is, is_type_at}
 use Rattle.paths.specs.PathLaws.{step_total}
@@ -151,6 +153,7 @@ module _ (rules : Rules) (c : IsRules rules) where
   rdn_typed [] h = absurd (let k = h.one in omega arith)
   rdn_typed (p ∷ []) h =
       ap (typed_part rules.types p.1) (type_is rules p.0 c h.parts.0.known)
+      ∙ ap (λ b. cond b (cond (is_valid_at rules.types p.0 p.1) (part_ok (p ∷ [])) (Err InvalidDnSyntax)) (Err NamingViolation)) h.parts.0.comparable
       ∙ ap (λ b. cond b (part_ok (p ∷ [])) (Err InvalidDnSyntax)) h.parts.0.valid
   rdn_typed (p ∷ q ∷ ps) h = absurd (let k = h.one in omega arith)
 

@@ -1,6 +1,6 @@
 -- A loop that reads each of a list, up to the first fault.
 use Rattle.std.proofs.Common.{◌≡◌, ℕ, ◌+◌, ◌<◌, ◌≤◌, List, [], ◌∷◌, ◌++◌, length, get_or, drop, map, Result, Ok, Err, refl, sym, ap, ◌∙◌, append_assoc}
-use Rattle.std.proofs.lemmas.List.{drop_more, drop_all, append-nil}
+use Rattle.std.proofs.lemmas.List.{drop_more, drop_all, append-nil, map-append}
 use Rattle.schema.specs.declared.code.Code.{Code}
 use Rattle.schema.specs.declared.fault.PathFault.{PathFault}
 use Rattle.schema.specs.declared.fault.PathFault.TheVariants as errors
@@ -50,3 +50,6 @@ is_done {A} f g xs i front total le so_far =
 pub map_same : {A : Type 0} (xs : List A) → map (λ x. x) xs ≡ xs
 map_same [] = refl
 map_same (x ∷ xs) = ap (λ ys. x ∷ ys) (map_same xs)
+
+pub map_put : {A B : Type 0} (f : A → B) (xs : List A) (x : A) (ys : List A) → ys ≡ xs ++ x ∷ [] → map f ys ≡ map f xs ++ f x ∷ []
+map_put f xs x ys e = ap (map f) e ∙ map-append f xs (x ∷ [])

@@ -1,19 +1,39 @@
 -- The rules that a text says hold together.
-use Rattle.std.proofs.Common.{◌≡◌, ℕ, ◌<◌, ◌≤◌, Bool, true, false, cond, ◌&&◌, ◌||◌, List, [], ◌∷◌, ◌++◌, length, Option, Some, None, Result, Ok, Err, refl, ap, subst, ◌∙◌, arith, lit≤, length-append}
+use Rattle.std.proofs.Common.{ap, ◌≡◌, ℕ, ◌<◌, ◌≤◌, Bool, true, false, cond, ◌||◌, List, [], ◌∷◌, ◌++◌, length, Option, Some, None, Result, Ok, Err, refl, subst, ◌∙◌, arith, lit≤, length-append}
 use Rattle.std.specs.Prelude.{nat_lt, nat_le, codes, is_some}
-use Rattle.std.specs.List.{list_any, AllByRecursion, IsDistinct}
+use Rattle.std.specs.List.{list_any, list_all, AllByRecursion, IsDistinct}
 use Rattle.std.proofs.lemmas.Bool.{or_parts, lt-ltb}
 use Rattle.std.proofs.lemmas.Bool.Decides.{nat_tests}
 use Rattle.values.specs.declared.types.AttributeType.{AttributeType}
+use Rattle.values.specs.Types.{is_named}
+use Rattle.definitions.specs.declared.element.Element.{Element}
+use Rattle.definitions.specs.declared.lines.Line.{Line}
+use Rattle.definitions.specs.declared.type_definition.TypeDefinition.{TypeDefinition}
+use Rattle.definitions.specs.Lines.{begins_blank}
+use Rattle.definitions.specs.Naming.{is_oid, is_type_name, are_groups}
+use Rattle.definitions.specs.Words.{after_word}
+use Rattle.definitions.specs.TypeDefinitions.{type_definition_of}
 use Rattle.schema.specs.declared.code.Code.{Code}
 use Rattle.schema.specs.declared.conf_fault.ConfFaultKind.{ConfFaultKind}
-use Rattle.schema.specs.declared.conf_fault.ConfFaultKind.TheVariants.{Keyword, Form, Twice, Suffix, TooManyTypes}
-use Rattle.values.specs.Types.{is_oid, is_type_name, are_groups}
+use Rattle.schema.specs.declared.conf_fault.ConfFaultKind.TheVariants.{Keyword, Form, Twice, Suffix, Collective, TooManyTypes}
+use Rattle.definitions.specs.declared.class_definition.ClassDefinition.{ClassDefinition}
+use Rattle.definitions.specs.ClassDefinitions.{class_definition_of}
+use Rattle.schema.specs.declared.conf_fault.ConfFault.{ConfFault}
+use Rattle.schema.specs.declared.conf_fault.ConfFault.TheVariants as faults
+use Rattle.schema.specs.Reads.{FailsAt}
+use Rattle.schema.specs.TypeRules.{type_with}
 use Rattle.schema.specs.Rdns.{Parts, IsRdn}
 use Rattle.schema.specs.Names.{Name, name_of_text}
 use Rattle.schema.specs.Rules.{IsRules, IsType, share_name}
-use Rattle.schema.specs.Configurations.{At, Line, ◌>>=◌, through, says_nothing, begins_blank, is_first, Definition, definition_of, head_at, tail_ends, allowed, text_type, is_built_in, added, placed, object_class, type_line, types_of, after_word, some_rdns, typed_name, suffix_at, suffix_text, suffix_line, suffix_of, ◌>>>◌}
+use Rattle.schema.specs.Configurations.{At, ◌>>=◌, through, says_nothing, is_first, is_built_in, names_one, has_twin, is_taken, superior_of, up_of, flaw_of, unless, below, refused, placed, object_class, Defined, built_in, or_fault, class_refused, class_placed, with_types, types_in, definition_line, defined_by, some_rdns, typed_name, suffix_at, suffix_text, suffix_line, suffix_of}
 use Rattle.schema.proofs.Found.{name_plain, rdns_are}
+
+-- what the crate below says of each type that a text defines
+abbrev pub Defines : Type 0
+Defines = (text : List ℕ) (d : TypeDefinition) → type_definition_of text ≡ Some d → (is_oid d.element.oid ≡ true) × (list_all is_type_name d.element.names ≡ true)
+
+abbrev IsNamed : TypeDefinition → Type 0
+IsNamed d = (is_oid d.element.oid ≡ true) × (list_all is_type_name d.element.names ≡ true)
 
 bind_ok : {A B : Type 0} (r : Result A At) (f : A → Result B At) (y : B) → (r >>= f) ≡ Ok y → (x : A) × (r ≡ Ok x) × (f x ≡ Ok y)
 bind_ok (Ok x) f y e = (x, refl, e)
@@ -46,60 +66,12 @@ distinct_put E (y ∷ ys) x h k =
     let o = or_parts (E y x) (list_any (λ z. E z x) ys) k in
     (all_put (λ z. E y z ≡ false) ys x h.0 o.0, distinct_put E ys x h.1 o.1)
 
-added_keeps : (types : List AttributeType) (line : ℕ) (new : AttributeType) (out : List AttributeType) → AreTypes types → IsType new → length types < 65535 → added types line new ≡ Ok out → AreTypes out
-added_keeps types line new out h is room e =
-    elim (list_any (λ t. share_name t new) types) as (λ b. list_any (λ t. share_name t new) types ≡ b → cond {A = Result (List AttributeType) At} b (Err (line, Twice)) (Ok (types ++ new ∷ [])) ≡ Ok out → AreTypes out) [
-      | true ↦ λ taken said. absurd cc
-      | false ↦ λ free said. subst AreTypes (same_ok (types ++ new ∷ []) out said) (record {
-        good = all_put IsType types new h.good is;
-        apart = distinct_put share_name types new h.apart free;
-        few = (let l = length-append types (new ∷ []) in omega (arith, l));
-      })
-    ] refl e
-
-abbrev IsDefined : Option Definition → Type 0
-IsDefined None = Unit {0}
-IsDefined (Some d) = (is_oid d.0 ≡ true) × (is_type_name d.1 ≡ true)
-
-allowed_is : (oid name : List ℕ) (ends : Bool) → IsDefined (allowed oid name ends)
-allowed_is oid name ends = by (is_oid oid) refl (is_type_name name) refl ends
-  where
-    by : (a : Bool) → is_oid oid ≡ a → (b : Bool) → is_type_name name ≡ b → (c : Bool) → IsDefined (cond (a && b && c) (Some (oid, name)) None)
-    by true x true y true = (x, y)
-    by true x true y false = tt
-    by true x false y c = tt
-    by false x b y c = tt
-
-defined : (text : List ℕ) → IsDefined (definition_of text)
-unfolding definition_of
-defined text = by (head_at text)
-  where
-    by : (o : Option (List ℕ × List ℕ × List ℕ)) → IsDefined (o >>> λ h. allowed h.0 h.1 (tail_ends h.2))
-    by None = tt
-    by (Some h) = allowed_is h.0 h.1 (tail_ends h.2)
+-- no type that is there has a name of another: of an element's names
+apart_from : (types : List AttributeType) (e : Element) (new : AttributeType) → new.oid ≡ e.oid → new.names ≡ e.names → list_any (names_one e) types ≡ false → list_any (λ t. share_name t new) types ≡ false
+apart_from types e new oid names h = (λ j. list_any (λ t. list_any (λ n. is_named n t) (oid j ∷ names j)) types) ∙ h
 
 room_left : (n : ℕ) → nat_le 65535 n ≡ false → n < 65535
 room_left n h = grind (arith, nat_tests)
-
-both : (a b : Bool) → a ≡ true → b ≡ true → (a && b) ≡ true
-both a b h k = ap (λ x. x && b) h ∙ k
-
-placed_keeps : (types : List AttributeType) (line : ℕ) (d : Option Definition) (out : List AttributeType) → AreTypes types → IsDefined d → placed types line d ≡ Ok out → AreTypes out
-unfolding placed
-placed_keeps types line None out h is e = absurd cc
-placed_keeps types line (Some d) out h is e =
-    elim (is_built_in d.0) as (λ a. cond {A = Result (List AttributeType) At} a (Ok types) (cond (nat_le 65535 (length types)) (Err (line, TooManyTypes)) (added types line (text_type d))) ≡ Ok out → AreTypes out) [
-      | true ↦ λ said. subst AreTypes (same_ok types out said) h
-      | false ↦ λ said.
-          elim (nat_le 65535 (length types)) as (λ b. nat_le 65535 (length types) ≡ b → cond {A = Result (List AttributeType) At} b (Err (line, TooManyTypes)) (added types line (text_type d)) ≡ Ok out → AreTypes out) [
-            | true ↦ λ full told. absurd cc
-            | false ↦ λ room told. added_keeps types line (text_type d) out h (record { oid = is.0; names = both (is_type_name d.1) true is.1 refl }) (room_left (length types) room) told
-          ] refl said
-    ] e
-
-either : {R : Type 0} (Q : R → Type 0) (b : Bool) (x y : R) → Q x → Q y → Q (cond b x y)
-either Q true x y h k = h
-either Q false x y h k = k
 
 abbrev Types : Type 0
 Types = Result (List AttributeType) At
@@ -110,28 +82,128 @@ types_ok ts = Ok ts
 abbrev types_err : ℕ → ConfFaultKind → Types
 types_err line kind = Err (line, kind)
 
-type_line_keeps : (types : List AttributeType) (l : Line) (out : List AttributeType) → AreTypes types → type_line types l ≡ Ok out → AreTypes out
-unfolding type_line
-type_line_keeps types l out h e =
-    let Keeps : Types → Type 0 = λ r. r ≡ Ok out → AreTypes out in
-    let same : Keeps (types_ok types) = λ said. subst AreTypes (same_ok types out said) h in
-    let last : Types = cond (is_first (codes "objectclass") l.1) (types_err l.0 Form) (types_err l.0 Keyword) in
-    let defs : Types = cond (is_first (codes "attributetype") l.1) (placed types l.0 (definition_of (after_word l.1))) last in
-    let words : Types = cond (is_first (codes "suffix") l.1 || is_first (codes "index") l.1) (types_ok types) defs in
-    let blanks : Types = cond (begins_blank l.1) (types_err l.0 Form) words in
-    either Keeps (says_nothing l.1) (types_ok types) blanks same
-    (either Keeps (begins_blank l.1) (types_err l.0 Form) words (λ said. absurd cc)
-    (either Keeps (is_first (codes "suffix") l.1 || is_first (codes "index") l.1) (types_ok types) defs same
-    (either Keeps (is_first (codes "attributetype") l.1) (placed types l.0 (definition_of (after_word l.1))) last
-    (λ said. placed_keeps types l.0 (definition_of (after_word l.1)) out h (defined (after_word l.1)) said)
-    (either Keeps (is_first (codes "objectclass") l.1) (types_err l.0 Form) (types_err l.0 Keyword) (λ said. absurd cc) (λ said. absurd cc))))) e
+-- what stands behind no fault
+unrefused : (line : ℕ) (o : Option ConfFaultKind) (answer : Types) (out : List AttributeType) → unless line o answer ≡ Ok out → (o ≡ None) × (answer ≡ Ok out)
+unrefused line None answer out e = (refl, e)
+unrefused line (Some kind) answer out e = absurd cc
+
+record Passes (types : List AttributeType) (d : TypeDefinition) : Type 0 where
+  room : nat_le 65535 (length types) ≡ false
+  free : list_any (names_one d.element) types ≡ false
+
+passes : (types : List AttributeType) (d : TypeDefinition) → refused types d ≡ None → Passes types d
+passes types d e = by (nat_le 65535 (length types)) refl (is_taken types d.element) refl e
+  where
+    by : (a : Bool) → nat_le 65535 (length types) ≡ a → (b : Bool) → is_taken types d.element ≡ b → cond a (Some TooManyTypes) (cond b (Some Twice) (cond d.is_collective (Some Collective) None)) ≡ None → Passes types d
+    by true room b taken said = absurd cc
+    by false room true taken said = absurd cc
+    by false room false taken said = record { room = room; free = (or_parts (list_any (names_one d.element) types) (has_twin d.element.names) taken).0 }
+
+added_keeps : (types : List AttributeType) (line : ℕ) (d : TypeDefinition) (number : Option (Option ℕ)) (out : List AttributeType) → AreTypes types → Passes types d → IsNamed d → below types line d number ≡ Ok out → AreTypes out
+unfolding type_with
+added_keeps types line d None out h p is e = absurd cc
+added_keeps types line d (Some number) out h p is e =
+    let new = type_with d number (up_of types number) in
+    let k = unrefused line (flaw_of new (up_of types number)) (Ok (types ++ new ∷ [])) out e in
+    subst AreTypes (same_ok (types ++ new ∷ []) out k.1) (record {
+      good = all_put IsType types new h.good (record { oid = is.0; names = is.1 });
+      apart = distinct_put share_name types new h.apart (apart_from types d.element new refl refl p.free);
+      few = (let l = length-append types (new ∷ []) in let r = room_left (length types) p.room in omega (arith, l, r));
+    })
+
+abbrev IsDefined : Option TypeDefinition → Type 0
+IsDefined None = Unit {0}
+IsDefined (Some d) = IsNamed d
+
+placed_keeps : (types : List AttributeType) (line : ℕ) (d : Option TypeDefinition) (out : List AttributeType) → AreTypes types → IsDefined d → placed types line d ≡ Ok out → AreTypes out
+unfolding placed
+placed_keeps types line None out h is e = absurd cc
+placed_keeps types line (Some d) out h is e =
+    elim (is_built_in d.element.oid) as (λ a. cond {A = Types} a (Ok types) (unless line (refused types d) (below types line d (superior_of types d.superior))) ≡ Ok out → AreTypes out) [
+      | true ↦ λ said. subst AreTypes (same_ok types out said) h
+      | false ↦ λ said.
+          let k = unrefused line (refused types d) (below types line d (superior_of types d.superior)) out said in
+          added_keeps types line d (superior_of types d.superior) out h (passes types d k.0) is k.1
+    ] e
+
+either : {R : Type 0} (Q : R → Type 0) (b : Bool) (x y : R) → Q x → Q y → Q (cond b x y)
+either Q true x y h k = h
+either Q false x y h k = k
+
+defined : Defines → (text : List ℕ) → IsDefined (type_definition_of text)
+defined law text = by (type_definition_of text) refl
+  where
+    by : (o : Option TypeDefinition) → type_definition_of text ≡ o → IsDefined o
+    by None is = tt
+    by (Some d) is = law text d is
+
+abbrev Outcome : Type 0
+Outcome = Result Defined At
+
+abbrev outcome_ok : Defined → Outcome
+outcome_ok s = Ok s
+
+abbrev outcome_err : ℕ → ConfFaultKind → Outcome
+outcome_err line kind = Err (line, kind)
+
+same_defined : (x y : Defined) → ◌≡◌ {A = Outcome} (Ok x) (Ok y) → x ≡ y
+same_defined x y e = cc
+
+abbrev DefinesTypes : Defined → Type 0
+DefinesTypes s = AreTypes s.types
+
+-- types that are put keep, and classes that are put change none
+types_put : (s : Defined) (r : Types) (out : Defined) → ((ts : List AttributeType) → r ≡ Ok ts → AreTypes ts) → with_types s r ≡ Ok out → DefinesTypes out
+types_put s (Ok ts) out keeps e = subst DefinesTypes (same_defined (record s { types = ts }) out e) (keeps ts refl)
+types_put s (Err f) out keeps e = absurd cc
+
+fault_kept : (s : Defined) (line : ℕ) (o : Option ConfFaultKind) (out : Defined) → DefinesTypes s → or_fault line o s ≡ Ok out → DefinesTypes out
+fault_kept s line None out h e = subst DefinesTypes (same_defined s out e) h
+fault_kept s line (Some kind) out h e = absurd cc
+
+class_keeps : (s : Defined) (line : ℕ) (d : Option ClassDefinition) (out : Defined) → DefinesTypes s → class_placed s line d ≡ Ok out → DefinesTypes out
+unfolding class_placed
+class_keeps s line None out h e = absurd cc
+class_keeps s line (Some d) out h e =
+    elim (is_built_in d.element.oid) as (λ a. cond {A = Outcome} a (Ok s) (or_fault line (class_refused s d) (record s { classes = s.classes ++ d.element ∷ [] })) ≡ Ok out → DefinesTypes out) [
+      | true ↦ λ said. subst DefinesTypes (same_defined s out said) h
+      | false ↦ λ said. fault_kept (record s { classes = s.classes ++ d.element ∷ [] }) line (class_refused s d) out h said
+    ] e
+
+line_keeps : Defines → (s : Defined) (l : Line) (out : Defined) → DefinesTypes s → definition_line s l ≡ Ok out → DefinesTypes out
+unfolding definition_line
+line_keeps law s l out h e =
+    let Keeps : Outcome → Type 0 = λ r. r ≡ Ok out → DefinesTypes out in
+    let same : Keeps (outcome_ok s) = λ said. subst DefinesTypes (same_defined s out said) h in
+    let classes : Outcome = class_placed s l.number (class_definition_of (after_word l.text)) in
+    let types : Outcome = with_types s (placed s.types l.number (type_definition_of (after_word l.text))) in
+    let last : Outcome = cond (is_first (codes "objectclass") l.text) classes (outcome_err l.number Keyword) in
+    let defs : Outcome = cond (is_first (codes "attributetype") l.text) types last in
+    let words : Outcome = cond (is_first (codes "suffix") l.text || is_first (codes "index") l.text) (outcome_ok s) defs in
+    let blanks : Outcome = cond (begins_blank l.text) (outcome_err l.number Form) words in
+    either Keeps (says_nothing l.text) (outcome_ok s) blanks same
+    (either Keeps (begins_blank l.text) (outcome_err l.number Form) words (λ said. absurd cc)
+    (either Keeps (is_first (codes "suffix") l.text || is_first (codes "index") l.text) (outcome_ok s) defs same
+    (either Keeps (is_first (codes "attributetype") l.text) types last
+    (types_put s (placed s.types l.number (type_definition_of (after_word l.text))) out (λ ts said. placed_keeps s.types l.number (type_definition_of (after_word l.text)) ts h (defined law (after_word l.text)) said))
+    (either Keeps (is_first (codes "objectclass") l.text) classes (outcome_err l.number Keyword)
+    (class_keeps s l.number (class_definition_of (after_word l.text)) out h)
+    (λ said. absurd cc))))) e
+
+pub types_fail : (e : ConfFault) (r : Outcome) → FailsAt e r → FailsAt e (types_in r)
+types_fail faults.OutOfMemory r h = tt
+types_fail (faults.Line line kind) r h = ap types_in h
 
 object_class_is : AreTypes (object_class ∷ [])
 unfolding IsDistinct are_groups
 object_class_is = record { good = (record { oid = refl; names = refl }, tt); apart = (tt, tt); few = lit≤ tt }
 
-pub types_are : (ls : List Line) (out : List AttributeType) → types_of (object_class ∷ []) ls ≡ Ok out → AreTypes out
-types_are ls out e = through_keeps AreTypes type_line type_line_keeps ls (object_class ∷ []) out object_class_is e
+pub types_are : Defines → (ls : List Line) (out : List AttributeType) → types_in (defined_by built_in ls) ≡ Ok out → AreTypes out
+types_are law ls out e = by (defined_by built_in ls) refl e
+  where
+    by : (r : Outcome) → defined_by built_in ls ≡ r → types_in r ≡ Ok out → AreTypes out
+    by (Ok s) is said = subst AreTypes (same_ok s.types out said) (through_keeps DefinesTypes definition_line (line_keeps law) ls built_in s object_class_is is)
+    by (Err f) is said = absurd cc
 
 -- ---- the suffix
 
@@ -165,15 +237,15 @@ unfolding suffix_line
 suffix_line_keeps types found l out h e =
     let Keeps : Found → Type 0 = λ r. r ≡ Ok out → IsSuffix types out in
     let same : Keeps (found_ok found) = λ said. subst (IsSuffix types) (same_ok found out said) h in
-    let new : Found = suffix_at types l.0 (suffix_text l.1) in
-    let one : Found = cond (is_some found) (found_err l.0 Suffix) new in
-    let words : Found = cond (is_first (codes "suffix") l.1) one (found_ok found) in
-    let indexes : Found = cond (is_first (codes "index") l.1) (found_err l.0 Form) words in
-    either Keeps (says_nothing l.1) (found_ok found) indexes same
-    (either Keeps (is_first (codes "index") l.1) (found_err l.0 Form) words (λ said. absurd cc)
-    (either Keeps (is_first (codes "suffix") l.1) one (found_ok found)
-    (either Keeps (is_some found) (found_err l.0 Suffix) new (λ said. absurd cc)
-    (λ said. some_is types l.0 (typed_name types (name_of_text (suffix_text l.1))) out (typed_good types (suffix_text l.1)) said))
+    let new : Found = suffix_at types l.number (suffix_text l.text) in
+    let one : Found = cond (is_some found) (found_err l.number Suffix) new in
+    let words : Found = cond (is_first (codes "suffix") l.text) one (found_ok found) in
+    let indexes : Found = cond (is_first (codes "index") l.text) (found_err l.number Form) words in
+    either Keeps (says_nothing l.text) (found_ok found) indexes same
+    (either Keeps (is_first (codes "index") l.text) (found_err l.number Form) words (λ said. absurd cc)
+    (either Keeps (is_first (codes "suffix") l.text) one (found_ok found)
+    (either Keeps (is_some found) (found_err l.number Suffix) new (λ said. absurd cc)
+    (λ said. some_is types l.number (typed_name types (name_of_text (suffix_text l.text))) out (typed_good types (suffix_text l.text)) said))
     same)) e
 
 pub suffix_is : (types : List AttributeType) (ls : List Line) (out : Option (List Parts)) → suffix_of types None ls ≡ Ok out → IsSuffix types out

@@ -2,6 +2,8 @@ pub mod Codes
 pub mod Rdns
 pub mod Names
 pub mod Rules
+pub mod RuleNames
+pub mod TypeRules
 pub mod Gives
 pub mod Each
 pub mod ConfFaults

@@ -3,7 +3,7 @@ use Rattle.std.specs.Prelude.{◌≡◌, ℕ, Bool, true, not, ◌&&◌, ◌||�
 use Rattle.std.specs.List.{list_all, AllByRecursion, IsDistinct}
 use Rattle.std.specs.Char.{is_ascii_alphanumeric}
 use Rattle.values.specs.declared.types.AttributeType.{AttributeType}
-use Rattle.values.specs.Types.{is_known}
+use Rattle.values.specs.Types.{is_known, has_equality}
 use Rattle.values.specs.Values.{is_valid_at, norm_at}
 use Rattle.paths.specs.Paths.{Pair, Step}
 
@@ -43,6 +43,7 @@ type_in p = p.0
 
 pub record IsPart (types : List AttributeType) (p : Part) : Type 0 where
   pub known : is_known types p.0 ≡ true
+  pub comparable : has_equality types p.0 ≡ true
   pub valid : is_valid_at types p.0 p.1 ≡ true
   pub plain : is_plain_value p.1 ≡ true
 

@@ -4,8 +4,9 @@ use Rattle.std.specs.List.{list_any, list_all, AllByRecursion, IsDistinct}
 use Rattle.std.specs.Ordering.{is_eq}
 use Rattle.values.specs.declared.types.AttributeType.{AttributeType}
 use Rattle.schema.specs.declared.code.Code.{Code}
-use Rattle.schema.specs.declared.code.Code.TheVariants.{InvalidDnSyntax, NoSuchObject}
-use Rattle.values.specs.Types.{names_of, is_named, type_of, name_of, is_oid, is_type_name}
+use Rattle.schema.specs.declared.code.Code.TheVariants.{InvalidDnSyntax, NamingViolation, NoSuchObject}
+use Rattle.values.specs.Types.{has_equality, names_of, is_named, type_of, name_of}
+use Rattle.definitions.specs.Naming.{is_oid, is_type_name}
 use Rattle.values.specs.Values.{is_valid_at}
 use Rattle.paths.specs.Paths.{Step, Steps, step_cmp}
 use Rattle.schema.specs.Rdns.{Parts, step_of, IsRdn}
@@ -21,7 +22,7 @@ pub record Rules : Type 0 where
 
 abbrev pub typed_part : List AttributeType → List ℕ → Option ℕ → Result Parts Code
 typed_part types v None = Err InvalidDnSyntax
-typed_part types v (Some t) = if is_valid_at types t v then Ok ((t, v) ∷ []) else Err InvalidDnSyntax
+typed_part types v (Some t) = if has_equality types t then (if is_valid_at types t v then Ok ((t, v) ∷ []) else Err InvalidDnSyntax) else Err NamingViolation
 
 abbrev pub typed_rdn : List AttributeType → NamePart → Result Parts Code
 typed_rdn types p = typed_part types p.1 (type_of types p.0)

@@ -137,6 +137,6 @@ impl Conf {
         if !is_valid(kind.syntax, raw) {
             return Err(ValueFault::Invalid);
         }
-        Ok(Value::new(alloc, kind.family, raw)?)
+        Ok(Value::new(alloc, kind.equality, raw)?)
     }
 }

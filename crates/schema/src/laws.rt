@@ -2,7 +2,8 @@
 
 ghost use Rattle.std.specs.Prelude.{◌≡◌, ℕ, true, false, Ok, Some, nat_lt, List};
 ghost use Rattle.std.specs.List.{list_all, AllByRecursion};
-ghost use Rattle.values.specs.Types.{type_of, name_of, is_known, is_reserved};
+ghost use Rattle.values.specs.Types.{type_of, name_of, is_known};
+ghost use Rattle.definitions.specs.Naming.{is_reserved};
 ghost use Rattle.schema.specs.Rdns.{Parts, IsRdn};
 ghost use Rattle.schema.specs.Names.{is_type_text};
 ghost use Rattle.schema.specs.Rules.{Rules, IsRules, located, name_text, located_at};

@@ -5,14 +5,16 @@ mod code;
 mod conf;
 mod conf_fault;
 mod configuration;
-mod definition;
+mod defined;
 mod fault;
 mod laws;
 mod locate;
 mod name;
+mod rule_names;
 #[cfg(test)]
 mod tests;
-mod word;
+mod type_lines;
+mod type_rules;
 
 pub use code::Code;
 pub use conf::Conf;

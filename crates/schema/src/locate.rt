@@ -12,10 +12,10 @@ use crate::conf::Conf;
 use crate::fault::PathFault;
 use crate::name::name_of_text;
 use lists::{Bytes, Sequence};
-use matching::{is_valid, normal_form};
+use matching::is_valid;
 use paths::{Draft, Path, Rdn};
 use std::alloc::{AllocError, Global};
-use values::{TypeId, TypeTable};
+use values::{TypeId, TypeTable, norm_by};
 
 /// Where a name stands: its path, and its RDNs below the suffix, from the suffix down.
 #[derive(Debug, Drop)]
@@ -40,14 +40,18 @@ fn one_part(alloc: Global, t: TypeId, value: Bytes) -> Result<Rdn, AllocError>
 }
 
 // an RDN of one part
-fn typed_rdn(alloc: Global, types: &TypeTable, kind: &[u8], value: &[u8]) -> Result<Rdn, PathFault>
-    ensures gives { Gives (λ r. r) result (typed_rdn types.now (kind.now, value.now)) }
+fn typed_rdn(alloc: Global, types: &TypeTable, name: &[u8], value: &[u8]) -> Result<Rdn, PathFault>
+    ensures gives { Gives (λ r. r) result (typed_rdn types.now (name.now, value.now)) }
     ensures one { IfOk result (IsOne types.now) }
 {
-    let Some(t) = types.type_of(kind) else {
+    let Some(t) = types.type_of(name) else {
         return Err(PathFault::Code(Code::InvalidDnSyntax));
     };
-    if !is_valid(types.at(t).syntax, value) {
+    let kind = types.at(t);
+    if kind.equality.is_none() {
+        return Err(PathFault::Code(Code::NamingViolation));
+    }
+    if !is_valid(kind.syntax, value) {
         return Err(PathFault::Code(Code::InvalidDnSyntax));
     }
     Ok(one_part(alloc, t, Bytes::from_slice(alloc, value)?)?)
@@ -61,7 +65,7 @@ fn step_down(alloc: Global, types: &TypeTable, path: Draft, rdn: &Rdn) -> Result
 {
     match rdn.parts() {
         [(t, value)] => {
-            let norm = normal_form(alloc, types.at(*t).family, value.as_slice())?;
+            let norm = norm_by(alloc, types.at(*t).equality, value.as_slice())?;
             path.with(*t, norm.as_slice())
         }
         _ => unreachable!(),

@@ -10,4 +10,4 @@ mod value;
 
 pub use table::TypeTable;
 pub use types::{AttributeType, TypeId};
-pub use value::{Value, ValueFault};
+pub use value::{Value, ValueFault, norm_by};

@@ -24,7 +24,7 @@ fn values_keep_both_forms(rt: HostRuntime) -> Result<(), Fail> {
         (Family::Oid, b"inetOrgPerson", b"inetorgperson"),
     ];
     for (family, raw, norm) in cases {
-        let value = Value::new(rt.alloc(), family, raw)?;
+        let value = Value::new(rt.alloc(), Some(family), raw)?;
         assert_eq!(rt; value.raw(), raw);
         assert_eq!(rt; value.norm(), norm);
     }
@@ -41,8 +41,13 @@ fn type_of_text(alloc: Global, oid: &[u8], names: [&[u8]; 2]) -> Result<Attribut
         oid: Bytes::from_slice(alloc, oid)?,
         names: spelled,
         syntax: Syntax::Text,
-        family: Family::Ignore,
+        superior: None,
+        equality: Some(Family::Ignore),
+        is_ordered: false,
+        has_substrings: false,
         single_value: false,
+        is_fixed: false,
+        is_operational: false,
     })
 }
 

@@ -51,10 +51,22 @@ pub struct AttributeType {
     pub oid: Bytes,
     /// Its names, the first of which it is printed by.
     pub names: Sequence<Bytes>,
+    /// The type above it, whose values its own are too (RFC 4512, 2.5.1).
+    pub superior: Option<TypeId>,
+    /// Which values it takes.
     pub syntax: Syntax,
-    pub family: Family,
+    /// How two of its values are equal; without a rule, where their bytes are.
+    pub equality: Option<Family>,
+    /// Whether its values are in the order of that family.
+    pub is_ordered: bool,
+    /// Whether its values can be searched for pieces by that family.
+    pub has_substrings: bool,
     /// Whether an entry has at most one value of it.
     pub single_value: bool,
+    /// Whether users can't change it (NO-USER-MODIFICATION).
+    pub is_fixed: bool,
+    /// Whether it is for the operation of servers (USAGE).
+    pub is_operational: bool,
 }
 
 fn has_name(names: &[Bytes], text: &[u8]) -> bool

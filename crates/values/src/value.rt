@@ -2,6 +2,7 @@
 
 ghost use Rattle.std.specs.Prelude.{◌≡◌, ◌++◌, [], IfOk};
 ghost use Rattle.matching.specs.Forms.{lower, norm};
+ghost use Rattle.values.specs.Values.{norm_by};
 
 use lists::Bytes;
 use matching::{Family, Form, normal_form};
@@ -61,6 +62,16 @@ fn lower_and_raw(alloc: Global, raw: &[u8]) -> Result<Bytes, AllocError>
     Ok(Bytes::from_vec(many))
 }
 
+/// The normal form of a value under an equality rule, or its bytes without one.
+pub fn norm_by(alloc: Global, equality: Option<Family>, raw: &[u8]) -> Result<Bytes, AllocError>
+    ensures { IfOk result (λ v. v ≡ norm_by equality raw.now) }
+{
+    match equality {
+        Some(family) => normal_form(alloc, family, raw),
+        None => Bytes::from_slice(alloc, raw),
+    }
+}
+
 impl Value {
     // The value that is written so and has this normal form.
     fn joined(norm: Bytes, raw: &[u8]) -> Result<Value, AllocError>
@@ -76,8 +87,8 @@ impl Value {
         Ok(Value { bytes, norm_len })
     }
 
-    /// The value that is written so, where its type is of this family.
-    pub fn new(alloc: Global, family: Family, raw: &[u8]) -> Result<Value, AllocError>
+    // the value that is written so, where its type is of this family
+    fn of_family(alloc: Global, family: Family, raw: &[u8]) -> Result<Value, AllocError>
         ensures { IfOk result (λ v. v ≡ record { raw = raw.now; norm = norm family raw.now }) }
     {
         let bytes = match Form::of(family, raw) {
@@ -89,6 +100,25 @@ impl Value {
             bytes,
             norm_len: raw.len(),
         })
+    }
+
+    fn as_written(alloc: Global, raw: &[u8]) -> Result<Value, AllocError>
+        ensures { IfOk result (λ v. v ≡ record { raw = raw.now; norm = raw.now }) }
+    {
+        Ok(Value {
+            bytes: Bytes::from_slice(alloc, raw)?,
+            norm_len: raw.len(),
+        })
+    }
+
+    /// The value that is written so, where its type has this equality rule.
+    pub fn new(alloc: Global, equality: Option<Family>, raw: &[u8]) -> Result<Value, AllocError>
+        ensures { IfOk result (λ v. v ≡ record { raw = raw.now; norm = norm_by equality raw.now }) }
+    {
+        match equality {
+            Some(family) => Value::of_family(alloc, family, raw),
+            None => Value::as_written(alloc, raw),
+        }
     }
 
     /// The value as written.

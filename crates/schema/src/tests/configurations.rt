@@ -1,8 +1,8 @@
 //! Texts that are configurations, and what they say.
 
 use crate::tests::shown::{CONF, conf_of, rdns_shown, whole};
-use crate::{Conf, ConfFault, ConfFaultKind, Family, Syntax, TypeId, read_conf};
-use std::alloc::Global;
+use crate::{AttributeType, Conf, ConfFault, ConfFaultKind, Family, Syntax, TypeId, read_conf};
+use std::alloc::{AllocError, Global};
 use std::process::Abort;
 use std::test::Fail;
 
@@ -24,7 +24,7 @@ fn check_text_type(
     assert_eq!(rt; kind.names.len(), 1);
     assert_eq!(rt; kind.printed_name(), name);
     assert_eq!(rt; kind.syntax, Syntax::Text);
-    assert_eq!(rt; kind.family, Family::Ignore);
+    assert_eq!(rt; kind.equality, Some(Family::Ignore));
     assert!(rt; kind.is_named(name) && kind.is_named(oid));
     Ok(())
 }
@@ -51,7 +51,7 @@ fn object_class_is_built_in(rt: HostRuntime) -> Result<(), Fail> {
     assert!(rt; !conf.is_single_value(t));
     let kind = conf.types().first().ok_or("no type")?;
     assert_eq!(rt; kind.syntax, Syntax::Oid);
-    assert_eq!(rt; kind.family, Family::Oid);
+    assert_eq!(rt; kind.equality, Some(Family::Oid));
     Ok(())
 }
 
@@ -183,4 +183,53 @@ fn a_refused_allocation_changes_no_fault(rt: HostRuntime) {
             assert_eq!(rt; kind, ConfFaultKind::Suffix);
         }
     }
+}
+
+// What a type says, as a short text: its syntax and rules, and its marks.
+fn marks(alloc: Global, kind: &AttributeType) -> Result<String, AllocError> {
+    let equality = match kind.equality {
+        Some(family) => format!(in alloc; "{family:?}")?,
+        None => format!(in alloc; "none")?,
+    };
+    format!(in alloc;
+        "{:?} {} {} {} {} {} {}",
+        kind.syntax,
+        equality.as_str(),
+        kind.is_ordered,
+        kind.has_substrings,
+        kind.single_value,
+        kind.is_fixed,
+        kind.is_operational
+    )
+}
+
+#[test]
+fn types_take_from_above(rt: HostRuntime) -> Result<(), Fail> {
+    let text = b"suffix objectClass=a
+attributetype ( 1.1 NAME 'a' EQUALITY caseIgnoreMatch ORDERING caseIgnoreOrderingMatch
+  SUBSTR caseIgnoreSubstringsMatch SYNTAX 1.3.6.1.4.1.1466.115.121.1.15{32768} SINGLE-VALUE )
+attributetype ( 1.2 SUP a )
+attributetype ( 1.3 SUP a ORDERING caseExactOrderingMatch SUBSTR nope )
+attributetype ( 1.4 SYNTAX 1.3.6.1.4.1.1466.115.121.1.40 ORDERING octetStringOrderingMatch )
+attributetype ( 1.5 SUP 1.4 EQUALITY octetStringMatch NO-USER-MODIFICATION USAGE dSAOperation )
+attributetype ( 1.6 EQUALITY telephoneNumberMatch SUBSTR telephoneNumberSubstringsMatch SYNTAX 1.3.6.1.4.1.1466.115.121.1.50 USAGE userApplications )
+attributetype ( 1.7 SYNTAX 1.3.6.1.4.1.1466.115.121.1.24 SINGLE-VALUE NO-USER-MODIFICATION USAGE directoryOperation )
+";
+    let wants = [
+        "Oid Oid false false false false false",
+        "Text Ignore true true true false false",
+        "Text Ignore true true false false false",
+        "Text Ignore false true false false false",
+        "Octet none false false false false false",
+        "Octet Octet false false false true true",
+        "Text Telephone false true false false false",
+        "Octet none false false true true true",
+    ];
+    let conf = conf_of(rt.alloc(), text)?;
+    assert_eq!(rt; conf.types().len(), wants.len());
+    for (kind, want) in conf.types().iter().zip(wants.iter()) {
+        let found = marks(rt.alloc(), kind)?;
+        assert_eq!(rt; found.as_str(), *want);
+    }
+    Ok(())
 }

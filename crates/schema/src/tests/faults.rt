@@ -31,10 +31,10 @@ fn first_words(rt: HostRuntime) -> Result<(), Fail> {
         (b"attributetype( 1.3 NAME 'z'~", "line 4: C1 keyword"),
         (b"suffix\"x=y\"", "line 4: C1 keyword"),
         (b"(", "line 4: C1 keyword"),
-        (b" x", "line 4: C2 form"),
-        (b"\tx", "line 4: C2 form"),
-        (b"  ", "line 4: C2 form"),
-        (b"# x\n # y", "line 5: C2 form"),
+        (b"\n x", "line 5: C2 form"),
+        (b"\n\tx", "line 5: C2 form"),
+        (b"\n  ", "line 5: C2 form"),
+        (b"# x\n # y", "read"),
         (b"\n\n\n\xff", "line 7: C1 keyword"),
     ];
     compare(&rt, rt.alloc(), BEFORE, &cases)
@@ -42,45 +42,100 @@ fn first_words(rt: HostRuntime) -> Result<(), Fail> {
 
 #[test]
 fn forms_that_this_profile_lacks(rt: HostRuntime) -> Result<(), Fail> {
-    let cases: [(&[u8], &str); 10] = [
+    let cases: [(&[u8], &str); 1] = [(b"index x eq", "line 4: C2 form")];
+    compare(&rt, rt.alloc(), BEFORE, &cases)
+}
+
+#[test]
+fn classes_beside_what_is_there(rt: HostRuntime) -> Result<(), Fail> {
+    let cases: [(&[u8], &str); 17] = [
         (
             b"objectclass ( 2.5.6.6 NAME 'person' SUP top STRUCTURAL MUST x )",
-            "line 4: C2 form",
+            "read",
         ),
-        (b"index x eq", "line 4: C2 form"),
-        (b"attributetype ( 1.3 NAME ( 'z' )~", "line 4: C2 form"),
-        (b"attributetype ( 1.3 NAME ( 'z' 'zz' )~", "line 4: C2 form"),
+        (b"objectclass ( 1.2 NAME 'x' MAY ( x $ 2.5.4.0 ) )", "read"),
+        (
+            b"objectclass ( 1.3 SUP ( 2.5.6.0 $ 'EXTENSIBLEOBJECT' ) )",
+            "read",
+        ),
+        (
+            b"objectclass ( 1.3 NAME 'c' )\nobjectclass ( 1.4 SUP C )",
+            "read",
+        ),
+        (b"objectclass", "line 4: C2 form"),
+        (b"objectclass ( 1.3 SYNTAX 1.2 )", "line 4: C2 form"),
+        (b"objectclass ( 1.3 SUP nope )", "line 4: C4 unknown name"),
+        (b"objectclass ( 1.3 SUP x )", "line 4: C4 unknown name"),
+        (b"objectclass ( 1.3 MUST top )", "line 4: C4 unknown name"),
+        (
+            b"objectclass ( 1.3 MUST x MAY ( x $ nope ) )",
+            "line 4: C4 unknown name",
+        ),
+        (
+            b"objectclass ( 1.3 NAME 'c' SUP c )",
+            "line 4: C4 unknown name",
+        ),
+        (
+            b"objectclass ( 1.3 NAME 'Top' SUP nope )",
+            "line 4: C3 twice",
+        ),
+        (b"objectclass ( 1.3 NAME ( 'c' 'C' ) )", "line 4: C3 twice"),
+        (
+            b"objectclass ( 1.3 NAME 'c' )\nobjectclass ( 1.3 NAME 'd' )",
+            "line 5: C3 twice",
+        ),
+        (
+            b"objectclass ( 1.3 NAME 'c' )\nobjectclass ( 1.4 NAME 'C' )",
+            "line 5: C3 twice",
+        ),
+        // those of what is built in are skipped once they can be read
+        (b"objectclass ( 2.5.6.0 NAME 'c' SUP nope )", "read"),
+        (
+            b"objectclass ( 2.5.4.0 NAME 'c' )\nobjectclass ( 1.3 SUP c )",
+            "line 5: C4 unknown name",
+        ),
+    ];
+    compare(&rt, rt.alloc(), BEFORE, &cases)
+}
+
+#[test]
+fn fields_of_types(rt: HostRuntime) -> Result<(), Fail> {
+    let cases: [(&[u8], &str); 11] = [
+        (b"attributetype ( 1.3~", "read"),
+        (b"attributetype ( 1.3 NAME ( 'z' )~", "read"),
+        (b"attributetype ( 1.3 NAME ( 'z' 'zz' )~", "read"),
+        (b"attributetype ( 1.3 NAME ( 'z' 'Z' )~", "line 4: C3 twice"),
+        (b"attributetype\n (\n 1.3\n NAME 'z'~", "read"),
         (
             b"attributetype ( 1.3 NAME 'z' EQUALITY caseIgnoreMatch SYNTAX 1.3.6.1.4.1.1466.115.121.1.15{64} )",
-            "line 4: C2 form",
+            "read",
         ),
         (
             b"attributetype ( 1.3 NAME 'z' EQUALITY caseIgnoreMatch SYNTAX 1.3.6.1.4.1.1466.115.121.1.15 SINGLE-VALUE )",
-            "line 4: C2 form",
+            "read",
         ),
         (
             b"attributetype ( 1.3 NAME 'z' EQUALITY caseExactMatch SYNTAX 1.3.6.1.4.1.1466.115.121.1.15 )",
-            "line 4: C2 form",
+            "read",
         ),
         (
             b"attributetype ( 1.3 NAME 'z' EQUALITY caseIgnoreMatch SYNTAX 1.3.6.1.4.1.1466.115.121.1.26 )",
-            "line 4: C2 form",
+            "read",
         ),
-        (b"attributetype ( 1.3 NAME 'z' SUP x )", "line 4: C2 form"),
-        (b"attributetype ( 1.3 NAME 'z' DESC 'z'~", "line 4: C2 form"),
+        (b"attributetype ( 1.3 NAME 'z' SUP x )", "read"),
+        (b"attributetype ( 1.3 NAME 'z' DESC 'z'~", "read"),
     ];
     compare(&rt, rt.alloc(), BEFORE, &cases)
 }
 
 #[test]
 fn definitions_that_are_broken(rt: HostRuntime) -> Result<(), Fail> {
-    let cases: [(&[u8], &str); 18] = [
+    let cases: [(&[u8], &str); 16] = [
         (b"attributetype", "line 4: C2 form"),
         (b"attributetype (", "line 4: C2 form"),
         (b"attributetype ( )", "line 4: C2 form"),
         (b"attributetype 1.3 NAME 'z'~", "line 4: C2 form"),
         (b"attributetype ( NAME 'z'~", "line 4: C2 form"),
-        (b"attributetype ( 1.3~", "line 4: C2 form"),
         (b"attributetype ( 1.3 NAME~", "line 4: C2 form"),
         (b"attributetype ( 1.3 NAME z~", "line 4: C2 form"),
         (b"attributetype ( 1.3 NAME 'z~", "line 4: C2 form"),
@@ -91,10 +146,6 @@ fn definitions_that_are_broken(rt: HostRuntime) -> Result<(), Fail> {
         (b"attributetype ( 1.3 NAMES 'z'~", "line 4: C2 form"),
         (
             b"attributetype ( 1.3 NAME 'z' EQUALITY caseIgnoreMatch )",
-            "line 4: C2 form",
-        ),
-        (
-            b"attributetype ( 1.3 NAME 'z' SYNTAX 1.3.6.1.4.1.1466.115.121.1.15 )",
             "line 4: C2 form",
         ),
         (
@@ -157,6 +208,62 @@ fn definitions_that_are_there_already(rt: HostRuntime) -> Result<(), Fail> {
         (b"attributetype ( 2.5.4.0 NAME 'x'~", "read"),
         (b"attributetype ( 2.5.6.0 NAME 'objectClass'~", "read"),
         (b"attributetype ( 2.5.4.0 NAME 'dn'~", "line 4: C2 form"),
+    ];
+    compare(&rt, rt.alloc(), BEFORE, &cases)
+}
+
+#[test]
+fn types_that_do_not_go_with_others(rt: HostRuntime) -> Result<(), Fail> {
+    let cases: [(&[u8], &str); 15] = [
+        (b"attributetype ( 1.3 SUP nope )", "line 4: C4 unknown name"),
+        (
+            b"attributetype ( 1.3 NAME 'z' SUP z )",
+            "line 4: C4 unknown name",
+        ),
+        (b"attributetype ( 1.3 SUP X )", "read"),
+        (
+            b"attributetype ( 1.3 SUP '1.2' EQUALITY caseIgnoreIA5Match )",
+            "read",
+        ),
+        (
+            b"attributetype ( 1.3 SUP x EQUALITY caseExactMatch )",
+            "line 4: C5 subtype",
+        ),
+        (b"attributetype ( 1.3 SUP x EQUALITY noSuchMatch )", "read"),
+        (
+            b"attributetype ( 1.3 SUP x SYNTAX 1.3.6.1.4.1.1466.115.121.1.26 )",
+            "line 4: C5 subtype",
+        ),
+        (
+            b"attributetype ( 1.3 SUP x SYNTAX 1.3.6.1.4.1.1466.115.121.1.50 )",
+            "read",
+        ),
+        (
+            b"attributetype ( 1.3 EQUALITY integerMatch SYNTAX 1.3.6.1.4.1.1466.115.121.1.15 )",
+            "line 4: C6 rule needs another syntax",
+        ),
+        (
+            b"attributetype ( 1.3 EQUALITY integerMatch SYNTAX 1.3.6.1.4.1.1466.115.121.1.27 )",
+            "read",
+        ),
+        (
+            b"attributetype ( 1.3 EQUALITY distinguishedNameMatch SYNTAX 1.2 )",
+            "line 4: C6 rule needs another syntax",
+        ),
+        (
+            b"attributetype ( 1.3 EQUALITY distinguishedNameMatch SYNTAX 1.3.6.1.4.1.1466.115.121.1.12 )",
+            "read",
+        ),
+        (b"attributetype ( 1.3 COLLECTIVE~", "line 4: C9 collective"),
+        // the first fault in the order of their numbers, but for 3 and 9
+        (
+            b"attributetype ( 1.2 COLLECTIVE SUP nope )",
+            "line 4: C3 twice",
+        ),
+        (
+            b"attributetype ( 1.3 COLLECTIVE SUP nope )",
+            "line 4: C9 collective",
+        ),
     ];
     compare(&rt, rt.alloc(), BEFORE, &cases)
 }

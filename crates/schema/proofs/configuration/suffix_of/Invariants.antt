@@ -1,10 +1,10 @@
-use Rattle.std.proofs.Common.{◌≡◌, None, drop, map}
+use Rattle.std.proofs.Common.{◌≡◌, None, drop}
 use Rattle.schema.specs.Configurations.{suffix_of}
 use Rattle.schema.specs.Keys.{rdns_found, FoundFits}
 use Rattle.schema.proofs.configuration.suffix_of.Given as goal
 
 abbrev pub invariant-loop-line : goal.invariant-loop-line
 invariant-loop-line l = record {
-  read : suffix_of l.types (rdns_found l.found) (map (λ x. (x.0, x.1.now)) (drop l.line-index l.lines)) ≡ suffix_of l.types None (map (λ x. (x.0, x.1.now)) l.lines);
+  read : suffix_of l.types (rdns_found l.found) (drop l.line-index l.lines) ≡ suffix_of l.types None l.lines;
   keys : FoundFits l.types l.found;
 }

@@ -3,7 +3,7 @@ use Rattle.std.proofs.lemmas.Result.{err_from_is_err_and}
 use Rattle.schema.specs.Each.{each}
 use Rattle.schema.specs.Names.{Name, part_of}
 use Rattle.schema.proofs.Loop.{with_front, nothing_front, goes_on, ends, is_done}
-use Rattle.schema.proofs.Numbered.{map_put}
+use Rattle.schema.proofs.Loop.{map_put}
 use Rattle.schema.proofs.name.parts_of.Goals as goal
 
 pub loop-piece-init : goal.loop-piece-init

@@ -1,0 +1,8 @@
+use Rattle.std.proofs.Common.{◌≡◌, drop}
+use Rattle.definitions.specs.Elements.{fields_to_end}
+use Rattle.definitions.specs.TypeFields.{field_at}
+use Rattle.definitions.specs.TypeDefinitions.{with_field}
+use Rattle.definitions.proofs.type_definition.TypeDefinition.put_fields.Given as goal
+
+abbrev pub invariant-loop : goal.invariant-loop
+invariant-loop l = fields_to_end field_at with_field l.self (drop l.index l.text) l.rest ≡ fields_to_end field_at with_field l.initial.self l.text l.text

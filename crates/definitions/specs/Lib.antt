@@ -1,0 +1,9 @@
+pub mod Words
+pub mod Lines
+pub mod Naming
+pub mod Gives
+pub mod Texts
+pub mod Elements
+pub mod TypeFields
+pub mod TypeDefinitions
+pub mod ClassDefinitions

@@ -1,0 +1,55 @@
+-- Lists of names in a definition (RFC 4512, 4.1).
+use Rattle.std.specs.Prelude.{ℕ, Bool, if◌then◌else◌, List, [], ◌∷◌, Option, Some, None}
+use Rattle.definitions.specs.Words.{◌>>>◌, Part, sign_at, word_at, quoted_at, plain_or_quoted_at}
+
+abbrev pub Parts : Type 0
+Parts = List (List ℕ) × List ℕ
+
+abbrev pub onto : List ℕ → Parts → Option Parts
+onto text rest = Some (text ∷ rest.0, rest.1)
+
+abbrev pub closed_by : Option (List ℕ) → Option Parts → Option Parts
+closed_by None others = others
+closed_by (Some rest) others = Some ([], rest)
+
+-- parts up to `)`; each takes at least one of the bytes that come
+unfoldable pub to_close : (List ℕ → Option Part) → List ℕ → List ℕ → Option Parts
+to_close part_at [] text = None
+to_close part_at (b ∷ bytes) text = closed_by (sign_at 41 text) (part_at text >>> λ part. (to_close part_at bytes part.1 >>> onto part.0))
+
+abbrev pub not_none : Parts → Option Parts
+not_none ([], rest) = None
+not_none (text ∷ texts, rest) = Some (text ∷ texts, rest)
+
+abbrev pub alone : Part → Option Parts
+alone part = Some (part.0 ∷ [], part.1)
+
+abbrev pub in_parentheses : Option (List ℕ) → Option Parts → Option Parts
+in_parentheses None single = single
+in_parentheses (Some inside) single = to_close quoted_at inside inside >>> not_none
+
+-- `'a'`, or `( 'a' 'b' )`: one text in quotes, or some in parentheses
+unfoldable pub quoted_texts_at : List ℕ → Option Parts
+quoted_texts_at text = in_parentheses (sign_at 40 text) (quoted_at text >>> alone)
+
+-- ---- lists with `$` between
+
+-- a word; or one in quotes, where it may be
+abbrev pub name_at : Bool → List ℕ → Option Part
+name_at quotes text = if quotes then plain_or_quoted_at text else word_at text
+
+-- `$` and a name
+abbrev pub next_name_at : Bool → List ℕ → Option Part
+next_name_at quotes text = sign_at 36 text >>> name_at quotes
+
+-- names with `$` between, up to `)`
+unfoldable pub names_to_close : Bool → List ℕ → Option Parts
+names_to_close quotes text = name_at quotes text >>> λ part. (to_close (next_name_at quotes) part.1 part.1 >>> onto part.0)
+
+abbrev pub list_in_parentheses : Bool → Option (List ℕ) → Option Parts → Option Parts
+list_in_parentheses quotes None single = single
+list_in_parentheses quotes (Some inside) single = names_to_close quotes inside
+
+-- `a`, or `( a $ b )`
+unfoldable pub names_at : Bool → List ℕ → Option Parts
+names_at quotes text = list_in_parentheses quotes (sign_at 40 text) (name_at quotes text >>> alone)

@@ -1,0 +1,13 @@
+//! Laws of definitions, for the crates above.
+
+ghost use Rattle.std.specs.Prelude.{◌≡◌, ℕ, true, Some, List};
+ghost use Rattle.std.specs.List.{list_all};
+ghost use Rattle.definitions.specs.declared.type_definition.TypeDefinition.{TypeDefinition};
+ghost use Rattle.definitions.specs.Naming.{is_oid, is_type_name};
+ghost use Rattle.definitions.specs.TypeDefinitions.{type_definition_of};
+
+/// A type that a text defines has a numeric OID, and names that types may have.
+pub fn defined_types_have_names()
+    ensures oid { (text : List ℕ) (d : TypeDefinition) → type_definition_of text ≡ Some d → is_oid d.element.oid ≡ true }
+    ensures names { (text : List ℕ) (d : TypeDefinition) → type_definition_of text ≡ Some d → list_all is_type_name d.element.names ≡ true }
+{}

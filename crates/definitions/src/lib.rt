@@ -1,0 +1,24 @@
+//! Definitions of attribute types and object classes as text (RFC 4512, 4.1).
+#![tactic(auto)]
+
+mod class_definition;
+mod element;
+mod fault;
+mod laws;
+mod lines;
+mod naming;
+#[cfg(test)]
+mod tests;
+mod texts;
+mod type_definition;
+mod type_field;
+mod words;
+
+pub use class_definition::{ClassDefinition, ClassKind, read_class_definition};
+pub use element::Element;
+pub use fault::DefinitionFault;
+pub use laws::defined_types_have_names;
+pub use lines::{Line, lines_of};
+pub use type_definition::{TypeDefinition, read_type_definition};
+pub use type_field::{Flag, Reference, Usage};
+pub use words::{begins_with, skip, split_first_word};

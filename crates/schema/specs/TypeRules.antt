@@ -1,0 +1,115 @@
+-- What a definition of an attribute type comes to, with what it takes from the type above it (RFC 4512, 2.5.1 and 4.1.2).
+use Rattle.std.specs.Prelude.{ℕ, Bool, true, false, not, ◌&&◌, ◌||◌, nat_eq, is_some, if◌then◌else◌, List, Option, Some, None}
+use Rattle.matching.specs.declared.family.Family.{Family}
+use Rattle.matching.specs.declared.family.Family.TheVariants as families
+use Rattle.matching.specs.declared.syntax.Syntax.{Syntax}
+use Rattle.matching.specs.declared.syntax.Syntax.TheVariants as syntaxes
+use Rattle.definitions.specs.declared.type_definition.TypeDefinition.{TypeDefinition}
+use Rattle.definitions.specs.declared.type_field.Usage.{Usage}
+use Rattle.definitions.specs.declared.type_field.Usage.TheVariants as usages
+use Rattle.values.specs.declared.types.AttributeType.{AttributeType}
+use Rattle.schema.specs.RuleNames.{syntax_of, or_else, equality_of, ordering_of, substrings_of}
+
+-- ---- families and syntaxes told apart
+
+abbrev pub family_number : Family → ℕ
+family_number families.Ignore = 0
+family_number families.Exact = 1
+family_number families.Numeric = 2
+family_number families.Telephone = 3
+family_number families.Integer = 4
+family_number families.Boolean = 5
+family_number families.Octet = 6
+family_number families.Name = 7
+family_number families.Oid = 8
+
+abbrev pub is_family : Family → Option Family → Bool
+is_family family None = false
+is_family family (Some other) = nat_eq (family_number family) (family_number other)
+
+abbrev pub syntax_number : Syntax → ℕ
+syntax_number syntaxes.Text = 0
+syntax_number syntaxes.Ascii = 1
+syntax_number syntaxes.Numeric = 2
+syntax_number syntaxes.Boolean = 3
+syntax_number syntaxes.Integer = 4
+syntax_number syntaxes.Name = 5
+syntax_number syntaxes.Oid = 6
+syntax_number syntaxes.Octet = 7
+
+abbrev pub is_syntax : Syntax → Syntax → Bool
+is_syntax a b = nat_eq (syntax_number a) (syntax_number b)
+
+-- ---- what is stated, and what is taken from above
+
+-- the family of a rule that is stated and known
+abbrev pub stated : (List ℕ → Option Family) → Option (List ℕ) → Option Family
+stated family_of None = None
+stated family_of (Some name) = family_of name
+
+abbrev pub equality_above : Option AttributeType → Option Family
+equality_above None = None
+equality_above (Some up) = up.equality
+
+abbrev pub ordering_above : Option AttributeType → Option Family
+ordering_above None = None
+ordering_above (Some up) = if up.is_ordered then up.equality else None
+
+abbrev pub substrings_above : Option AttributeType → Option Family
+substrings_above None = None
+substrings_above (Some up) = if up.has_substrings then up.equality else None
+
+abbrev pub syntax_above : Option AttributeType → Syntax
+syntax_above None = syntaxes.Octet
+syntax_above (Some up) = up.syntax
+
+abbrev pub syntax_with : Option (List ℕ) → Option AttributeType → Syntax
+syntax_with None up = syntax_above up
+syntax_with (Some oid) up = syntax_of oid
+
+-- a rule counts where it is of the family by which values are equal
+abbrev pub goes_with : Option Family → Option Family → Bool
+goes_with None equality = false
+goes_with (Some family) equality = is_family family equality
+
+abbrev pub equality_with : TypeDefinition → Option AttributeType → Option Family
+equality_with d up = or_else (stated equality_of d.equality) (equality_above up)
+
+-- whether a type is there for the operation of servers
+abbrev pub is_operational : Option Usage → Bool
+is_operational None = false
+is_operational (Some usages.UserApplications) = false
+is_operational (Some usages.DirectoryOperation) = true
+is_operational (Some usages.DistributedOperation) = true
+is_operational (Some usages.DsaOperation) = true
+
+unfoldable pub type_with : TypeDefinition → Option ℕ → Option AttributeType → AttributeType
+type_with d number up =
+    record {
+      oid = d.element.oid;
+      names = d.element.names;
+      superior = number;
+      syntax = syntax_with d.syntax up;
+      equality = equality_with d up;
+      is_ordered = goes_with (or_else (stated ordering_of d.ordering) (ordering_above up)) (equality_with d up);
+      has_substrings = goes_with (or_else (stated substrings_of d.substrings) (substrings_above up)) (equality_with d up);
+      single_value = d.is_single_value;
+      is_fixed = d.is_fixed;
+      is_operational = is_operational d.usage;
+    }
+
+-- ---- what a type must not be
+
+-- of another family than the type above it, where that has one, or with another syntax
+abbrev pub leaves_family : AttributeType → AttributeType → Bool
+leaves_family t up = is_some up.equality && not (goes_with up.equality t.equality)
+
+abbrev pub breaks_with : AttributeType → Option AttributeType → Bool
+breaks_with t None = false
+breaks_with t (Some up) = leaves_family t up || not (is_syntax t.syntax up.syntax)
+
+-- numbers and names are compared as such only where they are
+abbrev pub needs_another_syntax : AttributeType → Bool
+needs_another_syntax t =
+    (is_family families.Integer t.equality && not (is_syntax syntaxes.Integer t.syntax))
+    || (is_family families.Name t.equality && not (is_syntax syntaxes.Name t.syntax))
