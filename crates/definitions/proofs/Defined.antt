@@ -14,7 +14,7 @@ use Rattle.definitions.specs.declared.type_field.TypeField.{TypeField}
 use Rattle.definitions.specs.declared.type_field.TypeField.TheVariants as fields
 use Rattle.definitions.specs.declared.type_definition.TypeDefinition.{TypeDefinition}
 use Rattle.definitions.specs.Naming.{is_oid, is_type_name}
-use Rattle.definitions.specs.Words.{◌>>>◌, Part, sign_at, word_at, quoted_at, plain_or_quoted_at}
+use Rattle.definitions.specs.Words.{◌>>>◌, Cut, sign_at, word_at, quoted_at, plain_or_quoted_at}
 use Rattle.definitions.specs.Texts.{quoted_texts_at}
 use Rattle.definitions.specs.Elements as elements
 use Rattle.definitions.specs.Elements.{is_word, is_extension, is_allowed, names_field, description_field, extension_field, element_field, unless, with_element_field, is_some_list, is_extended, ends_there, fields_to_end, numeric, head_at}
@@ -81,7 +81,7 @@ flag_allowed : (flag : Option Flag) (rest : List ℕ) (other : Option types.Read
 flag_allowed None rest other h = h
 flag_allowed (Some flag) rest other h = tt
 
-refer_allowed : (reference : Reference) (part : Part) → IfThere ReadsField (refer reference part)
+refer_allowed : (reference : Reference) (part : Cut) → IfThere ReadsField (refer reference part)
 refer_allowed reference part = by (referred reference part.0) where
   by : (o : Option (List ℕ)) → IfThere ReadsField ((o >>> λ name. Some (fields.Reference reference name)) >>> λ field. Some (field, part.1))
   by None = tt
@@ -152,7 +152,7 @@ fields_named (b ∷ bytes) text d h =
 syntax_kept : (d : TypeDefinition) → NamedType d → IfThere NamedType (with_syntax d)
 syntax_kept d h = either NamedType _ (Some d) None h tt
 
-abbrev IsHead : Part → Type 0
+abbrev IsHead : Cut → Type 0
 IsHead head = is_oid head.0 ≡ true
 
 head_is : (text : List ℕ) → IfThere IsHead (head_at text)

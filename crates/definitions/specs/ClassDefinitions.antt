@@ -9,8 +9,8 @@ use Rattle.definitions.specs.declared.class_definition.ClassKind.TheVariants as 
 use Rattle.definitions.specs.declared.class_definition.ClassField.{ClassField}
 use Rattle.definitions.specs.declared.class_definition.ClassField.TheVariants as fields
 use Rattle.definitions.specs.declared.class_definition.ClassDefinition.{ClassDefinition}
-use Rattle.definitions.specs.Words.{◌>>>◌, Part, word_at}
-use Rattle.definitions.specs.Texts.{Parts, names_at}
+use Rattle.definitions.specs.Words.{◌>>>◌, Cut, word_at}
+use Rattle.definitions.specs.Texts.{Cuts, names_at}
 use Rattle.definitions.specs.Elements as elements
 use Rattle.definitions.specs.Elements.{is_word, element_field, unless, is_some_list, with_element_field, empty_element, fields_to_end, head_at}
 
@@ -38,7 +38,7 @@ may_be_quoted lists.May = false
 abbrev pub Read : Type 0
 Read = ClassField × List ℕ
 
-abbrev pub list_field : ClassList → Parts → Option Read
+abbrev pub list_field : ClassList → Cuts → Option Read
 list_field which names = Some (fields.List which names.0, names.1)
 
 abbrev pub of_element : elements.Read → Option Read
@@ -52,7 +52,7 @@ abbrev pub or_list : Option ClassList → List ℕ → Option Read → Option Re
 or_list None rest other = other
 or_list (Some which) rest other = names_at (may_be_quoted which) rest >>> list_field which
 
-abbrev pub field_of : Part → Option Read
+abbrev pub field_of : Cut → Option Read
 field_of word = or_list (list_of word.0) word.1 (or_kind (kind_of word.0) word.1 (element_field sorts.ObjectClass word.0 word.1 >>> of_element))
 
 unfoldable pub field_at : List ℕ → Option Read
@@ -77,7 +77,7 @@ with_field d (fields.Kind kind) = unless (is_some d.kind) (record d { kind = Som
 abbrev pub empty_definition : List ℕ → ClassDefinition
 empty_definition oid = record { element = empty_element oid; superiors = []; kind = None; must = []; may = [] }
 
-abbrev pub class_with : Part → Option ClassDefinition
+abbrev pub class_with : Cut → Option ClassDefinition
 class_with head = fields_to_end field_at with_field (empty_definition head.0) head.1 head.1
 
 -- of what stands behind `objectclass`: `( OID`, the fields, and `)`

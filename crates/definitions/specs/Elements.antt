@@ -8,8 +8,8 @@ use Rattle.definitions.specs.declared.element.Element.{Element}
 use Rattle.definitions.specs.declared.element.ElementField.{ElementField}
 use Rattle.definitions.specs.declared.element.ElementField.TheVariants as fields
 use Rattle.definitions.specs.Naming.{is_oid, is_name, is_type_name}
-use Rattle.definitions.specs.Words.{◌>>>◌, Part, skip, sign_at, word_at, quoted_at}
-use Rattle.definitions.specs.Texts.{Parts, quoted_texts_at}
+use Rattle.definitions.specs.Words.{◌>>>◌, Cut, skip, sign_at, word_at, quoted_at}
+use Rattle.definitions.specs.Texts.{Cuts, quoted_texts_at}
 
 -- whether a text is this word, in any case
 abbrev pub is_word : List ℕ → List ℕ → Bool
@@ -27,13 +27,13 @@ is_allowed sorts.ObjectClass name = is_name name
 abbrev pub Read : Type 0
 Read = ElementField × List ℕ
 
-abbrev pub names_field : Sort → Parts → Option Read
+abbrev pub names_field : Sort → Cuts → Option Read
 names_field sort names = if list_all (is_allowed sort) names.0 then Some (fields.Names names.0, names.1) else None
 
-abbrev pub description_field : Part → Option Read
+abbrev pub description_field : Cut → Option Read
 description_field part = Some (fields.Description, part.1)
 
-abbrev pub extension_field : List ℕ → Parts → Option Read
+abbrev pub extension_field : List ℕ → Cuts → Option Read
 extension_field word texts = Some (fields.Extension word, texts.1)
 
 -- a field with this word, of what follows it
@@ -85,8 +85,8 @@ fields_to_end field_at with_field d (b ∷ bytes) text =
     else (field_at text >>> λ field. (with_field d field.0 >>> λ next. fields_to_end field_at with_field next bytes field.1))
 
 -- `( OID`, and what follows
-abbrev pub numeric : Part → Option Part
+abbrev pub numeric : Cut → Option Cut
 numeric oid = if is_oid oid.0 then Some oid else None
 
-unfoldable pub head_at : List ℕ → Option Part
+unfoldable pub head_at : List ℕ → Option Cut
 head_at text = sign_at 40 text >>> λ inside. (word_at inside >>> numeric)

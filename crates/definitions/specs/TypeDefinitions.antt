@@ -8,7 +8,7 @@ use Rattle.definitions.specs.declared.type_field.Flag.TheVariants as flags
 use Rattle.definitions.specs.declared.type_field.TypeField.{TypeField}
 use Rattle.definitions.specs.declared.type_field.TypeField.TheVariants as fields
 use Rattle.definitions.specs.declared.type_definition.TypeDefinition.{TypeDefinition}
-use Rattle.definitions.specs.Words.{◌>>>◌, Part}
+use Rattle.definitions.specs.Words.{◌>>>◌, Cut}
 use Rattle.definitions.specs.Elements.{unless, with_element_field, empty_element, fields_to_end, head_at}
 use Rattle.definitions.specs.TypeFields.{field_at}
 
@@ -55,7 +55,7 @@ empty_definition oid =
 abbrev pub with_syntax : TypeDefinition → Option TypeDefinition
 with_syntax d = if is_some d.syntax || is_some d.superior then Some d else None
 
-abbrev pub type_with : Part → Option TypeDefinition
+abbrev pub type_with : Cut → Option TypeDefinition
 type_with head = fields_to_end field_at with_field (empty_definition head.0) head.1 head.1 >>> with_syntax
 
 -- of what stands behind `attributetype`: `( OID`, the fields, and `)`

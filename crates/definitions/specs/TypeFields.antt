@@ -12,7 +12,7 @@ use Rattle.definitions.specs.declared.type_field.Usage.TheVariants as usages
 use Rattle.definitions.specs.declared.type_field.TypeField.{TypeField}
 use Rattle.definitions.specs.declared.type_field.TypeField.TheVariants as fields
 use Rattle.definitions.specs.Naming.{is_oid}
-use Rattle.definitions.specs.Words.{◌>>>◌, Part, begins_with, end_of, word_at, plain_or_quoted_at}
+use Rattle.definitions.specs.Words.{◌>>>◌, Cut, begins_with, end_of, word_at, plain_or_quoted_at}
 use Rattle.definitions.specs.Elements as elements
 use Rattle.definitions.specs.Elements.{is_word, element_field}
 
@@ -73,10 +73,10 @@ Read = TypeField × List ℕ
 abbrev pub reference_field : Reference → List ℕ → Option TypeField
 reference_field reference text = referred reference text >>> λ name. Some (fields.Reference reference name)
 
-abbrev pub refer : Reference → Part → Option Read
+abbrev pub refer : Reference → Cut → Option Read
 refer reference part = reference_field reference part.0 >>> λ field. Some (field, part.1)
 
-abbrev pub usage_field : Part → Option Read
+abbrev pub usage_field : Cut → Option Read
 usage_field part = usage_of part.0 >>> λ usage. Some (fields.Usage usage, part.1)
 
 abbrev pub of_element : elements.Read → Option Read
@@ -96,7 +96,7 @@ abbrev pub or_reference : Option Reference → List ℕ → Option Read → Opti
 or_reference None rest other = other
 or_reference (Some reference) rest other = plain_or_quoted_at rest >>> refer reference
 
-abbrev pub field_of : Part → Option Read
+abbrev pub field_of : Cut → Option Read
 field_of word = or_reference (reference_of word.0) word.1 (or_flag (flag_of word.0) word.1 (other_field word.0 word.1))
 
 unfoldable pub field_at : List ℕ → Option Read

@@ -7,8 +7,8 @@ abbrev pub ◌>>>◌ : {A B : Type 0} → Option A → (A → Option B) → Opti
 None >>> f = None
 
 -- a part of a text, and what follows it
-abbrev pub Part : Type 0
-Part = List ℕ × List ℕ
+abbrev pub Cut : Type 0
+Cut = List ℕ × List ℕ
 
 abbrev pub begins_with : ℕ → List ℕ → Bool
 begins_with byte [] = false
@@ -39,11 +39,11 @@ after_word line = drop (end_of is_blank line) line
 abbrev pub ends_word : ℕ → Bool
 ends_word b = is_blank b || b == 39 || b == 40 || b == 41 || b == 36
 
-abbrev pub cut_word : ℕ → List ℕ → Option Part
+abbrev pub cut_word : ℕ → List ℕ → Option Cut
 cut_word n text = if n == 0 then None else Some (take n text, drop n text)
 
 -- a word and what follows it
-unfoldable pub word_at : List ℕ → Option Part
+unfoldable pub word_at : List ℕ → Option Cut
 word_at text = cut_word (end_of ends_word (skip text)) (skip text)
 
 -- what follows this sign
@@ -53,13 +53,13 @@ sign_at sign text = if begins_with sign (skip text) then Some (drop 1 (skip text
 abbrev pub is_quote : ℕ → Bool
 is_quote b = b == 39
 
-abbrev pub cut_quoted : ℕ → List ℕ → Option Part
+abbrev pub cut_quoted : ℕ → List ℕ → Option Cut
 cut_quoted n text = if nat_lt n (length text) then Some (take n text, drop (n + 1) text) else None
 
 -- a text between two quotes, and what follows it
-unfoldable pub quoted_at : List ℕ → Option Part
+unfoldable pub quoted_at : List ℕ → Option Cut
 quoted_at text = sign_at 39 text >>> λ inside. cut_quoted (end_of is_quote inside) inside
 
 -- a word, or a text in quotes
-unfoldable pub plain_or_quoted_at : List ℕ → Option Part
+unfoldable pub plain_or_quoted_at : List ℕ → Option Cut
 plain_or_quoted_at text = if begins_with 39 (skip text) then quoted_at text else word_at text

@@ -7,8 +7,6 @@ mod fault;
 mod laws;
 mod lines;
 mod naming;
-#[cfg(test)]
-mod tests;
 mod texts;
 mod type_definition;
 mod type_field;

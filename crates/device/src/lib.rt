@@ -6,8 +6,6 @@ mod count;
 mod memory;
 mod sink;
 mod source;
-#[cfg(test)]
-mod tests;
 
 pub use adapters::{OfRead, OfWrite};
 pub use memory::{TrySink, TrySource};

@@ -13,7 +13,7 @@ use Rattle.ldif.specs.Line.{form_of, value_of, value_line}
 use Rattle.ldif.specs.Reading as reading
 use Rattle.ldif.specs.Contents.{readings, write_content}
 use Rattle.ldif.specs.Writing.{is_plain, line_text}
-use Rattle.ldif.specs.declared.fault.Fault.TheVariants as faults
+use Rattle.ldif.specs.declared.fault.LdifFaultKind.TheVariants as faults
 use Rattle.ldif.specs.Attrs.{Attr}
 use Rattle.ldif.specs.declared.record.Record.TheVariants as kinds
 use Rattle.ldif.specs.declared.record.Mode.TheVariants.{Content}
@@ -25,16 +25,16 @@ use Rattle.values.specs.declared.types.AttributeType.{AttributeType}
 use Rattle.schema.specs.Configurations.{object_class}
 use Rattle.schema.specs.Each as each_part
 use Rattle.schema.specs.Names.{part_of, name_of_text, text_of_name}
-use Rattle.paths.specs.Paths.{Steps, path_cmp}
-use Rattle.schema.specs.Rdns.{put_pair, step_of}
-use Rattle.schema.specs.Rules.{Rules, below, located, name_text}
+use Rattle.paths.specs.Paths.{Path, path_cmp}
+use Rattle.schema.specs.Rdns.{put_pair, rdn_key_of}
+use Rattle.schema.specs.Conf.{Conf, below, located, name_text}
 use Rattle.values.specs.Types.{type_of}
 use Rattle.matching.specs.Forms.{norm}
 use Rattle.matching.specs.Syntaxes.{is_valid}
 use Rattle.tree.specs.Adds.{add, add_at, added}
 use Rattle.tree.specs.Directories.{Entries, rdn_in, rdns_from}
-use Rattle.tree.specs.Entries.{Facts, push_value, add_lines, with_rdn, lines_of}
-use Rattle.directory.specs.Runs.{State, start, of_change, take_up, outcome, step, after_records, after, content_of, dump, Loads}
+use Rattle.tree.specs.Entries.{EntryContent, push_value, add_lines, with_rdn, lines_of}
+use Rattle.directory.specs.Runs.{State, start, of_change, take_up, outcome, step, after_records, after, record_of, dump, Loads}
 use Rattle.directory.specs.Loading.{StopsAt}
 use Rattle.directory.specs.declared.loading.LoadFault.TheVariants as loads
 use Rattle.directory.specs.Reports.{report, report_line}
@@ -48,7 +48,7 @@ on_texts = tt
 
 -- what a name and attribute lines come to
 unfoldable on_entries : ⊤
-unfolding is_utf8 chars encode each_part.each part_of name_of_text put_pair step_of below located type_of norm is_valid add push_value add_lines with_rdn
+unfolding is_utf8 chars encode each_part.each part_of name_of_text put_pair rdn_key_of below located type_of norm is_valid add push_value add_lines with_rdn
 on_entries = tt
 
 -- what an entry is written by
@@ -71,8 +71,8 @@ abbrev text_type : List ℕ → List ℕ → AttributeType
 text_type oid name = record { oid = oid; names = name ∷ []; superior = None; syntax = syntaxes.Text; equality = Some families.Ignore; is_ordered = false; has_substrings = false; single_value = false; is_fixed = false; is_operational = false }
 
 -- objectClass and the types dc and cn, below dc=ex
-abbrev rules : Rules
-rules = record {
+abbrev conf : Conf
+conf = record {
   types = object_class ∷ text_type (codes "0.9.2342.19200300.100.1.25") (codes "dc") ∷ text_type (codes "2.5.4.3") (codes "cn") ∷ [];
   suffix = ((1, codes "ex") ∷ []) ∷ [];
 }
@@ -92,12 +92,12 @@ a_fault_after_a_code = refl
 abbrev refusing : Entries → List (ℕ × Reason) → Bool → State
 refusing d refused over = record { entries = d; accepted = 0; refused = refused; ended = over }
 
-other_version : (d : Entries) → after rules Content false d (ended (codes "version: 2") ++ ended (codes "dn: dc=ex")) ≡ refusing d ((1, reasons.Fault faults.Version) ∷ []) true
+other_version : (d : Entries) → after conf Content false d (ended (codes "version: 2") ++ ended (codes "dn: dc=ex")) ≡ refusing d ((1, reasons.Fault faults.Version) ∷ []) true
 unfolding on_texts
 other_version d = refl
 
 -- a version alone is no record that counts
-version_alone : (d : Entries) → after rules Content false d (ended (codes "version: 1")) ≡ start d
+version_alone : (d : Entries) → after conf Content false d (ended (codes "version: 1")) ≡ start d
 unfolding on_texts
 version_alone d = refl
 
@@ -105,24 +105,24 @@ version_alone d = refl
 abbrev two_refused : List ℕ
 two_refused = ended (codes "dn: cn=a,dc=no") ++ person ++ ended [] ++ ended (codes "# note") ++ ended (codes "dn: x")
 
-stops_at_the_first : (d : Entries) → after rules Content false d two_refused ≡ refusing d ((1, reasons.Code result.NoSuchObject) ∷ []) true
+stops_at_the_first : (d : Entries) → after conf Content false d two_refused ≡ refusing d ((1, reasons.Code result.NoSuchObject) ∷ []) true
 unfolding on_texts on_entries
 stops_at_the_first d = refl
 
-goes_on_to_the_second : (d : Entries) → after rules Content true d two_refused ≡ refusing d ((1, reasons.Code result.NoSuchObject) ∷ (5, reasons.Code result.InvalidDnSyntax) ∷ []) false
+goes_on_to_the_second : (d : Entries) → after conf Content true d two_refused ≡ refusing d ((1, reasons.Code result.NoSuchObject) ∷ (5, reasons.Code result.InvalidDnSyntax) ∷ []) false
 unfolding on_texts on_entries
 goes_on_to_the_second d = refl
 
 -- ---- two records into the directory with no entry
 
-abbrev root : Facts
+abbrev root : EntryContent
 root = record { rdn = (1, codes "ex") ∷ []; attrs = (0, codes "domain" ∷ []) ∷ (1, codes "ex" ∷ []) ∷ [] }
 
-abbrev ann : Facts
+abbrev ann : EntryContent
 ann = record { rdn = (2, codes "Ann") ∷ []; attrs = (2, codes "ann" ∷ []) ∷ (0, codes "person" ∷ []) ∷ [] }
 
 -- a value's normal form has small letters
-abbrev at_ann : Steps
+abbrev at_ann : Path
 at_ann = ((2, codes "ann") ∷ []) ∷ []
 
 abbrev with_root : Entries
@@ -147,9 +147,9 @@ placed false true full next new parent room = cc
 placed false false true next new parent room = cc
 placed false false false next new parent room = refl
 
-root_placed : add rules finite.empty (codes "DC=ex") root_lines ≡ added with_root
+root_placed : add conf finite.empty (codes "DC=ex") root_lines ≡ added with_root
 unfolding on_texts on_entries add_at root_lines
-root_placed = placed _ _ _ with_root (ap is_some (finite.get-empty path_cmp [])) refl (ap (nat_le 4294967295) (finite.len-empty path_cmp Facts))
+root_placed = placed _ _ _ with_root (ap is_some (finite.get-empty path_cmp [])) refl (ap (nat_le 4294967295) (finite.len-empty path_cmp EntryContent))
 
 -- the state after a record with this outcome of its add
 abbrev next : State → ℕ → Result Entries Code → State
@@ -166,30 +166,30 @@ module _ (total : IsTotalOrder path_cmp) where
   one_there : finite.len with_root ≡ 1
   one_there =
       finite.len-insert total finite.empty [] root
-      ∙ ap (λ o. cond (is_some o) (finite.len (finite.empty {X = Facts} {R = path_cmp})) (finite.len (finite.empty {X = Facts} {R = path_cmp}) + 1)) (finite.get-empty path_cmp [])
-      ∙ ap (λ n. n + 1) (finite.len-empty path_cmp Facts)
+      ∙ ap (λ o. cond (is_some o) (finite.len (finite.empty {X = EntryContent} {R = path_cmp})) (finite.len (finite.empty {X = EntryContent} {R = path_cmp}) + 1)) (finite.get-empty path_cmp [])
+      ∙ ap (λ n. n + 1) (finite.len-empty path_cmp EntryContent)
 
-  ann_placed : add rules with_root (codes "CN=Ann,dc=EX") ann_lines ≡ added with_both
+  ann_placed : add conf with_root (codes "CN=Ann,dc=EX") ann_lines ≡ added with_both
   unfolding on_texts on_entries add_at ann_lines
   ann_placed = placed _ _ _ with_both (ap is_some ann_new) (ap (λ o. not (is_some o)) root_found) (ap (nat_le 4294967295) one_there)
 
-  two_are_added : after rules Content false finite.empty two_records ≡ record { entries = with_both; accepted = 2; refused = []; ended = false }
+  two_are_added : after conf Content false finite.empty two_records ≡ record { entries = with_both; accepted = 2; refused = []; ended = false }
   unfolding on_texts root_lines ann_lines
   two_are_added =
-      ap (λ o. step rules Content false (next (start finite.empty) 1 o) (4, Ok (kinds.Content (codes "CN=Ann,dc=EX") ann_lines))) root_placed
+      ap (λ o. step conf Content false (next (start finite.empty) 1 o) (4, Ok (kinds.Content (codes "CN=Ann,dc=EX") ann_lines))) root_placed
       ∙ ap (next (record { entries = with_root; accepted = 1; refused = []; ended = false }) 4) ann_placed
 
   -- ---- loading
 
-  two_load : Loads rules two_records with_both
+  two_load : Loads conf two_records with_both
   two_load = record { entries = ap (λ (s : State). s.entries) (sym two_are_added); all = ap (λ (s : State). s.refused) two_are_added }
 
-loading_stops : StopsAt (loads.Refused 1 (reasons.Code result.NoSuchObject)) rules two_refused
+loading_stops : StopsAt (loads.Refused 1 (reasons.Code result.NoSuchObject)) conf two_refused
 loading_stops = ap (λ (s : State). s.refused) (stops_at_the_first finite.empty)
 
 -- ---- a dump, parents first
 
-abbrev in_order : List (Steps × Facts)
+abbrev in_order : List (Path × EntryContent)
 in_order = ([], root) ∷ (at_ann, ann) ∷ []
 
 abbrev both : Entries
@@ -198,17 +198,17 @@ both = finite.from_sorted in_order
 ann_stands : finite.get both at_ann ≡ Some ann
 ann_stands = finite.get-from_sorted path_cmp in_order at_ann tt
 
-written_root : write_content (content_of rules both ([], root)) ≡ ended (codes "dn: dc=ex") ++ domain ++ ended (codes "dc: ex") ++ ended []
+written_root : write_content (record_of conf both ([], root)) ≡ ended (codes "dn: dc=ex") ++ domain ++ ended (codes "dc: ex") ++ ended []
 unfolding on_writing
 written_root = refl
 
-written_ann : write_content (content_of rules both (at_ann, ann)) ≡ ended (codes "dn: cn=Ann,dc=ex") ++ ended (codes "cn: ann") ++ person ++ ended []
+written_ann : write_content (record_of conf both (at_ann, ann)) ≡ ended (codes "dn: cn=Ann,dc=ex") ++ ended (codes "cn: ann") ++ person ++ ended []
 unfolding on_writing
-written_ann = ap (λ o. write_content (record { dn = name_text rules (rdn_in o ∷ []); attrs = lines_of rules.types ann.attrs })) ann_stands
+written_ann = ap (λ o. write_content (record { dn = name_text conf (rdn_in o ∷ []); attrs = lines_of conf.types ann.attrs })) ann_stands
 
-dumped : dump rules both ≡ ended (codes "dn: dc=ex") ++ domain ++ ended (codes "dc: ex") ++ ended [] ++ ended (codes "dn: cn=Ann,dc=ex") ++ ended (codes "cn: ann") ++ person ++ ended []
+dumped : dump conf both ≡ ended (codes "dn: dc=ex") ++ domain ++ ended (codes "dc: ex") ++ ended [] ++ ended (codes "dn: cn=Ann,dc=ex") ++ ended (codes "cn: ann") ++ person ++ ended []
 unfolding dump on_writing
 dumped =
-    ap (λ es. flat_map (λ x. write_content (content_of rules both x)) es) (finite.entries-from_sorted path_cmp in_order tt)
-    ∙ ap (λ bs. bs ++ write_content (content_of rules both (at_ann, ann)) ++ []) written_root
+    ap (λ es. flat_map (λ x. write_content (record_of conf both x)) es) (finite.entries-from_sorted path_cmp in_order tt)
+    ∙ ap (λ bs. bs ++ write_content (record_of conf both (at_ann, ann)) ++ []) written_root
     ∙ ap (λ bs. ended (codes "dn: dc=ex") ++ domain ++ ended (codes "dc: ex") ++ ended [] ++ bs ++ []) written_ann

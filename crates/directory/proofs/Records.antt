@@ -7,13 +7,13 @@ use Rattle.std.proofs.lemmas.List.Sums.{fold_push}
 use Rattle.std.proofs.lemmas.Grind.{flat_map-append}
 use Rattle.device.specs.Device.{Written, Took}
 use Rattle.device.proofs.Taken.{took_none, took_more}
-use Rattle.ldif_lines.specs.Records.{Raw}
+use Rattle.ldif_lines.specs.Records.{RawRecord}
 use Rattle.ldif_lines.specs.Reader.{Takes, IsEnd}
-use Rattle.ldif.specs.declared.fault.Fault.{Fault}
+use Rattle.ldif.specs.declared.fault.LdifFaultKind.{LdifFaultKind}
 use Rattle.ldif.specs.declared.record.Record.{Record}
 use Rattle.ldif.specs.declared.record.Mode.{Mode}
 use Rattle.ldif.specs.Reading.{reading}
-use Rattle.schema.specs.Rules.{Rules}
+use Rattle.schema.specs.Conf.{Conf}
 use Rattle.tree.specs.Directories.{Entries}
 use Rattle.directory.specs.Runs.{State, start, outcome, counted, take_up, step, after_records}
 use Rattle.directory.specs.Reports.{report, report_line}
@@ -69,28 +69,28 @@ counted_report go_on s line d Nothing = append-nil (report s.refused)
 counted_report go_on s line d Accepted = append-nil (report s.refused)
 counted_report go_on s line d (Refused why) = sym (report_more s.refused (line, why))
 
-module _ (rules : Rules) (mode : Mode) (go_on : Bool) (old : Entries) where
-  abbrev at : List Raw → State
-  at front = state_after rules mode go_on old front
+module _ (conf : Conf) (mode : Mode) (go_on : Bool) (old : Entries) where
+  abbrev at : List RawRecord → State
+  at front = state_after conf mode go_on old front
 
-  pub step_going : (s : State) (r : ℕ × Result Record Fault) → s.ended ≡ false → step rules mode go_on s r ≡ take_up go_on s r.0 (outcome rules mode s.entries r.1)
+  pub step_going : (s : State) (r : ℕ × Result Record LdifFaultKind) → s.ended ≡ false → step conf mode go_on s r ≡ take_up go_on s r.0 (outcome conf mode s.entries r.1)
   unfolding step
-  step_going s r going = ap (λ b. cond b s (take_up go_on s r.0 (outcome rules mode s.entries r.1))) going
+  step_going s r going = ap (λ b. cond b s (take_up go_on s r.0 (outcome conf mode s.entries r.1))) going
 
-  pub one_more : (front : List Raw) (r : Raw) → at (front ++ r ∷ []) ≡ step rules mode go_on (at front) (read_as mode r)
+  pub one_more : (front : List RawRecord) (r : RawRecord) → at (front ++ r ∷ []) ≡ step conf mode go_on (at front) (read_as mode r)
   unfolding after_records
   one_more front r =
-      ap (fold (step rules mode go_on) (start old)) (map-append (read_as mode) front (r ∷ [])) ∙ fold_push (step rules mode go_on) (start old) (map (read_as mode) front) (read_as mode r)
+      ap (fold (step conf mode go_on) (start old)) (map-append (read_as mode) front (r ∷ [])) ∙ fold_push (step conf mode go_on) (start old) (map (read_as mode) front) (read_as mode r)
 
-  module _ (now : Entries) (front : List Raw) (r : Raw) (going : (at front).ended ≡ false) (here : now ≡ (at front).entries) where
+  module _ (now : Entries) (front : List RawRecord) (r : RawRecord) (going : (at front).ended ≡ false) (here : now ≡ (at front).entries) where
     abbrev o : Entries × Outcome
-    o = outcome rules mode now (reading mode r.first r.lines)
+    o = outcome conf mode now (reading mode r.first r.lines)
 
     pub settled : at (front ++ r ∷ []) ≡ take_up go_on (at front) r.line o
-    settled = one_more front r ∙ step_going (at front) (read_as mode r) going ∙ ap (λ (d : Entries). take_up go_on (at front) r.line (outcome rules mode d (reading mode r.first r.lines))) (sym here)
+    settled = one_more front r ∙ step_going (at front) (read_as mode r) going ∙ ap (λ (d : Entries). take_up go_on (at front) r.line (outcome conf mode d (reading mode r.first r.lines))) (sym here)
 
-    module _ (all mid left : Option (List Raw)) (t t' : Tally) (new : Entries) (h : IsReached rules mode go_on old now all mid t front) (taken : Takes mid left (r ∷ [])) (entries : new ≡ o.0) (counts : t' ≡ counts_after o.1 t) where
-      reached_more : IsReached rules mode go_on old new all left t' (front ++ r ∷ [])
+    module _ (all mid left : Option (List RawRecord)) (t t' : Tally) (new : Entries) (h : IsReached conf mode go_on old now all mid t front) (taken : Takes mid left (r ∷ [])) (entries : new ≡ o.0) (counts : t' ≡ counts_after o.1 t) where
+      reached_more : IsReached conf mode go_on old new all left t' (front ++ r ∷ [])
       reached_more = record {
         parts = takes_more all mid left front (r ∷ []) h.parts taken;
         entries = entries ∙ counted_entries go_on (at front) r.line o.0 o.1 ∙ ap (λ (s : State). s.entries) (sym settled);
@@ -109,7 +109,7 @@ module _ (rules : Rules) (mode : Mode) (go_on : Bool) (old : Entries) where
 
   -- ---- what the loop keeps
 
-  pub begins : (all : Option (List Raw)) (a : Written) → Stands rules mode go_on old old all all (record { accepted = 0; refused = 0 }) a a
+  pub begins : (all : Option (List RawRecord)) (a : Written) → Stands conf mode go_on old old all all (record { accepted = 0; refused = 0 }) a a
   unfolding after_records
   begins all a = record {
     front = [];
@@ -118,8 +118,8 @@ module _ (rules : Rules) (mode : Mode) (go_on : Bool) (old : Entries) where
     written = took_none a;
   }
 
-  module _ (now new : Entries) (all mid left : Option (List Raw)) (t t' : Tally) (a b c : Written) (r : Raw) (h : Stands rules mode go_on old now all mid t a b) (taken : Takes mid left (r ∷ [])) where
-    pub goes_on : (ended : Bool) → IsTaken (outcome rules mode now (reading mode r.first r.lines)) go_on r.line new t t' b c ended → ended ≡ false → Stands rules mode go_on old new all left t' a c
+  module _ (now new : Entries) (all mid left : Option (List RawRecord)) (t t' : Tally) (a b c : Written) (r : RawRecord) (h : Stands conf mode go_on old now all mid t a b) (taken : Takes mid left (r ∷ [])) where
+    pub goes_on : (ended : Bool) → IsTaken (outcome conf mode now (reading mode r.first r.lines)) go_on r.line new t t' b c ended → ended ≡ false → Stands conf mode go_on old new all left t' a c
     goes_on ended k off = record {
       front = h.front ++ r ∷ [];
       reached = reached_more now h.front r h.going h.reached.entries all mid left t t' new h.reached taken k.entries k.counts;
@@ -127,7 +127,7 @@ module _ (rules : Rules) (mode : Mode) (go_on : Bool) (old : Entries) where
       written = written_more now h.front r h.going h.reached.entries a b c h.written k.written;
     }
 
-    pub ends_there : (ended : Bool) → IsTaken (outcome rules mode now (reading mode r.first r.lines)) go_on r.line new t t' b c ended → ended ≡ true → Ran rules mode go_on old new all t' a c
+    pub ends_there : (ended : Bool) → IsTaken (outcome conf mode now (reading mode r.first r.lines)) go_on r.line new t t' b c ended → ended ≡ true → Ran conf mode go_on old new all t' a c
     ends_there ended k on = record {
       front = h.front ++ r ∷ [];
       left = left;
@@ -136,14 +136,14 @@ module _ (rules : Rules) (mode : Mode) (go_on : Bool) (old : Entries) where
       written = written_more now h.front r h.going h.reached.entries a b c h.written k.written;
     }
 
-    all_but_last : (why : Reason) → (outcome rules mode now (reading mode r.first r.lines)).1 ≡ Refused why → AllButLast (at (h.front ++ r ∷ [])).refused a b (r.line, why)
+    all_but_last : (why : Reason) → (outcome conf mode now (reading mode r.first r.lines)).1 ≡ Refused why → AllButLast (at (h.front ++ r ∷ [])).refused a b (r.line, why)
     all_but_last why is = record {
       before = (at h.front).refused;
       are = last_refused now h.front r h.going h.reached.entries why is;
       written = h.written;
     }
 
-    pub breaks_off : (f : RunFault) → IsBrokenOff (outcome rules mode now (reading mode r.first r.lines)) r.line now new t b c f → BrokeOff rules mode go_on old new all f a c
+    pub breaks_off : (f : RunFault) → IsBrokenOff (outcome conf mode now (reading mode r.first r.lines)) r.line now new t b c f → BrokeOff conf mode go_on old new all f a c
     breaks_off (faults.Read u) k = absurd k
     breaks_off (faults.Write u) (why, k, broke) = record {
       front = h.front ++ r ∷ [];
@@ -169,14 +169,14 @@ module _ (rules : Rules) (mode : Mode) (go_on : Bool) (old : Entries) where
       written = inr (record { last = (r.line, why); others = subst (λ w. AllButLast (at (h.front ++ r ∷ [])).refused a w (r.line, why)) (sym same) (all_but_last why k.is) });
     }
 
-  module _ (now : Entries) (all left : Option (List Raw)) (t : Tally) (a b : Written) (h : Stands rules mode go_on old now all left t a b) where
-    pub stops : IsEnd left → Ran rules mode go_on old now all t a b
+  module _ (now : Entries) (all left : Option (List RawRecord)) (t : Tally) (a b : Written) (h : Stands conf mode go_on old now all left t a b) where
+    pub stops : IsEnd left → Ran conf mode go_on old now all t a b
     stops over = record { front = h.front; left = left; reached = h.reached; over = inl over; written = h.written }
 
-    pub stops_reading : BrokeOff rules mode go_on old now all (faults.Read t) a b
+    pub stops_reading : BrokeOff conf mode go_on old now all (faults.Read t) a b
     stops_reading = record { front = h.front; left = left; reached = h.reached; written = h.written }
 
-    pub stops_wanting : BrokeOff rules mode go_on old now all (faults.OutOfMemory t) a b
+    pub stops_wanting : BrokeOff conf mode go_on old now all (faults.OutOfMemory t) a b
     stops_wanting = record { front = h.front; left = left; reached = h.reached; written = inl h.written }
 
 -- ---- counts

@@ -9,11 +9,11 @@ use Rattle.ldif.specs.declared.write.WriteFault.TheVariants as faults
 use Rattle.ldif.specs.Contents.{written_attr, write_content}
 use Rattle.values.specs.declared.types.AttributeType.{AttributeType}
 use Rattle.values.specs.Values.{Value}
-use Rattle.paths.specs.Paths.{Steps}
-use Rattle.schema.specs.Rules.{Rules}
-use Rattle.tree.specs.Directories.{Entries, content_at}
+use Rattle.paths.specs.Paths.{Path}
+use Rattle.schema.specs.Conf.{Conf}
+use Rattle.tree.specs.Directories.{Entries, record_at}
 use Rattle.tree.specs.Entries.{lines_of}
-use Rattle.tree.specs.Stored.{Stored, StoredAttribute, facts_of, attributes_of, IsMade}
+use Rattle.tree.specs.StoredEntries.{Entry, EntryAttribute, content_of, attributes_of, IsMade}
 
 -- a beginning of the bytes was written, and these are left
 pub record SoFar (a b : Written) (whole rest : List ℕ) : Type 0 where
@@ -44,16 +44,16 @@ abbrev pub values_text : List ℕ → List Value → List ℕ
 values_text name vs = flat_map (λ v. written_attr (attr_of name v)) vs
 
 -- the lines of attributes, and the empty line behind them
-abbrev pub attributes_text : List AttributeType → List StoredAttribute → List ℕ
+abbrev pub attributes_text : List AttributeType → List EntryAttribute → List ℕ
 attributes_text types attrs = flat_map written_attr (lines_of types (attributes_of attrs)) ++ 10 ∷ []
 
-abbrev pub entry_text : Rules → Entries → Steps × Stored → List ℕ
-entry_text rules d e = write_content (content_at rules d e.0 (facts_of e.1))
+abbrev pub entry_text : Conf → Entries → Path × Entry → List ℕ
+entry_text conf d e = write_content (record_at conf d e.0 (content_of e.1))
 
-abbrev pub entries_text : Rules → Entries → List (Steps × Stored) → List ℕ
-entries_text rules d es = flat_map (entry_text rules d) es
+abbrev pub entries_text : Conf → Entries → List (Path × Entry) → List ℕ
+entries_text conf d es = flat_map (entry_text conf d) es
 
 -- entries of a directory, as its tree stores them
-pub record IsThere (rules : Rules) (d : Entries) (e : Steps × Stored) : Type 0 where
-  pub there : finite.get d e.0 ≡ Some (facts_of e.1)
-  pub made : IsMade rules.types e.1.attrs
+pub record IsThere (conf : Conf) (d : Entries) (e : Path × Entry) : Type 0 where
+  pub there : finite.get d e.0 ≡ Some (content_of e.1)
+  pub made : IsMade conf.types e.1.attrs

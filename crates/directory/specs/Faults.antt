@@ -2,10 +2,10 @@
 use Rattle.std.specs.Prelude.{◌≡◌, ℕ, ◌+◌, ◌⊎◌, Bool, List, [], ◌∷◌, ◌++◌, length, Result}
 use Rattle.device.specs.Device.{Written, Took, Broke}
 use Rattle.ldif.specs.Contents.{readings}
-use Rattle.ldif.specs.declared.fault.Fault.{Fault}
+use Rattle.ldif.specs.declared.fault.LdifFaultKind.{LdifFaultKind}
 use Rattle.ldif.specs.declared.record.Record.{Record}
 use Rattle.ldif.specs.declared.record.Mode.{Mode}
-use Rattle.schema.specs.Rules.{Rules}
+use Rattle.schema.specs.Conf.{Conf}
 use Rattle.tree.specs.Directories.{Entries}
 use Rattle.directory.specs.Runs.{after, after_records}
 use Rattle.directory.specs.Reports.{report, report_line}
@@ -15,11 +15,11 @@ use Rattle.directory.specs.declared.runs.RunFault.{RunFault}
 use Rattle.directory.specs.declared.runs.RunFault.TheVariants as faults
 
 -- a run that went through: the entries, the counts and the report are those of the text
-pub record Went (rules : Rules) (mode : Mode) (go_on : Bool) (old new : Entries) (text : List ℕ) (t : Tally) (a b : Written) : Type 0 where
-  pub entries : new ≡ (after rules mode go_on old text).entries
-  pub accepted : t.accepted ≡ (after rules mode go_on old text).accepted
-  pub refused : t.refused ≡ length (after rules mode go_on old text).refused
-  pub written : Took a b (report (after rules mode go_on old text).refused)
+pub record Went (conf : Conf) (mode : Mode) (go_on : Bool) (old new : Entries) (text : List ℕ) (t : Tally) (a b : Written) : Type 0 where
+  pub entries : new ≡ (after conf mode go_on old text).entries
+  pub accepted : t.accepted ≡ (after conf mode go_on old text).accepted
+  pub refused : t.refused ≡ length (after conf mode go_on old text).refused
+  pub written : Took a b (report (after conf mode go_on old text).refused)
 
 -- the report lines of all refused records but the last were written
 pub record AllButLast (refused : List (ℕ × Reason)) (a mid : Written) (last : ℕ × Reason) : Type 0 where
@@ -51,14 +51,14 @@ tally_of (faults.Write t) = t
 tally_of (faults.OutOfMemory t) = t
 
 -- the entries are those that the first records leave, and the counts and the report are theirs
-pub record BrokenOff (rules : Rules) (mode : Mode) (go_on : Bool) (old new : Entries) (text : List ℕ) (f : RunFault) (a b : Written) : Type 0 where
-  pub front : List (ℕ × Result Record Fault)
-  pub others : List (ℕ × Result Record Fault)
+pub record BrokenOff (conf : Conf) (mode : Mode) (go_on : Bool) (old new : Entries) (text : List ℕ) (f : RunFault) (a b : Written) : Type 0 where
+  pub front : List (ℕ × Result Record LdifFaultKind)
+  pub others : List (ℕ × Result Record LdifFaultKind)
   pub parts : readings mode text ≡ front ++ others
-  pub entries : new ≡ (after_records rules mode go_on old front).entries
-  pub accepted : (tally_of f).accepted ≡ (after_records rules mode go_on old front).accepted
-  pub refused : (tally_of f).refused ≡ length (after_records rules mode go_on old front).refused
-  pub written : WrittenAt f (after_records rules mode go_on old front).refused a b
+  pub entries : new ≡ (after_records conf mode go_on old front).entries
+  pub accepted : (tally_of f).accepted ≡ (after_records conf mode go_on old front).accepted
+  pub refused : (tally_of f).refused ≡ length (after_records conf mode go_on old front).refused
+  pub written : WrittenAt f (after_records conf mode go_on old front).refused a b
 
 -- how often the devices failed: the one that is named once, and no other
 abbrev pub Failures : RunFault → ℕ → ℕ → ℕ → ℕ → Type 0

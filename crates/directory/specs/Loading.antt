@@ -1,9 +1,9 @@
 -- What loading comes to.
 use Rattle.std.specs.Prelude.{◌≡◌, ℕ, ◌+◌, Bool, true, false, List, [], ◌∷◌, ⊤, Option}
-use Rattle.ldif_lines.specs.Records.{Raw}
+use Rattle.ldif_lines.specs.Records.{RawRecord}
 use Rattle.ldif_lines.specs.Reader.{Takes, IsEnd}
 use Rattle.ldif.specs.declared.record.Mode.TheVariants.{Content}
-use Rattle.schema.specs.Rules.{Rules}
+use Rattle.schema.specs.Conf.{Conf}
 use Rattle.tree.specs.Directories.{Entries}
 use Rattle.directory.specs.Runs.{State, loading}
 use Rattle.directory.specs.Stands.{state_after}
@@ -14,10 +14,10 @@ use Rattle.directory.specs.declared.reason.Outcome.{Outcome}
 use Rattle.directory.specs.declared.reason.Outcome.TheVariants.{Nothing, Accepted, Refused}
 
 -- the first record that is refused, and why; the other faults say nothing of the text
-abbrev pub StopsAt : LoadFault → Rules → List ℕ → Type 0
-StopsAt faults.Read rules text = ⊤
-StopsAt faults.OutOfMemory rules text = ⊤
-StopsAt (faults.Refused line why) rules text = (loading rules text).refused ≡ (line, why) ∷ []
+abbrev pub StopsAt : LoadFault → Conf → List ℕ → Type 0
+StopsAt faults.Read conf text = ⊤
+StopsAt faults.OutOfMemory conf text = ⊤
+StopsAt (faults.Refused line why) conf text = (loading conf text).refused ≡ (line, why) ∷ []
 
 -- how often the source failed
 abbrev pub PullFailures : LoadFault → ℕ → ℕ → Type 0
@@ -43,30 +43,30 @@ Explains (faults.Refused at why) line o = (at ≡ line) × (o.1 ≡ Refused why)
 
 -- ---- one after the other
 
-abbrev pub loaded_after : Rules → Entries → List Raw → State
-loaded_after rules old front = state_after rules Content false old front
+abbrev pub loaded_after : Conf → Entries → List RawRecord → State
+loaded_after conf old front = state_after conf Content false old front
 
 -- these records were loaded
-pub record IsUnderWay (rules : Rules) (old now : Entries) (all left : Option (List Raw)) : Type 0 where
-  pub front : List Raw
+pub record IsUnderWay (conf : Conf) (old now : Entries) (all left : Option (List RawRecord)) : Type 0 where
+  pub front : List RawRecord
   pub parts : Takes all left front
-  pub entries : now ≡ (loaded_after rules old front).entries
-  pub refused : (loaded_after rules old front).refused ≡ []
-  pub going : (loaded_after rules old front).ended ≡ false
+  pub entries : now ≡ (loaded_after conf old front).entries
+  pub refused : (loaded_after conf old front).refused ≡ []
+  pub going : (loaded_after conf old front).ended ≡ false
 
-pub record LoadsAll (rules : Rules) (old now : Entries) (all : Option (List Raw)) : Type 0 where
-  pub left : Option (List Raw)
-  pub under_way : IsUnderWay rules old now all left
+pub record LoadsAll (conf : Conf) (old now : Entries) (all : Option (List RawRecord)) : Type 0 where
+  pub left : Option (List RawRecord)
+  pub under_way : IsUnderWay conf old now all left
   pub over : IsEnd left
 
-pub record RefusesNext (rules : Rules) (old : Entries) (all : Option (List Raw)) (line : ℕ) (why : Reason) : Type 0 where
-  pub front : List Raw
-  pub left : Option (List Raw)
+pub record RefusesNext (conf : Conf) (old : Entries) (all : Option (List RawRecord)) (line : ℕ) (why : Reason) : Type 0 where
+  pub front : List RawRecord
+  pub left : Option (List RawRecord)
   pub parts : Takes all left front
-  pub refused : (loaded_after rules old front).refused ≡ (line, why) ∷ []
-  pub ended : (loaded_after rules old front).ended ≡ true
+  pub refused : (loaded_after conf old front).refused ≡ (line, why) ∷ []
+  pub ended : (loaded_after conf old front).ended ≡ true
 
-abbrev pub LoadsUpTo : LoadFault → Rules → Entries → Option (List Raw) → Type 0
-LoadsUpTo faults.Read rules old all = ⊤
-LoadsUpTo faults.OutOfMemory rules old all = ⊤
-LoadsUpTo (faults.Refused line why) rules old all = RefusesNext rules old all line why
+abbrev pub LoadsUpTo : LoadFault → Conf → Entries → Option (List RawRecord) → Type 0
+LoadsUpTo faults.Read conf old all = ⊤
+LoadsUpTo faults.OutOfMemory conf old all = ⊤
+LoadsUpTo (faults.Refused line why) conf old all = RefusesNext conf old all line why

@@ -2,17 +2,17 @@
 use Rattle.std.specs.Prelude.{◌≡◌, ℕ, ◌+◌, Bool, true, false, not, List, [], ◌∷◌, ◌++◌, Result, Ok, Err, if◌then◌else◌}
 use Rattle.std.specs.List.{fold, flat_map}
 use Rattle.std.specs.FinMap as finite
-use Rattle.ldif.specs.declared.fault.Fault.{Fault}
+use Rattle.ldif.specs.declared.fault.LdifFaultKind.{LdifFaultKind}
 use Rattle.ldif.specs.declared.record.Record.{Record}
 use Rattle.ldif.specs.declared.record.Record.TheVariants as records
 use Rattle.ldif.specs.declared.record.Mode.{Mode}
 use Rattle.ldif.specs.declared.record.Mode.TheVariants.{Content}
-use Rattle.ldif.specs.Contents.{Written, readings, write_content}
+use Rattle.ldif.specs.Contents.{ContentRecord, readings, write_content}
 use Rattle.schema.specs.declared.code.Code.{Code}
-use Rattle.paths.specs.Paths.{Steps}
-use Rattle.schema.specs.Rules.{Rules}
-use Rattle.tree.specs.Entries.{Facts}
-use Rattle.tree.specs.Directories.{Entries, content_at}
+use Rattle.paths.specs.Paths.{Path}
+use Rattle.schema.specs.Conf.{Conf}
+use Rattle.tree.specs.Entries.{EntryContent}
+use Rattle.tree.specs.Directories.{Entries, record_at}
 use Rattle.tree.specs.Adds.{apply}
 use Rattle.directory.specs.declared.reason.Outcome.{Outcome}
 use Rattle.directory.specs.declared.reason.Outcome.TheVariants as outcomes
@@ -46,9 +46,9 @@ of_change d empty (Ok next) = (next, if empty then outcomes.Nothing else outcome
 of_change d empty (Err code) = (d, outcomes.Refused (reasons.Code code))
 
 -- the entries after what was read of a record, and what becomes of it
-unfoldable pub outcome : Rules → Mode → Entries → Result Record Fault → Entries × Outcome
-outcome rules mode d (Ok r) = of_change d (is_empty r) (apply rules mode d r)
-outcome rules mode d (Err fault) = (d, outcomes.Refused (reasons.Fault fault))
+unfoldable pub outcome : Conf → Mode → Entries → Result Record LdifFaultKind → Entries × Outcome
+outcome conf mode d (Ok r) = of_change d (is_empty r) (apply conf mode d r)
+outcome conf mode d (Err fault) = (d, outcomes.Refused (reasons.Fault fault))
 
 -- a refused record ends the run, unless it goes on
 abbrev pub counted : Bool → State → ℕ → Entries → Outcome → State
@@ -60,37 +60,37 @@ abbrev pub take_up : Bool → State → ℕ → Entries × Outcome → State
 take_up go_on s line o = counted go_on s line o.0 o.1
 
 -- what was read of a record, with its line; after the end nothing changes
-unfoldable pub step : Rules → Mode → Bool → State → ℕ × Result Record Fault → State
-step rules mode go_on s r = if s.ended then s else take_up go_on s r.0 (outcome rules mode s.entries r.1)
+unfoldable pub step : Conf → Mode → Bool → State → ℕ × Result Record LdifFaultKind → State
+step conf mode go_on s r = if s.ended then s else take_up go_on s r.0 (outcome conf mode s.entries r.1)
 
 -- of the first records of a text
-unfoldable pub after_records : Rules → Mode → Bool → Entries → List (ℕ × Result Record Fault) → State
-after_records rules mode go_on d rs = fold (step rules mode go_on) (start d) rs
+unfoldable pub after_records : Conf → Mode → Bool → Entries → List (ℕ × Result Record LdifFaultKind) → State
+after_records conf mode go_on d rs = fold (step conf mode go_on) (start d) rs
 
 -- of a whole text
-abbrev pub after : Rules → Mode → Bool → Entries → List ℕ → State
-after rules mode go_on d text = after_records rules mode go_on d (readings mode text)
+abbrev pub after : Conf → Mode → Bool → Entries → List ℕ → State
+after conf mode go_on d text = after_records conf mode go_on d (readings mode text)
 
 -- ---- the dump
 
-abbrev pub content_of : Rules → Entries → Steps × Facts → Written
-content_of rules d x = content_at rules d x.0 x.1
+abbrev pub record_of : Conf → Entries → Path × EntryContent → ContentRecord
+record_of conf d x = record_at conf d x.0 x.1
 
 -- each entry as a content record, in the order of paths
-unfoldable pub dump : Rules → Entries → List ℕ
-dump rules d = flat_map (λ x. write_content (content_of rules d x)) (finite.entries d)
+unfoldable pub dump : Conf → Entries → List ℕ
+dump conf d = flat_map (λ x. write_content (record_of conf d x)) (finite.entries d)
 
 -- ---- loading
 
 -- a text of content records, from the directory with no entry
-abbrev pub loading : Rules → List ℕ → State
-loading rules text = after rules Content false finite.empty text
+abbrev pub loading : Conf → List ℕ → State
+loading conf text = after conf Content false finite.empty text
 
 -- no record is refused, and these are the entries
-pub record Loads (rules : Rules) (text : List ℕ) (d : Entries) : Type 0 where
-  pub entries : d ≡ (loading rules text).entries
-  pub all : (loading rules text).refused ≡ []
+pub record Loads (conf : Conf) (text : List ℕ) (d : Entries) : Type 0 where
+  pub entries : d ≡ (loading conf text).entries
+  pub all : (loading conf text).refused ≡ []
 
 -- the records of a dump leave the entries that were dumped, and none is refused
-abbrev pub LoadsBack : Rules → Entries → Type 0
-LoadsBack rules d = Loads rules (dump rules d) d
+abbrev pub LoadsBack : Conf → Entries → Type 0
+LoadsBack conf d = Loads conf (dump conf d) d

@@ -1,13 +1,13 @@
 -- Where a run stands between two records, and where it ends.
 use Rattle.std.specs.Prelude.{◌≡◌, ℕ, ◌⊎◌, Bool, true, false, List, length, map, Option, Result}
 use Rattle.device.specs.Device.{Written, Took}
-use Rattle.ldif_lines.specs.Records.{Raw}
+use Rattle.ldif_lines.specs.Records.{RawRecord}
 use Rattle.ldif_lines.specs.Reader.{Takes, IsEnd}
-use Rattle.ldif.specs.declared.fault.Fault.{Fault}
+use Rattle.ldif.specs.declared.fault.LdifFaultKind.{LdifFaultKind}
 use Rattle.ldif.specs.declared.record.Record.{Record}
 use Rattle.ldif.specs.declared.record.Mode.{Mode}
 use Rattle.ldif.specs.Reading.{reading}
-use Rattle.schema.specs.Rules.{Rules}
+use Rattle.schema.specs.Conf.{Conf}
 use Rattle.tree.specs.Directories.{Entries}
 use Rattle.directory.specs.Runs.{State, after_records}
 use Rattle.directory.specs.Reports.{report}
@@ -16,36 +16,36 @@ use Rattle.directory.specs.declared.runs.Tally.{Tally}
 use Rattle.directory.specs.declared.runs.RunFault.{RunFault}
 
 -- a record's line, and what it reads as
-abbrev pub read_as : Mode → Raw → ℕ × Result Record Fault
+abbrev pub read_as : Mode → RawRecord → ℕ × Result Record LdifFaultKind
 read_as mode r = (r.line, reading mode r.first r.lines)
 
-abbrev pub state_after : Rules → Mode → Bool → Entries → List Raw → State
-state_after rules mode go_on old front = after_records rules mode go_on old (map (read_as mode) front)
+abbrev pub state_after : Conf → Mode → Bool → Entries → List RawRecord → State
+state_after conf mode go_on old front = after_records conf mode go_on old (map (read_as mode) front)
 
 -- these records were carried out, and the entries and the counts are those that they leave
-pub record IsReached (rules : Rules) (mode : Mode) (go_on : Bool) (old now : Entries) (all left : Option (List Raw)) (t : Tally) (front : List Raw) : Type 0 where
+pub record IsReached (conf : Conf) (mode : Mode) (go_on : Bool) (old now : Entries) (all left : Option (List RawRecord)) (t : Tally) (front : List RawRecord) : Type 0 where
   pub parts : Takes all left front
-  pub entries : now ≡ (state_after rules mode go_on old front).entries
-  pub accepted : t.accepted ≡ (state_after rules mode go_on old front).accepted
-  pub refused : t.refused ≡ length (state_after rules mode go_on old front).refused
+  pub entries : now ≡ (state_after conf mode go_on old front).entries
+  pub accepted : t.accepted ≡ (state_after conf mode go_on old front).accepted
+  pub refused : t.refused ≡ length (state_after conf mode go_on old front).refused
 
-pub record Stands (rules : Rules) (mode : Mode) (go_on : Bool) (old now : Entries) (all left : Option (List Raw)) (t : Tally) (a b : Written) : Type 0 where
-  pub front : List Raw
-  pub reached : IsReached rules mode go_on old now all left t front
-  pub going : (state_after rules mode go_on old front).ended ≡ false
-  pub written : Took a b (report (state_after rules mode go_on old front).refused)
+pub record Stands (conf : Conf) (mode : Mode) (go_on : Bool) (old now : Entries) (all left : Option (List RawRecord)) (t : Tally) (a b : Written) : Type 0 where
+  pub front : List RawRecord
+  pub reached : IsReached conf mode go_on old now all left t front
+  pub going : (state_after conf mode go_on old front).ended ≡ false
+  pub written : Took a b (report (state_after conf mode go_on old front).refused)
 
 -- all records were carried out, or those up to the one that ended the run
-pub record Ran (rules : Rules) (mode : Mode) (go_on : Bool) (old now : Entries) (all : Option (List Raw)) (t : Tally) (a b : Written) : Type 0 where
-  pub front : List Raw
-  pub left : Option (List Raw)
-  pub reached : IsReached rules mode go_on old now all left t front
-  pub over : IsEnd left ⊎ ((state_after rules mode go_on old front).ended ≡ true)
-  pub written : Took a b (report (state_after rules mode go_on old front).refused)
+pub record Ran (conf : Conf) (mode : Mode) (go_on : Bool) (old now : Entries) (all : Option (List RawRecord)) (t : Tally) (a b : Written) : Type 0 where
+  pub front : List RawRecord
+  pub left : Option (List RawRecord)
+  pub reached : IsReached conf mode go_on old now all left t front
+  pub over : IsEnd left ⊎ ((state_after conf mode go_on old front).ended ≡ true)
+  pub written : Took a b (report (state_after conf mode go_on old front).refused)
 
 -- some were, and then something failed
-pub record BrokeOff (rules : Rules) (mode : Mode) (go_on : Bool) (old now : Entries) (all : Option (List Raw)) (f : RunFault) (a b : Written) : Type 0 where
-  pub front : List Raw
-  pub left : Option (List Raw)
-  pub reached : IsReached rules mode go_on old now all left (tally_of f) front
-  pub written : WrittenAt f (state_after rules mode go_on old front).refused a b
+pub record BrokeOff (conf : Conf) (mode : Mode) (go_on : Bool) (old now : Entries) (all : Option (List RawRecord)) (f : RunFault) (a b : Written) : Type 0 where
+  pub front : List RawRecord
+  pub left : Option (List RawRecord)
+  pub reached : IsReached conf mode go_on old now all left (tally_of f) front
+  pub written : WrittenAt f (state_after conf mode go_on old front).refused a b

@@ -21,9 +21,9 @@ pub(crate) fn apply_record(
     asked: &Record<'_>,
     mode: Mode,
 ) -> Result<(), Refusal>
-    requires { tree.old.rules ≡ conf.now }
-    ensures rules { tree.new.rules ≡ tree.old.rules }
-    ensures gives { Gives (λ _. tree.new.entries) result (apply tree.old.rules mode tree.old.entries asked.now) }
+    requires { tree.old.conf ≡ conf.now }
+    ensures same_conf { tree.new.conf ≡ tree.old.conf }
+    ensures gives { Gives (λ _. tree.new.entries) result (apply tree.old.conf mode tree.old.entries asked.now) }
     ensures err { OnErr result (tree.new ≡ tree.old) }
 {
     let plan = plan(alloc, tree, conf, asked, mode)?;
@@ -40,9 +40,9 @@ pub(crate) fn carry_out(
     raw: &RawRecord,
     mode: Mode,
 ) -> Result<Outcome, AllocError>
-    requires { tree.old.rules ≡ conf.now }
-    ensures rules { tree.new.rules ≡ tree.old.rules }
-    ensures outcome { IfOk result (λ o. outcome tree.old.rules mode tree.old.entries (reading mode raw.now.first (texts raw.now.lines.items)) ≡ (tree.new.entries, o)) }
+    requires { tree.old.conf ≡ conf.now }
+    ensures same_conf { tree.new.conf ≡ tree.old.conf }
+    ensures outcome { IfOk result (λ o. outcome tree.old.conf mode tree.old.entries (reading mode raw.now.first (texts raw.now.lines.items)) ≡ (tree.new.entries, o)) }
     ensures err { OnErr result (tree.new ≡ tree.old) }
 {
     let asked = match read_record(alloc, raw, mode) {

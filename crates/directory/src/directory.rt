@@ -28,19 +28,19 @@ impl Model for Directory {
     ghost use Rattle.std.specs.Prelude.{◌≡◌};
     ghost use Rattle.tree.specs.Trees as trees;
 
-    ghost Value = { trees.Directory };
+    ghost Value = { trees.Tree };
 
-    ghost coded = { trees.directory_code };
+    ghost coded = { trees.tree_code };
 
     ghost view = { λ d. d.tree };
 
-    ghost invariant = { λ d. d.tree.rules ≡ d.conf };
+    ghost invariant = { λ d. d.tree.conf ≡ d.conf };
 }
 
 impl Directory {
     /// The directory with no entry. It can run out of memory.
     pub fn new(alloc: Global, conf: Conf) -> Result<Directory, AllocError>
-        ensures rules { IfOk result (λ d. d.rules ≡ conf) }
+        ensures same_conf { IfOk result (λ d. d.conf ≡ conf) }
         ensures entries { IfOk result (λ d. d.entries ≡ finite.empty) }
     {
         let tree = Tree::new(alloc, &conf);
@@ -49,7 +49,7 @@ impl Directory {
 
     /// The directory of a tree that was made with this configuration. It can run out of memory.
     pub fn from_tree(alloc: Global, conf: Conf, tree: Tree) -> Result<Directory, AllocError>
-        requires { tree.rules ≡ conf }
+        requires { tree.conf ≡ conf }
         ensures { IfOk result (λ d. d ≡ tree) }
     {
         Ok(Directory { alloc, conf, tree })
@@ -57,7 +57,7 @@ impl Directory {
 
     /// The configuration.
     pub fn conf(&self) -> &Conf
-        ensures { result.now ≡ self.now.rules }
+        ensures { result.now ≡ self.now.conf }
     {
         &self.conf
     }
@@ -72,8 +72,8 @@ impl Directory {
     /// Carries out a record (RFC 4511, 4.6 to 4.9), or refuses it with the code of the first check that fails. A refusal,
     /// also for want of memory, changes nothing.
     pub fn apply(&mut self, asked: &Record<'_>, mode: Mode) -> Result<(), Refusal>
-        ensures rules { self.new.rules ≡ self.old.rules }
-        ensures gives { Gives (λ _. self.new.entries) result (apply self.old.rules mode self.old.entries asked.now) }
+        ensures same_conf { self.new.conf ≡ self.old.conf }
+        ensures gives { Gives (λ _. self.new.entries) result (apply self.old.conf mode self.old.entries asked.now) }
         ensures err { OnErr result (self.new ≡ self.old) }
     {
         apply_record(self.alloc, &mut self.tree, &self.conf, asked, mode)
@@ -86,8 +86,8 @@ impl Directory {
         raw: &RawRecord,
         mode: Mode,
     ) -> Result<Outcome, AllocError>
-        ensures rules { self.new.rules ≡ self.old.rules }
-        ensures outcome { IfOk result (λ o. outcome self.old.rules mode self.old.entries (reading mode raw.now.first (texts raw.now.lines.items)) ≡ (self.new.entries, o)) }
+        ensures same_conf { self.new.conf ≡ self.old.conf }
+        ensures outcome { IfOk result (λ o. outcome self.old.conf mode self.old.entries (reading mode raw.now.first (texts raw.now.lines.items)) ≡ (self.new.entries, o)) }
         ensures err { OnErr result (self.new ≡ self.old) }
     {
         carry_out(alloc, &mut self.tree, &self.conf, raw, mode)

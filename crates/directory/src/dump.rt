@@ -4,7 +4,7 @@ ghost use Rattle.std.specs.Prelude.{◌≡◌, ◌<◌, ◌-◌, ◌^◌, ◌++�
 ghost use Rattle.std.specs.FinMap as finite;
 ghost use Rattle.std.specs.List.{AllByRecursion};
 ghost use Rattle.ldif.specs.Writing.{written_line};
-ghost use Rattle.tree.specs.Stored.{facts_of, IsMade, IsMadeAttribute};
+ghost use Rattle.tree.specs.StoredEntries.{content_of, IsMade, IsMadeAttribute};
 ghost use Rattle.directory.specs.Runs.{dump};
 ghost use Rattle.directory.specs.Dumps.{Writes, WritesOn, values_text, attributes_text, entry_text};
 
@@ -91,10 +91,10 @@ impl Directory {
         out: &mut Vec<u8>,
     ) -> Result<(), AllocError>
         requires names { names.old ≡ self.now }
-        requires there { finite.get self.now.entries path.now ≡ Some (facts_of entry.now) }
-        requires made { IsMade self.now.rules.types entry.now.attrs }
+        requires there { finite.get self.now.entries path.now ≡ Some (content_of entry.now) }
+        requires made { IsMade self.now.conf.types entry.now.attrs }
         ensures names { names.new ≡ self.now }
-        ensures text { OnOk result (out.new.items ≡ out.old.items ++ entry_text self.now.rules self.now.entries (path.now, entry.now)) }
+        ensures text { OnOk result (out.new.items ≡ out.old.items ++ entry_text self.now.conf self.now.entries (path.now, entry.now)) }
     {
         let name = names.name_of(alloc, path, entry)?;
         put_entry(alloc, out, self.conf(), name.as_slice(), entry)
@@ -112,10 +112,10 @@ impl Directory {
     ) -> Result<(), WriteFault>
         requires can_fail { (W.written sink.old).failed < 2 ^ 64 - 1 }
         requires names { names.old ≡ self.now }
-        requires there { finite.get self.now.entries path.now ≡ Some (facts_of entry.now) }
-        requires made { IsMade self.now.rules.types entry.now.attrs }
+        requires there { finite.get self.now.entries path.now ≡ Some (content_of entry.now) }
+        requires made { IsMade self.now.conf.types entry.now.attrs }
         ensures names { names.new ≡ self.now }
-        ensures writes { WritesOn result (W.written sink.old) (W.written sink.new) (text.old.items ++ entry_text self.now.rules self.now.entries (path.now, entry.now)) text.new.items }
+        ensures writes { WritesOn result (W.written sink.old) (W.written sink.new) (text.old.items ++ entry_text self.now.conf self.now.entries (path.now, entry.now)) text.new.items }
     {
         if self.put_record(alloc, names, path, entry, text).is_err() {
             return Err(WriteFault::OutOfMemory);
@@ -130,7 +130,7 @@ impl Directory {
     /// beginning was written.
     pub fn dump<W: Sink>(&self, alloc: Global, sink: &mut W) -> Result<(), WriteFault>
         requires { (W.written sink.old).failed < 2 ^ 64 - 1 }
-        ensures { Writes result (W.written sink.old) (W.written sink.new) (dump self.now.rules self.now.entries) }
+        ensures { Writes result (W.written sink.old) (W.written sink.new) (dump self.now.conf self.now.entries) }
     {
         self.tree().is_directory();
         schema::order_of_paths();

@@ -8,8 +8,6 @@ mod laws;
 mod loading;
 mod reason;
 mod runs;
-#[cfg(test)]
-mod tests;
 
 pub use directory::Directory;
 pub use laws::loading_a_dump;

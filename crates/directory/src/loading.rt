@@ -35,10 +35,10 @@ fn load_record(
     conf: &Conf,
     raw: &RawRecord,
 ) -> Result<(), LoadFault>
-    requires { tree.old.rules ≡ conf.now }
-    ensures rules { tree.new.rules ≡ tree.old.rules }
-    ensures loaded { OnOk result (IsLoaded (outcome tree.old.rules Content tree.old.entries (reading Content raw.now.first (texts raw.now.lines.items))) tree.new.entries) }
-    ensures refused { IfErr result (λ f. Explains f raw.now.line (outcome tree.old.rules Content tree.old.entries (reading Content raw.now.first (texts raw.now.lines.items)))) }
+    requires { tree.old.conf ≡ conf.now }
+    ensures same_conf { tree.new.conf ≡ tree.old.conf }
+    ensures loaded { OnOk result (IsLoaded (outcome tree.old.conf Content tree.old.entries (reading Content raw.now.first (texts raw.now.lines.items))) tree.new.entries) }
+    ensures refused { IfErr result (λ f. Explains f raw.now.line (outcome tree.old.conf Content tree.old.entries (reading Content raw.now.first (texts raw.now.lines.items)))) }
 {
     match carry_out(alloc, tree, conf, raw, Mode::Content) {
         Ok(Outcome::Refused(reason)) => Err(LoadFault::Refused {
@@ -57,13 +57,13 @@ fn load_rest<S: Source>(
     conf: &Conf,
     reader: &mut Reader<'_, S>,
 ) -> Result<(), LoadFault>
-    requires made { tree.old.rules ≡ conf.now }
+    requires made { tree.old.conf ≡ conf.now }
     requires source { (S.seen (source_of reader.old)).failed < 2 ^ 64 - 1 }
     requires going { is_failed reader.old ≡ false }
     ensures same_reference { reader.new.source.ghost_name ≡ reader.old.source.ghost_name }
-    ensures rules { tree.new.rules ≡ tree.old.rules }
-    ensures loaded { OnOk result (LoadsAll tree.old.rules tree.old.entries tree.new.entries (records_left S.seen reader.old)) }
-    ensures stopped { IfErr result (λ f. LoadsUpTo f tree.old.rules tree.old.entries (records_left S.seen reader.old)) }
+    ensures same_conf { tree.new.conf ≡ tree.old.conf }
+    ensures loaded { OnOk result (LoadsAll tree.old.conf tree.old.entries tree.new.entries (records_left S.seen reader.old)) }
+    ensures stopped { IfErr result (λ f. LoadsUpTo f tree.old.conf tree.old.entries (records_left S.seen reader.old)) }
     ensures pulls { OnOk result ((S.seen (source_of reader.new)).failed ≡ (S.seen (source_of reader.old)).failed) }
     ensures failures { IfErr result (λ f. PullFailures f (S.seen (source_of reader.old)).failed (S.seen (source_of reader.new)).failed) }
 {
@@ -84,7 +84,7 @@ fn load_rest<S: Source>(
 /// the number of its line and the reason.
 pub fn load_tree<S: Source>(alloc: Global, conf: &Conf, source: &mut S) -> Result<Tree, LoadFault>
     requires { (S.seen source.old).failed < 2 ^ 64 - 1 }
-    ensures rules { IfOk result (λ t. t.rules ≡ conf.now) }
+    ensures same_conf { IfOk result (λ t. t.conf ≡ conf.now) }
     ensures fold { IfOk result (λ t. LoadsOver conf.now (S.seen source.old).left t.entries) }
     ensures refused_fold { IfErr result (λ f. StopsOver f conf.now (S.seen source.old).left) }
     ensures loads { IfOk result (λ t. IfSome (S.seen source.old).left (λ text. Loads conf.now text t.entries)) }
@@ -104,7 +104,7 @@ pub fn load_tree<S: Source>(alloc: Global, conf: &Conf, source: &mut S) -> Resul
 /// with the number of its line and the reason.
 pub fn load<S: Source>(alloc: Global, conf: Conf, source: &mut S) -> Result<Directory, LoadFault>
     requires { (S.seen source.old).failed < 2 ^ 64 - 1 }
-    ensures rules { IfOk result (λ d. d.rules ≡ conf) }
+    ensures same_conf { IfOk result (λ d. d.conf ≡ conf) }
     ensures fold { IfOk result (λ d. LoadsOver conf (S.seen source.old).left d.entries) }
     ensures refused_fold { IfErr result (λ f. StopsOver f conf (S.seen source.old).left) }
     ensures loads { IfOk result (λ d. IfSome (S.seen source.old).left (λ text. Loads conf text d.entries)) }

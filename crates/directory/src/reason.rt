@@ -3,7 +3,7 @@
 ghost use Rattle.std.specs.Prelude.{◌≡◌, IfOk, string_bytes};
 ghost use Rattle.directory.specs.Reports.{reason_then, report_line};
 
-use ldif::Fault;
+use ldif::LdifFaultKind;
 use schema::Code;
 use std::alloc::{AllocError, Global};
 
@@ -11,7 +11,7 @@ use std::alloc::{AllocError, Global};
 #[derive(Clone, Copy, Debug, PartialEq, Eq)]
 pub enum Reason {
     /// Its lines are no record.
-    Fault(Fault),
+    Fault(LdifFaultKind),
     /// The operation has this result code.
     Code(Code),
 }
@@ -35,7 +35,7 @@ fn code_line(alloc: Global, line: u64, code: Code) -> Result<String, AllocError>
 }
 
 #[tactic(auto, unfolding(crate::specs::Reports::report_line))]
-fn fault_line(alloc: Global, line: u64, fault: Fault) -> Result<String, AllocError>
+fn fault_line(alloc: Global, line: u64, fault: LdifFaultKind) -> Result<String, AllocError>
     ensures { IfOk result (λ t. string_bytes t ≡ report_line (line, Reason.Fault fault)) }
 {
     let number = fault.number();

@@ -68,9 +68,9 @@ fn take_record<W: Sink>(
 ) -> Result<bool, RunFault>
     requires can_fail { (W.written sink.old).failed < 2 ^ 64 - 1 }
     requires room { tally.old.accepted + tally.old.refused < 2 ^ 64 - 1 }
-    ensures rules { dir.new.rules ≡ dir.old.rules }
-    ensures taken { IfOk result (λ ended. IsTaken (outcome dir.old.rules mode dir.old.entries (reading mode raw.now.first (texts raw.now.lines.items))) go_on raw.now.line dir.new.entries tally.old tally.new (W.written sink.old) (W.written sink.new) ended) }
-    ensures broken { IfErr result (λ f. IsBrokenOff (outcome dir.old.rules mode dir.old.entries (reading mode raw.now.first (texts raw.now.lines.items))) raw.now.line dir.old.entries dir.new.entries tally.old (W.written sink.old) (W.written sink.new) f) }
+    ensures same_conf { dir.new.conf ≡ dir.old.conf }
+    ensures taken { IfOk result (λ ended. IsTaken (outcome dir.old.conf mode dir.old.entries (reading mode raw.now.first (texts raw.now.lines.items))) go_on raw.now.line dir.new.entries tally.old tally.new (W.written sink.old) (W.written sink.new) ended) }
+    ensures broken { IfErr result (λ f. IsBrokenOff (outcome dir.old.conf mode dir.old.entries (reading mode raw.now.first (texts raw.now.lines.items))) raw.now.line dir.old.entries dir.new.entries tally.old (W.written sink.old) (W.written sink.new) f) }
 {
     let Ok(outcome) = dir.carry_out(alloc, raw, mode) else {
         return Err(RunFault::OutOfMemory(*tally));
@@ -106,9 +106,9 @@ fn run_rest<S: Source, W: Sink>(
     requires going { is_failed reader.old ≡ false }
     requires bound { bytes_left S.seen reader.old ≤ 2 ^ 64 }
     ensures same_reference { reader.new.source.ghost_name ≡ reader.old.source.ghost_name }
-    ensures rules { dir.new.rules ≡ dir.old.rules }
-    ensures ran { IfOk result (λ t. Ran dir.old.rules mode go_on dir.old.entries dir.new.entries (records_left S.seen reader.old) t (W.written sink.old) (W.written sink.new)) }
-    ensures broke { IfErr result (λ f. BrokeOff dir.old.rules mode go_on dir.old.entries dir.new.entries (records_left S.seen reader.old) f (W.written sink.old) (W.written sink.new)) }
+    ensures same_conf { dir.new.conf ≡ dir.old.conf }
+    ensures ran { IfOk result (λ t. Ran dir.old.conf mode go_on dir.old.entries dir.new.entries (records_left S.seen reader.old) t (W.written sink.old) (W.written sink.new)) }
+    ensures broke { IfErr result (λ f. BrokeOff dir.old.conf mode go_on dir.old.entries dir.new.entries (records_left S.seen reader.old) f (W.written sink.old) (W.written sink.new)) }
     ensures pulls { OnOk result ((S.seen (source_of reader.new)).failed ≡ (S.seen (source_of reader.old)).failed) }
     ensures pushes { OnOk result ((W.written sink.new).failed ≡ (W.written sink.old).failed) }
     ensures failures { IfErr result (λ f. Failures f (S.seen (source_of reader.old)).failed (S.seen (source_of reader.new)).failed (W.written sink.old).failed (W.written sink.new).failed) }
@@ -146,11 +146,11 @@ pub fn run<S: Source, W: Sink>(
 ) -> Result<Tally, RunFault>
     requires source { (S.seen source.old).failed < 2 ^ 64 - 1 }
     requires sink { (W.written sink.old).failed < 2 ^ 64 - 1 }
-    ensures rules { dir.new.rules ≡ dir.old.rules }
-    ensures fold { IfOk result (λ t. RanOver dir.old.rules mode go_on dir.old.entries dir.new.entries (S.seen source.old).left t (W.written sink.old) (W.written sink.new)) }
-    ensures broken_fold { IfErr result (λ f. BrokeOver dir.old.rules mode go_on dir.old.entries dir.new.entries (S.seen source.old).left f (W.written sink.old) (W.written sink.new)) }
-    ensures went { IfOk result (λ t. IfSome (S.seen source.old).left (λ text. Went dir.old.rules mode go_on dir.old.entries dir.new.entries text t (W.written sink.old) (W.written sink.new))) }
-    ensures broken { IfErr result (λ f. IfSome (S.seen source.old).left (λ text. BrokenOff dir.old.rules mode go_on dir.old.entries dir.new.entries text f (W.written sink.old) (W.written sink.new))) }
+    ensures same_conf { dir.new.conf ≡ dir.old.conf }
+    ensures fold { IfOk result (λ t. RanOver dir.old.conf mode go_on dir.old.entries dir.new.entries (S.seen source.old).left t (W.written sink.old) (W.written sink.new)) }
+    ensures broken_fold { IfErr result (λ f. BrokeOver dir.old.conf mode go_on dir.old.entries dir.new.entries (S.seen source.old).left f (W.written sink.old) (W.written sink.new)) }
+    ensures went { IfOk result (λ t. IfSome (S.seen source.old).left (λ text. Went dir.old.conf mode go_on dir.old.entries dir.new.entries text t (W.written sink.old) (W.written sink.new))) }
+    ensures broken { IfErr result (λ f. IfSome (S.seen source.old).left (λ text. BrokenOff dir.old.conf mode go_on dir.old.entries dir.new.entries text f (W.written sink.old) (W.written sink.new))) }
     ensures pulls { OnOk result ((S.seen source.new).failed ≡ (S.seen source.old).failed) }
     ensures pushes { OnOk result ((W.written sink.new).failed ≡ (W.written sink.old).failed) }
     ensures failures { IfErr result (λ f. Failures f (S.seen source.old).failed (S.seen source.new).failed (W.written sink.old).failed (W.written sink.new).failed) }

@@ -1,8 +1,8 @@
 -- The loop over the bytes of a value.
 use Rattle.std.proofs.Common.{◌≡◌, ℕ, ◌+◌, ◌<◌, ◌≤◌, Bool, true, false, cond, eqb, List, [], ◌∷◌, ◌++◌, map, take, drop, length, get_or, Result, Ok, Err, Option, Some, None, refl, sym, ap, subst, ◌∙◌, append_assoc, arith}
 use Rattle.std.proofs.lemmas.List.{take-append-le, take_all, length_push, drop_more, drop_all}
-use Rattle.dn.specs.declared.faults.Fault.{Fault}
-use Rattle.dn.specs.declared.faults.Fault.TheVariants.{Escape}
+use Rattle.dn.specs.declared.faults.NameFaultKind.{NameFaultKind}
+use Rattle.dn.specs.declared.faults.NameFaultKind.TheVariants.{Escape}
 use Rattle.dn.specs.declared.value.Octet.{Octet}
 use Rattle.dn.specs.declared.value.State.{State}
 use Rattle.dn.specs.declared.value.State.TheVariants.{Plain, Backslash, HalfPair}
@@ -15,11 +15,11 @@ ended : List ℕ → ℕ → List Octet → List ℕ
 ended bytes kept [] = take kept bytes
 ended bytes kept (o ∷ os) = bytes ++ map byte_of (o ∷ os)
 
-pub finished : List ℕ → ℕ → Result (List Octet) Fault → Result (List ℕ) Fault
+pub finished : List ℕ → ℕ → Result (List Octet) NameFaultKind → Result (List ℕ) NameFaultKind
 finished bytes kept (Ok os) = Ok (ended bytes kept (trimmed os))
 finished bytes kept (Err e) = Err e
 
-abbrev fine : List ℕ → Result (List ℕ) Fault
+abbrev fine : List ℕ → Result (List ℕ) NameFaultKind
 fine v = Ok v
 
 ended_new : (os : List Octet) → ended [] 0 os ≡ map byte_of os
@@ -27,7 +27,7 @@ unfolding ended
 ended_new [] = refl
 ended_new (o ∷ os) = refl
 
-pub finished_new : (r : Result (List Octet) Fault) → finished [] 0 r ≡ value_from r
+pub finished_new : (r : Result (List Octet) NameFaultKind) → finished [] 0 r ≡ value_from r
 unfolding finished
 finished_new (Ok os) = ap fine (ended_new (trimmed os))
 finished_new (Err e) = refl
@@ -41,7 +41,7 @@ ended_keep bytes kept o [] false is le =
     ∙ sym (take_all (length bytes + 1) (bytes ++ o.byte ∷ []) (omega (arith, length_push bytes o.byte)))
 ended_keep bytes kept o (p ∷ os) s is le = sym (append_assoc bytes (o.byte ∷ []) (map byte_of (p ∷ os)))
 
-finished_more : (bytes : List ℕ) (kept : ℕ) (o : Octet) (r : Result (List Octet) Fault) → kept ≤ length bytes
+finished_more : (bytes : List ℕ) (kept : ℕ) (o : Octet) (r : Result (List Octet) NameFaultKind) → kept ≤ length bytes
     → finished bytes kept (with_octet o.raw o.byte r) ≡ finished (bytes ++ o.byte ∷ []) (cond (is_raw_space o) kept (length bytes + 1)) r
 unfolding finished trimmed
 finished_more bytes kept o (Ok os) le = ap fine (ended_keep bytes kept o (trimmed os) (is_raw_space o) refl le)
@@ -50,9 +50,9 @@ finished_more bytes kept o (Err e) le = refl
 -- ---- one byte
 
 abbrev Stepped : Type 0
-Stepped = Result (State × Option Octet) Fault
+Stepped = Result (State × Option Octet) NameFaultKind
 
-after : Stepped → List ℕ → Result (List Octet) Fault
+after : Stepped → List ℕ → Result (List Octet) NameFaultKind
 after (Ok (s, None)) bs = octets_from s bs
 after (Ok (s, Some o)) bs = with_octet o.raw o.byte (octets_from s bs)
 after (Err e) bs = Err e
@@ -63,8 +63,8 @@ after-cond false x y bs = refl
 
 step_is : (s : State) (b : ℕ) (bs : List ℕ) → after (step s b) bs ≡ octets_from s (b ∷ bs)
 unfolding step octets_from after
-step_is Plain b bs = after-cond (may_stand b) _ _ bs ∙ ap (λ (r : Result (List Octet) Fault). cond (may_stand b) (with_octet true b (octets_from Plain bs)) r) (after-cond (eqb b 92) _ _ bs)
-step_is Backslash b bs = after-cond (may_follow b) _ _ bs ∙ ap (λ (r : Result (List Octet) Fault). cond (may_follow b) (with_octet false b (octets_from Plain bs)) r) (after-cond (is_hex b) _ _ bs)
+step_is Plain b bs = after-cond (may_stand b) _ _ bs ∙ ap (λ (r : Result (List Octet) NameFaultKind). cond (may_stand b) (with_octet true b (octets_from Plain bs)) r) (after-cond (eqb b 92) _ _ bs)
+step_is Backslash b bs = after-cond (may_follow b) _ _ bs ∙ ap (λ (r : Result (List Octet) NameFaultKind). cond (may_follow b) (with_octet false b (octets_from Plain bs)) r) (after-cond (is_hex b) _ _ bs)
 step_is (HalfPair h) b bs = after-cond (is_hex b) _ _ bs
 
 pub kept_within : (bytes : List ℕ) (kept : ℕ) (o : Option Octet) (new : List ℕ × ℕ) → new ≡ draft_after bytes kept o → kept ≤ length bytes → new.1 ≤ length new.0
@@ -88,7 +88,7 @@ module _ (bytes : List ℕ) (kept : ℕ) (s : State) (text : List ℕ) (i : ℕ)
   by_octet next None le = refl
   by_octet next (Some o) le = finished_more bytes kept o (octets_from next (drop (i + 1) text)) le
 
-  pub goes_on : (next : State) (o : Option Octet) (new : List ℕ × ℕ) (total : Result (List ℕ) Fault) → kept ≤ length bytes → step s (get_or text i 0) ≡ Ok (next, o) → new ≡ draft_after bytes kept o
+  pub goes_on : (next : State) (o : Option Octet) (new : List ℕ × ℕ) (total : Result (List ℕ) NameFaultKind) → kept ≤ length bytes → step s (get_or text i 0) ≡ Ok (next, o) → new ≡ draft_after bytes kept o
       → finished bytes kept (octets_from s (drop i text)) ≡ total → finished new.0 new.1 (octets_from next (drop (i + 1) text)) ≡ total
   goes_on next o new total le here is so_far =
       ap (λ (d : List ℕ × ℕ). finished d.0 d.1 (octets_from next (drop (i + 1) text))) is
@@ -96,18 +96,18 @@ module _ (bytes : List ℕ) (kept : ℕ) (s : State) (text : List ℕ) (i : ℕ)
       ∙ sym (ap (finished bytes kept) (split ∙ ap (λ (r : Stepped). after r (drop (i + 1) text)) here))
       ∙ so_far
 
-  pub faults : (f : Fault) (total : Result (List ℕ) Fault) → step s (get_or text i 0) ≡ Err f → finished bytes kept (octets_from s (drop i text)) ≡ total → total ≡ Err f
+  pub faults : (f : NameFaultKind) (total : Result (List ℕ) NameFaultKind) → step s (get_or text i 0) ≡ Err f → finished bytes kept (octets_from s (drop i text)) ≡ total → total ≡ Err f
   unfolding after finished
   faults f total here so_far = sym so_far ∙ ap (finished bytes kept) (split ∙ ap (λ (r : Stepped). after r (drop (i + 1) text)) here)
 
-at_end : (bytes : List ℕ) (kept : ℕ) (s : State) (text : List ℕ) (i : ℕ) (total : Result (List ℕ) Fault) → length text ≤ i → finished bytes kept (octets_from s (drop i text)) ≡ total → total ≡ finished bytes kept (octets_from s [])
+at_end : (bytes : List ℕ) (kept : ℕ) (s : State) (text : List ℕ) (i : ℕ) (total : Result (List ℕ) NameFaultKind) → length text ≤ i → finished bytes kept (octets_from s (drop i text)) ≡ total → total ≡ finished bytes kept (octets_from s [])
 at_end bytes kept s text i total le so_far = sym so_far ∙ ap (λ (bs : List ℕ). finished bytes kept (octets_from s bs)) (drop_all i text le)
 
-pub ends_plain : (bytes : List ℕ) (kept : ℕ) (s : State) (text : List ℕ) (i : ℕ) (total : Result (List ℕ) Fault) → length text ≤ i → finished bytes kept (octets_from s (drop i text)) ≡ total → s ≡ Plain → total ≡ Ok (take kept bytes)
+pub ends_plain : (bytes : List ℕ) (kept : ℕ) (s : State) (text : List ℕ) (i : ℕ) (total : Result (List ℕ) NameFaultKind) → length text ≤ i → finished bytes kept (octets_from s (drop i text)) ≡ total → s ≡ Plain → total ≡ Ok (take kept bytes)
 unfolding octets_from finished trimmed ended
 ends_plain bytes kept s text i total le so_far is = at_end bytes kept s text i total le so_far ∙ ap (λ (t : State). finished bytes kept (octets_from t [])) is
 
-pub ends_inside : (bytes : List ℕ) (kept : ℕ) (s : State) (text : List ℕ) (i : ℕ) (total : Result (List ℕ) Fault) → length text ≤ i → finished bytes kept (octets_from s (drop i text)) ≡ total → (s ≡ Plain → ⊥) → total ≡ Err Escape
+pub ends_inside : (bytes : List ℕ) (kept : ℕ) (s : State) (text : List ℕ) (i : ℕ) (total : Result (List ℕ) NameFaultKind) → length text ≤ i → finished bytes kept (octets_from s (drop i text)) ≡ total → (s ≡ Plain → ⊥) → total ≡ Err Escape
 unfolding octets_from finished
 ends_inside bytes kept Plain text i total le so_far other = absurd (other refl)
 ends_inside bytes kept Backslash text i total le so_far other = at_end bytes kept Backslash text i total le so_far

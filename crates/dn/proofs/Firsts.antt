@@ -3,13 +3,13 @@ use Rattle.std.proofs.Common.{◌≡◌, ℕ, Bool, true, false, cond, eqb, List
 use Rattle.std.proofs.lemmas.Bool.{eqb-true}
 use Rattle.std.proofs.lemmas.List.{take-append-drop}
 use Rattle.std.specs.List.{prefix_len}
-use Rattle.dn.specs.declared.faults.Fault.{Fault}
-use Rattle.dn.specs.declared.faults.Fault.TheVariants.{EqualsMissing, TypeMissing}
+use Rattle.dn.specs.declared.faults.NameFaultKind.{NameFaultKind}
+use Rattle.dn.specs.declared.faults.NameFaultKind.TheVariants.{EqualsMissing, TypeMissing}
 use Rattle.dn.specs.declared.faults.NameFault.{NameFault}
 use Rattle.dn.specs.declared.faults.NameFault.TheVariants as errors
 use Rattle.dn.specs.Gives.{Fails}
 use Rattle.dn.specs.Spelling.{spaces}
-use Rattle.dn.specs.Names.{Part, is_type_byte}
+use Rattle.dn.specs.Names.{Ava, is_type_byte}
 use Rattle.dn.specs.Reading.{◌>>=◌, value_of, is_space, skip, type_in, after_type, after_equals, part_at, part_of}
 use Rattle.dn.specs.Cuts.{piece, behind, is_separator, first_value, first_part, part_from}
 use Rattle.dn.specs.Texts.{Starts}
@@ -20,18 +20,18 @@ use Rattle.dn.proofs.Parts.{equals_found}
 -- ---- a part
 
 abbrev Got : Type 0
-Got = Result (Part × List ℕ) Fault
+Got = Result (Ava × List ℕ) NameFaultKind
 
-abbrev of_type : List ℕ → List ℕ → Result Part Fault
+abbrev of_type : List ℕ → List ℕ → Result Ava NameFaultKind
 of_type ty value = Ok (ty, value)
 
-abbrev pub before : {X : Type 0} → List ℕ → X → Result (X × List ℕ) Fault
+abbrev pub before : {X : Type 0} → List ℕ → X → Result (X × List ℕ) NameFaultKind
 before rest x = Ok (x, rest)
 
 abbrev with_type : List ℕ → List ℕ × List ℕ → Got
 with_type ty s = Ok ((ty, s.0), s.1)
 
-by_value : (r : Result (List ℕ) Fault) (ty rest : List ℕ) → ((r >>= of_type ty) >>= before rest) ≡ ((r >>= before rest) >>= with_type ty)
+by_value : (r : Result (List ℕ) NameFaultKind) (ty rest : List ℕ) → ((r >>= of_type ty) >>= before rest) ≡ ((r >>= before rest) >>= with_type ty)
 by_value (Ok v) ty rest = refl
 by_value (Err e) ty rest = refl
 
@@ -101,7 +101,7 @@ part_is text t ty after rest from is behind rest_is =
     ∙ ap (from_text ty) (sym rest_is)
 
 module _ (total : Got) (ty rest : List ℕ) (total_is : total ≡ from_text ty rest) where
-  abbrev reads : Result (List ℕ) Fault → Got
+  abbrev reads : Result (List ℕ) NameFaultKind → Got
   reads r = r >>= λ v. (first_value (skip v) >>= with_type ty)
 
   pub equals_fails : (e : NameFault) → Fails e (after_equals ty rest) → Fails e total
@@ -132,15 +132,15 @@ starts t ty after rest v from is behind_is rest_is equals from_is =
 
 -- ---- a value behind a type
 
-pub part_read : (ty from value behind : List ℕ) (p : Part) → first_value from ≡ before behind value → p ≡ (ty, value) → part_from ty from ≡ before behind p
-part_read ty from value behind p h is = ap (λ (r : Result (List ℕ × List ℕ) Fault). r >>= with_type ty) h ∙ ap (before behind) (sym is)
+pub part_read : (ty from value behind : List ℕ) (p : Ava) → first_value from ≡ before behind value → p ≡ (ty, value) → part_from ty from ≡ before behind p
+part_read ty from value behind p h is = ap (λ (r : Result (List ℕ × List ℕ) NameFaultKind). r >>= with_type ty) h ∙ ap (before behind) (sym is)
 
 pub value_fails : (ty from : List ℕ) (e : NameFault) (p : List ℕ) → p ≡ P from → Fails e (value_of p) → Fails e (part_from ty from)
 value_fails ty from errors.OutOfMemory p is h = tt
-value_fails ty from (errors.Fault fault) p is h = ap (λ (r : Result (List ℕ) Fault). (r >>= before (B from)) >>= with_type ty) (ap value_of (sym is) ∙ h)
+value_fails ty from (errors.Fault fault) p is h = ap (λ (r : Result (List ℕ) NameFaultKind). (r >>= before (B from)) >>= with_type ty) (ap value_of (sym is) ∙ h)
 
 pub value_of_piece : (from p rest v : List ℕ) → p ≡ P from → rest ≡ B from → value_of p ≡ Ok v → first_value from ≡ before rest v
 value_of_piece from p rest v is behind_is h =
     ap (λ (x : List ℕ). value_of x >>= before (B from)) (sym is)
-    ∙ ap (λ (r : Result (List ℕ) Fault). r >>= before (B from)) h
+    ∙ ap (λ (r : Result (List ℕ) NameFaultKind). r >>= before (B from)) h
     ∙ ap (λ (x : List ℕ). before x v) (sym behind_is)

@@ -5,7 +5,7 @@ use Rattle.std.proofs.lemmas.Bool.{and_parts, lt-ltb}
 use Rattle.std.proofs.lemmas.Bool.Decides.{nat_tests}
 use Rattle.std.proofs.lemmas.List.Folds.{list_all-append}
 use Rattle.dn.specs.declared.value.Octet.{Octet}
-use Rattle.dn.specs.Names.{Part, Parts, Rdns, is_byte, is_type, is_part, is_rdn, is_name}
+use Rattle.dn.specs.Names.{Ava, Rdn, Name, is_byte, is_type, is_ava, is_rdn, is_name}
 use Rattle.dn.specs.Spelling.{may_follow, is_hex, hex, IsOctet, AreOctets, byte_of, spaces, SpellsPart, AreJoined, SpellsRdn, Spells}
 
 abbrev AreBytes : List ℕ → Type 0
@@ -43,7 +43,7 @@ octets_bytes (o ∷ os) body (front, rest, is, e, are) h =
     let k = cut front rest (subst AreBytes e h) in
     both (is_byte o.byte) (list_all is_byte (map byte_of os)) (octet_byte o front is k.0) (octets_bytes os rest are k.1)
 
-part_good : (text : List ℕ) (p : Part) → SpellsPart text p → AreBytes text → is_part p ≡ true
+part_good : (text : List ℕ) (p : Ava) → SpellsPart text p → AreBytes text → is_ava p ≡ true
 part_good text p s h =
     let value = s.body ++ spaces s.behind in
     let equals = 61 ∷ (spaces s.after ++ value) in
@@ -60,13 +60,13 @@ joined_good P sep good is text (x ∷ y ∷ ys) (front, rest, s, e, more) h =
     let k = cut front (sep ∷ rest) (subst AreBytes e h) in
     both (good x) (list_all good (y ∷ ys)) (is front x s k.0) (joined_good P sep good is rest (y ∷ ys) more (behind sep rest k.1))
 
-rdn_good : (text : List ℕ) (r : Parts) → SpellsRdn text r → AreBytes text → is_rdn r ≡ true
+rdn_good : (text : List ℕ) (r : Rdn) → SpellsRdn text r → AreBytes text → is_rdn r ≡ true
 rdn_good text [] s h = absurd s
-rdn_good text (p ∷ ps) s h = both (not (eqb (length (p ∷ ps)) 0)) (list_all is_part (p ∷ ps)) (some (length ps)) (joined_good SpellsPart 43 is_part part_good text (p ∷ ps) s h)
+rdn_good text (p ∷ ps) s h = both (not (eqb (length (p ∷ ps)) 0)) (list_all is_ava (p ∷ ps)) (some (length ps)) (joined_good SpellsPart 43 is_ava part_good text (p ∷ ps) s h)
   where
     some : (n : ℕ) → not (eqb (suc n) 0) ≡ true
     some n = grind (arith, nat_tests)
 
-pub name_good : (text : List ℕ) (n : Rdns) → Spells text n → AreBytes text → is_name n ≡ true
+pub name_good : (text : List ℕ) (n : Name) → Spells text n → AreBytes text → is_name n ≡ true
 name_good text [] s h = refl
 name_good text (r ∷ rs) s h = joined_good SpellsRdn 44 is_rdn rdn_good text (r ∷ rs) s h

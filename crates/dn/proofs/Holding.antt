@@ -2,12 +2,12 @@
 use Rattle.std.proofs.Common.{◌≡◌, ℕ, Bool, true, false, not, ◌&&◌, eqb, List, ◌∷◌, ◌++◌, drop, length, refl, sym, ap, ◌∙◌}
 use Rattle.std.specs.List.{list_all}
 use Rattle.std.proofs.lemmas.Bool.{and_parts}
-use Rattle.dn.specs.Names.{Part, is_type_byte, is_type, is_byte, is_part}
+use Rattle.dn.specs.Names.{Ava, is_type_byte, is_type, is_byte, is_ava}
 use Rattle.dn.specs.Reading.{after_type}
 use Rattle.dn.specs.Texts.{part_in}
 use Rattle.dn.proofs.Runs.{run_front, run_rest}
 
-abbrev part : List ℕ → List ℕ → Part
+abbrev part : List ℕ → List ℕ → Ava
 part ty value = (ty, value)
 
 module _ (text ty value : List ℕ) (is : is_type ty ≡ true) (text_is : text ≡ ty ++ 61 ∷ value) where
@@ -20,12 +20,12 @@ module _ (text ty value : List ℕ) (is : is_type ty ≡ true) (text_is : text �
       ∙ ap (λ (x : List ℕ). part x (drop 1 (after_type (ty ++ 61 ∷ value)))) (run_front is_type_byte ty (61 ∷ value) bytes refl)
       ∙ ap (λ (x : List ℕ). part ty (drop 1 x)) (run_rest is_type_byte ty (61 ∷ value) bytes refl)
 
-  pub held_is_part : list_all is_byte value ≡ true → is_part (part_in text) ≡ true
-  held_is_part in_range = ap is_part held ∙ ap (λ (t : Bool). t && list_all is_byte value) is ∙ in_range
+  pub held_is_part : list_all is_byte value ≡ true → is_ava (part_in text) ≡ true
+  held_is_part in_range = ap is_ava held ∙ ap (λ (t : Bool). t && list_all is_byte value) is ∙ in_range
 
 and_true : (b : Bool) → (b && true) ≡ b
 and_true true = refl
 and_true false = refl
 
-pub type_suffices : (p : Part) (t : Bool) → t ≡ is_type p.0 → list_all is_byte p.1 ≡ true → t ≡ is_part p
+pub type_suffices : (p : Ava) (t : Bool) → t ≡ is_type p.0 → list_all is_byte p.1 ≡ true → t ≡ is_ava p
 type_suffices p t is in_range = is ∙ sym (ap (λ (b : Bool). is_type p.0 && b) in_range ∙ and_true (is_type p.0))

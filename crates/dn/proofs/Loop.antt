@@ -1,11 +1,11 @@
 -- The loops that read each part, and each RDN, up to the first fault.
 use Rattle.std.proofs.lemmas.List.{length_push, append-nil}
 use Rattle.std.proofs.lemmas.Bool.Decides.{nat_tests}
-use Rattle.dn.specs.Names.{Part, Parts, Rdns, is_part, is_rdn}
+use Rattle.dn.specs.Names.{Ava, Rdn, Name, is_ava, is_rdn}
 use Rattle.std.proofs.Common.{◌≡◌, ℕ, ◌+◌, ◌<◌, ◌≤◌, arith, false, cond, not, eqb, length, Bool, true, List, [], ◌∷◌, ◌++◌, ◌&&◌, Option, Some, None, Result, Ok, Err, refl, sym, ap, ◌∙◌, append_assoc}
 use Rattle.std.specs.List.{list_all}
 use Rattle.std.proofs.lemmas.List.Folds.{list_all-append}
-use Rattle.dn.specs.declared.faults.Fault.{Fault}
+use Rattle.dn.specs.declared.faults.NameFaultKind.{NameFaultKind}
 use Rattle.dn.specs.declared.faults.NameFault.{NameFault}
 use Rattle.dn.specs.declared.faults.NameFault.TheVariants as errors
 use Rattle.dn.specs.Gives.{Fails}
@@ -16,62 +16,62 @@ use Rattle.dn.proofs.Pieces.{shorter}
 use Rattle.dn.proofs.Firsts.{before}
 use Rattle.dn.proofs.Steps.{Found, with_part, rdn_first, names, names_in, names_behind, names_from, name_first}
 
-pub with_front : {Y : Type 0} → List Y → Result (List Y) Fault → Result (List Y) Fault
+pub with_front : {Y : Type 0} → List Y → Result (List Y) NameFaultKind → Result (List Y) NameFaultKind
 with_front front (Ok ys) = Ok (front ++ ys)
 with_front front (Err e) = Err e
 
-nothing_front : {Y : Type 0} (r : Result (List Y) Fault) → with_front [] r ≡ r
+nothing_front : {Y : Type 0} (r : Result (List Y) NameFaultKind) → with_front [] r ≡ r
 unfolding with_front
 nothing_front (Ok ys) = refl
 nothing_front (Err e) = refl
 
-abbrev ok : {Y : Type 0} → List Y → Result (List Y) Fault
+abbrev ok : {Y : Type 0} → List Y → Result (List Y) NameFaultKind
 ok ys = Ok ys
 
-pub more : {Y : Type 0} (front : List Y) (y : Y) (r : Result (List Y) Fault) → with_front (front ++ y ∷ []) r ≡ with_front front (r >>= λ ys. Ok (y ∷ ys))
+pub more : {Y : Type 0} (front : List Y) (y : Y) (r : Result (List Y) NameFaultKind) → with_front (front ++ y ∷ []) r ≡ with_front front (r >>= λ ys. Ok (y ∷ ys))
 unfolding with_front
 more front y (Ok ys) = ap ok (append_assoc front (y ∷ []) ys)
 more front y (Err e) = refl
 
 -- ---- an RDN
 
-pub onto : Parts → Found → Found
+pub onto : Rdn → Found → Found
 onto front (Ok t) = Ok (front ++ t.0, t.1)
 onto front (Err e) = Err e
 
-abbrev found : Parts → List ℕ → Found
+abbrev found : Rdn → List ℕ → Found
 found ps rest = Ok (ps, rest)
 
-more_parts : (front : Parts) (p : Part) (r : Found) → onto (front ++ p ∷ []) r ≡ onto front (with_part p r)
+more_parts : (front : Rdn) (p : Ava) (r : Found) → onto (front ++ p ∷ []) r ≡ onto front (with_part p r)
 unfolding onto
-more_parts front p (Ok t) = ap (λ (ps : Parts). found ps t.1) (append_assoc front (p ∷ []) t.0)
+more_parts front p (Ok t) = ap (λ (ps : Rdn). found ps t.1) (append_assoc front (p ∷ []) t.0)
 more_parts front p (Err e) = refl
 
-one_part : (p : Part) (r : Found) → onto (p ∷ []) r ≡ with_part p r
+one_part : (p : Ava) (r : Found) → onto (p ∷ []) r ≡ with_part p r
 unfolding onto
 one_part p (Ok t) = refl
 one_part p (Err e) = refl
 
-pub parts_begin : (p : Part) (rest : List ℕ) (new : Parts) → new ≡ p ∷ [] → onto new (parts_behind rest) ≡ parts_from (p, rest)
-parts_begin p rest new is = ap (λ (ps : Parts). onto ps (parts_behind rest)) is ∙ one_part p (parts_behind rest)
+pub parts_begin : (p : Ava) (rest : List ℕ) (new : Rdn) → new ≡ p ∷ [] → onto new (parts_behind rest) ≡ parts_from (p, rest)
+parts_begin p rest new is = ap (λ (ps : Rdn). onto ps (parts_behind rest)) is ∙ one_part p (parts_behind rest)
 
-pub first_read : (text : List ℕ) (p : Part) (rest : List ℕ) → first_part text ≡ before rest p → first_rdn text ≡ parts_from (p, rest)
-first_read text p rest h = rdn_first text ∙ ap (λ (r : Result (Part × List ℕ) Fault). r >>= parts_from) h
+pub first_read : (text : List ℕ) (p : Ava) (rest : List ℕ) → first_part text ≡ before rest p → first_rdn text ≡ parts_from (p, rest)
+first_read text p rest h = rdn_first text ∙ ap (λ (r : Result (Ava × List ℕ) NameFaultKind). r >>= parts_from) h
 
 pub parts_fail : (text : List ℕ) (e : NameFault) → Fails e (first_part text) → Fails e (first_rdn text)
 parts_fail text errors.OutOfMemory h = tt
-parts_fail text (errors.Fault fault) h = rdn_first text ∙ ap (λ (r : Result (Part × List ℕ) Fault). r >>= parts_from) h
+parts_fail text (errors.Fault fault) h = rdn_first text ∙ ap (λ (r : Result (Ava × List ℕ) NameFaultKind). r >>= parts_from) h
 
-module _ (front : Parts) (rest : List ℕ) (total : Found) (so_far : onto front (parts_behind rest) ≡ total) where
+module _ (front : Rdn) (rest : List ℕ) (total : Found) (so_far : onto front (parts_behind rest) ≡ total) where
   module _ (more_text : List ℕ) (is : rest ≡ 43 ∷ more_text) where
     at_plus : onto front (first_rdn more_text) ≡ total
     unfolding parts_behind
     at_plus = sym (ap (λ (x : List ℕ). onto front (parts_behind x)) is) ∙ so_far
 
-    pub parts_go_on : (p : Part) (new_rest : List ℕ) (new : Parts) → first_part more_text ≡ before new_rest p → new ≡ front ++ p ∷ [] → onto new (parts_behind new_rest) ≡ total
+    pub parts_go_on : (p : Ava) (new_rest : List ℕ) (new : Rdn) → first_part more_text ≡ before new_rest p → new ≡ front ++ p ∷ [] → onto new (parts_behind new_rest) ≡ total
     parts_go_on p new_rest new h new_is =
-        ap (λ (ps : Parts). onto ps (parts_behind new_rest)) new_is ∙ more_parts front p (parts_behind new_rest)
-        ∙ sym (ap (onto front) (rdn_first more_text ∙ ap (λ (r : Result (Part × List ℕ) Fault). r >>= parts_from) h)) ∙ at_plus
+        ap (λ (ps : Rdn). onto ps (parts_behind new_rest)) new_is ∙ more_parts front p (parts_behind new_rest)
+        ∙ sym (ap (onto front) (rdn_first more_text ∙ ap (λ (r : Result (Ava × List ℕ) NameFaultKind). r >>= parts_from) h)) ∙ at_plus
 
     pub parts_end_at : (e : NameFault) → Fails e (first_part more_text) → Fails e total
     unfolding onto
@@ -80,22 +80,22 @@ module _ (front : Parts) (rest : List ℕ) (total : Found) (so_far : onto front 
 
   pub parts_done : (parts_behind rest ≡ Ok ([], rest)) → total ≡ found front rest
   unfolding onto
-  parts_done h = sym so_far ∙ ap (onto front) h ∙ ap (λ (ps : Parts). found ps rest) (append-nil front)
+  parts_done h = sym so_far ∙ ap (onto front) h ∙ ap (λ (ps : Rdn). found ps rest) (append-nil front)
 
 -- ---- a name
 
-pub names_begin : (text : List ℕ) (new : Rdns) → new ≡ [] → with_front new (names_in (Some text)) ≡ names text
+pub names_begin : (text : List ℕ) (new : Name) → new ≡ [] → with_front new (names_in (Some text)) ≡ names text
 unfolding names_in
-names_begin text new is = ap (λ (rs : Rdns). with_front rs (names text)) is ∙ nothing_front (names text)
+names_begin text new is = ap (λ (rs : Name). with_front rs (names text)) is ∙ nothing_front (names text)
 
-module _ (front : Rdns) (text : List ℕ) (total : Result Rdns Fault) (so_far : with_front front (names_in (Some text)) ≡ total) where
+module _ (front : Name) (text : List ℕ) (total : Result Name NameFaultKind) (so_far : with_front front (names_in (Some text)) ≡ total) where
   at_text : with_front front (first_rdn text >>= names_from) ≡ total
   unfolding names_in
   at_text = ap (with_front front) (sym (name_first text)) ∙ so_far
 
-  pub names_go_on : (r : Parts) (rest : List ℕ) (new : Rdns) (left : Option (List ℕ)) → first_rdn text ≡ before rest r → new ≡ front ++ r ∷ [] → left ≡ after_first rest → with_front new (names_in left) ≡ total
+  pub names_go_on : (r : Rdn) (rest : List ℕ) (new : Name) (left : Option (List ℕ)) → first_rdn text ≡ before rest r → new ≡ front ++ r ∷ [] → left ≡ after_first rest → with_front new (names_in left) ≡ total
   names_go_on r rest new left h new_is left_is =
-      ap (λ (rs : Rdns). with_front rs (names_in left)) new_is
+      ap (λ (rs : Name). with_front rs (names_in left)) new_is
       ∙ ap (λ (x : Option (List ℕ)). with_front (front ++ r ∷ []) (names_in x)) left_is
       ∙ more front r (names_behind rest)
       ∙ sym (ap (λ (s : Found). with_front front (s >>= names_from)) h) ∙ at_text
@@ -105,9 +105,9 @@ module _ (front : Rdns) (text : List ℕ) (total : Result Rdns Fault) (so_far : 
   names_end_at errors.OutOfMemory h = tt
   names_end_at (errors.Fault fault) h = sym at_text ∙ ap (λ (s : Found). with_front front (s >>= names_from)) h
 
-pub names_done : (front : Rdns) (left : Option (List ℕ)) (total : Result Rdns Fault) → with_front front (names_in left) ≡ total → left ≡ None → total ≡ Ok front
+pub names_done : (front : Name) (left : Option (List ℕ)) (total : Result Name NameFaultKind) → with_front front (names_in left) ≡ total → left ≡ None → total ≡ Ok front
 unfolding with_front names_in
-names_done front left total so_far h = sym so_far ∙ ap (λ (x : Option (List ℕ)). with_front front (names_in x)) h ∙ ap (λ (rs : Rdns). ok rs) (append-nil front)
+names_done front left total so_far h = sym so_far ∙ ap (λ (x : Option (List ℕ)). with_front front (names_in x)) h ∙ ap (λ (rs : Name). ok rs) (append-nil front)
 
 -- ---- what all pass, and at the end one more
 
@@ -117,18 +117,18 @@ all_push p front y new is h g = ap (list_all p) is ∙ list_all-append p front (
 not_empty : {Y : Type 0} (front : List Y) (y : Y) → not (eqb (length (front ++ y ∷ [])) 0) ≡ true
 not_empty front y = grind (arith, nat_tests, length_push front y)
 
-pub rdn_push : (front : Parts) (p : Part) (new : Parts) → new ≡ front ++ p ∷ [] → list_all is_part front ≡ true → is_part p ≡ true → is_rdn new ≡ true
+pub rdn_push : (front : Rdn) (p : Ava) (new : Rdn) → new ≡ front ++ p ∷ [] → list_all is_ava front ≡ true → is_ava p ≡ true → is_rdn new ≡ true
 rdn_push front p new is h g =
-    ap (λ (t : Bool). not (eqb (length new) 0) && t) (all_push is_part front p new is h g)
-    ∙ ap (λ (ps : Parts). not (eqb (length ps) 0) && true) is ∙ ap (λ (t : Bool). t && true) (not_empty front p)
+    ap (λ (t : Bool). not (eqb (length new) 0) && t) (all_push is_ava front p new is h g)
+    ∙ ap (λ (ps : Rdn). not (eqb (length ps) 0) && true) is ∙ ap (λ (t : Bool). t && true) (not_empty front p)
 
 -- ---- the loops end
 
-left_is_end : {X : Type 0} (r : Result X Fault) (x : X) (rest end : List ℕ) → (r >>= before end) ≡ before rest x → rest ≡ end
+left_is_end : {X : Type 0} (r : Result X NameFaultKind) (x : X) (rest end : List ℕ) → (r >>= before end) ≡ before rest x → rest ≡ end
 left_is_end {X} (Ok y) x rest end h = sym (ap (λ (s : X × List ℕ). s.1) (same_ok (y, end) (x, rest) h))
 left_is_end (Err e) x rest end h = absurd cc
 
-pub less_is_left : {X : Type 0} (ends : ℕ → Bool) (read : List ℕ → Result X Fault) (text : List ℕ) (x : X) (s : ℕ) (rest old : List ℕ) → first_by ends read text ≡ before rest x → old ≡ s ∷ text → length rest < length old
+pub less_is_left : {X : Type 0} (ends : ℕ → Bool) (read : List ℕ → Result X NameFaultKind) (text : List ℕ) (x : X) (s : ℕ) (rest old : List ℕ) → first_by ends read text ≡ before rest x → old ≡ s ∷ text → length rest < length old
 less_is_left ends read text x s rest old h is =
     omega (arith, ap length (left_is_end (read (piece ends false text)) x rest (behind ends false text) h), ap length is, shorter ends false text)
 
@@ -142,7 +142,7 @@ unfolding size
 size_behind [] = omega arith
 size_behind (b ∷ bs) = omega arith
 
-pub less_is_left_behind : {X : Type 0} (ends : ℕ → Bool) (read : List ℕ → Result X Fault) (text : List ℕ) (x : X) (rest : List ℕ) (left old : Option (List ℕ)) → first_by ends read text ≡ before rest x → left ≡ after_first rest → old ≡ Some text → size left < size old
+pub less_is_left_behind : {X : Type 0} (ends : ℕ → Bool) (read : List ℕ → Result X NameFaultKind) (text : List ℕ) (x : X) (rest : List ℕ) (left old : Option (List ℕ)) → first_by ends read text ≡ before rest x → left ≡ after_first rest → old ≡ Some text → size left < size old
 unfolding size
 less_is_left_behind ends read text x rest left old h left_is old_is =
     let le = ap length (left_is_end (read (piece ends false text)) x rest (behind ends false text) h) in
@@ -153,13 +153,13 @@ unfolding parts_behind
 no_plus [] h = refl
 no_plus (b ∷ bs) h = ap (λ (t : Bool). cond t (first_rdn bs) (found [] (b ∷ bs))) h
 
-pub one_only : (p : Part) (rest : List ℕ) → begins_with_plus rest ≡ false → parts_from (p, rest) ≡ before rest (p ∷ [])
+pub one_only : (p : Ava) (rest : List ℕ) → begins_with_plus rest ≡ false → parts_from (p, rest) ≡ before rest (p ∷ [])
 one_only p rest plain = ap (with_part p) (no_plus rest plain)
 
-pub one_plain : (text : List ℕ) (p : Part) (rest : List ℕ) → first_part text ≡ before rest p → begins_with_plus rest ≡ false → first_rdn text ≡ before rest (p ∷ [])
-one_plain text p rest h plain = rdn_first text ∙ ap (λ (r : Result (Part × List ℕ) Fault). r >>= parts_from) h ∙ ap (with_part p) (no_plus rest plain)
+pub one_plain : (text : List ℕ) (p : Ava) (rest : List ℕ) → first_part text ≡ before rest p → begins_with_plus rest ≡ false → first_rdn text ≡ before rest (p ∷ [])
+one_plain text p rest h plain = rdn_first text ∙ ap (λ (r : Result (Ava × List ℕ) NameFaultKind). r >>= parts_from) h ∙ ap (with_part p) (no_plus rest plain)
 
-pub two_plain : (text : List ℕ) (p : Part) (rest more : List ℕ) (q : Part) (end : List ℕ) → first_part text ≡ before rest p → rest ≡ 43 ∷ more → first_part more ≡ before end q → begins_with_plus end ≡ false → first_rdn text ≡ before end (p ∷ q ∷ [])
+pub two_plain : (text : List ℕ) (p : Ava) (rest more : List ℕ) (q : Ava) (end : List ℕ) → first_part text ≡ before rest p → rest ≡ 43 ∷ more → first_part more ≡ before end q → begins_with_plus end ≡ false → first_rdn text ≡ before end (p ∷ q ∷ [])
 unfolding parts_behind
 two_plain text p rest more q end h is g plain =
     first_read text p rest h ∙ ap (λ (x : List ℕ). parts_from (p, x)) is ∙ ap (with_part p) (one_plain more q end g plain)

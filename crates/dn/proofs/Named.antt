@@ -2,9 +2,9 @@
 use Rattle.std.proofs.Common.{◌≡◌, ℕ, Bool, true, false, cond, ◌&&◌, List, [], ◌∷◌, ◌++◌, length, Result, Ok, Err, inl, inr, refl, sym, ap, subst, ◌∙◌}
 use Rattle.std.specs.List.{list_all, join_with_byte}
 use Rattle.std.proofs.lemmas.List.Folds.{list_all-append}
-use Rattle.dn.specs.declared.faults.Fault.{Fault}
+use Rattle.dn.specs.declared.faults.NameFaultKind.{NameFaultKind}
 use Rattle.dn.specs.declared.faults.NameFault.{NameFault}
-use Rattle.dn.specs.Names.{Part, Parts, Rdns, is_type}
+use Rattle.dn.specs.Names.{Ava, Rdn, Name, is_type}
 use Rattle.dn.specs.Spelling.{spaces, SpellsPart, AreJoined, SpellsRdn, Spells}
 use Rattle.dn.specs.Reading.{◌>>=◌, each, is_space, part_of, cut_raw, rdn_of, name_of}
 use Rattle.dn.specs.Gives.{Gives}
@@ -16,7 +16,7 @@ use Rattle.dn.proofs.Wholes.{IsWhole, IsSome, cut_at, cut_none, cut_some, cut_jo
 
 -- ---- what is read of each piece
 
-module _ {X : Type 0} (f : List ℕ → Result X Fault) (P : List ℕ → X → Type 0) (sep : ℕ) where
+module _ {X : Type 0} (f : List ℕ → Result X NameFaultKind) (P : List ℕ → X → Type 0) (sep : ℕ) where
   two : (text : List ℕ) (texts : List (List ℕ)) (x : X) (xs : List X) → P text x → AreJoined P sep (join_with_byte sep texts) xs → IsSome texts → AreJoined P sep (join_with_byte sep (text ∷ texts)) (x ∷ xs)
   two text [] x xs is more some = absurd some
   two text (t ∷ ts) x [] is more some = absurd more
@@ -42,22 +42,22 @@ module _ {X : Type 0} (f : List ℕ → Result X Fault) (P : List ℕ → X → 
     each_complete text [] h = absurd h
     each_complete text (x ∷ []) h =
         ap (each f) (cut_none sep false text (whole text x h))
-        ∙ ap (λ (r : Result X Fault). r >>= λ y. (each f [] >>= λ ys. Ok (y ∷ ys))) (complete text x h)
+        ∙ ap (λ (r : Result X NameFaultKind). r >>= λ y. (each f [] >>= λ ys. Ok (y ∷ ys))) (complete text x h)
     each_complete text (x ∷ y ∷ ys) (front, rest, is, e, more) =
         ap (λ (t : List ℕ). each f (cut_raw sep false t)) e
         ∙ ap (each f) (cut_at sep false front rest (whole front x is))
-        ∙ ap (λ (r : Result X Fault). r >>= λ z. (each f (cut_raw sep false rest) >>= λ zs. Ok (z ∷ zs))) (complete front x is)
-        ∙ ap (λ (r : Result (List X) Fault). r >>= λ zs. Ok (x ∷ zs)) (each_complete rest (y ∷ ys) more)
+        ∙ ap (λ (r : Result X NameFaultKind). r >>= λ z. (each f (cut_raw sep false rest) >>= λ zs. Ok (z ∷ zs))) (complete front x is)
+        ∙ ap (λ (r : Result (List X) NameFaultKind). r >>= λ zs. Ok (x ∷ zs)) (each_complete rest (y ∷ ys) more)
 
   cut_sound : ((text : List ℕ) (x : X) → f text ≡ Ok x → P text x) → (text : List ℕ) (xs : List X) → each f (cut_raw sep false text) ≡ Ok xs → AreJoined P sep text xs
   cut_sound sound text xs e =
       subst (λ (t : List ℕ). AreJoined P sep t xs) (cut_joins sep false text) (each_sound sound (cut_raw sep false text) xs (cut_some sep false text) e)
 
-rdn_sound : (text : List ℕ) (r : Parts) → rdn_of text ≡ Ok r → SpellsRdn text r
+rdn_sound : (text : List ℕ) (r : Rdn) → rdn_of text ≡ Ok r → SpellsRdn text r
 unfolding rdn_of
 rdn_sound text r e = cut_sound part_of SpellsPart 43 part_sound text r e
 
-rdn_complete : (text : List ℕ) (r : Parts) → SpellsRdn text r → rdn_of text ≡ Ok r
+rdn_complete : (text : List ℕ) (r : Rdn) → SpellsRdn text r → rdn_of text ≡ Ok r
 unfolding rdn_of
 rdn_complete text r h = each_complete part_of SpellsPart 43 part_complete (λ t p s. part_whole 43 refl t p s) text r h
 
@@ -70,7 +70,7 @@ type_no_space : (ty rest : List ℕ) → is_type ty ≡ true → list_all is_spa
 type_no_space [] rest h = absurd cc
 type_no_space (b ∷ bs) rest h = first_no_space ((b ∷ bs) ++ rest) b (bs ++ rest) refl (type_first (b ∷ bs) rest h)
 
-part_no_spaces : (text : List ℕ) (p : Part) → SpellsPart text p → list_all is_space text ≡ false
+part_no_spaces : (text : List ℕ) (p : Ava) → SpellsPart text p → list_all is_space text ≡ false
 part_no_spaces text p s =
     let rest = spaces s.between ++ (61 ∷ (spaces s.after ++ (s.body ++ spaces s.behind))) in
     ap (list_all is_space) s.text_is ∙ list_all-append is_space (spaces s.before) (p.0 ++ rest)
@@ -82,41 +82,41 @@ joined_no_spaces P sep never text (x ∷ []) h = never text x h
 joined_no_spaces P sep never text (x ∷ y ∷ ys) (front, rest, is, e, more) =
     ap (list_all is_space) e ∙ list_all-append is_space front (sep ∷ rest) ∙ ap (λ (t : Bool). t && list_all is_space (sep ∷ rest)) (never front x is)
 
-rdn_no_spaces : (text : List ℕ) (r : Parts) → SpellsRdn text r → list_all is_space text ≡ false
+rdn_no_spaces : (text : List ℕ) (r : Rdn) → SpellsRdn text r → list_all is_space text ≡ false
 rdn_no_spaces text r h = joined_no_spaces SpellsPart 43 part_no_spaces text r h
 
 -- ---- names
 
-abbrev none : Result Rdns Fault
+abbrev none : Result Name NameFaultKind
 none = Ok []
 
-spelled : (text : List ℕ) (n : Rdns) → AreJoined SpellsRdn 44 text n → Spells text n
+spelled : (text : List ℕ) (n : Name) → AreJoined SpellsRdn 44 text n → Spells text n
 spelled text [] h = absurd h
 spelled text (r ∷ rs) h = h
 
-pub name_sound : (text : List ℕ) (n : Rdns) → name_of text ≡ Ok n → Spells text n
+pub name_sound : (text : List ℕ) (n : Name) → name_of text ≡ Ok n → Spells text n
 unfolding name_of
 name_sound text n e = elim (chosen (list_all is_space text) none (each rdn_of (cut_raw 44 false text)) (Ok n) e) [
   | inl y ↦ subst (Spells text) (same_ok [] n y.1) (length text, spaces_are text y.0)
   | inr m ↦ spelled text n (cut_sound rdn_of SpellsRdn 44 rdn_sound text n m.1)
 ]
 
-joined_read : (text : List ℕ) (r : Parts) (rs : Rdns) → AreJoined SpellsRdn 44 text (r ∷ rs) → name_of text ≡ Ok (r ∷ rs)
+joined_read : (text : List ℕ) (r : Rdn) (rs : Name) → AreJoined SpellsRdn 44 text (r ∷ rs) → name_of text ≡ Ok (r ∷ rs)
 unfolding name_of
 joined_read text r rs h =
     ap (λ (t : Bool). cond t none (each rdn_of (cut_raw 44 false text))) (joined_no_spaces SpellsRdn 44 rdn_no_spaces text (r ∷ rs) h)
     ∙ each_complete rdn_of SpellsRdn 44 rdn_complete rdn_whole text (r ∷ rs) h
 
-pub name_complete : (text : List ℕ) (n : Rdns) → Spells text n → name_of text ≡ Ok n
+pub name_complete : (text : List ℕ) (n : Name) → Spells text n → name_of text ≡ Ok n
 unfolding name_of
 name_complete text [] (n, e) = ap name_of e ∙ ap (λ (t : Bool). cond t none (each rdn_of (cut_raw 44 false (spaces n)))) (all_spaces n)
 name_complete text (r ∷ rs) h = joined_read text r rs h
 
-pub one_name : (text : List ℕ) (n m : Rdns) → Spells text n → Spells text m → n ≡ m
+pub one_name : (text : List ℕ) (n m : Name) → Spells text n → Spells text m → n ≡ m
 one_name text n m h g = same_ok n m (sym (name_complete text n h) ∙ name_complete text m g)
 
 -- ---- what a call answers
 
-pub found : (text : List ℕ) (r : Result Rdns NameFault) → Gives (λ n. n) r (name_of text) → IfOk r (λ n. Spells text n)
+pub found : (text : List ℕ) (r : Result Name NameFault) → Gives (λ n. n) r (name_of text) → IfOk r (λ n. Spells text n)
 found text (Ok n) h = name_sound text n h
 found text (Err e) h = tt

@@ -2,8 +2,8 @@
 use Rattle.std.proofs.Common.{◌≡◌, ℕ, zero, suc, ◌+◌, ◌*◌, Bool, true, false, cond, not, ◌&&◌, ◌||◌, eqb, List, [], ◌∷◌, ◌++◌, map, replicate, Result, Ok, Err, ◌⊎◌, inl, inr, refl, sym, ap, subst, ◌∙◌, append_assoc, arith}
 use Rattle.std.proofs.lemmas.Bool.{eqb-true, not-true}
 use Rattle.std.proofs.lemmas.Bool.Decides.{nat_tests}
-use Rattle.dn.specs.declared.faults.Fault.{Fault}
-use Rattle.dn.specs.declared.faults.Fault.TheVariants.{Escape, FormNotSupported}
+use Rattle.dn.specs.declared.faults.NameFaultKind.{NameFaultKind}
+use Rattle.dn.specs.declared.faults.NameFaultKind.TheVariants.{Escape, FormNotSupported}
 use Rattle.dn.specs.declared.value.Octet.{Octet}
 use Rattle.dn.specs.declared.value.State.{State}
 use Rattle.dn.specs.declared.value.State.TheVariants.{Plain, Backslash, HalfPair}
@@ -15,19 +15,19 @@ pub chosen : {A : Type 0} (b : Bool) (x y z : A) → cond b x y ≡ z → ((b �
 chosen true x y z e = inl (refl, e)
 chosen false x y z e = inr (refl, e)
 
-abbrev done : List Octet → Result (List Octet) Fault
+abbrev done : List Octet → Result (List Octet) NameFaultKind
 done us = Ok us
 
 done_is : (us vs : List Octet) → done us ≡ done vs → us ≡ vs
 done_is us vs e = cc
 
-abbrev fine : List ℕ → Result (List ℕ) Fault
+abbrev fine : List ℕ → Result (List ℕ) NameFaultKind
 fine v = Ok v
 
 fine_is : (v w : List ℕ) → fine v ≡ fine w → v ≡ w
 fine_is v w e = cc
 
-with_octet-ok : (raw : Bool) (byte : ℕ) (r : Result (List Octet) Fault) (us : List Octet) → with_octet raw byte r ≡ Ok us → (more : List Octet) × (r ≡ Ok more) × (us ≡ record { raw = raw; byte = byte } ∷ more)
+with_octet-ok : (raw : Bool) (byte : ℕ) (r : Result (List Octet) NameFaultKind) (us : List Octet) → with_octet raw byte r ≡ Ok us → (more : List Octet) × (r ≡ Ok more) × (us ≡ record { raw = raw; byte = byte } ∷ more)
 with_octet-ok raw byte (Ok more) us e = (more, refl, sym (done_is _ us e))
 with_octet-ok raw byte (Err f) us e = absurd cc
 
@@ -187,7 +187,7 @@ pub record Value (text value : List ℕ) : Type 0 where
   pub ends : ends_well octets ≡ true
   pub value_is : value ≡ map byte_of octets
 
-value_from-ok : (r : Result (List Octet) Fault) (v : List ℕ) → value_from r ≡ Ok v → (us : List Octet) × (r ≡ Ok us) × (v ≡ map byte_of (trimmed us))
+value_from-ok : (r : Result (List Octet) NameFaultKind) (v : List ℕ) → value_from r ≡ Ok v → (us : List Octet) × (r ≡ Ok us) × (v ≡ map byte_of (trimmed us))
 value_from-ok (Ok us) v e = (us, refl, sym cc)
 value_from-ok (Err f) v e = absurd cc
 

@@ -5,23 +5,23 @@ use Rattle.std.proofs.lemmas.Bool.{and_parts, eqb-true, not-true}
 use Rattle.std.proofs.lemmas.Bool.Decides.{nat_tests}
 use Rattle.std.proofs.lemmas.List.{take-append-drop, append-nil}
 use Rattle.std.proofs.lemmas.List.Folds.{list_all-append}
-use Rattle.dn.specs.declared.faults.Fault.{Fault}
-use Rattle.dn.specs.declared.faults.Fault.TheVariants.{EqualsMissing, TypeMissing}
+use Rattle.dn.specs.declared.faults.NameFaultKind.{NameFaultKind}
+use Rattle.dn.specs.declared.faults.NameFaultKind.TheVariants.{EqualsMissing, TypeMissing}
 use Rattle.dn.specs.declared.value.Octet.{Octet}
-use Rattle.dn.specs.Names.{Part, is_type_byte, is_type}
+use Rattle.dn.specs.Names.{Ava, is_type_byte, is_type}
 use Rattle.dn.specs.Spelling.{AreOctets, begins_well, ends_well, spaces, SpellsPart, byte_of}
 use Rattle.dn.specs.Reading.{◌>>=◌, is_space, skip, type_in, after_type, after_equals, octets_from, trimmed, value_of, part_at, part_of}
 use Rattle.dn.proofs.Octets.{chosen, value_sound, value_complete, body_begins}
 use Rattle.dn.proofs.Runs.{Stops, front_passes, run_front, run_rest, skipped, skip_stops, skip_spaces, all_spaces}
 
-pub bind_ok : {A B : Type 0} (r : Result A Fault) (f : A → Result B Fault) (y : B) → (r >>= f) ≡ Ok y → (x : A) × (r ≡ Ok x) × (f x ≡ Ok y)
+pub bind_ok : {A B : Type 0} (r : Result A NameFaultKind) (f : A → Result B NameFaultKind) (y : B) → (r >>= f) ≡ Ok y → (x : A) × (r ≡ Ok x) × (f x ≡ Ok y)
 bind_ok (Ok x) f y e = (x, refl, e)
 bind_ok (Err d) f y e = absurd cc
 
-pub same_ok : {A : Type 0} (x y : A) → ◌≡◌ {A = Result A Fault} (Ok x) (Ok y) → x ≡ y
+pub same_ok : {A : Type 0} (x y : A) → ◌≡◌ {A = Result A NameFaultKind} (Ok x) (Ok y) → x ≡ y
 same_ok x y e = cc
 
-abbrev ok_bytes : List ℕ → Result (List ℕ) Fault
+abbrev ok_bytes : List ℕ → Result (List ℕ) NameFaultKind
 ok_bytes v = Ok v
 
 -- ---- what is read is spelled so
@@ -39,7 +39,7 @@ equals_found ty (b ∷ bs) rest e = elim (chosen (eqb b 61) (cond (eqb (length t
   | inr n ↦ absurd (let k = n.1 in cc)
 ]
 
-pub part_sound : (text : List ℕ) (p : Part) → part_of text ≡ Ok p → SpellsPart text p
+pub part_sound : (text : List ℕ) (p : Ava) → part_of text ≡ Ok p → SpellsPart text p
 unfolding part_of part_at
 part_sound text p e =
     let t = skip text in
@@ -106,7 +106,7 @@ value_read after behind (o ∷ os) body v are begins ends is =
     ap value_of (skip_spaces after (body ++ spaces behind) (body_begins o os body (spaces behind) are begins))
     ∙ value_complete (body ++ spaces behind) v (record { octets = o ∷ os; behind = behind; body = body; text_is = refl; body_is = are; begins = begins; ends = ends; value_is = is })
 
-abbrev Reads : List ℕ → Result (List ℕ) Fault → Result Part Fault
+abbrev Reads : List ℕ → Result (List ℕ) NameFaultKind → Result Ava NameFaultKind
 Reads ty r = r >>= λ rest. (value_of (skip rest) >>= λ value. Ok (ty, value))
 
 part_at_type : (ty : List ℕ) (n : ℕ) (rest : List ℕ) → is_type ty ≡ true → part_at (ty ++ (spaces n ++ 61 ∷ rest)) ≡ Reads ty (Ok rest)
@@ -119,7 +119,7 @@ part_at_type ty n rest h =
     ∙ ap (λ (x : List ℕ). Reads ty (after_equals ty x)) left
     ∙ ap (λ (t : Bool). Reads ty (cond t (Err TypeMissing) (Ok rest))) (type_some ty h)
 
-pub part_complete : (text : List ℕ) (p : Part) → SpellsPart text p → part_of text ≡ Ok p
+pub part_complete : (text : List ℕ) (p : Ava) → SpellsPart text p → part_of text ≡ Ok p
 unfolding part_of
 part_complete text p s =
     let rest = spaces s.after ++ (s.body ++ spaces s.behind) in
@@ -127,4 +127,4 @@ part_complete text p s =
     ap (λ (x : List ℕ). part_at (skip x)) s.text_is
     ∙ ap part_at (skip_spaces s.before from (type_first p.0 (spaces s.between ++ 61 ∷ rest) s.type_is))
     ∙ part_at_type p.0 s.between rest s.type_is
-    ∙ ap (λ (r : Result (List ℕ) Fault). r >>= λ value. Ok (p.0, value)) (value_read s.after s.behind s.octets s.body p.1 s.body_is s.begins s.ends s.value_is)
+    ∙ ap (λ (r : Result (List ℕ) NameFaultKind). r >>= λ value. Ok (p.0, value)) (value_read s.after s.behind s.octets s.body p.1 s.body_is s.begins s.ends s.value_is)

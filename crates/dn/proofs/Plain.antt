@@ -3,8 +3,8 @@ use Rattle.std.proofs.Common.{◌≡◌, ℕ, zero, suc, ◌+◌, ◌-◌, ◌<�
 use Rattle.std.specs.List.{list_all}
 use Rattle.std.proofs.lemmas.Bool.{and_parts}
 use Rattle.std.proofs.lemmas.List.{append-nil, take_more, drop_more}
-use Rattle.dn.specs.declared.faults.Fault.{Fault}
-use Rattle.dn.specs.declared.faults.Fault.TheVariants.{FormNotSupported}
+use Rattle.dn.specs.declared.faults.NameFaultKind.{NameFaultKind}
+use Rattle.dn.specs.declared.faults.NameFaultKind.TheVariants.{FormNotSupported}
 use Rattle.dn.specs.declared.value.Octet.{Octet}
 use Rattle.dn.specs.declared.value.State.TheVariants.{Plain, Backslash}
 use Rattle.dn.specs.Spelling.{may_stand, ends_well, byte_of, spaces}
@@ -31,10 +31,10 @@ raw b = record { raw = true; byte = b }
 abbrev octets : List ℕ → List Octet
 octets = map raw
 
-abbrev done : List Octet → Result (List Octet) Fault
+abbrev done : List Octet → Result (List Octet) NameFaultKind
 done os = Ok os
 
-abbrev fine : List ℕ → Result (List ℕ) Fault
+abbrev fine : List ℕ → Result (List ℕ) NameFaultKind
 fine v = Ok v
 
 octets_plain : (text : List ℕ) → list_all may_stand text ≡ true → octets_from Plain text ≡ done (octets text)
@@ -76,7 +76,7 @@ plain_value text value end is stand begins ends all =
     ∙ ap (λ (os : List Octet). fine (map byte_of os)) (trimmed_with (octets value) n (ends_plain value ends))
     ∙ ap fine (bytes_back value)
 
-abbrev both : List ℕ → List ℕ → Result (List ℕ × List ℕ) Fault
+abbrev both : List ℕ → List ℕ → Result (List ℕ × List ℕ) NameFaultKind
 both v rest = Ok (v, rest)
 
 nothing : (rest : List ℕ) → ends_piece rest ≡ true → (piece is_separator false rest ≡ []) × (behind is_separator false rest ≡ rest)
@@ -89,7 +89,7 @@ plain_first text plain value end rest is plain_is stand stops begins ends all =
     let e = nothing rest stops in
     ap first_value is
     ∙ ap (λ (x : List ℕ). value_of x >>= λ v. both v (behind is_separator false (plain ++ rest))) (piece_run may_stand stand_apart plain rest stand ∙ ap (λ (x : List ℕ). plain ++ x) e.0 ∙ append-nil plain)
-    ∙ ap (λ (r : Result (List ℕ) Fault). r >>= λ v. both v (behind is_separator false (plain ++ rest))) (plain_value plain value end plain_is stand begins ends all)
+    ∙ ap (λ (r : Result (List ℕ) NameFaultKind). r >>= λ v. both v (behind is_separator false (plain ++ rest))) (plain_value plain value end plain_is stand begins ends all)
     ∙ ap (both value) (behind_run may_stand stand_apart plain rest stand ∙ e.1)
 
 -- ---- the loop over the spaces at the end

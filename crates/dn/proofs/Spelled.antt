@@ -5,7 +5,7 @@ use Rattle.std.proofs.lemmas.List.{append-nil}
 use Rattle.std.proofs.lemmas.Bool.{and_parts, ltb-true}
 use Rattle.std.proofs.lemmas.Bool.Decides.{nat_tests}
 use Rattle.dn.specs.declared.value.Octet.{Octet}
-use Rattle.dn.specs.Names.{Part, Parts, Rdns, is_byte, is_type, is_part, is_rdn, is_name}
+use Rattle.dn.specs.Names.{Ava, Rdn, Name, is_byte, is_type, is_ava, is_rdn, is_name}
 use Rattle.dn.specs.Spelling.{may_stand, may_follow, is_hex, hex, IsOctet, AreOctets, is_raw_space, begins_well, ends_well, byte_of, SpellsPart, AreJoined, SpellsRdn, Spells}
 use Rattle.dn.specs.Writing.{digit, is_nothing, needs_pair, stands, written, text_from, value_text, part_text, rdn_text, text_of}
 
@@ -117,7 +117,7 @@ octets_begin (b ∷ bs) h = (octet_at true b bs h).begins refl
 
 -- ---- a part, an RDN, a name
 
-pub part_spelled : (p : Part) → is_part p ≡ true → SpellsPart (part_text p) p
+pub part_spelled : (p : Ava) → is_ava p ≡ true → SpellsPart (part_text p) p
 part_spelled p h =
     let k = and_parts (is_type p.0) (list_all is_byte p.1) h in
     record {
@@ -142,11 +142,11 @@ joined_spelled P sep text good is x (y ∷ ys) h =
     let k = and_parts (good x) (list_all good (y ∷ ys)) h in
     (text x, join_with_byte sep (map text (y ∷ ys)), is x k.0, refl, joined_spelled P sep text good is y ys k.1)
 
-rdn_spelled : (r : Parts) → is_rdn r ≡ true → SpellsRdn (rdn_text r) r
+rdn_spelled : (r : Rdn) → is_rdn r ≡ true → SpellsRdn (rdn_text r) r
 rdn_spelled [] h = absurd cc
-rdn_spelled (p ∷ ps) h = joined_spelled SpellsPart 43 part_text is_part part_spelled p ps (and_parts (not (eqb (length (p ∷ ps)) 0)) (list_all is_part (p ∷ ps)) h).1
+rdn_spelled (p ∷ ps) h = joined_spelled SpellsPart 43 part_text is_ava part_spelled p ps (and_parts (not (eqb (length (p ∷ ps)) 0)) (list_all is_ava (p ∷ ps)) h).1
 
-pub name_spelled : (n : Rdns) → is_name n ≡ true → Spells (text_of n) n
+pub name_spelled : (n : Name) → is_name n ≡ true → Spells (text_of n) n
 unfolding text_of
 name_spelled [] h = (0, refl)
 name_spelled (r ∷ rs) h = joined_spelled SpellsRdn 44 rdn_text is_rdn rdn_spelled r rs h

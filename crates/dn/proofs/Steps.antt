@@ -4,8 +4,8 @@ use Rattle.std.specs.List.{onto_first}
 use Rattle.std.proofs.lemmas.Bool.{and_parts, eqb-true, not-true}
 use Rattle.std.proofs.lemmas.Bool.Decides.{nat_tests}
 use Rattle.std.proofs.lemmas.List.{append-nil}
-use Rattle.dn.specs.declared.faults.Fault.{Fault}
-use Rattle.dn.specs.Names.{Part, Parts, Rdns}
+use Rattle.dn.specs.declared.faults.NameFaultKind.{NameFaultKind}
+use Rattle.dn.specs.Names.{Ava, Rdn, Name}
 use Rattle.dn.specs.Reading.{◌>>=◌, each, part_of, escapes, cut_raw, rdn_of}
 use Rattle.dn.specs.Cuts.{piece, behind, is_comma, is_separator, after_first, first_part, first_rdn, parts_behind, parts_from}
 use Rattle.dn.proofs.Pieces.{P, B, split, ends_is}
@@ -80,29 +80,29 @@ last_comma e (b ∷ bs) h = last_comma_by e (not e && is_separator b) b bs (behi
 -- ---- an RDN
 
 abbrev pub Found : Type 0
-Found = Result (Parts × List ℕ) Fault
+Found = Result (Rdn × List ℕ) NameFaultKind
 
-abbrev pub with_part : Part → Found → Found
+abbrev pub with_part : Ava → Found → Found
 with_part p r = r >>= λ t. Ok (p ∷ t.0, t.1)
 
-abbrev onto_part : Part → Result Parts Fault → Result Parts Fault
+abbrev onto_part : Ava → Result Rdn NameFaultKind → Result Rdn NameFaultKind
 onto_part p r = r >>= λ ps. Ok (p ∷ ps)
 
-no_more : (q : Result Part Fault) → ((q >>= λ p. onto_part p (Ok [])) >>= before []) ≡ ((q >>= before []) >>= parts_from)
+no_more : (q : Result Ava NameFaultKind) → ((q >>= λ p. onto_part p (Ok [])) >>= before []) ≡ ((q >>= before []) >>= parts_from)
 unfolding parts_behind
 no_more (Ok p) = refl
 no_more (Err e) = refl
 
-no_plus : (q : Result Part Fault) (more : List ℕ) → ((q >>= λ p. onto_part p (Ok [])) >>= before (44 ∷ more)) ≡ ((q >>= before (44 ∷ more)) >>= parts_from)
+no_plus : (q : Result Ava NameFaultKind) (more : List ℕ) → ((q >>= λ p. onto_part p (Ok [])) >>= before (44 ∷ more)) ≡ ((q >>= before (44 ∷ more)) >>= parts_from)
 unfolding parts_behind
 no_plus (Ok p) more = refl
 no_plus (Err e) more = refl
 
-onto_with : (p : Part) (r : Result Parts Fault) (rest : List ℕ) → (onto_part p r >>= before rest) ≡ with_part p (r >>= before rest)
+onto_with : (p : Ava) (r : Result Rdn NameFaultKind) (rest : List ℕ) → (onto_part p r >>= before rest) ≡ with_part p (r >>= before rest)
 onto_with p (Ok ps) rest = refl
 onto_with p (Err e) rest = refl
 
-with_plus : (q : Result Part Fault) (more : List ℕ) → ((q >>= λ p. onto_part p (rdn_of (piece is_comma false more))) >>= before (behind is_comma false more)) ≡ ((q >>= before (43 ∷ more)) >>= parts_from)
+with_plus : (q : Result Ava NameFaultKind) (more : List ℕ) → ((q >>= λ p. onto_part p (rdn_of (piece is_comma false more))) >>= before (behind is_comma false more)) ≡ ((q >>= before (43 ∷ more)) >>= parts_from)
 unfolding parts_behind
 with_plus (Ok p) more = onto_with p (rdn_of (piece is_comma false more)) (behind is_comma false more)
 with_plus (Err e) more = refl
@@ -121,7 +121,7 @@ module _ (text : List ℕ) where
       ∙ ap (λ (ps : List (List ℕ)). each part_of ps >>= before []) (cut_last is_separator 43 plus_apart false text h)
       ∙ ap (λ (x : List ℕ). each part_of (x ∷ []) >>= before []) (sym (piece_last is_separator false text h))
       ∙ no_more (part_of (P text))
-      ∙ ap (λ (r : Result (Part × List ℕ) Fault). r >>= parts_from) (sym (part_is [] h))
+      ∙ ap (λ (r : Result (Ava × List ℕ) NameFaultKind). r >>= parts_from) (sym (part_is [] h))
 
   rdn_comma : (more : List ℕ) → B text ≡ 44 ∷ more → first_rdn text ≡ (first_part text >>= parts_from)
   unfolding piece behind each rdn_of
@@ -131,7 +131,7 @@ module _ (text : List ℕ) where
       rdn_is (P text) (44 ∷ more) (ap (piece is_comma false) text_is ∙ s.0 ∙ append-nil (P text)) (ap (behind is_comma false) text_is ∙ s.1)
       ∙ ap (λ (ps : List (List ℕ)). each part_of ps >>= before (44 ∷ more)) (cut_none 43 false (P text) (piece_whole is_separator 43 plus_apart false text 44 more h))
       ∙ no_plus (part_of (P text)) more
-      ∙ ap (λ (r : Result (Part × List ℕ) Fault). r >>= parts_from) (sym (part_is (44 ∷ more) h))
+      ∙ ap (λ (r : Result (Ava × List ℕ) NameFaultKind). r >>= parts_from) (sym (part_is (44 ∷ more) h))
 
   rdn_plus : (more : List ℕ) → B text ≡ 43 ∷ more → first_rdn text ≡ (first_part text >>= parts_from)
   unfolding piece behind each rdn_of
@@ -141,7 +141,7 @@ module _ (text : List ℕ) where
       rdn_is (P text ++ 43 ∷ piece is_comma false more) (behind is_comma false more) (ap (piece is_comma false) text_is ∙ s.0) (ap (behind is_comma false) text_is ∙ s.1)
       ∙ ap (λ (ps : List (List ℕ)). each part_of ps >>= before (behind is_comma false more)) (cut_at 43 false (P text) (piece is_comma false more) (piece_whole is_separator 43 plus_apart false text 43 more h))
       ∙ with_plus (part_of (P text)) more
-      ∙ ap (λ (r : Result (Part × List ℕ) Fault). r >>= parts_from) (sym (part_is (43 ∷ more) h))
+      ∙ ap (λ (r : Result (Ava × List ℕ) NameFaultKind). r >>= parts_from) (sym (part_is (43 ∷ more) h))
 
   other : (s : ℕ) → is_separator s ≡ true → eqb s 43 ≡ false → s ≡ 44
   other s h g = eqb-true s 44 (grind (arith, nat_tests))
@@ -159,24 +159,24 @@ module _ (text : List ℕ) where
 
 -- ---- a name
 
-abbrev pub names : List ℕ → Result Rdns Fault
+abbrev pub names : List ℕ → Result Name NameFaultKind
 names text = each rdn_of (cut_raw 44 false text)
 
 -- the names of a text, where there is one
-unfoldable pub names_in : Option (List ℕ) → Result Rdns Fault
+unfoldable pub names_in : Option (List ℕ) → Result Name NameFaultKind
 names_in None = Ok []
 names_in (Some text) = names text
 
-abbrev pub names_behind : List ℕ → Result Rdns Fault
+abbrev pub names_behind : List ℕ → Result Name NameFaultKind
 names_behind text = names_in (after_first text)
 
-abbrev pub onto_rdn : Parts → Result Rdns Fault → Result Rdns Fault
+abbrev pub onto_rdn : Rdn → Result Name NameFaultKind → Result Name NameFaultKind
 onto_rdn r rs = rs >>= λ rs. Ok (r ∷ rs)
 
-abbrev pub names_from : Parts × List ℕ → Result Rdns Fault
+abbrev pub names_from : Rdn × List ℕ → Result Name NameFaultKind
 names_from s = onto_rdn s.0 (names_behind s.1)
 
-rdn_then : (q : Result Parts Fault) (rest : List ℕ) → (q >>= λ r. onto_rdn r (names_behind rest)) ≡ ((q >>= before rest) >>= names_from)
+rdn_then : (q : Result Rdn NameFaultKind) (rest : List ℕ) → (q >>= λ r. onto_rdn r (names_behind rest)) ≡ ((q >>= before rest) >>= names_from)
 rdn_then (Ok r) rest = refl
 rdn_then (Err e) rest = refl
 

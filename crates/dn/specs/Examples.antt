@@ -1,21 +1,21 @@
 -- The definitions at a dozen texts, worked out by hand.
 use Rattle.std.specs.Prelude.{◌≡◌, ℕ, List, [], ◌∷◌, Result, Ok, Err, codes, refl}
-use Rattle.dn.specs.declared.faults.Fault.{Fault}
-use Rattle.dn.specs.declared.faults.Fault.TheVariants.{EqualsMissing, Escape, NotEscaped, TypeMissing, FormNotSupported}
-use Rattle.dn.specs.Names.{Rdns}
+use Rattle.dn.specs.declared.faults.NameFaultKind.{NameFaultKind}
+use Rattle.dn.specs.declared.faults.NameFaultKind.TheVariants.{EqualsMissing, Escape, NotEscaped, TypeMissing, FormNotSupported}
+use Rattle.dn.specs.Names.{Name}
 use Rattle.dn.specs.Reading.{octets_from, trimmed, value_of, part_at, part_of, cut_raw, each, rdn_of, name_of}
 use Rattle.dn.specs.Writing.{written, text_from, text_of}
 
 abbrev Read : Type 0
-Read = Result Rdns Fault
+Read = Result Name NameFaultKind
 
-abbrev one : List ℕ → List ℕ → Rdns
+abbrev one : List ℕ → List ℕ → Name
 one ty value = ((ty, value) ∷ []) ∷ []
 
-abbrev is : Rdns → Read
+abbrev is : Name → Read
 is n = Ok n
 
-abbrev faults : Fault → Read
+abbrev faults : NameFaultKind → Read
 faults f = Err f
 
 -- spaces alone

@@ -4,16 +4,16 @@ use Rattle.std.specs.List.{list_all}
 use Rattle.std.specs.Char.{is_ascii_alphanumeric}
 
 -- a type as written, and a value
-abbrev pub Part : Type 0
-Part = List ℕ × List ℕ
+abbrev pub Ava : Type 0
+Ava = List ℕ × List ℕ
 
 -- an RDN: its parts in the order written
-abbrev pub Parts : Type 0
-Parts = List Part
+abbrev pub Rdn : Type 0
+Rdn = List Ava
 
 -- a name: the entry's own RDN first
-abbrev pub Rdns : Type 0
-Rdns = List Parts
+abbrev pub Name : Type 0
+Name = List Rdn
 
 -- ---- which parts there are
 
@@ -28,13 +28,13 @@ abbrev pub is_byte : ℕ → Bool
 is_byte b = nat_lt b 256
 
 -- a value is any bytes
-abbrev pub is_part : Part → Bool
-is_part p = is_type p.0 && list_all is_byte p.1
+abbrev pub is_ava : Ava → Bool
+is_ava p = is_type p.0 && list_all is_byte p.1
 
-abbrev pub is_rdn : Parts → Bool
-is_rdn r = not (length r == 0) && list_all is_part r
+abbrev pub is_rdn : Rdn → Bool
+is_rdn r = not (length r == 0) && list_all is_ava r
 
-abbrev pub is_name : Rdns → Bool
+abbrev pub is_name : Name → Bool
 is_name n = list_all is_rdn n
 
 abbrev pub is_ascii : ℕ → Bool

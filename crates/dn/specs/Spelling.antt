@@ -1,7 +1,7 @@
 -- Which text spells which name (RFC 4514, section 3; spaces may stand round types and values).
 use Rattle.std.specs.Prelude.{◌≡◌, ℕ, ◌+◌, ◌-◌, ◌*◌, Bool, true, false, not, ◌&&◌, ◌||◌, nat_le, ◌==◌, if◌then◌else◌, List, [], ◌∷◌, ◌++◌, map, replicate}
 use Rattle.dn.specs.declared.value.Octet.{Octet}
-use Rattle.dn.specs.Names.{Part, Parts, Rdns, is_type}
+use Rattle.dn.specs.Names.{Ava, Rdn, Name, is_type}
 
 -- ---- a value
 
@@ -58,7 +58,7 @@ abbrev pub spaces : ℕ → List ℕ
 spaces n = replicate n 32
 
 -- spaces, the type, spaces, `=`, spaces, the octets of the value, spaces
-pub record SpellsPart (text : List ℕ) (p : Part) : Type 0 where
+pub record SpellsPart (text : List ℕ) (p : Ava) : Type 0 where
   pub before : ℕ
   pub between : ℕ
   pub after : ℕ
@@ -79,10 +79,10 @@ AreJoined Spelled sep text (x ∷ []) = Spelled text x
 AreJoined Spelled sep text (x ∷ y ∷ ys) = (front : List ℕ) × (rest : List ℕ) × Spelled front x × (text ≡ front ++ sep ∷ rest) × AreJoined Spelled sep rest (y ∷ ys)
 
 -- parts joined by `+`
-abbrev pub SpellsRdn : List ℕ → Parts → Type 0
+abbrev pub SpellsRdn : List ℕ → Rdn → Type 0
 SpellsRdn text r = AreJoined SpellsPart 43 text r
 
 -- spaces alone, or RDNs joined by `,`
-abbrev pub Spells : List ℕ → Rdns → Type 0
+abbrev pub Spells : List ℕ → Name → Type 0
 Spells text [] = (n : ℕ) × (text ≡ spaces n)
 Spells text (r ∷ rs) = AreJoined SpellsRdn 44 text (r ∷ rs)

@@ -1,11 +1,11 @@
 -- Texts that begin with a type, an equals sign and a value.
 use Rattle.std.specs.Prelude.{◌≡◌, ℕ, ◌+◌, List, ◌∷◌, ◌++◌, length, drop}
-use Rattle.dn.specs.Names.{Part}
+use Rattle.dn.specs.Names.{Ava}
 use Rattle.dn.specs.Spelling.{spaces}
 use Rattle.dn.specs.Reading.{type_in, after_type}
 
 -- the part of which a text holds the type, an equals sign and the value
-abbrev pub part_in : List ℕ → Part
+abbrev pub part_in : List ℕ → Ava
 part_in text = (type_in text, drop 1 (after_type text))
 
 -- a type, an equals sign among spaces, and what follows

@@ -1,7 +1,7 @@
 -- The one spelling of a name that is written.
 use Rattle.std.specs.Prelude.{ℕ, ◌+◌, ◌/◌, ◌%◌, Bool, true, false, not, ◌&&◌, ◌||◌, nat_lt, nat_le, ◌==◌, if◌then◌else◌, List, [], ◌∷◌, ◌++◌, map}
 use Rattle.std.specs.List.{join_with_byte}
-use Rattle.dn.specs.Names.{Part, Parts, Rdns}
+use Rattle.dn.specs.Names.{Ava, Rdn, Name}
 use Rattle.dn.specs.Spelling.{may_stand}
 
 -- an upper-case hexadecimal digit
@@ -31,11 +31,11 @@ text_from first (b ∷ bs) = written first (is_nothing bs) b ++ text_from false 
 abbrev pub value_text : List ℕ → List ℕ
 value_text value = text_from true value
 
-abbrev pub part_text : Part → List ℕ
+abbrev pub part_text : Ava → List ℕ
 part_text p = p.0 ++ 61 ∷ value_text p.1
 
-abbrev pub rdn_text : Parts → List ℕ
+abbrev pub rdn_text : Rdn → List ℕ
 rdn_text r = join_with_byte 43 (map part_text r)
 
-unfoldable pub text_of : Rdns → List ℕ
+unfoldable pub text_of : Name → List ℕ
 text_of n = join_with_byte 44 (map rdn_text n)

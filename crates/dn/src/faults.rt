@@ -10,7 +10,7 @@ use std::fmt;
 
 /// What is wrong with a text that is no name, printed as `N2 escape`.
 #[derive(Clone, Copy, Debug, PartialEq, Eq)]
-pub enum Fault {
+pub enum NameFaultKind {
     /// No `=` where one is due, behind a type and spaces.
     EqualsMissing,
     /// A backslash with neither two hexadecimal digits nor a character behind it that may be escaped so.
@@ -24,17 +24,17 @@ pub enum Fault {
     FormNotSupported,
 }
 
-impl Fault {
+impl NameFaultKind {
     /// The number that is printed behind `N`.
     pub fn number(self) -> u8
         ensures { result ≡ fault_number self }
     {
         match self {
-            Fault::EqualsMissing => 1,
-            Fault::Escape => 2,
-            Fault::NotEscaped => 3,
-            Fault::TypeMissing => 4,
-            Fault::FormNotSupported => 5,
+            NameFaultKind::EqualsMissing => 1,
+            NameFaultKind::Escape => 2,
+            NameFaultKind::NotEscaped => 3,
+            NameFaultKind::TypeMissing => 4,
+            NameFaultKind::FormNotSupported => 5,
         }
     }
 
@@ -43,28 +43,28 @@ impl Fault {
         ensures { result.now ≡ fault_text self }
     {
         match self {
-            Fault::EqualsMissing => "equals sign missing",
-            Fault::Escape => "escape",
-            Fault::NotEscaped => "character not escaped",
-            Fault::TypeMissing => "type missing",
-            Fault::FormNotSupported => "form not supported",
+            NameFaultKind::EqualsMissing => "equals sign missing",
+            NameFaultKind::Escape => "escape",
+            NameFaultKind::NotEscaped => "character not escaped",
+            NameFaultKind::TypeMissing => "type missing",
+            NameFaultKind::FormNotSupported => "form not supported",
         }
     }
 }
 
-impl fmt::Display for Fault {
+impl fmt::Display for NameFaultKind {
     fn fmt<W: fmt::Write>(&self, f: &mut fmt::Formatter<W>) -> fmt::Result {
         write!(f, "N{} {}", self.number(), self.text())
     }
 }
 
-impl Error for Fault {}
+impl Error for NameFaultKind {}
 
 /// Why no name was read.
 #[derive(Clone, Copy, Debug, PartialEq, Eq, thiserror::Error)]
 pub enum NameFault {
     #[error("{0}")]
-    Fault(Fault),
+    Fault(NameFaultKind),
     #[error("out of memory")]
     OutOfMemory,
 }

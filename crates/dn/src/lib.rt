@@ -11,12 +11,9 @@ mod text;
 mod value;
 mod write;
 
-pub use faults::{Fault, NameFault};
+pub use faults::{NameFault, NameFaultKind};
 pub use laws::{spelled_names_are_read, texts_spell_one_name, written_names_are_read};
 pub use names::{Name, Rdn};
 pub use part::Ava;
 pub use read::read_name;
 pub use write::write_name;
-
-#[cfg(test)]
-mod tests;

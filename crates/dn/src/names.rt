@@ -2,7 +2,7 @@
 
 ghost use Rattle.std.specs.Prelude.{◌≡◌, ◌∷◌, ◌++◌, [], true, Some, None, if◌then◌else◌, OnOk, OnErr};
 ghost use Rattle.std.specs.List.{list_all};
-ghost use Rattle.dn.specs.Names.{is_part, is_rdn, is_name};
+ghost use Rattle.dn.specs.Names.{is_ava, is_rdn, is_name};
 
 use crate::part::Ava;
 use smallvec::SmallVec;
@@ -11,9 +11,9 @@ use std::default::MadeWith;
 use std::marker::Model;
 
 fn are_parts(parts: &[Ava]) -> bool
-    ensures { result ≡ list_all is_part parts.now }
+    ensures { result ≡ list_all is_ava parts.now }
 {
-    parts.iter().all(|part| part.is_part())
+    parts.iter().all(|part| part.is_ava())
 }
 
 /// The parts of an RDN, one or more. A contract sees the list of them.
@@ -54,7 +54,7 @@ impl Rdn {
 
     #[inline(always)]
     pub(crate) fn one(alloc: Global, part: Ava) -> Rdn
-        requires { is_part part ≡ true }
+        requires { is_ava part ≡ true }
         ensures { result ≡ part ∷ [] }
     {
         Rdn {
@@ -64,8 +64,8 @@ impl Rdn {
 
     #[inline(always)]
     pub(crate) fn two(alloc: Global, first: Ava, second: Ava) -> Rdn
-        requires first { is_part first ≡ true }
-        requires second { is_part second ≡ true }
+        requires first { is_ava first ≡ true }
+        requires second { is_ava second ≡ true }
         ensures { result ≡ first ∷ second ∷ [] }
     {
         Rdn {

@@ -2,11 +2,11 @@
 
 ghost use Rattle.std.specs.Prelude.{◌≡◌, ◌∷◌, ◌++◌, ◌&&◌, true, not, Some, None, if◌then◌else◌, IfOk, IfSome};
 ghost use Rattle.std.specs.List.{list_all, prefix_len};
-ghost use Rattle.dn.specs.Names.{is_type_byte, is_type, is_byte, is_part};
+ghost use Rattle.dn.specs.Names.{is_type_byte, is_type, is_byte, is_ava};
 ghost use Rattle.dn.specs.Reading.{type_in, after_type};
 ghost use Rattle.dn.specs.Texts.{EndsAt};
 
-use crate::text::Text;
+use crate::text::AvaText;
 use std::alloc::{AllocError, Global};
 use std::default::MadeWith;
 use std::marker::Model;
@@ -56,7 +56,7 @@ fn in_range(bytes: &[u8]) -> &[u8]
 #[derive(Debug, Drop)]
 pub struct Ava {
     // the type, an equals sign and the value
-    text: Text,
+    text: AvaText,
 }
 
 impl Model for Ava {
@@ -71,7 +71,7 @@ impl Model for Ava {
 impl MadeWith<Global> for Ava {
     fn made_with(_alloc: Global) -> Ava {
         Ava {
-            text: Text::empty(),
+            text: AvaText::empty(),
         }
     }
 }
@@ -91,9 +91,9 @@ impl Ava {
     pub(crate) fn of_type(alloc: Global, ty_text: &[u8], value: &[u8]) -> Result<Ava, AllocError>
         requires { is_type ty_text.now ≡ true }
         ensures same { IfOk result (λ part. part ≡ (ty_text.now, value.now)) }
-        ensures good { IfOk result (λ part. is_part part ≡ true) }
+        ensures good { IfOk result (λ part. is_ava part ≡ true) }
     {
-        let text = Text::of_part(alloc, ty_text, value)?;
+        let text = AvaText::of_part(alloc, ty_text, value)?;
         Ok(Ava::of_text(text, ty_text, value))
     }
 
@@ -103,18 +103,18 @@ impl Ava {
         requires ty_text { is_type ty_text.now ≡ true }
         requires text { EndsAt text.now ty_text.now value.now end }
         ensures same { IfSome result (λ part. part ≡ (ty_text.now, value.now)) }
-        ensures good { IfSome result (λ part. is_part part ≡ true) }
+        ensures good { IfSome result (λ part. is_ava part ≡ true) }
     {
-        let text = Text::of_few(text, end, ty_text, value)?;
+        let text = AvaText::of_few(text, end, ty_text, value)?;
         Some(Ava::of_text(text, ty_text, value))
     }
 
     #[inline(always)]
-    fn of_text(text: Text, ty_text: &[u8], value: &[u8]) -> Ava
+    fn of_text(text: AvaText, ty_text: &[u8], value: &[u8]) -> Ava
         requires ty_text { is_type ty_text.now ≡ true }
         requires text { text ≡ ty_text.now ++ 61 ∷ value.now }
         ensures same { result ≡ (ty_text.now, value.now) }
-        ensures good { is_part result ≡ true }
+        ensures good { is_ava result ≡ true }
     {
         let _ = ty_text;
         in_range(value);
@@ -138,8 +138,8 @@ impl Ava {
         }
     }
 
-    pub(crate) fn is_part(&self) -> bool
-        ensures { result ≡ is_part self.now }
+    pub(crate) fn is_ava(&self) -> bool
+        ensures { result ≡ is_ava self.now }
     {
         in_range(self.value());
         is_type(self.ty_text())

@@ -2,14 +2,14 @@
 
 ghost use Rattle.std.specs.Prelude.{◌≡◌, ◌==◌, ◌++◌, not, true, false, length, Ok, IfOk, IfErr, IfSome, OnOk};
 ghost use Rattle.std.specs.List.{list_all, prefix_len};
-ghost use Rattle.dn.specs.Names.{Rdns, is_type, is_part};
+ghost use Rattle.dn.specs.Names.{Name, is_type, is_ava};
 ghost use Rattle.dn.specs.Spelling.{Spells};
 ghost use Rattle.dn.specs.Reading.{is_space, skip, after_equals, each, cut_raw, rdn_of, name_of};
 ghost use Rattle.dn.specs.Cuts.{first_value, first_part, first_rdn, part_from, parts_from, Pushes};
 ghost use Rattle.dn.specs.Texts.{Starts};
 ghost use Rattle.dn.specs.Gives.{Gives, Fails};
 
-use crate::faults::{Fault, NameFault};
+use crate::faults::{NameFault, NameFaultKind};
 use crate::names::{Name, Rdn};
 use crate::part::{Ava, split_type};
 use crate::split::{after_first, after_plus, begins_with_plus, split_piece};
@@ -37,12 +37,12 @@ fn after_equals<'a>(ty_text: &[u8], rest: &'a [u8]) -> Result<&'a [u8], NameFaul
     match rest {
         [first, value @ ..] if *first == b'=' => {
             if ty_text.is_empty() {
-                Err(NameFault::Fault(Fault::TypeMissing))
+                Err(NameFault::Fault(NameFaultKind::TypeMissing))
             } else {
                 Ok(value)
             }
         }
-        _ => Err(NameFault::Fault(Fault::EqualsMissing)),
+        _ => Err(NameFault::Fault(NameFaultKind::EqualsMissing)),
     }
 }
 
@@ -79,7 +79,7 @@ fn short_part(start: Start<'_>, plain: Plain<'_>) -> Option<Ava>
     requires text { Starts start.text.now start.ty_text.now start.rest.now }
     requires value { start.rest.now ≡ plain.value.now ++ plain.after.now }
     ensures same { IfSome result (λ part. part ≡ (start.entry.ty_text.now, plain.entry.value.now)) }
-    ensures good { IfSome result (λ part. is_part part ≡ true) }
+    ensures good { IfSome result (λ part. is_ava part ≡ true) }
 {
     let end = start.text.len() - plain.after.len();
     Ava::short(start.text, end, start.ty_text, plain.value)
@@ -89,7 +89,7 @@ fn short_part(start: Start<'_>, plain: Plain<'_>) -> Option<Ava>
 #[inline(always)]
 fn short_in(text: &[u8]) -> Option<(Ava, &[u8])>
     ensures exact { IfSome result (λ r. first_part text.now ≡ Ok (r.0, r.1.now)) }
-    ensures good { IfSome result (λ r. is_part r.0 ≡ true) }
+    ensures good { IfSome result (λ r. is_ava r.0 ≡ true) }
 {
     let Ok(start) = start_in(text) else {
         return None;
@@ -104,7 +104,7 @@ fn short_in(text: &[u8]) -> Option<(Ava, &[u8])>
 fn escaped_part<'a>(alloc: Global, start: Start<'a>) -> Result<(Ava, &'a [u8]), NameFault>
     requires { is_type start.ty_text.now ≡ true }
     ensures exact { Gives (λ r. (r.0, r.1.now)) result (part_from start.entry.ty_text.now start.entry.rest.now) }
-    ensures good { IfOk result (λ r. is_part r.0 ≡ true) }
+    ensures good { IfOk result (λ r. is_ava r.0 ≡ true) }
 {
     let (piece, behind) = split_piece(start.rest);
     let value = value_of(alloc, piece)?;
@@ -124,7 +124,7 @@ fn part_of<'a>(
     requires ty_text { is_type start.ty_text.now ≡ true }
     requires plain { IfSome plain (λ p. first_value start.rest.now ≡ Ok (p.value.now, p.behind.now)) }
     ensures exact { Gives (λ r. (r.0, r.1.now)) result (part_from start.entry.ty_text.now start.entry.rest.now) }
-    ensures good { IfOk result (λ r. is_part r.0 ≡ true) }
+    ensures good { IfOk result (λ r. is_ava r.0 ≡ true) }
 {
     match plain {
         Some(plain) => Ok((
@@ -138,7 +138,7 @@ fn part_of<'a>(
 /// The part at the front of a text, up to the first separator that is not escaped, and what stands from there on.
 fn part_in(alloc: Global, text: &[u8]) -> Result<(Ava, &[u8]), NameFault>
     ensures exact { Gives (λ r. (r.0, r.1.now)) result (first_part text.now) }
-    ensures good { IfOk result (λ r. is_part r.0 ≡ true) }
+    ensures good { IfOk result (λ r. is_ava r.0 ≡ true) }
 {
     let start = start_in(text)?;
     part_of(alloc, start, split_plain(start.rest))
@@ -147,7 +147,7 @@ fn part_in(alloc: Global, text: &[u8]) -> Result<(Ava, &[u8]), NameFault>
 /// The RDN with this first part, up to the first comma that is not escaped, and what stands from there on.
 #[inline(always)]
 fn rdn_from<'a>(alloc: Global, part: Ava, behind: &'a [u8]) -> Result<(Rdn, &'a [u8]), NameFault>
-    requires { is_part part ≡ true }
+    requires { is_ava part ≡ true }
     ensures { Gives (λ r. (r.0, r.1.now)) result (parts_from (part, behind.now)) }
 {
     if !begins_with_plus(behind) {
@@ -226,7 +226,7 @@ pub fn read_name(alloc: Global, text: &str) -> Result<Name, NameFault>
     // What is read is spelled so.
     ensures found { IfOk result (λ n. Spells text.now n) }
     // What is spelled so is read, unless memory runs out.
-    ensures only { (n : Rdns) → Spells text.now n → Gives (λ m. m) result (Ok n) }
+    ensures only { (n : Name) → Spells text.now n → Gives (λ m. m) result (Ok n) }
     // Which fault it is.
     ensures exact { Gives (λ n. n) result (name_of text.now) }
 {

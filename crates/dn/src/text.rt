@@ -18,19 +18,19 @@ enum Place {
 
 /// Bytes in order; a few of them take no allocation. A contract sees the list of them.
 #[derive(Debug)]
-pub(crate) struct Text {
+pub(crate) struct AvaText {
     place: Place,
 }
 
 // A call of its own, so that a caller's proof need not tell the two places apart.
-impl Drop for Text {
+impl Drop for AvaText {
     fn drop(self) {
-        let Text { place } = self;
+        let AvaText { place } = self;
         drop(place);
     }
 }
 
-impl Model for Text {
+impl Model for AvaText {
     ghost use Rattle.std.specs.Prelude.{List, ℕ};
     ghost use Rattle.dn.specs.Places.{bytes_in, IsWithin};
 
@@ -41,28 +41,28 @@ impl Model for Text {
     ghost invariant = { λ t. IsWithin t.place };
 }
 
-impl Text {
-    pub(crate) fn empty() -> Text
+impl AvaText {
+    pub(crate) fn empty() -> AvaText
         ensures { result ≡ [] }
     {
-        Text::few([0; FEW], 0)
+        AvaText::few([0; FEW], 0)
     }
 
     /// The first bytes of these.
     #[inline(always)]
-    fn few(bytes: [u8; FEW], len: usize) -> Text
+    fn few(bytes: [u8; FEW], len: usize) -> AvaText
         requires { len ≤ 24 }
         ensures { result ≡ take len bytes }
     {
-        Text {
+        AvaText {
             place: Place::Few(len as u32, bytes),
         }
     }
 
-    fn many(bytes: Vec<u8>) -> Text
+    fn many(bytes: Vec<u8>) -> AvaText
         ensures { result ≡ bytes.items }
     {
-        Text {
+        AvaText {
             place: Place::Many(bytes),
         }
     }
@@ -77,23 +77,27 @@ impl Text {
     }
 
     /// A type, an equals sign and a value.
-    pub(crate) fn of_part(alloc: Global, ty_text: &[u8], value: &[u8]) -> Result<Text, AllocError>
+    pub(crate) fn of_part(
+        alloc: Global,
+        ty_text: &[u8],
+        value: &[u8],
+    ) -> Result<AvaText, AllocError>
         ensures { IfOk result (λ text. text ≡ ty_text.now ++ 61 ∷ value.now) }
     {
         let len = ty_text.len() + 1 + value.len();
         if len <= FEW {
-            return Ok(Text::few(joined(ty_text, value), len));
+            return Ok(AvaText::few(joined(ty_text, value), len));
         }
         let mut bytes = Vec::with_capacity(alloc, len)?;
         bytes.extend_from_slice(ty_text)?;
         bytes.push(b'=')?;
         bytes.extend_from_slice(value)?;
-        Ok(Text::many(bytes))
+        Ok(AvaText::many(bytes))
     }
 
     /// The same, where a few bytes suffice, of a text that goes on behind the value.
     #[inline(always)]
-    pub(crate) fn of_few(text: &[u8], end: usize, ty_text: &[u8], value: &[u8]) -> Option<Text>
+    pub(crate) fn of_few(text: &[u8], end: usize, ty_text: &[u8], value: &[u8]) -> Option<AvaText>
         requires { EndsAt text.now ty_text.now value.now end }
         ensures { IfSome result (λ text. text ≡ ty_text.now ++ 61 ∷ value.now) }
     {
@@ -101,7 +105,7 @@ impl Text {
         if len > FEW {
             return None;
         }
-        Some(Text::few(few_of(text, end, ty_text, value), len))
+        Some(AvaText::few(few_of(text, end, ty_text, value), len))
     }
 }
 

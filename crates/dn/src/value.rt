@@ -9,7 +9,7 @@ ghost use Rattle.dn.specs.Drafts.{draft_after, IsInRange};
 ghost use Rattle.dn.specs.Gives.{Gives};
 ghost use Rattle.dn.specs.declared.value.State.TheVariants as states;
 
-use crate::faults::{Fault, NameFault};
+use crate::faults::{NameFault, NameFaultKind};
 use crate::split::ends_piece;
 use smallvec::SmallVec;
 use std::alloc::{AllocError, Global};
@@ -60,18 +60,18 @@ fn hex(b: u8) -> Option<u8>
     }
 }
 
-fn raw_fault(b: u8) -> Fault
+fn raw_fault(b: u8) -> NameFaultKind
     ensures { result ≡ raw_fault b }
 {
     if b == b';' {
-        Fault::FormNotSupported
+        NameFaultKind::FormNotSupported
     } else {
-        Fault::NotEscaped
+        NameFaultKind::NotEscaped
     }
 }
 
 #[tactic(auto, unfolding(crate::specs::Reading::step))]
-fn step(state: State, byte: u8) -> Result<(State, Option<Octet>), Fault>
+fn step(state: State, byte: u8) -> Result<(State, Option<Octet>), NameFaultKind>
     requires { IsInRange state }
     ensures next { result ≡ step state byte }
     ensures in_range { IfOk result (λ r. IsInRange r.0) }
@@ -92,7 +92,7 @@ fn step(state: State, byte: u8) -> Result<(State, Option<Octet>), Fault>
             }
             match hex(byte) {
                 Some(high) => Ok((State::HalfPair(high), None)),
-                None => Err(Fault::Escape),
+                None => Err(NameFaultKind::Escape),
             }
         }
         State::HalfPair(high) => match hex(byte) {
@@ -103,14 +103,14 @@ fn step(state: State, byte: u8) -> Result<(State, Option<Octet>), Fault>
                     byte: 16 * high + low,
                 }),
             )),
-            None => Err(Fault::Escape),
+            None => Err(NameFaultKind::Escape),
         },
     }
 }
 
 /// The bytes of a value so far, and how many of them stay where it ends here.
 #[derive(Drop)]
-struct Draft {
+struct ValueDraft {
     bytes: SmallVec<u8, 24>,
     kept: usize,
 }
@@ -125,12 +125,12 @@ fn kept_after(octet: Octet, kept: usize, len: usize) -> usize
     }
 }
 
-impl Draft {
-    fn new(alloc: Global, room: usize) -> Result<Draft, AllocError>
+impl ValueDraft {
+    fn new(alloc: Global, room: usize) -> Result<ValueDraft, AllocError>
         ensures bytes { IfOk result (λ d. d.bytes.items ≡ []) }
         ensures kept { IfOk result (λ d. d.kept ≡ 0) }
     {
-        Ok(Draft {
+        Ok(ValueDraft {
             bytes: SmallVec::with_capacity(alloc, room)?,
             kept: 0,
         })
@@ -156,7 +156,7 @@ impl Draft {
     fn finish(self) -> SmallVec<u8, 24>
         ensures { result.items ≡ take self.kept self.bytes.items }
     {
-        let Draft { mut bytes, kept } = self;
+        let ValueDraft { mut bytes, kept } = self;
         bytes.truncate(kept);
         bytes
     }
@@ -165,7 +165,7 @@ impl Draft {
 fn octets_of(alloc: Global, text: &[u8]) -> Result<SmallVec<u8, 24>, NameFault>
     ensures { Gives (λ v. v.items) result (value_from (octets_from states.Plain text.now)) }
 {
-    let mut draft = Draft::new(alloc, text.len())?;
+    let mut draft = ValueDraft::new(alloc, text.len())?;
     let mut state = State::Plain;
     for byte in text {
         match step(state, *byte) {
@@ -178,7 +178,7 @@ fn octets_of(alloc: Global, text: &[u8]) -> Result<SmallVec<u8, 24>, NameFault>
     }
     match state {
         State::Plain => Ok(draft.finish()),
-        _ => Err(NameFault::Fault(Fault::Escape)),
+        _ => Err(NameFault::Fault(NameFaultKind::Escape)),
     }
 }
 
@@ -251,7 +251,7 @@ pub(crate) fn value_of(alloc: Global, text: &[u8]) -> Result<SmallVec<u8, 24>, N
     ensures { Gives (λ v. v.items) result (value_of text.now) }
 {
     if begins_form(text) {
-        return Err(NameFault::Fault(Fault::FormNotSupported));
+        return Err(NameFault::Fault(NameFaultKind::FormNotSupported));
     }
     octets_of(alloc, text)
 }

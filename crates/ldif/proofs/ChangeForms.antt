@@ -5,8 +5,8 @@ use Rattle.std.specs.Str.{bytes_eq}
 use Rattle.std.proofs.lemmas.Bool.{false_from_ne_true, true≢false}
 use Rattle.std.proofs.lemmas.Slice.Eq.{bytes_eq-Decides}
 use Rattle.base64.specs.GeneralPurpose.{IsBytes}
-use Rattle.ldif.specs.declared.fault.Fault.{Fault}
-use Rattle.ldif.specs.declared.fault.Fault.TheVariants.{OtherAttribute, PartMissing, StrayLine, Word, ChangetypeUnknown}
+use Rattle.ldif.specs.declared.fault.LdifFaultKind.{LdifFaultKind}
+use Rattle.ldif.specs.declared.fault.LdifFaultKind.TheVariants.{OtherAttribute, PartMissing, StrayLine, Word, ChangetypeUnknown}
 use Rattle.ldif.specs.Attrs.{Attr}
 use Rattle.ldif.specs.declared.record.Control.{Control}
 use Rattle.ldif.specs.declared.record.Mod.{Mod}
@@ -71,7 +71,7 @@ pub part_only : (key line value : List ℕ) (ls : List (List ℕ)) → IsLineOf 
 unfolding part
 part_only key line value ls h =
     let p : Part = (value, ls) in
-    ap (λ (r : Result Attr Fault). r >>= λ attr. cond (same_name attr.name key) (Ok (attr.value, ls)) (Err PartMissing)) (named_only key line value h)
+    ap (λ (r : Result Attr LdifFaultKind). r >>= λ attr. cond (same_name attr.name key) (Ok (attr.value, ls)) (Err PartMissing)) (named_only key line value h)
     ∙ ap (λ (t : Bool). cond t (okay p) (Err PartMissing)) (same_only h.name key h.same)
 
 nothing_found : (ls : List (List ℕ)) (u : Unit {0}) → nothing_more ls ≡ Ok u → ls ≡ []
@@ -102,7 +102,7 @@ unfolding new_superior_of nothing_more
 superior_only ls None h = ap new_superior_of h
 superior_only ls (Some v) h =
     ap new_superior_of h.1
-    ∙ ap (λ (r : Result Attr Fault). r >>= λ attr. cond (same_name attr.name (codes "newsuperior")) (okay (some attr.value)) (Err StrayLine)) (named_only (codes "newsuperior") h.0 v h.2)
+    ∙ ap (λ (r : Result Attr LdifFaultKind). r >>= λ attr. cond (same_name attr.name (codes "newsuperior")) (okay (some attr.value)) (Err StrayLine)) (named_only (codes "newsuperior") h.0 v h.2)
     ∙ ap (λ (t : Bool). cond t (okay (some v)) (Err StrayLine)) (same_only h.2.name (codes "newsuperior") h.2.same)
 
 flag_found : (text : List ℕ) (flag : Bool) → flag_of text ≡ Ok flag → IsWord text (flag_word flag)
@@ -131,7 +131,7 @@ under_found name line v bytes h =
 under_only : (name line v : List ℕ) → IsLineOf name line v → value_under name line ≡ Ok v
 unfolding value_under
 under_only name line v h =
-    ap (λ (r : Result Attr Fault). r >>= λ attr. cond (same_name attr.name name) (Ok attr.value) (Err OtherAttribute)) (named_only name line v h)
+    ap (λ (r : Result Attr LdifFaultKind). r >>= λ attr. cond (same_name attr.name name) (Ok attr.value) (Err OtherAttribute)) (named_only name line v h)
     ∙ ap (λ (t : Bool). cond t (okay v) (Err OtherAttribute)) (same_only h.name name h.same)
 
 op_found : (name : List ℕ) (op : Op) → op_of name ≡ Ok op → IsSame name (op_word op)
@@ -144,7 +144,7 @@ op_found name op h = elim (chosen (same_name name (codes "add")) (okay ops.Add) 
   ]
 ]
 
-op_tests : Bool → Bool → Bool → Result Op Fault
+op_tests : Bool → Bool → Bool → Result Op LdifFaultKind
 op_tests add delete replace = cond add (okay ops.Add) (cond delete (okay ops.Delete) (cond replace (okay ops.Replace) (Err StrayLine)))
 
 op_only : (name : List ℕ) (op : Op) → IsSame name (op_word op) → op_of name ≡ Ok op
@@ -183,10 +183,10 @@ block_only : (b : List (List ℕ)) (m : Mod) → IsBlock b m → block b ≡ Ok 
 unfolding block
 block_only b m h =
     ap block h.is
-    ∙ ap (λ (r : Result Attr Fault). r >>= λ head. op_of head.name >>= λ op. each (value_under (without_end head.value)) h.values >>= λ values. okay (made op (without_end head.value) values)) (named_only (op_word m.op) h.head h.text h.line)
-    ∙ ap (λ (r : Result Op Fault). r >>= λ op. each (value_under (without_end h.text)) h.values >>= λ values. okay (made op (without_end h.text) values)) (op_only h.line.name m.op h.line.same)
+    ∙ ap (λ (r : Result Attr LdifFaultKind). r >>= λ head. op_of head.name >>= λ op. each (value_under (without_end head.value)) h.values >>= λ values. okay (made op (without_end head.value) values)) (named_only (op_word m.op) h.head h.text h.line)
+    ∙ ap (λ (r : Result Op LdifFaultKind). r >>= λ op. each (value_under (without_end h.text)) h.values >>= λ values. okay (made op (without_end h.text) values)) (op_only h.line.name m.op h.line.same)
     ∙ ap (λ (x : List ℕ). each (value_under x) h.values >>= λ values. okay (made m.op x values)) (trimmed_only h.text m.attr h.attr)
-    ∙ ap (λ (r : Result (List (List ℕ)) Fault). r >>= λ values. okay (made m.op m.attr values))
+    ∙ ap (λ (r : Result (List (List ℕ)) LdifFaultKind). r >>= λ values. okay (made m.op m.attr values))
     (each_only (value_under m.attr) h.values m.values (each_all (IsLineOf m.attr) (Reads (value_under m.attr)) (under_only m.attr) h.values m.values h.each))
 
 -- ---- where blocks end
@@ -293,7 +293,7 @@ mods_cut (b ∷ bs) ls ms bytes (inr cut) h =
 mods_found : (ls : List (List ℕ)) (ms : List Mod) → AreBytes ls → each block (blocks ls) ≡ Ok ms → IsBlocks ms ls
 mods_found ls ms bytes h = mods_cut (blocks ls) ls ms bytes (cut_is ls) h
 
-abbrev mods : List Mod → Result (List Mod) Fault
+abbrev mods : List Mod → Result (List Mod) LdifFaultKind
 mods ms = Ok ms
 
 mods_only : (ms : List Mod) (ls : List (List ℕ)) → IsBlocks ms ls → each block (blocks ls) ≡ Ok ms
@@ -302,13 +302,13 @@ mods_only [] ls h = ap (λ (x : List (List ℕ)). each block (blocks x)) h
 mods_only (m ∷ ms) ls (b, is, inl end) =
     ap (λ (x : List (List ℕ)). each block (blocks x)) (end.0 ∙ is.is)
     ∙ ap (each block) (blocks_one is.head is.values (subst NoDash is.is (block_no_dash b m is)))
-    ∙ ap (λ (r : Result Mod Fault). r >>= λ y. okay (y ∷ [])) (sym (ap block is.is) ∙ block_only b m is)
+    ∙ ap (λ (r : Result Mod LdifFaultKind). r >>= λ y. okay (y ∷ [])) (sym (ap block is.is) ∙ block_only b m is)
     ∙ ap (λ (x : List Mod). mods (m ∷ x)) (sym end.1)
 mods_only (m ∷ ms) ls (b, is, inr more) =
     ap (λ (x : List (List ℕ)). each block (blocks x)) more.is
     ∙ ap (each block) (blocks_cut b more.dash more.more (block_no_dash b m is) (dash_only more.dash more.ends))
-    ∙ ap (λ (r : Result Mod Fault). r >>= λ y. each block (blocks more.more) >>= λ ys. Ok (y ∷ ys)) (block_only b m is)
-    ∙ ap (λ (r : Result (List Mod) Fault). r >>= λ ys. mods (m ∷ ys)) (mods_only ms more.more more.blocks)
+    ∙ ap (λ (r : Result Mod LdifFaultKind). r >>= λ y. each block (blocks more.more) >>= λ ys. Ok (y ∷ ys)) (block_only b m is)
+    ∙ ap (λ (r : Result (List Mod) LdifFaultKind). r >>= λ ys. mods (m ∷ ys)) (mods_only ms more.more more.blocks)
 
 -- ---- change records
 
@@ -351,30 +351,30 @@ renaming_found dn cs ls r bytes h =
       record_is = sym (ok_is (renamed dn cs n.0.0 o.0.0 s.0) r s.2) ∙ ap (λ (x : Bool × List (List ℕ)). renamed dn cs n.0.0 x.0 s.0) (sym same);
     }
 
-abbrev flagged : Bool → List (List ℕ) → Result (Bool × List (List ℕ)) Fault
+abbrev flagged : Bool → List (List ℕ) → Result (Bool × List (List ℕ)) LdifFaultKind
 flagged flag ls = Ok (flag, ls)
 
 renaming_only : (dn : List ℕ) (cs : List Control) (ls : List (List ℕ)) (r : Record) → IsRenaming dn cs ls r → renaming dn cs ls ≡ Ok r
 unfolding renaming delete_old_of
 renaming_only dn cs ls r h =
     ap (renaming dn cs) h.is
-    ∙ ap (λ (x : Result Part Fault). x >>= λ newrdn. delete_old_of newrdn.1 >>= λ old. new_superior_of old.1 >>= λ sup. okay (renamed dn cs newrdn.0 old.0 sup)) (part_only (codes "newrdn") h.first h.newrdn (h.second ∷ h.more) h.newrdn_line)
-    ∙ ap (λ (x : Result Part Fault). (x >>= λ word. flag_of word.0 >>= λ flag. flagged flag word.1) >>= λ old. new_superior_of old.1 >>= λ sup. okay (renamed dn cs h.newrdn old.0 sup)) (part_only (codes "deleteoldrdn") h.second h.flag h.more h.flag_line)
-    ∙ ap (λ (x : Result Bool Fault). (x >>= λ flag. flagged flag h.more) >>= λ old. new_superior_of old.1 >>= λ sup. okay (renamed dn cs h.newrdn old.0 sup)) (flag_only h.flag h.delete_old h.flag_is)
-    ∙ ap (λ (x : Result (Option (List ℕ)) Fault). x >>= λ sup. okay (renamed dn cs h.newrdn h.delete_old sup)) (superior_only h.more h.new_superior h.superior)
+    ∙ ap (λ (x : Result Part LdifFaultKind). x >>= λ newrdn. delete_old_of newrdn.1 >>= λ old. new_superior_of old.1 >>= λ sup. okay (renamed dn cs newrdn.0 old.0 sup)) (part_only (codes "newrdn") h.first h.newrdn (h.second ∷ h.more) h.newrdn_line)
+    ∙ ap (λ (x : Result Part LdifFaultKind). (x >>= λ word. flag_of word.0 >>= λ flag. flagged flag word.1) >>= λ old. new_superior_of old.1 >>= λ sup. okay (renamed dn cs h.newrdn old.0 sup)) (part_only (codes "deleteoldrdn") h.second h.flag h.more h.flag_line)
+    ∙ ap (λ (x : Result Bool LdifFaultKind). (x >>= λ flag. flagged flag h.more) >>= λ old. new_superior_of old.1 >>= λ sup. okay (renamed dn cs h.newrdn old.0 sup)) (flag_only h.flag h.delete_old h.flag_is)
+    ∙ ap (λ (x : Result (Option (List ℕ)) LdifFaultKind). x >>= λ sup. okay (renamed dn cs h.newrdn h.delete_old sup)) (superior_only h.more h.new_superior h.superior)
     ∙ ap okay (sym h.record_is)
 
 module _ (dn : List ℕ) (cs : List Control) (word : List ℕ) (ls : List (List ℕ)) (r : Record) where
-  abbrev added : Result Record Fault
+  abbrev added : Result Record LdifFaultKind
   added = each value_line ls >>= λ attrs. Ok (records.Add dn cs attrs)
 
-  abbrev deleted : Result Record Fault
+  abbrev deleted : Result Record LdifFaultKind
   deleted = nothing_more ls >>= λ u. Ok (records.Delete dn cs)
 
-  abbrev modified : Result Record Fault
+  abbrev modified : Result Record LdifFaultKind
   modified = each block (blocks ls) >>= λ ms. Ok (records.Modify dn cs ms)
 
-  abbrev tests : Bool → Bool → Bool → Bool → Bool → Result Record Fault
+  abbrev tests : Bool → Bool → Bool → Bool → Bool → Result Record LdifFaultKind
   tests add delete modify modrdn moddn =
       cond add added (cond delete deleted (cond modify modified (cond modrdn (renaming dn cs ls) (cond moddn (renaming dn cs ls) (Err ChangetypeUnknown)))))
 
@@ -419,18 +419,18 @@ module _ (dn : List ℕ) (cs : List Control) (word : List ℕ) (ls : List (List 
   unfolding change
   change_only (inl (w, a)) =
       ap (λ (t : Bool). tests t (is (codes "delete")) (is (codes "modify")) (is (codes "modrdn")) (is (codes "moddn"))) (word_only word (codes "add") w)
-      ∙ ap (λ (x : Result (List Attr) Fault). x >>= λ attrs. okay (records.Add dn cs attrs)) (attrs_only ls a.attrs a.lines_are)
+      ∙ ap (λ (x : Result (List Attr) LdifFaultKind). x >>= λ attrs. okay (records.Add dn cs attrs)) (attrs_only ls a.attrs a.lines_are)
       ∙ ap okay (sym a.record_is)
   change_only (inr (inl (w, d))) =
       ap (λ (t : Bool). tests t (is (codes "delete")) (is (codes "modify")) (is (codes "modrdn")) (is (codes "moddn"))) (other (codes "delete") (codes "add") w refl)
       ∙ ap (λ (t : Bool). tests false t (is (codes "modify")) (is (codes "modrdn")) (is (codes "moddn"))) (word_only word (codes "delete") w)
-      ∙ ap (λ (x : Result (Unit {0}) Fault). x >>= λ u. okay (records.Delete dn cs)) (nothing_only ls d.none)
+      ∙ ap (λ (x : Result (Unit {0}) LdifFaultKind). x >>= λ u. okay (records.Delete dn cs)) (nothing_only ls d.none)
       ∙ ap okay (sym d.record_is)
   change_only (inr (inr (inl (w, m)))) =
       ap (λ (t : Bool). tests t (is (codes "delete")) (is (codes "modify")) (is (codes "modrdn")) (is (codes "moddn"))) (other (codes "modify") (codes "add") w refl)
       ∙ ap (λ (t : Bool). tests false t (is (codes "modify")) (is (codes "modrdn")) (is (codes "moddn"))) (other (codes "modify") (codes "delete") w refl)
       ∙ ap (λ (t : Bool). tests false false t (is (codes "modrdn")) (is (codes "moddn"))) (word_only word (codes "modify") w)
-      ∙ ap (λ (x : Result (List Mod) Fault). x >>= λ ms. okay (records.Modify dn cs ms)) (mods_only m.mods ls m.blocks)
+      ∙ ap (λ (x : Result (List Mod) LdifFaultKind). x >>= λ ms. okay (records.Modify dn cs ms)) (mods_only m.mods ls m.blocks)
       ∙ ap okay (sym m.record_is)
   change_only (inr (inr (inr (inl w, n)))) =
       ap (λ (t : Bool). tests t (is (codes "delete")) (is (codes "modify")) (is (codes "modrdn")) (is (codes "moddn"))) (other (codes "modrdn") (codes "add") w refl)

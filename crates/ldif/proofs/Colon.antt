@@ -5,8 +5,8 @@ use Rattle.std.proofs.lemmas.Bool.{false_from_ne_true, lt-ltb, le-ltb, ne_eqb, a
 use Rattle.std.proofs.lemmas.List.{take_at, length-append}
 use Rattle.std.proofs.lemmas.List.Sums.{position_or_len_is}
 use Rattle.memchr.specs.Find.{IsFirstByte}
-use Rattle.ldif.specs.declared.fault.Fault.{Fault}
-use Rattle.ldif.specs.declared.fault.Fault.TheVariants.{ColonMissing}
+use Rattle.ldif.specs.declared.fault.LdifFaultKind.{LdifFaultKind}
+use Rattle.ldif.specs.declared.fault.LdifFaultKind.TheVariants.{ColonMissing}
 use Rattle.ldif.specs.Attrs.{Attr}
 use Rattle.ldif.specs.Gives.{◌>>=◌}
 use Rattle.ldif.specs.Line.{is_colon, form_of, value_at, value_of}
@@ -38,7 +38,7 @@ drop_name : (name rest : List ℕ) (c : ℕ) → drop (suc (length name)) (name 
 drop_name [] rest c = refl
 drop_name (b ∷ bs) rest c = drop_name bs rest c
 
-abbrev pub said : List ℕ → List ℕ → Result Attr Fault
+abbrev pub said : List ℕ → List ℕ → Result Attr LdifFaultKind
 said name value = Ok (record { name = name; value = value })
 
 pub value_is : (name rest : List ℕ) → 0 < length name → list_all is_no_colon name ≡ true → value_of (name ++ 58 ∷ rest) ≡ (form_of rest >>= λ value. said name value)

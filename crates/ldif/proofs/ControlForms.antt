@@ -9,8 +9,8 @@ use Rattle.std.proofs.lemmas.List.Sums.{prefix_len-le-length}
 use Rattle.std.proofs.lemmas.Bool.{eqb-true, eqb-false, ne_eqb, ltb-false, and_parts, and_from, false_from_ne_true, true≢false}
 use Rattle.base64.specs.GeneralPurpose.{IsBytes}
 use Rattle.ldif_lines.specs.Records.{begins_with}
-use Rattle.ldif.specs.declared.fault.Fault.{Fault}
-use Rattle.ldif.specs.declared.fault.Fault.TheVariants.{Word}
+use Rattle.ldif.specs.declared.fault.LdifFaultKind.{LdifFaultKind}
+use Rattle.ldif.specs.declared.fault.LdifFaultKind.TheVariants.{Word}
 use Rattle.ldif.specs.declared.record.Control.{Control}
 use Rattle.ldif.specs.Gives.{◌>>=◌}
 use Rattle.ldif.specs.Line.{without_front, form_of, lower, same_name}
@@ -198,7 +198,7 @@ value_found (b ∷ bs) v bytes h =
 value_only : (rest : List ℕ) (v : Option (List ℕ)) → IsControlValue rest v → control_value rest ≡ Ok v
 unfolding control_value
 value_only rest None h = ap control_value h
-value_only rest (Some v) h = ap control_value h.1 ∙ ap (λ (r : Result (List ℕ) Fault). r >>= λ value. Ok (Some value)) (form_only h.0 v h.2)
+value_only rest (Some v) h = ap control_value h.1 ∙ ap (λ (r : Result (List ℕ) LdifFaultKind). r >>= λ value. Ok (Some value)) (form_only h.0 v h.2)
 
 -- ---- the whole
 
@@ -209,7 +209,7 @@ crit_bytes text critical rest bytes (inr h) = subst (λ (x : List ℕ). IsBytes 
 abbrev made : List ℕ → Bool → Option (List ℕ) → Control
 made oid critical value = record { oid = oid; critical = critical; value = value }
 
-abbrev control_by : ℕ → List ℕ → Result Control Fault
+abbrev control_by : ℕ → List ℕ → Result Control LdifFaultKind
 control_by n text =
     cond (eqb n 0) (Err Word) (control_value (without_front (criticality (drop n text)).1) >>= λ value. Ok (made (take n text) (criticality (drop n text)).0 value))
 
@@ -259,4 +259,4 @@ control_only text c h =
     ∙ ap (λ (x : List ℕ). control_value (without_front (criticality x).1) >>= λ value. okay (made c.oid (criticality x).0 value)) (drop_at c.oid h.after n refl)
     ∙ ap (λ (x : Bool × List ℕ). control_value (without_front x.1) >>= λ value. okay (made c.oid x.0 value)) (crit_only h.after c.critical h.spaces h.rest closes h.critical)
     ∙ ap (λ (x : List ℕ). control_value x >>= λ value. okay (made c.oid c.critical value)) (skip h.spaces h.rest ∙ closed_front h.rest closes)
-    ∙ ap (λ (x : Result (Option (List ℕ)) Fault). x >>= λ value. okay (made c.oid c.critical value)) (value_only h.rest c.value h.value)
+    ∙ ap (λ (x : Result (Option (List ℕ)) LdifFaultKind). x >>= λ value. okay (made c.oid c.critical value)) (value_only h.rest c.value h.value)

@@ -1,7 +1,7 @@
 -- A loop over the controls.
 use Rattle.std.proofs.Common.{◌≡◌, ℕ, List, [], ◌∷◌, ◌++◌, Result, Ok, Err, Bool, true, false, refl, sym, ap, ◌∙◌, append_assoc, codes}
 use Rattle.std.proofs.lemmas.List.{append-nil}
-use Rattle.ldif.specs.declared.fault.Fault.{Fault}
+use Rattle.ldif.specs.declared.fault.LdifFaultKind.{LdifFaultKind}
 use Rattle.ldif.specs.declared.fault.LdifFault.{LdifFault}
 use Rattle.ldif.specs.declared.fault.LdifFault.TheVariants as errors
 use Rattle.ldif.specs.declared.record.Control.{Control}
@@ -12,7 +12,7 @@ use Rattle.ldif.specs.Controls.{control_of}
 use Rattle.ldif.specs.Reading.{controls_of}
 
 abbrev Read : Type 0
-Read = Result (List Control × List (List ℕ)) Fault
+Read = Result (List Control × List (List ℕ)) LdifFaultKind
 
 pub with_controls : List Control → Read → Read
 with_controls front (Ok x) = Ok (front ++ x.0, x.1)
@@ -44,13 +44,13 @@ module _ (front : List Control) (all : List (List ℕ)) (l : List ℕ) (ls : Lis
 
   pub one_more : (s : Attr) (c : Control) → value_line l ≡ Ok s → same_name s.name (codes "control") ≡ true → control_of s.value ≡ Ok c → with_controls (front ++ c ∷ []) (controls_of ls) ≡ total
   unfolding step
-  one_more s c e is read = more front c (controls_of ls) ∙ sym (ap (with_controls front) (first l ls s true e is ∙ ap (λ (r : Result Control Fault). r >>= λ c. controls_of ls >>= λ x. Ok (c ∷ x.0, x.1)) read)) ∙ here
+  one_more s c e is read = more front c (controls_of ls) ∙ sym (ap (with_controls front) (first l ls s true e is ∙ ap (λ (r : Result Control LdifFaultKind). r >>= λ c. controls_of ls >>= λ x. Ok (c ∷ x.0, x.1)) read)) ∙ here
 
   pub no_more : (s : Attr) → value_line l ≡ Ok s → same_name s.name (codes "control") ≡ false → total ≡ Ok (front, all)
   unfolding step with_controls
   no_more s e other = sym here ∙ ap (with_controls front) (first l ls s false e other) ∙ ap (λ (cs : List Control). Ok (cs, l ∷ ls)) (append-nil front) ∙ ap (λ (zs : List (List ℕ)). Ok (front, zs)) (sym cut)
 
-  broken : (f : Fault) → value_line l ≡ Err f → controls_of (l ∷ ls) ≡ Err f
+  broken : (f : LdifFaultKind) → value_line l ≡ Err f → controls_of (l ∷ ls) ≡ Err f
   unfolding controls_of
   broken f h = rw h refl
 
@@ -62,7 +62,7 @@ module _ (front : List Control) (all : List (List ℕ)) (l : List ℕ) (ls : Lis
   pub bad_value : (e : LdifFault) (s : Attr) → value_line l ≡ Ok s → same_name s.name (codes "control") ≡ true → Fails e (control_of s.value) → Fails e total
   unfolding step with_controls
   bad_value errors.OutOfMemory s e is h = tt
-  bad_value (errors.Fault f) s e is h = sym here ∙ ap (with_controls front) (first l ls s true e is ∙ ap (λ (r : Result Control Fault). r >>= λ c. controls_of ls >>= λ x. Ok (c ∷ x.0, x.1)) h)
+  bad_value (errors.Fault f) s e is h = sym here ∙ ap (with_controls front) (first l ls s true e is ∙ ap (λ (r : Result Control LdifFaultKind). r >>= λ c. controls_of ls >>= λ x. Ok (c ∷ x.0, x.1)) h)
 
 pub at_end : (front : List Control) (all : List (List ℕ)) (total : Read) → all ≡ [] → with_controls front (controls_of all) ≡ total → total ≡ Ok (front, all)
 unfolding controls_of with_controls

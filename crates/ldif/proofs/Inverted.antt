@@ -4,13 +4,13 @@ use Rattle.std.specs.List.{AllByRecursion}
 use Rattle.std.specs.Str.{bytes_eq}
 use Rattle.std.proofs.lemmas.Bool.{false_from_ne_true, true≢false}
 use Rattle.std.proofs.lemmas.Slice.Eq.{bytes_eq-Decides}
-use Rattle.ldif.specs.declared.fault.Fault.{Fault}
+use Rattle.ldif.specs.declared.fault.LdifFaultKind.{LdifFaultKind}
 use Rattle.ldif.specs.Gives.{◌>>=◌}
 use Rattle.ldif.specs.Line.{lower, same_name}
 use Rattle.ldif.specs.Reading.{each}
 use Rattle.ldif.specs.Forms.{IsEach, IsSame}
 
-pub bind_ok : {A B : Type 0} (r : Result A Fault) (f : A → Result B Fault) (y : B) → (r >>= f) ≡ Ok y → (x : A) × (r ≡ Ok x) × (f x ≡ Ok y)
+pub bind_ok : {A B : Type 0} (r : Result A LdifFaultKind) (f : A → Result B LdifFaultKind) (y : B) → (r >>= f) ≡ Ok y → (x : A) × (r ≡ Ok x) × (f x ≡ Ok y)
 bind_ok (Ok x) f y e = (x, refl, e)
 bind_ok (Err g) f y e = absurd cc
 
@@ -18,18 +18,18 @@ pub chosen : {A : Type 0} (b : Bool) (x y z : A) → cond b x y ≡ z → ((b �
 chosen true x y z e = inl (refl, e)
 chosen false x y z e = inr (refl, e)
 
-abbrev pub okay : {A : Type 0} → A → Result A Fault
+abbrev pub okay : {A : Type 0} → A → Result A LdifFaultKind
 okay x = Ok x
 
 pub ok_is : {A : Type 0} (x y : A) → okay x ≡ okay y → x ≡ y
 ok_is x y e = cc
 
 -- a test that chose the good side
-pub good : {A : Type 0} (b : Bool) (r : Result A Fault) (f : Fault) (y : A) → cond b r (Err f) ≡ okay y → (b ≡ true) × (r ≡ Ok y)
+pub good : {A : Type 0} (b : Bool) (r : Result A LdifFaultKind) (f : LdifFaultKind) (y : A) → cond b r (Err f) ≡ okay y → (b ≡ true) × (r ≡ Ok y)
 good true r f y e = (refl, e)
 good false r f y e = absurd cc
 
-pub bad : {A : Type 0} (b : Bool) (r : Result A Fault) (f : Fault) (y : A) → cond b (Err f) r ≡ okay y → (b ≡ false) × (r ≡ Ok y)
+pub bad : {A : Type 0} (b : Bool) (r : Result A LdifFaultKind) (f : LdifFaultKind) (y : A) → cond b (Err f) r ≡ okay y → (b ≡ false) × (r ≡ Ok y)
 bad true r f y e = absurd cc
 bad false r f y e = (refl, e)
 
@@ -53,7 +53,7 @@ other_word name a b same e = ap (λ (x : List ℕ). bytes_eq x (lower b)) same �
 
 -- ---- each of a list
 
-module _ {X Y : Type 0} (read : X → Result Y Fault) where
+module _ {X Y : Type 0} (read : X → Result Y LdifFaultKind) where
   abbrev pub Reads : X → Y → Type 0
   Reads x y = read x ≡ Ok y
 
@@ -75,8 +75,8 @@ module _ {X Y : Type 0} (read : X → Result Y Fault) where
   each_only [] (y ∷ ys) h = absurd h
   each_only (x ∷ xs) [] h = absurd h
   each_only (x ∷ xs) (y ∷ ys) h =
-      ap (λ (r : Result Y Fault). r >>= λ y. each read xs >>= λ zs. Ok (y ∷ zs)) h.0
-      ∙ ap (λ (r : Result (List Y) Fault). r >>= λ zs. okay (y ∷ zs)) (each_only xs ys h.1)
+      ap (λ (r : Result Y LdifFaultKind). r >>= λ y. each read xs >>= λ zs. Ok (y ∷ zs)) h.0
+      ∙ ap (λ (r : Result (List Y) LdifFaultKind). r >>= λ zs. okay (y ∷ zs)) (each_only xs ys h.1)
 
 pub each_map : {X Y : Type 0} (P : X → Type 0) (R S : X → Y → Type 0) → ((x : X) (y : Y) → P x → R x y → S x y) → (xs : List X) (ys : List Y) → AllByRecursion P xs → IsEach R xs ys → IsEach S xs ys
 each_map P R S f [] [] all h = tt

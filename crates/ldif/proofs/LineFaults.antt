@@ -6,8 +6,8 @@ use Rattle.base64.specs.GeneralPurpose.{decode_of, IsBytes}
 use Rattle.base64.specs.Engines.{standard}
 use Rattle.base64.specs.declared.decode.DecodeError.{DecodeError}
 use Rattle.ldif_lines.specs.Records.{begins_with}
-use Rattle.ldif.specs.declared.fault.Fault.{Fault}
-use Rattle.ldif.specs.declared.fault.Fault.TheVariants.{DnMissing, Continuation, Version, Base64, Url, ColonMissing, ChangetypeUnknown, OtherAttribute, PartMissing, StrayLine, ChangetypeMissing, ChangetypeInContent, Word}
+use Rattle.ldif.specs.declared.fault.LdifFaultKind.{LdifFaultKind}
+use Rattle.ldif.specs.declared.fault.LdifFaultKind.TheVariants.{DnMissing, Continuation, Version, Base64, Url, ColonMissing, ChangetypeUnknown, OtherAttribute, PartMissing, StrayLine, ChangetypeMissing, ChangetypeInContent, Word}
 use Rattle.ldif.specs.Attrs.{Attr}
 use Rattle.ldif.specs.Gives.{◌>>=◌}
 use Rattle.ldif.specs.Line.{without_front, without_end, or_base64, decoded, form_of, value_at, value_of, value_line}
@@ -18,10 +18,10 @@ use Rattle.ldif.proofs.Inverted.{okay}
 use Rattle.ldif.proofs.ValueForms.{form_found, form_only, back_bytes}
 use Rattle.ldif.proofs.EarliestLine.{no_colon}
 
-abbrev bad : {A : Type 0} → Fault → Result A Fault
+abbrev bad : {A : Type 0} → LdifFaultKind → Result A LdifFaultKind
 bad f = Err f
 
-err_is : {A : Type 0} (f g : Fault) → bad {A = A} f ≡ bad g → f ≡ g
+err_is : {A : Type 0} (f g : LdifFaultKind) → bad {A = A} f ≡ bad g → f ≡ g
 err_is f g e = cc
 
 -- a line by its first colon
@@ -43,20 +43,20 @@ nameless rest = ap (λ (t : Bool). value_at (58 ∷ rest) (cond t (Some 0) None)
 
 -- ---- what stands behind the colon
 
-abbrev IsFormFault : List ℕ → Fault → Type 0
+abbrev IsFormFault : List ℕ → LdifFaultKind → Type 0
 IsFormFault rest fault = ((fault ≡ Url) × ((text : List ℕ) × (rest ≡ 60 ∷ text))) ⊎ ((fault ≡ Base64) × ((text : List ℕ) × (rest ≡ 58 ∷ text) × ((value : List ℕ) → IsCoded (58 ∷ text) value → ⊥)))
 
-abbrev form_by : Bool → Bool → List ℕ → Result (List ℕ) Fault
+abbrev form_by : Bool → Bool → List ℕ → Result (List ℕ) LdifFaultKind
 form_by c d rest = cond c (decoded (without_end (without_front (drop 1 rest)))) (cond d (Err Url) (okay (without_front rest)))
 
-decode_fails : (r : Result (List ℕ) DecodeError) (fault : Fault) → or_base64 r ≡ Err fault → fault ≡ Base64
+decode_fails : (r : Result (List ℕ) DecodeError) (fault : LdifFaultKind) → or_base64 r ≡ Err fault → fault ≡ Base64
 decode_fails (Ok v) fault e = absurd cc
 decode_fails (Err d) fault e = sym (err_is {A = List ℕ} Base64 fault e)
 
-uncoded : (text : List ℕ) (fault : Fault) → form_of (58 ∷ text) ≡ Err fault → (value : List ℕ) → IsCoded (58 ∷ text) value → ⊥
+uncoded : (text : List ℕ) (fault : LdifFaultKind) → form_of (58 ∷ text) ≡ Err fault → (value : List ℕ) → IsCoded (58 ∷ text) value → ⊥
 uncoded text fault h value k = (let c : okay value ≡ Err fault = sym (form_only (58 ∷ text) value (inl k)) ∙ h in cc)
 
-form_fault : (rest : List ℕ) (fault : Fault) → form_of rest ≡ Err fault → (c d : Bool) → begins_with 58 rest ≡ c → begins_with 60 rest ≡ d → IsFormFault rest fault
+form_fault : (rest : List ℕ) (fault : LdifFaultKind) → form_of rest ≡ Err fault → (c d : Bool) → begins_with 58 rest ≡ c → begins_with 60 rest ≡ d → IsFormFault rest fault
 unfolding form_of decoded
 form_fault [] fault h c d e f = absurd cc
 form_fault (b ∷ bs) fault h true d e f =
@@ -69,13 +69,13 @@ form_fault (b ∷ bs) fault h false true e f =
 form_fault (b ∷ bs) fault h false false e f =
     absurd (let now : okay (without_front (b ∷ bs)) ≡ Err fault = sym (ap (λ (t : Bool). form_by t (eqb b 60) (b ∷ bs)) e ∙ ap (λ (t : Bool). form_by false t (b ∷ bs)) f) ∙ h in cc)
 
-bind_err : (r : Result (List ℕ) Fault) (name : List ℕ) (fault : Fault) → (r >>= λ v. said name v) ≡ Err fault → r ≡ Err fault
+bind_err : (r : Result (List ℕ) LdifFaultKind) (name : List ℕ) (fault : LdifFaultKind) → (r >>= λ v. said name v) ≡ Err fault → r ≡ Err fault
 bind_err (Ok v) name fault e = absurd cc
 bind_err (Err g) name fault e = ap bad (err_is {A = Attr} g fault e)
 
 -- ---- found
 
-named_fault : (line : List ℕ) (fault : Fault) (name rest : List ℕ) → begins_with 32 line ≡ false → line ≡ name ++ 58 ∷ rest → list_all is_no_colon name ≡ true → value_of line ≡ Err fault → IsLineFault line fault
+named_fault : (line : List ℕ) (fault : LdifFaultKind) (name rest : List ℕ) → begins_with 32 line ≡ false → line ≡ name ++ 58 ∷ rest → list_all is_no_colon name ≡ true → value_of line ≡ Err fault → IsLineFault line fault
 named_fault line fault [] rest front is free h =
     let now : ColonMissing ≡ fault = err_is {A = Attr} ColonMissing fault (sym (ap value_of is ∙ nameless rest) ∙ h) in
     subst (IsLineFault line) now (front, inr (ap (begins_with 58) is))
@@ -88,7 +88,7 @@ named_fault line fault (b ∷ bs) rest front is free h =
       | inr u ↦ subst (IsLineFault line) (sym u.0) (u.1.0, record { name = name; is = is ∙ ap (λ (x : List ℕ). name ++ 58 ∷ x) u.1.1; some = some; no_colon = free; front = front }, u.1.2)
     ]
 
-fault_by : (line : List ℕ) (fault : Fault) → value_line line ≡ Err fault → (t : Bool) → begins_with 32 line ≡ t → IsLineFault line fault
+fault_by : (line : List ℕ) (fault : LdifFaultKind) → value_line line ≡ Err fault → (t : Bool) → begins_with 32 line ≡ t → IsLineFault line fault
 unfolding value_line
 fault_by line fault h true e =
     let now : Continuation ≡ fault = err_is {A = Attr} Continuation fault (sym (ap (λ (t : Bool). cond t (bad Continuation) (value_of line)) e) ∙ h) in
@@ -100,7 +100,7 @@ fault_by line fault h false e =
       | inr s ↦ named_fault line fault s.0 s.1 e s.2 s.3 rest
     ]
 
-pub fault_found : (line : List ℕ) (fault : Fault) → IsBytes line → value_line line ≡ Err fault → IsLineFault line fault
+pub fault_found : (line : List ℕ) (fault : LdifFaultKind) → IsBytes line → value_line line ≡ Err fault → IsLineFault line fault
 fault_found line fault bytes h = fault_by line fault h (begins_with 32 line) refl
 
 -- ---- and only
@@ -139,16 +139,16 @@ decoded_is : (text : List ℕ) → decoded text ≡ or_base64 (decode_of standar
 unfolding decoded
 decoded_is text = refl
 
-pub fault_only : (line : List ℕ) (fault : Fault) → IsBytes line → IsLineFault line fault → value_line line ≡ Err fault
+pub fault_only : (line : List ℕ) (fault : LdifFaultKind) → IsBytes line → IsLineFault line fault → value_line line ≡ Err fault
 fault_only line Continuation bytes h = continued line h
 fault_only line ColonMissing bytes (front, inl free) = not_continued line front ∙ no_colon line free
 fault_only line ColonMissing bytes (front, inr head) = not_continued line front ∙ headless line head
-fault_only line Url bytes h = named_is line (60 ∷ h.0) h.1 ∙ ap (λ (r : Result (List ℕ) Fault). r >>= λ v. said h.1.name v) (url_form h.0)
+fault_only line Url bytes h = named_is line (60 ∷ h.0) h.1 ∙ ap (λ (r : Result (List ℕ) LdifFaultKind). r >>= λ v. said h.1.name v) (url_form h.0)
 fault_only line Base64 bytes h =
     let text = h.0 in
     let rest : IsBytes (58 ∷ text) = (λ i. back_bytes h.1.name (58 ∷ 58 ∷ text) (subst (λ (x : List ℕ). IsBytes x) h.1.is bytes) (suc i)) in
     named_is line (58 ∷ text) h.1
-    ∙ ap (λ (r : Result (List ℕ) Fault). r >>= λ v. said h.1.name v)
+    ∙ ap (λ (r : Result (List ℕ) LdifFaultKind). r >>= λ v. said h.1.name v)
     (decoded_by text (decode_of standard (without_end (without_front text))) h.2 rest (coded_is text ∙ decoded_is (without_end (without_front text))))
 fault_only line DnMissing bytes h = absurd h
 fault_only line Version bytes h = absurd h

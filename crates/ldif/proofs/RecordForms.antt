@@ -3,8 +3,8 @@ use Rattle.std.proofs.Common.{◌≡◌, ℕ, Bool, true, false, cond, List, [],
 use Rattle.std.specs.Str.{bytes_eq}
 use Rattle.std.proofs.lemmas.Slice.Eq.{bytes_eq-Decides}
 use Rattle.base64.specs.GeneralPurpose.{IsBytes}
-use Rattle.ldif.specs.declared.fault.Fault.{Fault}
-use Rattle.ldif.specs.declared.fault.Fault.TheVariants.{DnMissing, Version, ChangetypeMissing, ChangetypeInContent}
+use Rattle.ldif.specs.declared.fault.LdifFaultKind.{LdifFaultKind}
+use Rattle.ldif.specs.declared.fault.LdifFaultKind.TheVariants.{DnMissing, Version, ChangetypeMissing, ChangetypeInContent}
 use Rattle.ldif.specs.Attrs.{Attr}
 use Rattle.ldif.specs.declared.record.Control.{Control}
 use Rattle.ldif.specs.declared.record.Mode.{Mode}
@@ -33,7 +33,7 @@ content_found line a bytes h =
 content_only : (line : List ℕ) (a : Attr) → IsContentLine line a → content_line line ≡ Ok a
 unfolding content_line
 content_only line a h =
-    ap (λ (r : Result Attr Fault). r >>= λ x. cond (same_name x.name (codes "changetype")) (Err ChangetypeInContent) (Ok x)) (line_only line a h.0)
+    ap (λ (r : Result Attr LdifFaultKind). r >>= λ x. cond (same_name x.name (codes "changetype")) (Err ChangetypeInContent) (Ok x)) (line_only line a h.0)
     ∙ ap (λ (t : Bool). cond t (Err ChangetypeInContent) (okay a)) (other_only a.name (codes "changetype") h.1)
 
 -- ---- controls
@@ -41,7 +41,7 @@ content_only line a h =
 abbrev Controlled : Type 0
 Controlled = List Control × List (List ℕ)
 
-abbrev controlled : List Control → List (List ℕ) → Result Controlled Fault
+abbrev controlled : List Control → List (List ℕ) → Result Controlled LdifFaultKind
 controlled cs ls = Ok (cs, ls)
 
 -- the controls at the front, behind which stands none
@@ -83,17 +83,17 @@ controls_only [] rest (c ∷ cs) h stop = absurd h
 controls_only (l ∷ front) rest [] h stop = absurd h
 controls_only (l ∷ front) rest (c ∷ cs) h stop =
     let line = h.0 in
-    ap (λ (r : Result Attr Fault). r >>= λ attr. cond (same_name attr.name (codes "control")) (control_of attr.value >>= λ x. controls_of (front ++ rest) >>= λ o. controlled (x ∷ o.0) o.1) (controlled [] (l ∷ (front ++ rest)))) (named_only (codes "control") l line.value line.says)
+    ap (λ (r : Result Attr LdifFaultKind). r >>= λ attr. cond (same_name attr.name (codes "control")) (control_of attr.value >>= λ x. controls_of (front ++ rest) >>= λ o. controlled (x ∷ o.0) o.1) (controlled [] (l ∷ (front ++ rest)))) (named_only (codes "control") l line.value line.says)
     ∙ ap (λ (t : Bool). cond t (control_of line.value >>= λ x. controls_of (front ++ rest) >>= λ o. controlled (x ∷ o.0) o.1) (controlled [] (l ∷ (front ++ rest)))) (same_only line.says.name (codes "control") line.says.same)
-    ∙ ap (λ (r : Result Control Fault). r >>= λ x. controls_of (front ++ rest) >>= λ o. controlled (x ∷ o.0) o.1) (control_only line.value c line.form)
-    ∙ ap (λ (r : Result Controlled Fault). r >>= λ o. controlled (c ∷ o.0) o.1) (controls_only front rest cs h.1 stop)
+    ∙ ap (λ (r : Result Control LdifFaultKind). r >>= λ x. controls_of (front ++ rest) >>= λ o. controlled (x ∷ o.0) o.1) (control_only line.value c line.form)
+    ∙ ap (λ (r : Result Controlled LdifFaultKind). r >>= λ o. controlled (c ∷ o.0) o.1) (controls_only front rest cs h.1 stop)
 
 -- a line behind the controls is none
 no_control : (l : List ℕ) (ls : List (List ℕ)) (a : Attr) → controls_of (l ∷ ls) ≡ Ok ([], l ∷ ls) → value_line l ≡ Ok a → same_name a.name (codes "control") ≡ false
 unfolding controls_of
 no_control l ls a stop e =
     let last : Controlled = ([], l ∷ ls) in
-    let k = sym (ap (λ (r : Result Attr Fault). r >>= λ attr. cond (same_name attr.name (codes "control")) (control_of attr.value >>= λ c. controls_of ls >>= λ o. controlled (c ∷ o.0) o.1) (controlled [] (l ∷ ls))) e) ∙ stop in
+    let k = sym (ap (λ (r : Result Attr LdifFaultKind). r >>= λ attr. cond (same_name attr.name (codes "control")) (control_of attr.value >>= λ c. controls_of ls >>= λ o. controlled (c ∷ o.0) o.1) (controlled [] (l ∷ ls))) e) ∙ stop in
     elim (chosen (same_name a.name (codes "control")) (control_of a.value >>= λ c. controls_of ls >>= λ o. controlled (c ∷ o.0) o.1) (controlled [] (l ∷ ls)) (Ok last) k) [
       | inl y ↦ (
           let c = bind_ok (control_of a.value) (λ c. controls_of ls >>= λ o. controlled (c ∷ o.0) o.1) last y.1 in
@@ -108,16 +108,16 @@ no_control l ls a stop e =
 stops : (l : List ℕ) (ls : List (List ℕ)) (a : Attr) → value_line l ≡ Ok a → same_name a.name (codes "control") ≡ false → controls_of (l ∷ ls) ≡ Ok ([], l ∷ ls)
 unfolding controls_of
 stops l ls a e other =
-    ap (λ (r : Result Attr Fault). r >>= λ attr. cond (same_name attr.name (codes "control")) (control_of attr.value >>= λ c. controls_of ls >>= λ o. controlled (c ∷ o.0) o.1) (controlled [] (l ∷ ls))) e
+    ap (λ (r : Result Attr LdifFaultKind). r >>= λ attr. cond (same_name attr.name (codes "control")) (control_of attr.value >>= λ c. controls_of ls >>= λ o. controlled (c ∷ o.0) o.1) (controlled [] (l ∷ ls))) e
     ∙ ap (λ (t : Bool). cond t (control_of a.value >>= λ c. controls_of ls >>= λ o. controlled (c ∷ o.0) o.1) (controlled [] (l ∷ ls))) other
 
 -- ---- behind the controls
 
 module _ (add : Bool) (dn : List ℕ) (cs : List Control) where
-  abbrev added : List Attr → Result Record Fault
+  abbrev added : List Attr → Result Record LdifFaultKind
   added attrs = Ok (records.Add dn cs attrs)
 
-  abbrev by_name : List ℕ → List (List ℕ) → Attr → Bool → Result Record Fault
+  abbrev by_name : List ℕ → List (List ℕ) → Attr → Bool → Result Record LdifFaultKind
   by_name l ls attr is = cond is (change dn cs attr.value ls) (cond add (each value_line (l ∷ ls) >>= λ attrs. added attrs) (Err ChangetypeMissing))
 
   begins : (l : List ℕ) (ls : List (List ℕ)) (a : Attr) (attrs : List Attr) → value_line l ≡ Ok a → same_name a.name (codes "control") ≡ false → same_name a.name (codes "changetype") ≡ false
@@ -174,7 +174,7 @@ module _ (add : Bool) (dn : List ℕ) (cs : List Control) where
   unfolding after_controls
   typed_only ls r h =
       ap (after_controls add dn cs) h.is
-      ∙ ap (λ (x : Result Attr Fault). x >>= λ attr. by_name h.line h.more attr (same_name attr.name (codes "changetype"))) (named_only (codes "changetype") h.line h.word h.word_line)
+      ∙ ap (λ (x : Result Attr LdifFaultKind). x >>= λ attr. by_name h.line h.more attr (same_name attr.name (codes "changetype"))) (named_only (codes "changetype") h.line h.word h.word_line)
       ∙ ap (by_name h.line h.more (attr_of h.word_line.name h.word)) (same_only h.word_line.name (codes "changetype") h.word_line.same)
       ∙ change_only dn cs h.word h.more r h.change
 
@@ -184,10 +184,10 @@ module _ (add : Bool) (dn : List ℕ) (cs : List Control) where
   untyped_only [] (a ∷ attrs) e h b = absurd h
   untyped_only (l ∷ ls) [] e h b = absurd h
   untyped_only (l ∷ ls) (a ∷ attrs) e h b =
-      ap (λ (x : Result Attr Fault). x >>= λ attr. by_name l ls attr (same_name attr.name (codes "changetype"))) (line_only l a h.0)
+      ap (λ (x : Result Attr LdifFaultKind). x >>= λ attr. by_name l ls attr (same_name attr.name (codes "changetype"))) (line_only l a h.0)
       ∙ ap (by_name l ls a) (other_only a.name (codes "changetype") b.1)
       ∙ ap (λ (t : Bool). cond t (each value_line (l ∷ ls) >>= λ all. added all) (Err ChangetypeMissing)) e
-      ∙ ap (λ (x : Result (List Attr) Fault). x >>= λ all. added all) (attrs_only (l ∷ ls) (a ∷ attrs) h)
+      ∙ ap (λ (x : Result (List Attr) LdifFaultKind). x >>= λ all. added all) (attrs_only (l ∷ ls) (a ∷ attrs) h)
 
   tail_only : (ls : List (List ℕ)) (r : Record) → IsTail add dn cs ls r → after_controls add dn cs ls ≡ Ok r
   tail_only ls r (inl h) = typed_only ls r h
@@ -208,11 +208,11 @@ body_found (Changes add) dn ls r bytes h =
 body_only : (mode : Mode) (dn : List ℕ) (ls : List (List ℕ)) (r : Record) → IsBody mode dn ls r → body mode dn ls ≡ Ok r
 unfolding body
 body_only Content dn ls r h =
-    ap (λ (x : Result (List Attr) Fault). x >>= λ attrs. okay (records.Content dn attrs)) (each_only content_line ls h.attrs (each_all IsContentLine (Reads content_line) content_only ls h.attrs h.lines_are))
+    ap (λ (x : Result (List Attr) LdifFaultKind). x >>= λ attrs. okay (records.Content dn attrs)) (each_only content_line ls h.attrs (each_all IsContentLine (Reads content_line) content_only ls h.attrs h.lines_are))
     ∙ ap okay (sym h.record_is)
 body_only (Changes add) dn ls r h =
     ap (λ (x : List (List ℕ)). controls_of x >>= λ c. after_controls add dn c.0 c.1) h.is
-    ∙ ap (λ (x : Result Controlled Fault). x >>= λ c. after_controls add dn c.0 c.1) (controls_only h.front h.rest h.controls h.front_is (tail_stops add dn h.controls h.rest r h.tail))
+    ∙ ap (λ (x : Result Controlled LdifFaultKind). x >>= λ c. after_controls add dn c.0 c.1) (controls_only h.front h.rest h.controls h.front_is (tail_stops add dn h.controls h.rest r h.tail))
     ∙ tail_only add dn h.controls h.rest r h.tail
 
 entry_found : (mode : Mode) (ls : List (List ℕ)) (r : Record) → AreBytes ls → entry mode ls ≡ Ok r → IsEntry mode ls r
@@ -227,11 +227,11 @@ entry_only : (mode : Mode) (ls : List (List ℕ)) (r : Record) → IsEntry mode 
 unfolding entry
 entry_only mode ls r h =
     ap (entry mode) h.is
-    ∙ ap (λ (x : Result Attr Fault). x >>= λ attr. cond (same_name attr.name (codes "dn")) (body mode attr.value h.more) (Err DnMissing)) (named_only (codes "dn") h.line h.dn h.dn_line)
+    ∙ ap (λ (x : Result Attr LdifFaultKind). x >>= λ attr. cond (same_name attr.name (codes "dn")) (body mode attr.value h.more) (Err DnMissing)) (named_only (codes "dn") h.line h.dn h.dn_line)
     ∙ ap (λ (t : Bool). cond t (body mode h.dn h.more) (Err DnMissing)) (same_only h.dn_line.name (codes "dn") h.dn_line.same)
     ∙ body_only mode h.dn h.more r h.body
 
-abbrev by_version : Mode → List ℕ → List (List ℕ) → Attr → Bool → Result Record Fault
+abbrev by_version : Mode → List ℕ → List (List ℕ) → Attr → Bool → Result Record LdifFaultKind
 by_version mode l ls attr is = cond is (cond (bytes_eq attr.value (codes "1")) (after_version mode ls) (Err Version)) (entry mode (l ∷ ls))
 
 versioned_found : (mode : Mode) (ls : List (List ℕ)) (r : Record) → AreBytes ls → after_version mode ls ≡ Ok r → ((ls ≡ []) × (r ≡ records.Empty)) ⊎ IsEntry mode ls r
@@ -271,12 +271,12 @@ first_only : (mode : Mode) (ls : List (List ℕ)) (r : Record) → IsVersioned m
 unfolding first_of_text
 first_only mode ls r (inl h) =
     ap (first_of_text mode) h.is
-    ∙ ap (λ (x : Result Attr Fault). x >>= λ attr. by_version mode h.line h.more attr (same_name attr.name (codes "version"))) (named_only (codes "version") h.line (codes "1") h.version)
+    ∙ ap (λ (x : Result Attr LdifFaultKind). x >>= λ attr. by_version mode h.line h.more attr (same_name attr.name (codes "version"))) (named_only (codes "version") h.line (codes "1") h.version)
     ∙ ap (by_version mode h.line h.more (attr_of h.version.name (codes "1"))) (same_only h.version.name (codes "version") h.version.same)
     ∙ versioned_only mode h.more r h.rest
 first_only mode ls r (inr h) =
     ap (first_of_text mode) h.is
-    ∙ ap (λ (x : Result Attr Fault). x >>= λ attr. by_version mode h.line h.more attr (same_name attr.name (codes "version"))) (named_only (codes "dn") h.line h.dn h.dn_line)
+    ∙ ap (λ (x : Result Attr LdifFaultKind). x >>= λ attr. by_version mode h.line h.more attr (same_name attr.name (codes "version"))) (named_only (codes "dn") h.line h.dn h.dn_line)
     ∙ ap (by_version mode h.line h.more (attr_of h.dn_line.name h.dn)) (other_word h.dn_line.name (codes "dn") (codes "version") h.dn_line.same refl)
     ∙ ap (entry mode) (sym h.is) ∙ entry_only mode ls r h
 

@@ -9,8 +9,8 @@ use Rattle.base64.specs.Engines.{standard}
 use Rattle.base64.specs.declared.decode.DecodeError.{DecodeError}
 use Rattle.base64.proofs.EngineFacts.{decode_of-encode_of, decode_of_strict, front_bytes}
 use Rattle.ldif_lines.specs.Records.{begins_with}
-use Rattle.ldif.specs.declared.fault.Fault.{Fault}
-use Rattle.ldif.specs.declared.fault.Fault.TheVariants.{Url, ColonMissing, Continuation}
+use Rattle.ldif.specs.declared.fault.LdifFaultKind.{LdifFaultKind}
+use Rattle.ldif.specs.declared.fault.LdifFaultKind.TheVariants.{Url, ColonMissing, Continuation}
 use Rattle.ldif.specs.Attrs.{Attr}
 use Rattle.ldif.specs.Gives.{◌>>=◌}
 use Rattle.ldif.specs.Line.{without_front, without_end, or_base64, decoded, form_of, is_colon, value_at, value_of, value_line}
@@ -23,7 +23,7 @@ use Rattle.ldif.proofs.Spaces.{front_is, end_is, skip, cut_end}
 
 -- ---- what is read has a form
 
-abbrev url : Result (List ℕ) Fault
+abbrev url : Result (List ℕ) LdifFaultKind
 url = Err Url
 
 abbrev fine : List ℕ → Result (List ℕ) DecodeError
@@ -131,7 +131,7 @@ unfolding value_line
 line_only line a h =
     ap (λ (t : Bool). cond t (Err Continuation) (value_of line)) h.front
     ∙ ap value_of h.is ∙ value_is a.name h.rest h.some h.name
-    ∙ ap (λ (r : Result (List ℕ) Fault). r >>= λ value. said a.name value) (form_only h.rest a.value h.value)
+    ∙ ap (λ (r : Result (List ℕ) LdifFaultKind). r >>= λ value. said a.name value) (form_only h.rest a.value h.value)
 
 by_form : (rest value : List ℕ) → IsBytes rest → IsForm rest value → IsBytes value
 by_form rest value bytes (inl h) = h.bytes

@@ -8,8 +8,8 @@ use Rattle.base64.specs.Engines.{standard}
 use Rattle.base64.proofs.EngineFacts.{decode_of-encode_of}
 use Rattle.ldif_lines.specs.Records.{begins_with}
 use Rattle.ldif_lines.specs.Folding.{begins_line, is_line_byte, IsWritable}
-use Rattle.ldif.specs.declared.fault.Fault.{Fault}
-use Rattle.ldif.specs.declared.fault.Fault.TheVariants.{Continuation}
+use Rattle.ldif.specs.declared.fault.LdifFaultKind.{LdifFaultKind}
+use Rattle.ldif.specs.declared.fault.LdifFaultKind.TheVariants.{Continuation}
 use Rattle.ldif.specs.Gives.{◌>>=◌}
 use Rattle.ldif.specs.Line.{without_front, without_end, onto_text, or_base64, decoded, form_of, value_of, value_line}
 use Rattle.ldif.specs.Writing.{is_safe_byte, ends_with, is_plain, line_text}
@@ -93,7 +93,7 @@ line_is name rest h = ap (λ (t : Bool). cond t (Err Continuation) (value_of (na
 
 -- ---- the three forms
 
-abbrev pub okay : List ℕ → Result (List ℕ) Fault
+abbrev pub okay : List ℕ → Result (List ℕ) LdifFaultKind
 okay v = Ok v
 
 first_of : (a b c : Bool) → (a || b || c) ≡ false → a ≡ false
@@ -147,9 +147,9 @@ again : (empty plain : Bool) (name value : List ℕ) → IsName name → IsBytes
 unfolding texted form_of
 again true plain name value h bytes e f = line_is name [] h ∙ ap (said name) (sym (nothing value (eqb-true _ _ e)))
 again false true name value h bytes e f =
-    ap value_line (append_assoc name (codes ": ") value) ∙ line_is name (32 ∷ value) h ∙ ap (λ (r : Result (List ℕ) Fault). r >>= λ v. said name v) (plain_form value (plain_front value f))
+    ap value_line (append_assoc name (codes ": ") value) ∙ line_is name (32 ∷ value) h ∙ ap (λ (r : Result (List ℕ) LdifFaultKind). r >>= λ v. said name v) (plain_form value (plain_front value f))
 again false false name value h bytes e f =
-    ap value_line (append_assoc name (codes ":: ") (encode_of standard value)) ∙ line_is name (58 ∷ 32 ∷ encode_of standard value) h ∙ ap (λ (r : Result (List ℕ) Fault). r >>= λ v. said name v) (code_form value bytes)
+    ap value_line (append_assoc name (codes ":: ") (encode_of standard value)) ∙ line_is name (58 ∷ 32 ∷ encode_of standard value) h ∙ ap (λ (r : Result (List ℕ) LdifFaultKind). r >>= λ v. said name v) (code_form value bytes)
 
 pub read_again : (name value : List ℕ) → IsName name → list_all is_byte value ≡ true → value_line (line_text name value) ≡ Ok (record { name = name; value = value })
 unfolding line_text texted

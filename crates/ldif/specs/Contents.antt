@@ -3,7 +3,7 @@ use Rattle.std.specs.Prelude.{◌≡◌, ℕ, ◌<◌, Bool, true, false, not, �
 use Rattle.std.specs.List.{flat_map, list_all, AllByRecursion}
 use Rattle.ldif_lines.specs.Records.{records}
 use Rattle.ldif_lines.specs.Folding.{begins_line, is_line_byte}
-use Rattle.ldif.specs.declared.fault.Fault.{Fault}
+use Rattle.ldif.specs.declared.fault.LdifFaultKind.{LdifFaultKind}
 use Rattle.ldif.specs.Attrs.{Attr}
 use Rattle.ldif.specs.declared.record.Mode.{Mode}
 use Rattle.ldif.specs.declared.record.Record.{Record}
@@ -13,14 +13,14 @@ use Rattle.ldif.specs.Reading.{reading}
 use Rattle.ldif.specs.Writing.{written_line}
 
 -- the records of a text, each by the number of its first line and what it reads as
-unfoldable pub readings : Mode → List ℕ → List (ℕ × Result Record Fault)
+unfoldable pub readings : Mode → List ℕ → List (ℕ × Result Record LdifFaultKind)
 readings mode text = map (λ r. (r.line, reading mode r.first r.lines)) (records text)
 
-abbrev pub reading_of : ℕ × Result Record Fault → Result Record Fault
+abbrev pub reading_of : ℕ × Result Record LdifFaultKind → Result Record LdifFaultKind
 reading_of r = r.1
 
 -- what is written as a content record: a name, and attribute values in order
-pub record Written : Type 0 where
+pub record ContentRecord : Type 0 where
   pub dn : List ℕ
   pub attrs : List Attr
 
@@ -28,11 +28,11 @@ abbrev pub written_attr : Attr → List ℕ
 written_attr a = written_line a.name a.value
 
 -- its lines, and an empty line
-unfoldable pub write_content : Written → List ℕ
+unfoldable pub write_content : ContentRecord → List ℕ
 write_content c = written_line (codes "dn") c.dn ++ flat_map written_attr c.attrs ++ 10 ∷ []
 
 -- the record that it is
-abbrev pub as_record : Written → Result Record Fault
+abbrev pub as_record : ContentRecord → Result Record LdifFaultKind
 as_record c = Ok (variants.Content c.dn c.attrs)
 
 -- ---- what can be written and read back
@@ -53,12 +53,12 @@ pub record IsName (name : List ℕ) : Type 0 where
   pub bytes : list_all is_inner_name_byte name ≡ true
 
 -- an attribute line of a content record
-pub record IsWrittenAttr (a : Attr) : Type 0 where
+pub record IsWritableAttr (a : Attr) : Type 0 where
   pub some : 0 < length a.name
   pub name : list_all is_name_byte a.name ≡ true
   pub other : same_name a.name (codes "changetype") ≡ false
   pub value : list_all is_byte a.value ≡ true
 
-pub record IsWritten (c : Written) : Type 0 where
+pub record IsWritableContent (c : ContentRecord) : Type 0 where
   pub dn : list_all is_byte c.dn ≡ true
-  pub attrs : AllByRecursion IsWrittenAttr c.attrs
+  pub attrs : AllByRecursion IsWritableAttr c.attrs

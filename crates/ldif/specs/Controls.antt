@@ -2,8 +2,8 @@
 use Rattle.std.specs.Prelude.{ℕ, Bool, true, false, not, ◌&&◌, ◌||◌, ◌==◌, nat_le, if◌then◌else◌, List, [], ◌∷◌, length, take, drop, Option, Some, None, Result, Ok, Err, codes, position}
 use Rattle.std.specs.Option.{unwrap_or}
 use Rattle.ldif_lines.specs.Records.{begins_with}
-use Rattle.ldif.specs.declared.fault.Fault.{Fault}
-use Rattle.ldif.specs.declared.fault.Fault.TheVariants.{Word}
+use Rattle.ldif.specs.declared.fault.LdifFaultKind.{LdifFaultKind}
+use Rattle.ldif.specs.declared.fault.LdifFaultKind.TheVariants.{Word}
 use Rattle.ldif.specs.declared.record.Control.{Control}
 use Rattle.ldif.specs.Gives.{◌>>=◌}
 use Rattle.ldif.specs.Line.{without_front, form_of, same_name}
@@ -24,11 +24,11 @@ criticality rest =
     else (false, rest)
 
 -- nothing, or a colon with a form of a value
-unfoldable pub control_value : List ℕ → Result (Option (List ℕ)) Fault
+unfoldable pub control_value : List ℕ → Result (Option (List ℕ)) LdifFaultKind
 control_value [] = Ok None
 control_value (b ∷ bs) = if b == 58 then (form_of bs >>= λ value. Ok (Some value)) else Err Word
 
-unfoldable pub control_of : List ℕ → Result Control Fault
+unfoldable pub control_of : List ℕ → Result Control LdifFaultKind
 control_of text =
     if oid_len text == 0 then Err Word else do
       value ← control_value (without_front (criticality (drop (oid_len text) text)).1)

@@ -2,8 +2,8 @@
 use Rattle.std.specs.Prelude.{◌≡◌, ℕ, ◌<◌, true, false, ◌⊎◌, List, ◌∷◌, ◌++◌, length, Result, Ok, Err}
 use Rattle.std.specs.List.{list_all}
 use Rattle.ldif_lines.specs.Records.{begins_with}
-use Rattle.ldif.specs.declared.fault.Fault.{Fault}
-use Rattle.ldif.specs.declared.fault.Fault.TheVariants.{Continuation, ColonMissing, Url, Base64}
+use Rattle.ldif.specs.declared.fault.LdifFaultKind.{LdifFaultKind}
+use Rattle.ldif.specs.declared.fault.LdifFaultKind.TheVariants.{Continuation, ColonMissing, Url, Base64}
 use Rattle.ldif.specs.Line.{value_line}
 use Rattle.ldif.specs.Forms.{IsCoded, is_no_colon}
 
@@ -17,7 +17,7 @@ pub record IsNamed (line rest : List ℕ) : Type 0 where
 
 -- The fault that a line has by itself, in whatever record: it begins with a space; or it has no colon, or nothing before it;
 -- or `<` stands behind the first colon; or `:` does, and no base64 behind it.
-abbrev pub IsLineFault : List ℕ → Fault → Type 0
+abbrev pub IsLineFault : List ℕ → LdifFaultKind → Type 0
 IsLineFault line Continuation = begins_with 32 line ≡ true
 IsLineFault line ColonMissing = (begins_with 32 line ≡ false) × ((list_all is_no_colon line ≡ true) ⊎ (begins_with 58 line ≡ true))
 IsLineFault line Url = (rest : List ℕ) × IsNamed line (60 ∷ rest)
@@ -25,22 +25,22 @@ IsLineFault line Base64 = (rest : List ℕ) × IsNamed line (58 ∷ rest) × ((v
 IsLineFault line _ = ⊥
 
 -- lines that further lines can make a record
-pub record Begins {R : Type 0} (read : List (List ℕ) → Result R Fault) (lines : List (List ℕ)) : Type 0 where
+pub record Begins {R : Type 0} (read : List (List ℕ) → Result R LdifFaultKind) (lines : List (List ℕ)) : Type 0 where
   pub rest : List (List ℕ)
   pub found : R
   pub is : read (lines ++ rest) ≡ Ok found
 
 -- The lines before it begin a record; with it they begin none, and this is the fault whatever stands behind it.
 -- A fault that the line has by itself comes before any that its place gives it.
-pub record IsAtLine {R : Type 0} (read : List (List ℕ) → Result R Fault) (lines : List (List ℕ)) (fault : Fault) : Type 0 where
+pub record IsAtLine {R : Type 0} (read : List (List ℕ) → Result R LdifFaultKind) (lines : List (List ℕ)) (fault : LdifFaultKind) : Type 0 where
   pub front : List (List ℕ)
   pub bad : List ℕ
   pub rest : List (List ℕ)
   pub is : lines ≡ front ++ bad ∷ rest
   pub before : Begins read front
   pub refused : (more : List (List ℕ)) → read (front ++ bad ∷ more) ≡ Err fault
-  pub own : (f : Fault) → value_line bad ≡ Err f → fault ≡ f
+  pub own : (f : LdifFaultKind) → value_line bad ≡ Err f → fault ≡ f
 
 -- the fault stands at a line, or at the end: the lines begin a record, and are none
-abbrev pub IsEarliest : {R : Type 0} → (List (List ℕ) → Result R Fault) → List (List ℕ) → Fault → Type 0
+abbrev pub IsEarliest : {R : Type 0} → (List (List ℕ) → Result R LdifFaultKind) → List (List ℕ) → LdifFaultKind → Type 0
 IsEarliest read lines fault = IsAtLine read lines fault ⊎ Begins read lines

@@ -1,9 +1,9 @@
 -- The number and the text of each fault.
 use Rattle.std.specs.Prelude.{ℕ, List, codes}
-use Rattle.ldif.specs.declared.fault.Fault.{Fault}
-use Rattle.ldif.specs.declared.fault.Fault.TheVariants.{DnMissing, Continuation, Version, Base64, Url, ColonMissing, ChangetypeUnknown, OtherAttribute, PartMissing, StrayLine, ChangetypeMissing, ChangetypeInContent, Word}
+use Rattle.ldif.specs.declared.fault.LdifFaultKind.{LdifFaultKind}
+use Rattle.ldif.specs.declared.fault.LdifFaultKind.TheVariants.{DnMissing, Continuation, Version, Base64, Url, ColonMissing, ChangetypeUnknown, OtherAttribute, PartMissing, StrayLine, ChangetypeMissing, ChangetypeInContent, Word}
 
-abbrev pub fault_number : Fault → ℕ
+abbrev pub fault_number : LdifFaultKind → ℕ
 fault_number DnMissing = 1
 fault_number Continuation = 2
 fault_number Version = 3
@@ -18,7 +18,7 @@ fault_number ChangetypeMissing = 11
 fault_number ChangetypeInContent = 12
 fault_number Word = 13
 
-abbrev pub fault_text : Fault → List ℕ
+abbrev pub fault_text : LdifFaultKind → List ℕ
 fault_text DnMissing = codes "dn line missing"
 fault_text Continuation = codes "continuation without a line"
 fault_text Version = codes "version"

@@ -6,8 +6,8 @@ use Rattle.base64.specs.GeneralPurpose.{decode_of}
 use Rattle.base64.specs.Engines.{standard}
 use Rattle.base64.specs.declared.decode.DecodeError.{DecodeError}
 use Rattle.ldif_lines.specs.Records.{begins_with}
-use Rattle.ldif.specs.declared.fault.Fault.{Fault}
-use Rattle.ldif.specs.declared.fault.Fault.TheVariants.{ColonMissing, Url, Base64, Continuation}
+use Rattle.ldif.specs.declared.fault.LdifFaultKind.{LdifFaultKind}
+use Rattle.ldif.specs.declared.fault.LdifFaultKind.TheVariants.{ColonMissing, Url, Base64, Continuation}
 use Rattle.ldif.specs.Attrs.{Attr}
 use Rattle.ldif.specs.Gives.{◌>>=◌}
 
@@ -26,16 +26,16 @@ abbrev pub without_end : List ℕ → List ℕ
 without_end [] = []
 without_end (b ∷ bs) = onto_text b (without_end bs)
 
-abbrev pub or_base64 : Result (List ℕ) DecodeError → Result (List ℕ) Fault
+abbrev pub or_base64 : Result (List ℕ) DecodeError → Result (List ℕ) LdifFaultKind
 or_base64 (Ok bytes) = Ok bytes
 or_base64 (Err e) = Err Base64
 
 -- what a text says in standard base64 with padding
-unfoldable pub decoded : List ℕ → Result (List ℕ) Fault
+unfoldable pub decoded : List ℕ → Result (List ℕ) LdifFaultKind
 decoded text = or_base64 (decode_of standard text)
 
 -- the value, by what stands after the first colon
-unfoldable pub form_of : List ℕ → Result (List ℕ) Fault
+unfoldable pub form_of : List ℕ → Result (List ℕ) LdifFaultKind
 form_of rest =
     if begins_with 58 rest then decoded (without_end (without_front (drop 1 rest)))
     else if begins_with 60 rest then Err Url
@@ -44,18 +44,18 @@ form_of rest =
 abbrev pub is_colon : ℕ → Bool
 is_colon b = b == 58
 
-abbrev pub value_at : List ℕ → Option ℕ → Result Attr Fault
+abbrev pub value_at : List ℕ → Option ℕ → Result Attr LdifFaultKind
 value_at line None = Err ColonMissing
 value_at line (Some at) = if at == 0 then Err ColonMissing else do
   value ← form_of (drop (at + 1) line)
   Ok (record { name = take at line; value = value })
 
 -- the name up to the first colon, which is not empty, and the value
-unfoldable pub value_of : List ℕ → Result Attr Fault
+unfoldable pub value_of : List ℕ → Result Attr LdifFaultKind
 value_of line = value_at line (position is_colon line)
 
 -- a line of a record: where it still begins with a space, it continues no line
-unfoldable pub value_line : List ℕ → Result Attr Fault
+unfoldable pub value_line : List ℕ → Result Attr LdifFaultKind
 value_line line = if begins_with 32 line then Err Continuation else value_of line
 
 abbrev pub lower : List ℕ → List ℕ

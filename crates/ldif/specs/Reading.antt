@@ -4,8 +4,8 @@ use Rattle.std.specs.Prelude.{ℕ, Bool, true, false, if◌then◌else◌, List,
 use Rattle.std.specs.Global.{Vec}
 use Rattle.std.specs.List.{onto_first}
 use Rattle.std.specs.Str.{bytes_eq}
-use Rattle.ldif.specs.declared.fault.Fault.{Fault}
-use Rattle.ldif.specs.declared.fault.Fault.TheVariants.{DnMissing, Version, ColonMissing, ChangetypeUnknown, OtherAttribute, PartMissing, StrayLine, ChangetypeMissing, ChangetypeInContent, Word}
+use Rattle.ldif.specs.declared.fault.LdifFaultKind.{LdifFaultKind}
+use Rattle.ldif.specs.declared.fault.LdifFaultKind.TheVariants.{DnMissing, Version, ColonMissing, ChangetypeUnknown, OtherAttribute, PartMissing, StrayLine, ChangetypeMissing, ChangetypeInContent, Word}
 use Rattle.ldif.specs.Attrs.{Attr}
 use Rattle.ldif.specs.declared.record.Control.{Control}
 use Rattle.ldif.specs.declared.record.Mod.{Mod}
@@ -26,7 +26,7 @@ abbrev pub texts : List (Vec ℕ) → List (List ℕ)
 texts vs = map items_of vs
 
 -- what each reads as, or the fault of the first that has one
-unfoldable pub each : {X Y : Type 0} → (X → Result Y Fault) → List X → Result (List Y) Fault
+unfoldable pub each : {X Y : Type 0} → (X → Result Y LdifFaultKind) → List X → Result (List Y) LdifFaultKind
 each read [] = Ok []
 each read (x ∷ xs) = do
   y ← read x
@@ -34,7 +34,7 @@ each read (x ∷ xs) = do
   Ok (y ∷ ys)
 
 -- an attribute line of a content record
-unfoldable pub content_line : List ℕ → Result Attr Fault
+unfoldable pub content_line : List ℕ → Result Attr LdifFaultKind
 content_line line = do
   attr ← value_line line
   if same_name attr.name (codes "changetype") then Err ChangetypeInContent else Ok attr
@@ -42,40 +42,40 @@ content_line line = do
 -- ---- parts of a record: each takes lines from the front, and leaves the rest
 
 -- the value of a line of this keyword
-unfoldable pub part : List ℕ → List (List ℕ) → Result (List ℕ × List (List ℕ)) Fault
+unfoldable pub part : List ℕ → List (List ℕ) → Result (List ℕ × List (List ℕ)) LdifFaultKind
 part keyword [] = Err PartMissing
 part keyword (l ∷ ls) = do
   attr ← value_line l
   if same_name attr.name keyword then Ok (attr.value, ls) else Err PartMissing
 
 -- no further line
-unfoldable pub nothing_more : List (List ℕ) → Result (Unit {0}) Fault
+unfoldable pub nothing_more : List (List ℕ) → Result (Unit {0}) LdifFaultKind
 nothing_more [] = Ok tt
 nothing_more (l ∷ ls) = do
   attr ← value_line l
   Err StrayLine
 
 -- perhaps `newsuperior:`, and no further line
-unfoldable pub new_superior_of : List (List ℕ) → Result (Option (List ℕ)) Fault
+unfoldable pub new_superior_of : List (List ℕ) → Result (Option (List ℕ)) LdifFaultKind
 new_superior_of [] = Ok None
 new_superior_of (l ∷ ls) = do
   attr ← value_line l
   if same_name attr.name (codes "newsuperior") then (nothing_more ls >>= λ u. Ok (Some attr.value)) else Err StrayLine
 
-unfoldable pub flag_of : List ℕ → Result Bool Fault
+unfoldable pub flag_of : List ℕ → Result Bool LdifFaultKind
 flag_of text =
     if is_word text (codes "1") then Ok true
     else if is_word text (codes "0") then Ok false
     else Err Word
 
-unfoldable pub delete_old_of : List (List ℕ) → Result (Bool × List (List ℕ)) Fault
+unfoldable pub delete_old_of : List (List ℕ) → Result (Bool × List (List ℕ)) LdifFaultKind
 delete_old_of ls = do
   word ← part (codes "deleteoldrdn") ls
   flag ← flag_of word.0
   Ok (flag, word.1)
 
 -- the `control:` lines at the front
-unfoldable pub controls_of : List (List ℕ) → Result (List Control × List (List ℕ)) Fault
+unfoldable pub controls_of : List (List ℕ) → Result (List Control × List (List ℕ)) LdifFaultKind
 controls_of [] = Ok ([], [])
 controls_of (l ∷ ls) = do
   attr ← value_line l
@@ -95,7 +95,7 @@ unfoldable pub blocks : List (List ℕ) → List (List (List ℕ))
 blocks [] = []
 blocks (l ∷ ls) = if is_dash l then [] ∷ blocks ls else onto_first l (blocks ls)
 
-unfoldable pub op_of : List ℕ → Result Op Fault
+unfoldable pub op_of : List ℕ → Result Op LdifFaultKind
 op_of name =
     if same_name name (codes "add") then Ok ops.Add
     else if same_name name (codes "delete") then Ok ops.Delete
@@ -103,13 +103,13 @@ op_of name =
     else Err StrayLine
 
 -- the value of a line of this attribute
-unfoldable pub value_under : List ℕ → List ℕ → Result (List ℕ) Fault
+unfoldable pub value_under : List ℕ → List ℕ → Result (List ℕ) LdifFaultKind
 value_under name line = do
   attr ← value_line line
   if same_name attr.name name then Ok attr.value else Err OtherAttribute
 
 -- a block begins with its operation, so a `-` in that place is a line without a colon
-unfoldable pub block : List (List ℕ) → Result Mod Fault
+unfoldable pub block : List (List ℕ) → Result Mod LdifFaultKind
 block [] = Err ColonMissing
 block (l ∷ ls) = do
   head ← value_line l
@@ -119,7 +119,7 @@ block (l ∷ ls) = do
 
 -- ---- records
 
-unfoldable pub renaming : List ℕ → List Control → List (List ℕ) → Result Record Fault
+unfoldable pub renaming : List ℕ → List Control → List (List ℕ) → Result Record LdifFaultKind
 renaming dn controls ls = do
   newrdn ← part (codes "newrdn") ls
   delete_old ← delete_old_of newrdn.1
@@ -127,7 +127,7 @@ renaming dn controls ls = do
   Ok (records.ModRdn dn controls newrdn.0 delete_old.0 new_superior)
 
 -- by the word of `changetype:`, and the lines after it
-unfoldable pub change : List ℕ → List Control → List ℕ → List (List ℕ) → Result Record Fault
+unfoldable pub change : List ℕ → List Control → List ℕ → List (List ℕ) → Result Record LdifFaultKind
 change dn controls word ls =
     if is_word word (codes "add") then (each value_line ls >>= λ attrs. Ok (records.Add dn controls attrs))
     else if is_word word (codes "delete") then (nothing_more ls >>= λ u. Ok (records.Delete dn controls))
@@ -137,7 +137,7 @@ change dn controls word ls =
     else Err ChangetypeUnknown
 
 -- by the lines after the controls; add says that they may be attribute lines
-unfoldable pub after_controls : Bool → List ℕ → List Control → List (List ℕ) → Result Record Fault
+unfoldable pub after_controls : Bool → List ℕ → List Control → List (List ℕ) → Result Record LdifFaultKind
 after_controls add dn controls [] = if add then Ok (records.Add dn controls []) else Err ChangetypeMissing
 after_controls add dn controls (l ∷ ls) = do
   attr ← value_line l
@@ -146,22 +146,22 @@ after_controls add dn controls (l ∷ ls) = do
       else Err ChangetypeMissing
 
 -- by the lines after `dn:`
-unfoldable pub body : Mode → List ℕ → List (List ℕ) → Result Record Fault
+unfoldable pub body : Mode → List ℕ → List (List ℕ) → Result Record LdifFaultKind
 body Content dn ls = each content_line ls >>= λ attrs. Ok (records.Content dn attrs)
 body (Changes add) dn ls = controls_of ls >>= λ c. after_controls add dn c.0 c.1
 
-unfoldable pub entry : Mode → List (List ℕ) → Result Record Fault
+unfoldable pub entry : Mode → List (List ℕ) → Result Record LdifFaultKind
 entry mode [] = Err DnMissing
 entry mode (l ∷ ls) = do
   attr ← value_line l
   if same_name attr.name (codes "dn") then body mode attr.value ls else Err DnMissing
 
-unfoldable pub after_version : Mode → List (List ℕ) → Result Record Fault
+unfoldable pub after_version : Mode → List (List ℕ) → Result Record LdifFaultKind
 after_version mode [] = Ok records.Empty
 after_version mode (l ∷ ls) = entry mode (l ∷ ls)
 
 -- a text's first record, which may begin with `version:`
-unfoldable pub first_of_text : Mode → List (List ℕ) → Result Record Fault
+unfoldable pub first_of_text : Mode → List (List ℕ) → Result Record LdifFaultKind
 first_of_text mode [] = Err DnMissing
 first_of_text mode (l ∷ ls) = do
   attr ← value_line l
@@ -169,5 +169,5 @@ first_of_text mode (l ∷ ls) = do
       else entry mode (l ∷ ls)
 
 -- what a record's lines read as; first says that it is its text's first record
-abbrev pub reading : Mode → Bool → List (List ℕ) → Result Record Fault
+abbrev pub reading : Mode → Bool → List (List ℕ) → Result Record LdifFaultKind
 reading mode first ls = if first then first_of_text mode ls else entry mode ls

@@ -5,7 +5,7 @@ ghost use Rattle.ldif.specs.Gives.{Gives};
 ghost use Rattle.ldif.specs.Line.{value_line};
 ghost use Rattle.ldif.specs.Reading.{texts, content_line, each};
 
-use crate::fault::{Fault, LdifFault};
+use crate::fault::{LdifFault, LdifFaultKind};
 use crate::line::value_line;
 use crate::value::Attr;
 use crate::word::same_name;
@@ -18,7 +18,7 @@ fn content_line(alloc: Global, line: &[u8]) -> Result<Attr<'_>, LdifFault>
 {
     let attr = value_line(alloc, line)?;
     if same_name(attr.name(), b"changetype") {
-        return Err(LdifFault::Fault(Fault::ChangetypeInContent));
+        return Err(LdifFault::Fault(LdifFaultKind::ChangetypeInContent));
     }
     Ok(attr)
 }

@@ -5,7 +5,7 @@ ghost use Rattle.ldif.specs.Gives.{Gives, GivesBy};
 ghost use Rattle.ldif.specs.Reading.{texts, part, nothing_more, new_superior_of, flag_of, delete_old_of, renaming, change, after_controls};
 
 use crate::attributes::attributes_of;
-use crate::fault::{Fault, LdifFault};
+use crate::fault::{LdifFault, LdifFaultKind};
 use crate::line::value_line;
 use crate::modify::mods_of;
 use crate::record::{Control, Record};
@@ -23,11 +23,11 @@ fn part<'a>(
     ensures { GivesBy (λ x. (x.0, texts x.1.now)) result (part keyword.now (texts lines.now)) }
 {
     match lines {
-        [] => Err(LdifFault::Fault(Fault::PartMissing)),
+        [] => Err(LdifFault::Fault(LdifFaultKind::PartMissing)),
         [line, rest @ ..] => {
             let attr = value_line(alloc, line)?;
             if !same_name(attr.name(), keyword) {
-                return Err(LdifFault::Fault(Fault::PartMissing));
+                return Err(LdifFault::Fault(LdifFaultKind::PartMissing));
             }
             Ok((attr.into_value(alloc)?, rest))
         }
@@ -42,7 +42,7 @@ fn nothing_more(alloc: Global, lines: &[Vec<u8>]) -> Result<(), LdifFault>
         [] => Ok(()),
         [line, ..] => {
             let _ = value_line(alloc, line)?;
-            Err(LdifFault::Fault(Fault::StrayLine))
+            Err(LdifFault::Fault(LdifFaultKind::StrayLine))
         }
     }
 }
@@ -56,7 +56,7 @@ fn new_superior_of(alloc: Global, lines: &[Vec<u8>]) -> Result<Option<Bytes>, Ld
         [line, rest @ ..] => {
             let attr = value_line(alloc, line)?;
             if !same_name(attr.name(), b"newsuperior") {
-                return Err(LdifFault::Fault(Fault::StrayLine));
+                return Err(LdifFault::Fault(LdifFaultKind::StrayLine));
             }
             nothing_more(alloc, rest)?;
             Ok(Some(attr.into_value(alloc)?))
@@ -73,7 +73,7 @@ fn flag_of(text: &[u8]) -> Result<bool, LdifFault>
     } else if is_word(text, b"0") {
         Ok(false)
     } else {
-        Err(LdifFault::Fault(Fault::Word))
+        Err(LdifFault::Fault(LdifFaultKind::Word))
     }
 }
 
@@ -138,7 +138,7 @@ fn change<'a>(
     } else if is_word(word, b"moddn") {
         renaming(alloc, dn, controls, lines)
     } else {
-        Err(LdifFault::Fault(Fault::ChangetypeUnknown))
+        Err(LdifFault::Fault(LdifFaultKind::ChangetypeUnknown))
     }
 }
 
@@ -156,7 +156,7 @@ pub fn after_controls(
     match lines {
         [] => {
             if !add {
-                return Err(LdifFault::Fault(Fault::ChangetypeMissing));
+                return Err(LdifFault::Fault(LdifFaultKind::ChangetypeMissing));
             }
             Ok(Record::Add {
                 dn,
@@ -170,7 +170,7 @@ pub fn after_controls(
                 return change(alloc, dn, controls, attr.value(), rest);
             }
             if !add {
-                return Err(LdifFault::Fault(Fault::ChangetypeMissing));
+                return Err(LdifFault::Fault(LdifFaultKind::ChangetypeMissing));
             }
             let attrs = attributes_of(alloc, lines)?;
             Ok(Record::Add {

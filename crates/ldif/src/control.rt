@@ -5,7 +5,7 @@ ghost use Rattle.ldif.specs.Controls.{ends_oid, oid_len, criticality, control_va
 ghost use Rattle.ldif.specs.Gives.{Gives};
 ghost use Rattle.ldif.specs.Line.{same_name};
 
-use crate::fault::{Fault, LdifFault};
+use crate::fault::{LdifFault, LdifFaultKind};
 use crate::line::{begins_with, form_of, without_front};
 use crate::record::Control;
 use crate::word::same_name;
@@ -72,7 +72,7 @@ fn control_value(alloc: Global, rest: &[u8]) -> Result<Option<Bytes>, LdifFault>
     match rest {
         [] => Ok(None),
         [b':', text @ ..] => Ok(Some(form_of(alloc, text)?.into_bytes(alloc)?)),
-        _ => Err(LdifFault::Fault(Fault::Word)),
+        _ => Err(LdifFault::Fault(LdifFaultKind::Word)),
     }
 }
 
@@ -82,7 +82,7 @@ pub fn control_of(alloc: Global, text: &[u8]) -> Result<Control, LdifFault>
 {
     let len = oid_len(text);
     if len == 0 {
-        return Err(LdifFault::Fault(Fault::Word));
+        return Err(LdifFault::Fault(LdifFaultKind::Word));
     }
     let (critical, rest) = criticality(&text[len..]);
     let value = control_value(alloc, without_front(rest))?;

@@ -10,7 +10,7 @@ use std::fmt;
 
 /// What is wrong with the lines of a record, printed as `L4 base64`.
 #[derive(Clone, Copy, Debug, PartialEq, Eq)]
-pub enum Fault {
+pub enum LdifFaultKind {
     /// The first line, after a version line, is not `dn:`.
     DnMissing,
     /// A line begins with a space, and there is no line that it could continue.
@@ -39,25 +39,25 @@ pub enum Fault {
     Word,
 }
 
-impl Fault {
+impl LdifFaultKind {
     /// The number that is printed behind `L`.
     pub fn number(self) -> u8
         ensures { result ≡ fault_number self }
     {
         match self {
-            Fault::DnMissing => 1,
-            Fault::Continuation => 2,
-            Fault::Version => 3,
-            Fault::Base64 => 4,
-            Fault::Url => 5,
-            Fault::ColonMissing => 6,
-            Fault::ChangetypeUnknown => 7,
-            Fault::OtherAttribute => 8,
-            Fault::PartMissing => 9,
-            Fault::StrayLine => 10,
-            Fault::ChangetypeMissing => 11,
-            Fault::ChangetypeInContent => 12,
-            Fault::Word => 13,
+            LdifFaultKind::DnMissing => 1,
+            LdifFaultKind::Continuation => 2,
+            LdifFaultKind::Version => 3,
+            LdifFaultKind::Base64 => 4,
+            LdifFaultKind::Url => 5,
+            LdifFaultKind::ColonMissing => 6,
+            LdifFaultKind::ChangetypeUnknown => 7,
+            LdifFaultKind::OtherAttribute => 8,
+            LdifFaultKind::PartMissing => 9,
+            LdifFaultKind::StrayLine => 10,
+            LdifFaultKind::ChangetypeMissing => 11,
+            LdifFaultKind::ChangetypeInContent => 12,
+            LdifFaultKind::Word => 13,
         }
     }
 
@@ -66,36 +66,36 @@ impl Fault {
         ensures { result.now ≡ fault_text self }
     {
         match self {
-            Fault::DnMissing => "dn line missing",
-            Fault::Continuation => "continuation without a line",
-            Fault::Version => "version",
-            Fault::Base64 => "base64",
-            Fault::Url => "url value",
-            Fault::ColonMissing => "colon missing",
-            Fault::ChangetypeUnknown => "changetype unknown",
-            Fault::OtherAttribute => "attribute of another name",
-            Fault::PartMissing => "part missing",
-            Fault::StrayLine => "stray line",
-            Fault::ChangetypeMissing => "changetype missing",
-            Fault::ChangetypeInContent => "changetype in content",
-            Fault::Word => "word",
+            LdifFaultKind::DnMissing => "dn line missing",
+            LdifFaultKind::Continuation => "continuation without a line",
+            LdifFaultKind::Version => "version",
+            LdifFaultKind::Base64 => "base64",
+            LdifFaultKind::Url => "url value",
+            LdifFaultKind::ColonMissing => "colon missing",
+            LdifFaultKind::ChangetypeUnknown => "changetype unknown",
+            LdifFaultKind::OtherAttribute => "attribute of another name",
+            LdifFaultKind::PartMissing => "part missing",
+            LdifFaultKind::StrayLine => "stray line",
+            LdifFaultKind::ChangetypeMissing => "changetype missing",
+            LdifFaultKind::ChangetypeInContent => "changetype in content",
+            LdifFaultKind::Word => "word",
         }
     }
 }
 
-impl fmt::Display for Fault {
+impl fmt::Display for LdifFaultKind {
     fn fmt<W: fmt::Write>(&self, f: &mut fmt::Formatter<W>) -> fmt::Result {
         write!(f, "L{} {}", self.number(), self.text())
     }
 }
 
-impl Error for Fault {}
+impl Error for LdifFaultKind {}
 
 /// Why no record was read.
 #[derive(Clone, Copy, Debug, PartialEq, Eq, thiserror::Error)]
 pub enum LdifFault {
     #[error("{0}")]
-    Fault(Fault),
+    Fault(LdifFaultKind),
     #[error("out of memory")]
     OutOfMemory,
 }

@@ -4,7 +4,7 @@ ghost use Rattle.std.specs.Prelude.{◌≡◌, ◌↔◌, Bool, List, ℕ, true,
 ghost use Rattle.std.specs.List.{list_all, flat_map, AllByRecursion};
 ghost use Rattle.base64.specs.GeneralPurpose.{IsBytes};
 ghost use Rattle.ldif_lines.specs.Folding.{IsWritable};
-ghost use Rattle.ldif.specs.declared.fault.Fault.{Fault};
+ghost use Rattle.ldif.specs.declared.fault.LdifFaultKind.{LdifFaultKind};
 ghost use Rattle.ldif.specs.Attrs.{Attr};
 ghost use Rattle.ldif.specs.declared.record.Mode.{Mode};
 ghost use Rattle.ldif.specs.declared.record.Mode.TheVariants.{Content};
@@ -14,7 +14,7 @@ ghost use Rattle.ldif.specs.Forms.{IsValueLine, IsRecord};
 ghost use Rattle.ldif.specs.Reading.{reading};
 ghost use Rattle.ldif.specs.Line.{value_line};
 ghost use Rattle.ldif.specs.Writing.{line_text};
-ghost use Rattle.ldif.specs.Contents.{is_byte, IsName, Written, IsWritten, write_content, readings, reading_of, as_record};
+ghost use Rattle.ldif.specs.Contents.{is_byte, IsName, ContentRecord, IsWritableContent, write_content, readings, reading_of, as_record};
 
 /// The line of a name and a value can be written.
 pub fn line_texts_are_writable()
@@ -28,7 +28,7 @@ pub fn written_lines_are_read()
 
 /// Content records that are written one after another are read back, one for each.
 pub fn written_contents_are_read()
-    ensures { (cs : List Written) → AllByRecursion IsWritten cs → map reading_of (readings Content (flat_map write_content cs)) ≡ map as_record cs }
+    ensures { (cs : List ContentRecord) → AllByRecursion IsWritableContent cs → map reading_of (readings Content (flat_map write_content cs)) ≡ map as_record cs }
 {
     ldif_lines::written_blocks_are_read();
 }
@@ -46,10 +46,10 @@ pub fn records_have_forms()
 
 /// A line that has no such form has one of the four faults that a line has by itself: the first of them in their order.
 pub fn line_faults_have_forms()
-    ensures { (line : List ℕ) (fault : Fault) → IsBytes line → (value_line line ≡ Err fault) ↔ IsLineFault line fault }
+    ensures { (line : List ℕ) (fault : LdifFaultKind) → IsBytes line → (value_line line ≡ Err fault) ↔ IsLineFault line fault }
 {}
 
 /// Lines that are no record have the fault of their earliest line that has one, whatever stands behind it.
 pub fn earliest_line_answers()
-    ensures { (mode : Mode) (first : Bool) (lines : List (List ℕ)) (fault : Fault) → reading mode first lines ≡ Err fault → IsEarliest (reading mode first) lines fault }
+    ensures { (mode : Mode) (first : Bool) (lines : List (List ℕ)) (fault : LdifFaultKind) → reading mode first lines ≡ Err fault → IsEarliest (reading mode first) lines fault }
 {}

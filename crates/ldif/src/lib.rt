@@ -15,7 +15,7 @@ mod word;
 mod write;
 
 pub use device::{Device, OfRead, OfWrite, Sink, Source, TrySink, TrySource};
-pub use fault::{Fault, LdifFault};
+pub use fault::{LdifFault, LdifFaultKind};
 pub use laws::{
     earliest_line_answers, line_faults_have_forms, line_texts_are_writable, lines_have_forms,
     records_have_forms, written_contents_are_read, written_lines_are_read,
@@ -25,6 +25,3 @@ pub use read::read_record;
 pub use record::{Control, Mod, Mode, Op, Record};
 pub use value::Attr;
 pub use write::{WriteFault, put_line, write_line};
-
-#[cfg(test)]
-mod tests;

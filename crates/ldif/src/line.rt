@@ -6,7 +6,7 @@ ghost use Rattle.ldif.specs.Gives.{Gives, GivesBy};
 ghost use Rattle.ldif.specs.LineValues.{bytes_in};
 ghost use Rattle.ldif.specs.Line.{without_front, without_end, decoded, form_of, is_colon, value_of, value_line};
 
-use crate::fault::{Fault, LdifFault};
+use crate::fault::{LdifFault, LdifFaultKind};
 use crate::value::{Attr, LineValue};
 use base64::DecodeAllocError;
 use base64::engine::general_purpose::STANDARD;
@@ -54,7 +54,7 @@ fn decode(alloc: Global, text: &[u8]) -> Result<Bytes, LdifFault>
     match STANDARD.decode(alloc, text) {
         Ok(bytes) => Ok(Bytes::from_vec(bytes)),
         Err(DecodeAllocError::OutOfMemory) => Err(LdifFault::OutOfMemory),
-        Err(DecodeAllocError::DecodeError(_)) => Err(LdifFault::Fault(Fault::Base64)),
+        Err(DecodeAllocError::DecodeError(_)) => Err(LdifFault::Fault(LdifFaultKind::Base64)),
     }
 }
 
@@ -68,7 +68,7 @@ pub fn form_of(alloc: Global, rest: &[u8]) -> Result<LineValue<'_>, LdifFault>
             let bytes = decode(alloc, without_end(without_front(text)))?;
             Ok(LineValue::Decoded(bytes))
         }
-        [b'<', ..] => Err(LdifFault::Fault(Fault::Url)),
+        [b'<', ..] => Err(LdifFault::Fault(LdifFaultKind::Url)),
         _ => Ok(LineValue::Plain(without_front(rest))),
     }
 }
@@ -85,7 +85,7 @@ fn value_of(alloc: Global, line: &[u8]) -> Result<Attr<'_>, LdifFault>
     ensures { Gives result (value_of line.now) }
 {
     match colon_in(line) {
-        None | Some(0) => Err(LdifFault::Fault(Fault::ColonMissing)),
+        None | Some(0) => Err(LdifFault::Fault(LdifFaultKind::ColonMissing)),
         Some(at) => {
             let value = form_of(alloc, &line[at + 1..])?;
             Ok(Attr::of_line(&line[..at], value))
@@ -99,7 +99,7 @@ pub fn value_line(alloc: Global, line: &[u8]) -> Result<Attr<'_>, LdifFault>
     ensures { Gives result (value_line line.now) }
 {
     match line {
-        [b' ', ..] => Err(LdifFault::Fault(Fault::Continuation)),
+        [b' ', ..] => Err(LdifFault::Fault(LdifFaultKind::Continuation)),
         _ => value_of(alloc, line),
     }
 }

@@ -4,7 +4,7 @@ ghost use Rattle.std.specs.Prelude.{◌≡◌, ◌<◌, ◌∷◌, length};
 ghost use Rattle.ldif.specs.Gives.{Gives};
 ghost use Rattle.ldif.specs.Reading.{texts, each, is_dash, blocks, op_of, value_under, block};
 
-use crate::fault::{Fault, LdifFault};
+use crate::fault::{LdifFault, LdifFaultKind};
 use crate::line::{value_line, without_end};
 use crate::record::{Mod, Op};
 use crate::word::same_name;
@@ -29,7 +29,7 @@ fn op_of(name: &[u8]) -> Result<Op, LdifFault>
     } else if same_name(name, b"replace") {
         Ok(Op::Replace)
     } else {
-        Err(LdifFault::Fault(Fault::StrayLine))
+        Err(LdifFault::Fault(LdifFaultKind::StrayLine))
     }
 }
 
@@ -39,7 +39,7 @@ fn value_under(alloc: Global, attr: &[u8], line: &[u8]) -> Result<Bytes, LdifFau
 {
     let said = value_line(alloc, line)?;
     if !same_name(said.name(), attr) {
-        return Err(LdifFault::Fault(Fault::OtherAttribute));
+        return Err(LdifFault::Fault(LdifFaultKind::OtherAttribute));
     }
     Ok(said.into_value(alloc)?)
 }
@@ -59,7 +59,7 @@ fn block(alloc: Global, lines: &[Vec<u8>]) -> Result<Mod, LdifFault>
     ensures { Gives result (block (texts lines.now)) }
 {
     match lines {
-        [] => Err(LdifFault::Fault(Fault::ColonMissing)),
+        [] => Err(LdifFault::Fault(LdifFaultKind::ColonMissing)),
         [first, rest @ ..] => {
             let said = value_line(alloc, first)?;
             let op = op_of(said.name())?;

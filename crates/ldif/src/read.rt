@@ -7,7 +7,7 @@ ghost use Rattle.ldif.specs.Reading.{texts, controls_of, body, entry, after_vers
 use crate::attributes::contents_of;
 use crate::changes::after_controls;
 use crate::control::control_of;
-use crate::fault::{Fault, LdifFault};
+use crate::fault::{LdifFault, LdifFaultKind};
 use crate::line::value_line;
 use crate::record::{Control, Mode, Record};
 use crate::word::same_name;
@@ -68,11 +68,11 @@ fn entry(alloc: Global, mode: Mode, lines: &[Vec<u8>]) -> Result<Record<'_>, Ldi
     ensures { Gives result (entry mode (texts lines.now)) }
 {
     match lines {
-        [] => Err(LdifFault::Fault(Fault::DnMissing)),
+        [] => Err(LdifFault::Fault(LdifFaultKind::DnMissing)),
         [line, rest @ ..] => {
             let attr = value_line(alloc, line)?;
             if !same_name(attr.name(), b"dn") {
-                return Err(LdifFault::Fault(Fault::DnMissing));
+                return Err(LdifFault::Fault(LdifFaultKind::DnMissing));
             }
             body(alloc, mode, attr.into_value(alloc)?, rest)
         }
@@ -94,14 +94,14 @@ fn first_of_text(alloc: Global, mode: Mode, lines: &[Vec<u8>]) -> Result<Record<
     ensures { Gives result (first_of_text mode (texts lines.now)) }
 {
     match lines {
-        [] => Err(LdifFault::Fault(Fault::DnMissing)),
+        [] => Err(LdifFault::Fault(LdifFaultKind::DnMissing)),
         [line, rest @ ..] => {
             let attr = value_line(alloc, line)?;
             if !same_name(attr.name(), b"version") {
                 return entry(alloc, mode, lines);
             }
             if attr.value() != b"1".as_slice() {
-                return Err(LdifFault::Fault(Fault::Version));
+                return Err(LdifFault::Fault(LdifFaultKind::Version));
             }
             after_version(alloc, mode, rest)
         }

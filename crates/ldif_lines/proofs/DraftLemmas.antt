@@ -4,8 +4,8 @@ use Rattle.std.specs.List.{slice_split, onto_first, filter_map, enumerate_from, 
 use Rattle.std.specs.Str.Lines.{lines}
 use Rattle.std.proofs.lemmas.List.{append-nil}
 use Rattle.std.proofs.lemmas.List.Splits.{slice_split-cons_yes, slice_split-cons_no}
-use Rattle.ldif_lines.specs.Records.{Body, Raw, begins_with, is_blank, continues, is_kept, bytes_of, continuation, joined, joined_block, body_of, body_of_block, with_first, records_from}
-use Rattle.ldif_lines.specs.Drafts.{Draft, append_last, add_by, add}
+use Rattle.ldif_lines.specs.Records.{Body, RawRecord, begins_with, is_blank, continues, is_kept, bytes_of, continuation, joined, joined_block, body_of, body_of_block, with_first, records_from}
+use Rattle.ldif_lines.specs.Drafts.{RecordDraft, append_last, add_by, add}
 use Rattle.std.proofs.lemmas.Bool.{eqb-true, false_from_ne_true}
 use Rattle.ldif_lines.proofs.LineLemmas.{split_cons}
 
@@ -81,10 +81,10 @@ after (k ∷ ks) line false p = Some (record { line = line; lines = append_last 
 abbrev made : ℕ → List (List ℕ) → Option Body
 made line ls = Some (record { line = line; lines = ls })
 
-abbrev draft : ℕ → Bool → List (List ℕ) → Draft
+abbrev draft : ℕ → Bool → List (List ℕ) → RecordDraft
 draft line comment ks = record { line = line; comment = comment; lines = ks }
 
-pub body_after : Draft → List (ℕ × List ℕ) → Option Body
+pub body_after : RecordDraft → List (ℕ × List ℕ) → Option Body
 body_after d p = after d.lines d.line d.comment p
 
 extended : (line : ℕ) (k : List ℕ) (ks : List (List ℕ)) (bs : List ℕ) (p : List (ℕ × List ℕ)) → after (append_last (k ∷ ks) bs) line false p ≡ made line (append_last (k ∷ ks) (bs ++ continuation p) ++ map bytes_of (kept p))
@@ -126,16 +126,16 @@ module _ (line : ℕ) (l : ℕ × List ℕ) (p : List (ℕ × List ℕ)) (some :
 
 -- ---- the records that are left
 
-in_blocks : Bool → Draft → List (List (ℕ × List ℕ)) → List Raw
+in_blocks : Bool → RecordDraft → List (List (ℕ × List ℕ)) → List RawRecord
 in_blocks first d [] = []
 in_blocks first d (p ∷ ps) = with_first first (cons_option (body_after d p) (filter_map body_of_block ps))
 
 -- what a draft and the lines after it hold
-pub pending : Bool → Draft → List (ℕ × List ℕ) → List Raw
+pub pending : Bool → RecordDraft → List (ℕ × List ℕ) → List RawRecord
 pending first d ls = in_blocks first d (slice_split is_blank ls)
 
 -- a line that isn't empty goes to the draft
-pub pending-add : (first : Bool) (d : Draft) (n : ℕ) (bs : List ℕ) (ls : List (ℕ × List ℕ)) → 0 < length bs → pending first d ((n, bs) ∷ ls) ≡ pending first (add d (n, bs)) ls
+pub pending-add : (first : Bool) (d : RecordDraft) (n : ℕ) (bs : List ℕ) (ls : List (ℕ × List ℕ)) → 0 < length bs → pending first d ((n, bs) ∷ ls) ≡ pending first (add d (n, bs)) ls
 unfolding pending in_blocks body_after
 pending-add first d n bs ls some =
     let l : ℕ × List ℕ = (n, bs) in
@@ -147,7 +147,7 @@ pending-add first d n bs ls some =
     ∙ ap (in_blocks first (add d l)) (sym s.2)
 
 -- a draft with no line
-pub IsFresh : Draft → Type 0
+pub IsFresh : RecordDraft → Type 0
 IsFresh d = (d.lines ≡ []) × (d.comment ≡ false)
 
 fresh_blocks : (first : Bool) (line : ℕ) (ps : List (List (ℕ × List ℕ))) → in_blocks first (draft line false []) ps ≡ with_first first (filter_map body_of_block ps)
@@ -201,7 +201,7 @@ records_none : (first : Bool) (number : ℕ) → records_from first number [] �
 unfolding records_from with_first body_of_block joined_block body_of
 records_none first number = refl
 
-pub pending-line : (first : Bool) (d : Draft) (number : ℕ) (text l rest : List ℕ) → lines text ≡ l ∷ lines rest → 0 < length l
+pub pending-line : (first : Bool) (d : RecordDraft) (number : ℕ) (text l rest : List ℕ) → lines text ≡ l ∷ lines rest → 0 < length l
     → pending first d (enumerate_from number (lines text)) ≡ pending first (add d (number, l)) (enumerate_from (number + 1) (lines rest))
 pending-line first d number text l rest e some =
     ap (λ (ls : List (List ℕ)). pending first d (enumerate_from number ls)) e ∙ pending-add first d number l (enumerate_from (number + 1) (lines rest)) some
@@ -228,6 +228,6 @@ pending-over first comment line (k ∷ ks) number [] z none = absurd (omega arit
 
 pub pending-rest : (first comment : Bool) (line : ℕ) (ks : List (List ℕ)) (number : ℕ) (text : List ℕ) → length text ≡ 0 → 0 < length ks
     → pending first (draft line comment ks) (enumerate_from number (lines text)) ≡ record { line = line; first = first; lines = ks } ∷ records_from false number text
-pending-rest first comment line (k ∷ ks) number [] z some = pending-last first comment line k ks ∙ ap (λ (rs : List Raw). record { line = line; first = first; lines = k ∷ ks } ∷ rs) (sym (records_none false number))
+pending-rest first comment line (k ∷ ks) number [] z some = pending-last first comment line k ks ∙ ap (λ (rs : List RawRecord). record { line = line; first = first; lines = k ∷ ks } ∷ rs) (sym (records_none false number))
 pending-rest first comment line ks number (b ∷ bs) z some = absurd (omega arith)
 pending-rest first comment line [] number [] z some = absurd (omega arith)

@@ -3,7 +3,7 @@ use Rattle.std.specs.Prelude.{ℕ, Bool, true, false, ◌&&◌, not, List, [], �
 use Rattle.ldif_lines.specs.Records.{begins_with, continues}
 
 -- the number of its first line, whether the line before was part of a comment, and its lines so far
-pub record Draft : Type 0 where
+pub record RecordDraft : Type 0 where
   pub line : ℕ
   pub comment : Bool
   pub lines : List (List ℕ)
@@ -19,12 +19,12 @@ append_last (k ∷ []) bs = (k ++ bs) ∷ []
 append_last (k ∷ l ∷ ks) bs = k ∷ append_last (l ∷ ks) bs
 
 -- the draft after one more line of the block, which begins with a space or not, and with `#` or not
-unfoldable pub add_by : Bool → Bool → Draft → ℕ × List ℕ → Draft
+unfoldable pub add_by : Bool → Bool → RecordDraft → ℕ × List ℕ → RecordDraft
 add_by space hash d line =
     if space && d.comment then d
     else (if space && not (none_yet d.lines) then record d { lines = append_last d.lines (drop 1 line.1) }
     else (if hash then record d { comment = true }
     else record { line = if none_yet d.lines then line.0 else d.line; comment = false; lines = d.lines ++ line.1 ∷ [] }))
 
-abbrev pub add : Draft → ℕ × List ℕ → Draft
+abbrev pub add : RecordDraft → ℕ × List ℕ → RecordDraft
 add d line = add_by (continues line) (begins_with 35 line.1) d line

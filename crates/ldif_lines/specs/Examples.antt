@@ -1,9 +1,9 @@
 -- The records of short texts and the folds of some lines, by computation (RFC 2849, notes 2, 5 and 6).
 use Rattle.std.specs.Prelude.{◌≡◌, ℕ, Bool, true, false, List, [], ◌∷◌, ◌++◌, codes, replicate, refl}
-use Rattle.ldif_lines.specs.Records.{Raw, continuation, joined, joined_block, body_of, body_of_block, with_first, records_from, records}
+use Rattle.ldif_lines.specs.Records.{RawRecord, continuation, joined, joined_block, body_of, body_of_block, with_first, records_from, records}
 use Rattle.ldif_lines.specs.Folding.{folded, written_blocks}
 
-abbrev raw : ℕ → Bool → List (List ℕ) → Raw
+abbrev raw : ℕ → Bool → List (List ℕ) → RawRecord
 raw line first lines = record { line = line; first = first; lines = lines }
 
 -- a line with its end

@@ -1,7 +1,7 @@
 -- How lines are written: folded to at most 76 bytes (RFC 2849, note 2), each record with an empty line behind it.
 use Rattle.std.specs.Prelude.{◌≡◌, ℕ, zero, suc, Bool, true, false, not, ◌&&◌, ◌==◌, List, [], ◌∷◌, ◌++◌}
 use Rattle.std.specs.List.{flat_map, list_all, AllByRecursion}
-use Rattle.ldif_lines.specs.Records.{Raw}
+use Rattle.ldif_lines.specs.Records.{RawRecord}
 
 -- a line that is folded, with room for so many bytes before the first fold: each further piece is a space and at most 75 bytes
 unfoldable pub folded : ℕ → List ℕ → List ℕ
@@ -36,10 +36,10 @@ AreWritable (l ∷ ls) = AllByRecursion IsWritable (l ∷ ls)
 
 -- ---- what is read of them: records up to the numbers of their lines
 
-abbrev pub raw_lines : Raw → List (List ℕ)
+abbrev pub raw_lines : RawRecord → List (List ℕ)
 raw_lines r = r.lines
 
-abbrev pub raw_block : Raw → Bool × List (List ℕ)
+abbrev pub raw_block : RawRecord → Bool × List (List ℕ)
 raw_block r = (r.first, r.lines)
 
 -- the first of these blocks is the text's first record, and no other is

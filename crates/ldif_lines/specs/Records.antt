@@ -9,7 +9,7 @@ use Rattle.std.specs.List.{slice_split, enumerate_from, filter_map}
 use Rattle.std.specs.Str.Lines.{lines}
 
 -- a record: the number of its first line that is no comment, whether it is the text's first record, and its lines
-pub record Raw : Type 0 where
+pub record RawRecord : Type 0 where
   pub line : ℕ
   pub first : Bool
   pub lines : List (List ℕ)
@@ -59,14 +59,14 @@ body_of (l ∷ ls) = Some (record { line = l.0; lines = l.1 ∷ map bytes_of ls 
 unfoldable pub body_of_block : List (ℕ × List ℕ) → Option Body
 body_of_block block = body_of (filter is_kept (joined_block block))
 
-unfoldable pub with_first : Bool → List Body → List Raw
+unfoldable pub with_first : Bool → List Body → List RawRecord
 with_first first [] = []
 with_first first (b ∷ bs) = record { line = b.line; first = first; lines = b.lines } ∷ with_first false bs
 
 -- the records of a text whose first line has this number
-unfoldable pub records_from : Bool → ℕ → List ℕ → List Raw
+unfoldable pub records_from : Bool → ℕ → List ℕ → List RawRecord
 records_from first number text = with_first first (filter_map body_of_block (slice_split is_blank (enumerate_from number (lines text))))
 
 -- the records of a text
-abbrev pub records : List ℕ → List Raw
+abbrev pub records : List ℕ → List RawRecord
 records text = records_from true 1 text

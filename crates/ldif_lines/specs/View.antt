@@ -1,10 +1,10 @@
 -- Records and drafts as contracts see them: each vector of bytes as its list.
 use Rattle.std.specs.Prelude.{ℕ, List, map}
 use Rattle.std.specs.Global.{Vec}
-use Rattle.ldif_lines.specs.Records.{Raw}
+use Rattle.ldif_lines.specs.Records as records
 use Rattle.ldif_lines.specs.Drafts as drafts
 use Rattle.ldif_lines.specs.declared.raw_record.RawRecord.{RawRecord}
-use Rattle.ldif_lines.specs.declared.draft.Draft.{Draft}
+use Rattle.ldif_lines.specs.declared.draft.RecordDraft.{RecordDraft}
 
 abbrev pub items_of : Vec ℕ → List ℕ
 items_of v = v.items
@@ -12,8 +12,8 @@ items_of v = v.items
 abbrev pub texts : List (Vec ℕ) → List (List ℕ)
 texts vs = map items_of vs
 
-abbrev pub view : RawRecord → Raw
+abbrev pub view : RawRecord → records.RawRecord
 view r = record { line = r.line; first = r.first; lines = texts r.lines.items }
 
-abbrev pub draft_of : Draft → drafts.Draft
+abbrev pub draft_of : RecordDraft → drafts.RecordDraft
 draft_of d = record { line = d.line; comment = d.in_comment; lines = texts d.lines.items }

@@ -20,7 +20,7 @@ fn extend_last(lines: &mut Vec<Vec<u8>>, bytes: &[u8]) -> Result<(), AllocError>
 
 /// The lines of a record so far.
 #[derive(Drop)]
-pub struct Draft {
+pub struct RecordDraft {
     /// The number of its first line, once it has one.
     pub line: u64,
     /// Whether the line before belongs to a comment.
@@ -28,7 +28,7 @@ pub struct Draft {
     pub lines: Vec<Vec<u8>>,
 }
 
-impl Draft {
+impl RecordDraft {
     /// Adds a line of the block, which is not empty.
     #[tactic(auto, unfolding(crate::specs::Drafts::add_by))]
     pub fn add(

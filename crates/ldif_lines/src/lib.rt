@@ -7,8 +7,6 @@ mod line;
 mod raw_record;
 mod reader;
 mod spare;
-#[cfg(test)]
-mod tests;
 mod text;
 
 pub use laws::written_blocks_are_read;

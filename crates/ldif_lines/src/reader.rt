@@ -5,7 +5,7 @@ ghost use Rattle.ldif_lines.specs.Records.{records};
 ghost use Rattle.ldif_lines.specs.View.{view};
 
 use crate::raw_record::RawRecord;
-use crate::text::Text;
+use crate::text::TextCursor;
 use device::{Device, Source};
 use std::alloc::Global;
 use thiserror::Error;
@@ -56,7 +56,7 @@ fn pull_all<S: Source>(alloc: Global, source: &mut S) -> Result<Vec<u8>, ReadFau
 ///
 /// It keeps the loan of the source until it is dropped. The first call of `next` pulls the source to its end.
 /// After a fault it has failed for good.
-pub struct Reader<'a, S: Source, T: Drop = Text> {
+pub struct Reader<'a, S: Source, T: Drop = TextCursor> {
     source: &'a mut S,
     text: T,
     alloc: Global,
@@ -96,7 +96,7 @@ impl<'a, S: Source> Reader<'a, S> {
     {
         Reader {
             source,
-            text: Text::new(alloc, Vec::new(alloc)),
+            text: TextCursor::new(alloc, Vec::new(alloc)),
             alloc,
             pulled: false,
             failed: false,
@@ -129,7 +129,7 @@ impl<'a, S: Source> Reader<'a, S> {
         if !self.pulled {
             match pull_all(self.alloc, &mut *self.source) {
                 Ok(bytes) => {
-                    self.text = Text::new(self.alloc, bytes);
+                    self.text = TextCursor::new(self.alloc, bytes);
                     self.pulled = true;
                 }
                 Err(fault) => {

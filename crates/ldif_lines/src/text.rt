@@ -4,7 +4,7 @@ ghost use Rattle.std.specs.Prelude.{◌≡◌, ◌<◌, ◌≤◌, ◌+◌, ◌-
 ghost use Rattle.ldif_lines.specs.Records.{records_from};
 ghost use Rattle.ldif_lines.specs.View.{view, texts};
 
-use crate::draft::Draft;
+use crate::draft::RecordDraft;
 use crate::line::split_line;
 use crate::raw_record::RawRecord;
 use crate::spare::Spare;
@@ -22,7 +22,7 @@ struct Found {
     before: u64,
 }
 
-fn finished(draft: Draft, first: bool, at: usize, before: u64) -> Found
+fn finished(draft: RecordDraft, first: bool, at: usize, before: u64) -> Found
     ensures record { view result.record ≡ record { line = draft.line; first = first; lines = texts draft.lines.items } }
     ensures at { result.at ≡ at }
     ensures before { result.before ≡ before }
@@ -51,7 +51,7 @@ fn record_from(
         (λ f. records_from first (before + 1) (drop at text.now) ≡ view f.record ∷ records_from false (f.before + 1) (drop f.at text.now))) }
     ensures place { IfOk result (λ found. IfSome found (λ f. (at < f.at) × (f.at ≤ length text.now) × (f.before + (length text.now - f.at) < 2 ^ 64))) }
 {
-    let mut draft = Draft {
+    let mut draft = RecordDraft {
         line: 0,
         in_comment: false,
         lines: spare.take_list(alloc)?,
@@ -78,7 +78,7 @@ fn record_from(
 
 /// A text, and how far it was read.
 #[derive(Drop)]
-pub struct Text {
+pub struct TextCursor {
     bytes: Vec<u8>,
     at: usize,
     /// How many lines come before that place.
@@ -90,16 +90,16 @@ pub struct Text {
     ghost counted: { before + (length bytes.items - at) < 2 ^ 64 },
 }
 
-impl Text {
+impl TextCursor {
     ghost use Rattle.ldif_lines.specs.Reader.{text_records};
 
-    pub fn new(alloc: Global, bytes: Vec<u8>) -> Text
+    pub fn new(alloc: Global, bytes: Vec<u8>) -> TextCursor
         ensures bytes { result.bytes ≡ bytes }
         ensures at { result.at ≡ 0 }
         ensures before { result.before ≡ 0 }
         ensures first { result.first ≡ true }
     {
-        Text {
+        TextCursor {
             bytes,
             at: 0,
             before: 0,

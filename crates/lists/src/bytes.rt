@@ -152,34 +152,3 @@ impl Ord for Bytes {
         self.bytes.cmp(&other.bytes)
     }
 }
-
-#[cfg(test)]
-mod tests {
-    use super::*;
-    use std::test::Fail;
-
-    #[test]
-    fn copies_hold_the_same_bytes(rt: HostRuntime) -> Result<(), Fail> {
-        let bytes = Bytes::from_slice(rt.alloc(), b"ab\0\xff")?;
-        let again = bytes.copy(rt.alloc())?;
-        assert_eq!(rt; again.as_slice(), b"ab\0\xff".as_slice());
-        assert_eq!(rt; again.len(), 4);
-        assert!(rt; !again.is_empty());
-        let kept = Bytes::from_vec(Vec::from_slice(rt.alloc(), b"ab\0\xff")?);
-        assert_eq!(rt; kept.as_slice(), b"ab\0\xff".as_slice());
-        assert!(rt; Bytes::from_vec(Vec::new(rt.alloc())).is_empty());
-        Ok(())
-    }
-
-    #[test]
-    fn few_and_many_bytes_are_alike(rt: HostRuntime) -> Result<(), Fail> {
-        let mut bytes = Bytes::from_slice(rt.alloc(), b"Zaukdreva")?;
-        bytes.extend_from_slice(b" AND 17 more [@`{")?;
-        assert_eq!(rt; bytes.as_slice(), b"Zaukdreva AND 17 more [@`{".as_slice());
-        bytes.make_ascii_lowercase();
-        assert_eq!(rt; bytes.as_slice(), b"zaukdreva and 17 more [@`{".as_slice());
-        let again = Bytes::from_vec(Vec::from_slice(rt.alloc(), bytes.as_slice())?);
-        assert!(rt; again == bytes);
-        Ok(())
-    }
-}

@@ -3,8 +3,6 @@
 
 mod bytes;
 mod sequence;
-#[cfg(test)]
-mod tests;
 
 pub use bytes::Bytes;
 pub use sequence::Sequence;

@@ -105,22 +105,3 @@ impl<T: Ord> Ord for Sequence<T> {
         self.items.cmp(&other.items)
     }
 }
-
-#[cfg(test)]
-mod tests {
-    use super::*;
-    use std::test::Fail;
-
-    #[test]
-    fn values_stay_in_order(rt: HostRuntime) -> Result<(), Fail> {
-        let mut words: Sequence<u16> = Sequence::new(rt.alloc());
-        assert!(rt; words.is_empty());
-        words.push(7)?;
-        words.push(5)?;
-        assert_eq!(rt; words.as_slice(), [7u16, 5].as_slice());
-        assert_eq!(rt; words.len(), 2);
-        let same = Sequence::from_vec(vec![in rt.alloc(); 1u8, 2]?);
-        assert_eq!(rt; same.as_slice(), [1u8, 2].as_slice());
-        Ok(())
-    }
-}

@@ -9,8 +9,6 @@ mod order;
 mod spaces;
 mod substrings;
 mod syntax;
-#[cfg(test)]
-mod tests;
 
 pub use family::Family;
 pub use laws::{normal_forms_stay, valid_values_are_bytes};

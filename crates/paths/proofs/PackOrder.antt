@@ -7,7 +7,7 @@ use Rattle.std.specs.declared.cmp.Ordering.TheVariants.{Less, Equal, Greater}
 use Rattle.std.specs.Ordering.{nat_cmp, ordering_then}
 use Rattle.std.specs.Cmp.Lexicographic.{slice_cmp}
 use Rattle.std.proofs.lemmas.Bool.Decides.{nat_tests}
-use Rattle.paths.specs.Paths.{Pair, Step, Steps, pair_cmp, step_cmp, path_cmp}
+use Rattle.paths.specs.Paths.{Pair, RdnKey, Path, pair_cmp, rdn_key_cmp, path_cmp}
 use Rattle.paths.specs.Packed.{byte_code, value_code, type_code, pair_code, step_code, pack}
 
 abbrev bytes_cmp : List ℕ → List ℕ → Ordering
@@ -147,24 +147,24 @@ pair_above : (p : Pair) → Above 0 (pair_code p)
 unfolding pair_code type_code
 pair_above p = record { first = p.0 / 254 / 254 + 2; rest = (p.0 / 254 % 254 + 2) ∷ (p.0 % 254 + 2) ∷ value_code p.1; is = refl; above = omega arith }
 
-pub step_fits : Fits step_code step_cmp
+pub step_fits : Fits step_code rdn_key_cmp
 unfolding step_code
 step_fits = list_fits pair_code pair_cmp 0 pair_fits pair_above
 
 -- a code that begins somewhere comes behind no code at all
-pub step_above : (s : Step) (bs : List ℕ) → slice_cmp nat_cmp [] (step_code s ++ bs) ≡ Less
+pub step_above : (s : RdnKey) (bs : List ℕ) → slice_cmp nat_cmp [] (step_code s ++ bs) ≡ Less
 unfolding step_code pair_code type_code
 step_above [] bs = refl
 step_above (p ∷ ps) bs = refl
 
-step_below : (s : Step) (bs : List ℕ) → slice_cmp nat_cmp (step_code s ++ bs) [] ≡ Greater
+step_below : (s : RdnKey) (bs : List ℕ) → slice_cmp nat_cmp (step_code s ++ bs) [] ≡ Greater
 unfolding step_code pair_code type_code
 step_below [] bs = refl
 step_below (p ∷ ps) bs = refl
 
-pub packed_order : (p q : Steps) → slice_cmp nat_cmp (pack p) (pack q) ≡ path_cmp p q
+pub packed_order : (p q : Path) → slice_cmp nat_cmp (pack p) (pack q) ≡ path_cmp p q
 unfolding pack
 packed_order [] [] = refl
 packed_order [] (y ∷ q) = step_above y (pack q)
 packed_order (x ∷ p) [] = step_below x (pack p)
-packed_order (x ∷ p) (y ∷ q) = step_fits x y (pack p) (pack q) ∙ ap (ordering_then (step_cmp x y)) (packed_order p q)
+packed_order (x ∷ p) (y ∷ q) = step_fits x y (pack p) (pack q) ∙ ap (ordering_then (rdn_key_cmp x y)) (packed_order p q)

@@ -4,7 +4,7 @@ use Rattle.std.specs.Prelude.{nat_lt, ◌==◌}
 use Rattle.std.specs.List.{flat_map, onto_first, AllByRecursion, list_all}
 use Rattle.std.proofs.lemmas.Bool.{ne_eqb, and_parts}
 use Rattle.std.proofs.lemmas.Bool.Decides.{nat_tests}
-use Rattle.paths.specs.Paths.{Pair, Step, Steps}
+use Rattle.paths.specs.Paths.{Pair, RdnKey, Path}
 use Rattle.paths.specs.Packed.{byte_code, value_code, type_code, pair_code, step_code, pack, parts, value_of, pair_of, pairs_of, unpack, IsPacked}
 
 pub all_append : {X : Type 0} (P : X → Type 0) (xs ys : List X) → AllByRecursion P xs → AllByRecursion P ys → AllByRecursion P (xs ++ ys)
@@ -90,16 +90,16 @@ pair_ends : (p : Pair) (bs : List ℕ) → pair_code p ++ bs ≡ body p ++ 1 ∷
 unfolding body pair_code value_code type_code
 pair_ends p bs = ap (λ x. type_code p.0 ++ x) (append_assoc (flat_map byte_code p.1) (1 ∷ []) bs)
 
-pairs_parted : (s : Step) → parts 1 (flat_map pair_code s) ≡ map body s
+pairs_parted : (s : RdnKey) → parts 1 (flat_map pair_code s) ≡ map body s
 unfolding parts
 pairs_parted [] = refl
 pairs_parted (p ∷ s) = ap (parts 1) (pair_ends p (flat_map pair_code s)) ∙ parted 1 (body p) (flat_map pair_code s) (body_high p) ∙ ap (λ x. body p ∷ x) (pairs_parted s)
 
-pairs_back : (s : Step) → pairs_of (flat_map pair_code s) ≡ s
+pairs_back : (s : RdnKey) → pairs_of (flat_map pair_code s) ≡ s
 unfolding pairs_of
 pairs_back s = ap (map pair_of) (pairs_parted s) ∙ each_back s
   where
-    each_back : (s : Step) → map pair_of (map body s) ≡ s
+    each_back : (s : RdnKey) → map pair_of (map body s) ≡ s
     each_back [] = refl
     each_back (p ∷ s) = λ i. pair_back p i ∷ each_back s i
 
@@ -107,38 +107,38 @@ lower : (bs : List ℕ) → AllByRecursion (λ b. 1 < b) bs → AllByRecursion (
 lower [] h = tt
 lower (b ∷ bs) h = (omega arith, lower bs h.1)
 
-pub pairs_high : (s : Step) → AllByRecursion (λ b. 0 < b) (flat_map pair_code s)
+pub pairs_high : (s : RdnKey) → AllByRecursion (λ b. 0 < b) (flat_map pair_code s)
 pairs_high [] = tt
 pairs_high (p ∷ s) =
     subst (AllByRecursion (λ b. 0 < b)) (sym (pair_ends p (flat_map pair_code s)))
     (all_append (λ b. 0 < b) (body p) (1 ∷ flat_map pair_code s) (lower (body p) (body_high p)) (omega arith, pairs_high s))
 
-pub step_ends : (s : Step) (bs : List ℕ) → step_code s ++ bs ≡ flat_map pair_code s ++ 0 ∷ bs
+pub step_ends : (s : RdnKey) (bs : List ℕ) → step_code s ++ bs ≡ flat_map pair_code s ++ 0 ∷ bs
 unfolding step_code
 step_ends s bs = append_assoc (flat_map pair_code s) (0 ∷ []) bs
 
 -- ---- paths
 
-steps_parted : (p : Steps) → parts 0 (pack p) ≡ map (λ s. flat_map pair_code s) p
+steps_parted : (p : Path) → parts 0 (pack p) ≡ map (λ s. flat_map pair_code s) p
 unfolding parts pack
 steps_parted [] = refl
 steps_parted (s ∷ p) = ap (parts 0) (step_ends s (pack p)) ∙ parted 0 (flat_map pair_code s) (pack p) (pairs_high s) ∙ ap (λ x. flat_map pair_code s ∷ x) (steps_parted p)
 
-pub unpacked : (p : Steps) → unpack (pack p) ≡ p
+pub unpacked : (p : Path) → unpack (pack p) ≡ p
 unfolding unpack
 unpacked p = ap (map pairs_of) (steps_parted p) ∙ each_back p
   where
-    each_back : (p : Steps) → map pairs_of (map (λ s. flat_map pair_code s) p) ≡ p
+    each_back : (p : Path) → map pairs_of (map (λ s. flat_map pair_code s) p) ≡ p
     each_back [] = refl
     each_back (s ∷ p) = λ i. pairs_back s i ∷ each_back p i
 
 -- bytes that are a path's code read as it
-pub reads_as : (bs : List ℕ) (p : Steps) → bs ≡ pack p → unpack bs ≡ p
+pub reads_as : (bs : List ℕ) (p : Path) → bs ≡ pack p → unpack bs ≡ p
 reads_as bs p is = ap unpack is ∙ unpacked p
 
-pub is_packed : (bs : List ℕ) (p : Steps) → bs ≡ pack p → IsPacked bs
+pub is_packed : (bs : List ℕ) (p : Path) → bs ≡ pack p → IsPacked bs
 is_packed bs p is = ap pack (reads_as bs p is) ∙ sym is
 
 -- the bytes of a path
-pub bytes_of : (bs : List ℕ) (p : Steps) → IsPacked bs → unpack bs ≡ p → bs ≡ pack p
+pub bytes_of : (bs : List ℕ) (p : Path) → IsPacked bs → unpack bs ≡ p → bs ≡ pack p
 bytes_of bs p packed is = sym packed ∙ ap pack is

@@ -2,7 +2,7 @@
 -- 2, so that 1 can end a value and 0 a step: what ends comes before what goes on.
 use Rattle.std.specs.Prelude.{◌≡◌, ℕ, ◌+◌, ◌-◌, ◌*◌, ◌/◌, ◌%◌, Bool, true, false, nat_lt, ◌==◌, if◌then◌else◌, List, [], ◌∷◌, ◌++◌, map}
 use Rattle.std.specs.List.{flat_map, onto_first}
-use Rattle.paths.specs.Paths.{Pair, Step, Steps}
+use Rattle.paths.specs.Paths.{Pair, RdnKey, Path}
 
 -- a byte of a value: itself, but two bytes for 0, 1 and 2
 unfoldable pub byte_code : ℕ → List ℕ
@@ -18,10 +18,10 @@ type_code t = (t / 254 / 254 + 2) ∷ (t / 254 % 254 + 2) ∷ (t % 254 + 2) ∷ 
 unfoldable pub pair_code : Pair → List ℕ
 pair_code p = type_code p.0 ++ value_code p.1
 
-unfoldable pub step_code : Step → List ℕ
+unfoldable pub step_code : RdnKey → List ℕ
 step_code s = flat_map pair_code s ++ 0 ∷ []
 
-unfoldable pub pack : Steps → List ℕ
+unfoldable pub pack : Path → List ℕ
 pack p = flat_map step_code p
 
 -- ---- and back
@@ -43,10 +43,10 @@ pair_of (a ∷ []) = (0, [])
 pair_of (a ∷ b ∷ []) = (0, [])
 pair_of (a ∷ b ∷ c ∷ bs) = (((a - 2) * 254 + (b - 2)) * 254 + (c - 2), value_of false bs)
 
-unfoldable pub pairs_of : List ℕ → Step
+unfoldable pub pairs_of : List ℕ → RdnKey
 pairs_of bs = map pair_of (parts 1 bs)
 
-unfoldable pub unpack : List ℕ → Steps
+unfoldable pub unpack : List ℕ → Path
 unpack bs = map pairs_of (parts 0 bs)
 
 -- what holds of the bytes of a path

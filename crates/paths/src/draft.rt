@@ -13,11 +13,11 @@ const USUAL_LEN: usize = 64;
 
 /// A path that is put together, step by step. A contract sees it as the list of its steps.
 #[derive(Drop)]
-pub struct Draft {
+pub struct PathDraft {
     bytes: Vec<u8>,
 }
 
-impl Model for Draft {
+impl Model for PathDraft {
     ghost use Rattle.std.specs.Prelude.{List, ℕ};
     ghost use Rattle.paths.specs.Packed.{unpack, IsPacked};
 
@@ -28,23 +28,23 @@ impl Model for Draft {
     ghost invariant = { λ d. IsPacked d.bytes.items };
 }
 
-impl Draft {
+impl PathDraft {
     /// No step yet.
-    pub fn new(alloc: Global) -> Result<Draft, AllocError>
+    pub fn new(alloc: Global) -> Result<PathDraft, AllocError>
         ensures { IfOk result (λ d. d ≡ []) }
     {
-        Ok(Draft {
+        Ok(PathDraft {
             bytes: Vec::with_capacity(alloc, USUAL_LEN)?,
         })
     }
 
     /// One step more, of one pair of a type and a normal value.
-    pub fn with(self, t: TypeId, norm: &[u8]) -> Result<Draft, AllocError>
+    pub fn with(self, t: TypeId, norm: &[u8]) -> Result<PathDraft, AllocError>
         ensures { IfOk result (λ d. d ≡ self ++ ((t, norm.now) ∷ []) ∷ []) }
     {
         let mut bytes = self.bytes;
         push_single(&mut bytes, t, norm)?;
-        Ok(Draft { bytes })
+        Ok(PathDraft { bytes })
     }
 
     /// The path of these steps.

@@ -5,9 +5,7 @@ mod draft;
 mod laws;
 mod packing;
 mod path;
-#[cfg(test)]
-mod tests;
 
-pub use draft::Draft;
+pub use draft::PathDraft;
 pub use laws::order_of_paths;
 pub use path::{Path, Rdn, RdnKey};

@@ -7,28 +7,28 @@ use Rattle.std.proofs.lemmas.List.{take-append-drop, reverse-append, length-reve
 use Rattle.values.specs.declared.types.AttributeType.{AttributeType}
 use Rattle.schema.specs.declared.code.Code.{Code}
 use Rattle.schema.specs.declared.code.Code.TheVariants.{NoSuchObject}
-use Rattle.paths.specs.Paths.{Steps, step_cmp, begins}
-use Rattle.schema.specs.Rdns.{Parts, step_of}
-use Rattle.schema.specs.Rules.{below}
+use Rattle.paths.specs.Paths.{Path, rdn_key_cmp, begins}
+use Rattle.schema.specs.Rdns.{Rdn, rdn_key_of}
+use Rattle.schema.specs.Conf.{below}
 
-abbrev answer : Bool → List Parts → Result (List Parts) Code
+abbrev answer : Bool → List Rdn → Result (List Rdn) Code
 answer b rs = if b then Ok rs else Err NoSuchObject
 
-chosen : (a b : Bool) (rs : List Parts) → cond a (answer b rs) (Err NoSuchObject) ≡ answer (a && b) rs
+chosen : (a b : Bool) (rs : List Rdn) → cond a (answer b rs) (Err NoSuchObject) ≡ answer (a && b) rs
 chosen true b rs = refl
 chosen false b rs = refl
 
-pub below_begins : (types : List AttributeType) (ss rs : List Parts) → below types ss rs ≡ (if begins (map (step_of types) ss) (map (step_of types) rs) then Ok (drop (length ss) rs) else Err NoSuchObject)
+pub below_begins : (types : List AttributeType) (ss rs : List Rdn) → below types ss rs ≡ (if begins (map (rdn_key_of types) ss) (map (rdn_key_of types) rs) then Ok (drop (length ss) rs) else Err NoSuchObject)
 unfolding below
 below_begins types [] rs = refl
 below_begins types (s ∷ ss) [] = refl
 below_begins types (s ∷ ss) (r ∷ rs) =
-    ap (λ (x : Result (List Parts) Code). cond (is_eq (step_cmp (step_of types s) (step_of types r))) x (Err NoSuchObject)) (below_begins types ss rs)
-    ∙ chosen (is_eq (step_cmp (step_of types s) (step_of types r))) (begins (map (step_of types) ss) (map (step_of types) rs)) (drop (length ss) rs)
+    ap (λ (x : Result (List Rdn) Code). cond (is_eq (rdn_key_cmp (rdn_key_of types s) (rdn_key_of types r))) x (Err NoSuchObject)) (below_begins types ss rs)
+    ∙ chosen (is_eq (rdn_key_cmp (rdn_key_of types s) (rdn_key_of types r))) (begins (map (rdn_key_of types) ss) (map (rdn_key_of types) rs)) (drop (length ss) rs)
 
-module _ (types : List AttributeType) (ss rs : List Parts) (keys : Steps) (b : Bool) (seen : keys ≡ map (step_of types) rs) (test : b ≡ begins (map (step_of types) ss) keys) where
+module _ (types : List AttributeType) (ss rs : List Rdn) (keys : Path) (b : Bool) (seen : keys ≡ map (rdn_key_of types) rs) (test : b ≡ begins (map (rdn_key_of types) ss) keys) where
   by_test : below types ss rs ≡ answer b (drop (length ss) rs)
-  by_test = below_begins types ss rs ∙ ap (λ (x : Steps). answer (begins (map (step_of types) ss) x) (drop (length ss) rs)) (sym seen) ∙ ap (λ x. answer x (drop (length ss) rs)) (sym test)
+  by_test = below_begins types ss rs ∙ ap (λ (x : Path). answer (begins (map (rdn_key_of types) ss) x) (drop (length ss) rs)) (sym seen) ∙ ap (λ x. answer x (drop (length ss) rs)) (sym test)
 
   pub isnt_below : b ≡ false → below types ss rs ≡ Err NoSuchObject
   isnt_below off = by_test ∙ ap (λ x. answer x (drop (length ss) rs)) off
@@ -44,7 +44,7 @@ reversed_front {X} xs k le =
     let long : length (reverse (drop m xs)) ≡ k = omega (arith, length-reverse (drop m xs), length-drop m xs) in
     sym (ap (λ (ys : List X). drop k ys) cut ∙ drop_at (reverse (drop m xs)) (reverse (take m xs)) k long)
 
-pub begins_long : (p q : Steps) → begins p q ≡ true → length p ≤ length q
+pub begins_long : (p q : Path) → begins p q ≡ true → length p ≤ length q
 begins_long [] q h = omega arith
 begins_long (x ∷ p) [] h = absurd cc
-begins_long (x ∷ p) (y ∷ q) h = omega (arith, begins_long p q (and_parts (is_eq (step_cmp x y)) (begins p q) h).1)
+begins_long (x ∷ p) (y ∷ q) h = omega (arith, begins_long p q (and_parts (is_eq (rdn_key_cmp x y)) (begins p q) h).1)

@@ -12,9 +12,9 @@ use Rattle.schema.specs.declared.code.Code.TheVariants.{InvalidDnSyntax, NamingV
 use Rattle.schema.specs.Each.{◌>>=◌, each}
 use Rattle.values.specs.Types.{is_named, type_of, no_type, is_known, has_equality}
 use Rattle.values.specs.Values.{is_valid_at}
-use Rattle.schema.specs.Rdns.{Parts, IsRdn, step_of, is_plain_byte, is_inner_byte, is_plain_value}
+use Rattle.schema.specs.Rdns.{Rdn, IsRdn, rdn_key_of, is_plain_byte, is_inner_byte, is_plain_value}
 use Rattle.schema.specs.Names.{NamePart, Name, is_comma, is_equals, is_type_text, part_cut, part_of, name_of_text, part_text, text_of_name}
-use Rattle.schema.specs.Rules.{Rules, IsRules, typed_part, typed_rdn, typed, same_step, below, located, written_part, name_text}
+use Rattle.schema.specs.Conf.{Conf, IsConf, typed_part, typed_rdn, typed, same_rdn_key, below, located, written_part, name_text}
 use Rattle.schema.proofs.Spelled.{IsNamePart, value_inner, type_plain}
 use Rattle.paths.proofs.Unpacked.{all_append}
 use Rattle.schema.proofs.Locating.{all_reverse, all_mapped, written_is_part}
@@ -68,7 +68,7 @@ found_is_known : (types : List AttributeType) (text : List ℕ) (t : ℕ) → ty
 unfolding type_of
 found_is_known types text t e = lt-ltb t (length types) (position-Some (is_named text) types t no_type e).0
 
-rdn_is : (types : List AttributeType) (p : NamePart) (r : Parts) → IsPlain p → typed_rdn types p ≡ Ok r → IsRdn types r
+rdn_is : (types : List AttributeType) (p : NamePart) (r : Rdn) → IsPlain p → typed_rdn types p ≡ Ok r → IsRdn types r
 unfolding IsDistinct
 rdn_is types p r plain e = by (type_of types p.0) refl e
   where
@@ -88,7 +88,7 @@ rdn_is types p r plain e = by (type_of types p.0) refl e
     by None is k = absurd cc
     by (Some t) is k = compared t is (has_equality types t) refl k
 
-pub rdns_are : (types : List AttributeType) (n : Name) (rs : List Parts) → AllByRecursion IsPlain n → typed types n ≡ Ok rs → AllByRecursion (IsRdn types) rs
+pub rdns_are : (types : List AttributeType) (n : Name) (rs : List Rdn) → AllByRecursion IsPlain n → typed types n ≡ Ok rs → AllByRecursion (IsRdn types) rs
 unfolding each
 rdns_are types [] rs h e = subst (AllByRecursion (IsRdn types)) (same_ok [] rs e) tt
 rdns_are types (p ∷ ps) rs h e =
@@ -96,23 +96,23 @@ rdns_are types (p ∷ ps) rs h e =
     let l = bind_ok (typed types ps) (λ zs. Ok (k.0 ∷ zs)) rs k.2 in
     subst (AllByRecursion (IsRdn types)) (same_ok (k.0 ∷ l.0) rs l.2) (rdn_is types p k.0 h.0 k.1, rdns_are types ps l.0 h.1 l.1)
 
-below_are : (types : List AttributeType) (P : Parts → Type 0) (ss rs out : List Parts) → AllByRecursion P rs → below types ss rs ≡ Ok out → AllByRecursion P out
+below_are : (types : List AttributeType) (P : Rdn → Type 0) (ss rs out : List Rdn) → AllByRecursion P rs → below types ss rs ≡ Ok out → AllByRecursion P out
 unfolding below
 below_are types P [] rs out h e = subst (AllByRecursion P) (same_ok rs out e) h
 below_are types P (s ∷ ss) [] out h e = absurd cc
 below_are types P (s ∷ ss) (r ∷ rs) out h e =
-    elim (same_step (step_of types s) (step_of types r)) as (λ b. cond b (below types ss rs) (Err NoSuchObject) ≡ Ok out → AllByRecursion P out) [
+    elim (same_rdn_key (rdn_key_of types s) (rdn_key_of types r)) as (λ b. cond b (below types ss rs) (Err NoSuchObject) ≡ Ok out → AllByRecursion P out) [
       | true ↦ λ is. below_are types P ss rs out h.1 is
       | false ↦ λ is. absurd cc
     ] e
 
-pub located_are : (rules : Rules) (text : List ℕ) (rs : List Parts) → located rules text ≡ Ok rs → AllByRecursion (IsRdn rules.types) rs
+pub located_are : (conf : Conf) (text : List ℕ) (rs : List Rdn) → located conf text ≡ Ok rs → AllByRecursion (IsRdn conf.types) rs
 unfolding located
-located_are rules text rs e =
-    let k = bind_ok (name_of_text text) (λ n. (typed rules.types n >>= λ ys. below rules.types (reverse rules.suffix) (reverse ys))) rs e in
-    let l = bind_ok (typed rules.types k.0) (λ ys. below rules.types (reverse rules.suffix) (reverse ys)) rs k.2 in
-    below_are rules.types (IsRdn rules.types) (reverse rules.suffix) (reverse l.0) rs
-    (all_reverse (IsRdn rules.types) l.0 (rdns_are rules.types k.0 l.0 (name_plain text k.0 k.1) l.1)) l.2
+located_are conf text rs e =
+    let k = bind_ok (name_of_text text) (λ n. (typed conf.types n >>= λ ys. below conf.types (reverse conf.suffix) (reverse ys))) rs e in
+    let l = bind_ok (typed conf.types k.0) (λ ys. below conf.types (reverse conf.suffix) (reverse ys)) rs k.2 in
+    below_are conf.types (IsRdn conf.types) (reverse conf.suffix) (reverse l.0) rs
+    (all_reverse (IsRdn conf.types) l.0 (rdns_are conf.types k.0 l.0 (name_plain text k.0 k.1) l.1)) l.2
 
 -- ---- ASCII
 
@@ -140,10 +140,10 @@ joined_ascii (t ∷ []) h = h.0
 joined_ascii (t ∷ u ∷ us) h =
     list_all-append is_ascii_byte t (44 ∷ join_with_byte 44 (u ∷ us)) ∙ both (list_all is_ascii_byte t) (list_all is_ascii_byte (44 ∷ join_with_byte 44 (u ∷ us))) h.0 (joined_ascii (u ∷ us) h.1)
 
-pub name_ascii : (rules : Rules) → IsRules rules → (rs : List Parts) → AllByRecursion (IsRdn rules.types) rs → list_all is_ascii_byte (name_text rules rs) ≡ true
+pub name_ascii : (conf : Conf) → IsConf conf → (rs : List Rdn) → AllByRecursion (IsRdn conf.types) rs → list_all is_ascii_byte (name_text conf rs) ≡ true
 unfolding name_text text_of_name
-name_ascii rules c rs h =
-    let all : List Parts = reverse rs ++ rules.suffix in
-    let good : AllByRecursion (IsRdn rules.types) all = all_append (IsRdn rules.types) (reverse rs) rules.suffix (all_reverse (IsRdn rules.types) rs h) c.suffix in
-    let named = all_mapped (IsRdn rules.types) IsNamePart (written_part rules.types) (written_is_part rules c) all good in
-    joined_ascii (map part_text (map (written_part rules.types) all)) (all_mapped IsNamePart (λ t. list_all is_ascii_byte t ≡ true) part_text part_ascii (map (written_part rules.types) all) named)
+name_ascii conf c rs h =
+    let all : List Rdn = reverse rs ++ conf.suffix in
+    let good : AllByRecursion (IsRdn conf.types) all = all_append (IsRdn conf.types) (reverse rs) conf.suffix (all_reverse (IsRdn conf.types) rs h) c.suffix in
+    let named = all_mapped (IsRdn conf.types) IsNamePart (written_part conf.types) (written_is_part conf c) all good in
+    joined_ascii (map part_text (map (written_part conf.types) all)) (all_mapped IsNamePart (λ t. list_all is_ascii_byte t ≡ true) part_text part_ascii (map (written_part conf.types) all) named)

@@ -14,12 +14,12 @@ use Rattle.schema.specs.declared.code.Code.TheVariants.{InvalidDnSyntax, NamingV
 use Rattle.schema.specs.Each.{◌>>=◌, each}
 use Rattle.values.specs.Types.{printed_name, name_of, type_at, is_known, first_or}
 use Rattle.definitions.specs.Naming.{is_oid, are_groups, is_name, is_name_byte, is_type_name, is_reserved}
-use Rattle.schema.specs.Rdns.{Parts, IsRdn, step_of, is_plain_byte}
+use Rattle.schema.specs.Rdns.{Rdn, IsRdn, rdn_key_of, is_plain_byte}
 use Rattle.schema.specs.Names.{Name, is_type_text}
 use Rattle.values.specs.Values.{is_valid_at}
-use Rattle.schema.specs.Rules.{Rules, IsRules, IsType, typed_part, typed_rdn, typed, below, located, written_part, name_text}
+use Rattle.schema.specs.Conf.{Conf, IsConf, IsType, typed_part, typed_rdn, typed, below, located, written_part, name_text}
 use Rattle.schema.proofs.Named.{type_is, is_type_at}
-use Rattle.paths.specs.PathLaws.{step_total}
+use Rattle.paths.specs.PathLaws.{rdn_key_total}
 use Rattle.paths.proofs.Unpacked.{all_append}
 use Rattle.schema.proofs.Spelled.{IsNamePart, name_read}
 
@@ -116,11 +116,11 @@ printed_free t h = by t.names h.names
     by [] k = oid_isnt_reserved t.oid h.oid
     by (n ∷ ns) k = not_true (is_reserved n) (and_parts (is_name n) (not (is_reserved n)) (and_parts (is_type_name n) (list_all is_type_name ns) k).0).1
 
-pub printed_is_text : (rules : Rules) (t : ℕ) → IsRules rules → is_known rules.types t ≡ true → is_type_text (name_of rules.types t) ≡ true
-printed_is_text rules t h known = printed_text (type_at rules.types t) (is_type_at rules t h known)
+pub printed_is_text : (conf : Conf) (t : ℕ) → IsConf conf → is_known conf.types t ≡ true → is_type_text (name_of conf.types t) ≡ true
+printed_is_text conf t h known = printed_text (type_at conf.types t) (is_type_at conf t h known)
 
-pub printed_isnt_reserved : (rules : Rules) (t : ℕ) → IsRules rules → is_known rules.types t ≡ true → is_reserved (name_of rules.types t) ≡ false
-printed_isnt_reserved rules t h known = printed_free (type_at rules.types t) (is_type_at rules t h known)
+pub printed_isnt_reserved : (conf : Conf) (t : ℕ) → IsConf conf → is_known conf.types t ≡ true → is_reserved (name_of conf.types t) ≡ false
+printed_isnt_reserved conf t h known = printed_free (type_at conf.types t) (is_type_at conf t h known)
 
 -- ---- from RDNs to their name and back
 
@@ -132,46 +132,46 @@ pub all_mapped : {X Y : Type 0} (P : X → Type 0) (Q : Y → Type 0) (f : X →
 all_mapped P Q f g [] h = tt
 all_mapped P Q f g (x ∷ xs) h = (g x h.0, all_mapped P Q f g xs h.1)
 
-abbrev rdns_ok : List Parts → Result (List Parts) Code
+abbrev rdns_ok : List Rdn → Result (List Rdn) Code
 rdns_ok rs = Ok rs
 
-abbrev part_ok : Parts → Result Parts Code
+abbrev part_ok : Rdn → Result Rdn Code
 part_ok r = Ok r
 
-below_is : (types : List AttributeType) (ss rs : List Parts) → below types ss (ss ++ rs) ≡ Ok rs
+below_is : (types : List AttributeType) (ss rs : List Rdn) → below types ss (ss ++ rs) ≡ Ok rs
 unfolding below
 below_is types [] rs = refl
 below_is types (s ∷ ss) rs =
-    ap (λ b. cond b (below types ss (ss ++ rs)) (Err NoSuchObject)) (ap is_eq (tied_itself step_total (step_of types s))) ∙ below_is types ss rs
+    ap (λ b. cond b (below types ss (ss ++ rs)) (Err NoSuchObject)) (ap is_eq (tied_itself rdn_key_total (rdn_key_of types s))) ∙ below_is types ss rs
 
-module _ (rules : Rules) (c : IsRules rules) where
-  pub written_is_part : (r : Parts) → IsRdn rules.types r → IsNamePart (written_part rules.types r)
+module _ (conf : Conf) (c : IsConf conf) where
+  pub written_is_part : (r : Rdn) → IsRdn conf.types r → IsNamePart (written_part conf.types r)
   written_is_part [] h = absurd (let k = h.one in omega arith)
-  written_is_part (p ∷ ps) h = record { type = printed_is_text rules p.0 c h.parts.0.known; value = h.parts.0.plain }
+  written_is_part (p ∷ ps) h = record { type = printed_is_text conf p.0 c h.parts.0.known; value = h.parts.0.plain }
 
-  rdn_typed : (r : Parts) → IsRdn rules.types r → typed_rdn rules.types (written_part rules.types r) ≡ Ok r
+  rdn_typed : (r : Rdn) → IsRdn conf.types r → typed_rdn conf.types (written_part conf.types r) ≡ Ok r
   rdn_typed [] h = absurd (let k = h.one in omega arith)
   rdn_typed (p ∷ []) h =
-      ap (typed_part rules.types p.1) (type_is rules p.0 c h.parts.0.known)
-      ∙ ap (λ b. cond b (cond (is_valid_at rules.types p.0 p.1) (part_ok (p ∷ [])) (Err InvalidDnSyntax)) (Err NamingViolation)) h.parts.0.comparable
+      ap (typed_part conf.types p.1) (type_is conf p.0 c h.parts.0.known)
+      ∙ ap (λ b. cond b (cond (is_valid_at conf.types p.0 p.1) (part_ok (p ∷ [])) (Err InvalidDnSyntax)) (Err NamingViolation)) h.parts.0.comparable
       ∙ ap (λ b. cond b (part_ok (p ∷ [])) (Err InvalidDnSyntax)) h.parts.0.valid
   rdn_typed (p ∷ q ∷ ps) h = absurd (let k = h.one in omega arith)
 
-  rdns_typed : (rs : List Parts) → AllByRecursion (IsRdn rules.types) rs → typed rules.types (map (written_part rules.types) rs) ≡ Ok rs
+  rdns_typed : (rs : List Rdn) → AllByRecursion (IsRdn conf.types) rs → typed conf.types (map (written_part conf.types) rs) ≡ Ok rs
   unfolding each
   rdns_typed [] h = refl
   rdns_typed (r ∷ rs) h =
-      ap (λ (x : Result Parts Code). x >>= λ y. (typed rules.types (map (written_part rules.types) rs) >>= λ ys. rdns_ok (y ∷ ys))) (rdn_typed r h.0)
-      ∙ ap (λ (x : Result (List Parts) Code). x >>= λ ys. rdns_ok (r ∷ ys)) (rdns_typed rs h.1)
+      ap (λ (x : Result Rdn Code). x >>= λ y. (typed conf.types (map (written_part conf.types) rs) >>= λ ys. rdns_ok (y ∷ ys))) (rdn_typed r h.0)
+      ∙ ap (λ (x : Result (List Rdn) Code). x >>= λ ys. rdns_ok (r ∷ ys)) (rdns_typed rs h.1)
 
   -- the name of these RDNs stands where they say
-  pub located_is : (rs : List Parts) → AllByRecursion (IsRdn rules.types) rs → located rules (name_text rules rs) ≡ Ok rs
+  pub located_is : (rs : List Rdn) → AllByRecursion (IsRdn conf.types) rs → located conf (name_text conf rs) ≡ Ok rs
   unfolding located name_text
   located_is rs h =
-      let all : List Parts = reverse rs ++ rules.suffix in
-      let good : AllByRecursion (IsRdn rules.types) all = all_append (IsRdn rules.types) (reverse rs) rules.suffix (all_reverse (IsRdn rules.types) rs h) c.suffix in
-      ap (λ (x : Result Name Code). x >>= λ n. (typed rules.types n >>= λ ys. below rules.types (reverse rules.suffix) (reverse ys)))
-      (name_read (map (written_part rules.types) all) (all_mapped (IsRdn rules.types) IsNamePart (written_part rules.types) written_is_part all good))
-      ∙ ap (λ (x : Result (List Parts) Code). x >>= λ ys. below rules.types (reverse rules.suffix) (reverse ys)) (rdns_typed all good)
-      ∙ ap (below rules.types (reverse rules.suffix)) (reverse-append (reverse rs) rules.suffix ∙ ap (λ (x : List Parts). reverse rules.suffix ++ x) (reverse-reverse rs))
-      ∙ below_is rules.types (reverse rules.suffix) rs
+      let all : List Rdn = reverse rs ++ conf.suffix in
+      let good : AllByRecursion (IsRdn conf.types) all = all_append (IsRdn conf.types) (reverse rs) conf.suffix (all_reverse (IsRdn conf.types) rs h) c.suffix in
+      ap (λ (x : Result Name Code). x >>= λ n. (typed conf.types n >>= λ ys. below conf.types (reverse conf.suffix) (reverse ys)))
+      (name_read (map (written_part conf.types) all) (all_mapped (IsRdn conf.types) IsNamePart (written_part conf.types) written_is_part all good))
+      ∙ ap (λ (x : Result (List Rdn) Code). x >>= λ ys. below conf.types (reverse conf.suffix) (reverse ys)) (rdns_typed all good)
+      ∙ ap (below conf.types (reverse conf.suffix)) (reverse-append (reverse rs) conf.suffix ∙ ap (λ (x : List Rdn). reverse conf.suffix ++ x) (reverse-reverse rs))
+      ∙ below_is conf.types (reverse conf.suffix) rs

@@ -7,7 +7,7 @@ use Rattle.std.proofs.lemmas.Bool.{ltb-true, lt-ltb, or_parts, or_left}
 use Rattle.std.proofs.lemmas.Cmp.{nat_list_eq_equiv}
 use Rattle.values.specs.declared.types.AttributeType.{AttributeType}
 use Rattle.values.specs.Types.{names_of, is_named, type_of, printed_name, name_of, type_at, is_known, first_or}
-use Rattle.schema.specs.Rules.{share_name, Rules, IsRules, IsType}
+use Rattle.schema.specs.Conf.{share_name, Conf, IsConf, IsType}
 
 same_word : (a : List ℕ) → str_eq_ignore_ascii_case a a ≡ true
 same_word a = nat_list_eq_equiv.refl (str_to_ascii_lowercase a)
@@ -52,12 +52,12 @@ place_is (x ∷ xs) (suc t) lt h =
     let off : is_named (name_of xs t) x ≡ false = printed_isnt (λ n. is_named n x) (type_at xs t) (at_type (λ y. share_name x y ≡ false) xs t (omega arith) h.0) in
     place_after (is_named (name_of xs t)) x xs off ∙ ap (λ n. 1 + n) (place_is xs t (omega arith) h.1) ∙ (let e : 1 + t ≡ suc t = omega arith in e)
 
-pub type_is : (rules : Rules) (t : ℕ) → IsRules rules → is_known rules.types t ≡ true → type_of rules.types (name_of rules.types t) ≡ Some t
+pub type_is : (conf : Conf) (t : ℕ) → IsConf conf → is_known conf.types t ≡ true → type_of conf.types (name_of conf.types t) ≡ Some t
 unfolding type_of
-type_is rules t h known =
-    let lt : t < length rules.types = ltb-true t (length rules.types) known in
-    let place = place_is rules.types t lt h.types_apart in
-    ap (λ n. cond (nat_lt n (length rules.types)) (Some n) None) place ∙ ap (λ b. cond b (Some t) None) (lt-ltb t (length rules.types) lt)
+type_is conf t h known =
+    let lt : t < length conf.types = ltb-true t (length conf.types) known in
+    let place = place_is conf.types t lt h.types_apart in
+    ap (λ n. cond (nat_lt n (length conf.types)) (Some n) None) place ∙ ap (λ b. cond b (Some t) None) (lt-ltb t (length conf.types) lt)
 
-pub is_type_at : (rules : Rules) (t : ℕ) → IsRules rules → is_known rules.types t ≡ true → IsType (type_at rules.types t)
-is_type_at rules t h known = at_type IsType rules.types t (ltb-true t (length rules.types) known) h.types
+pub is_type_at : (conf : Conf) (t : ℕ) → IsConf conf → is_known conf.types t ≡ true → IsType (type_at conf.types t)
+is_type_at conf t h known = at_type IsType conf.types t (ltb-true t (length conf.types) known) h.types

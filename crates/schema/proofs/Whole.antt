@@ -22,9 +22,9 @@ use Rattle.schema.specs.declared.conf_fault.ConfFault.{ConfFault}
 use Rattle.schema.specs.declared.conf_fault.ConfFault.TheVariants as faults
 use Rattle.schema.specs.Reads.{FailsAt}
 use Rattle.schema.specs.TypeRules.{type_with}
-use Rattle.schema.specs.Rdns.{Parts, IsRdn}
+use Rattle.schema.specs.Rdns.{Rdn, IsRdn}
 use Rattle.schema.specs.Names.{Name, name_of_text}
-use Rattle.schema.specs.Rules.{IsRules, IsType, share_name}
+use Rattle.schema.specs.Conf.{IsConf, IsType, share_name}
 use Rattle.schema.specs.Configurations.{At, ◌>>=◌, through, says_nothing, is_first, is_built_in, names_one, has_twin, is_taken, superior_of, up_of, flaw_of, unless, below, refused, placed, object_class, Defined, built_in, or_fault, class_refused, class_placed, with_types, types_in, definition_line, defined_by, some_rdns, typed_name, suffix_at, suffix_text, suffix_line, suffix_of}
 use Rattle.schema.proofs.Found.{name_plain, rdns_are}
 
@@ -207,32 +207,32 @@ types_are law ls out e = by (defined_by built_in ls) refl e
 
 -- ---- the suffix
 
-abbrev pub IsSuffix : List AttributeType → Option (List Parts) → Type 0
+abbrev pub IsSuffix : List AttributeType → Option (List Rdn) → Type 0
 IsSuffix types None = Unit {0}
 IsSuffix types (Some rs) = AllByRecursion (IsRdn types) rs × (nat_lt 0 (length rs) ≡ true)
 
 abbrev Found : Type 0
-Found = Result (Option (List Parts)) At
+Found = Result (Option (List Rdn)) At
 
-abbrev found_ok : Option (List Parts) → Found
+abbrev found_ok : Option (List Rdn) → Found
 found_ok o = Ok o
 
 abbrev found_err : ℕ → ConfFaultKind → Found
 found_err line kind = Err (line, kind)
 
-some_is : (types : List AttributeType) (line : ℕ) (r : Result (List Parts) Code) (out : Option (List Parts)) → ((rs : List Parts) → r ≡ Ok rs → AllByRecursion (IsRdn types) rs) → some_rdns line r ≡ Ok out → IsSuffix types out
+some_is : (types : List AttributeType) (line : ℕ) (r : Result (List Rdn) Code) (out : Option (List Rdn)) → ((rs : List Rdn) → r ≡ Ok rs → AllByRecursion (IsRdn types) rs) → some_rdns line r ≡ Ok out → IsSuffix types out
 some_is types line (Ok []) out good e = absurd cc
 some_is types line (Ok (r ∷ rs)) out good e = subst (IsSuffix types) (same_ok (Some (r ∷ rs)) out e) (good (r ∷ rs) refl, lt-ltb 0 (length (r ∷ rs)) (omega arith))
 some_is types line (Err c) out good e = absurd cc
 
-typed_good : (types : List AttributeType) (text : List ℕ) (rs : List Parts) → typed_name types (name_of_text text) ≡ Ok rs → AllByRecursion (IsRdn types) rs
+typed_good : (types : List AttributeType) (text : List ℕ) (rs : List Rdn) → typed_name types (name_of_text text) ≡ Ok rs → AllByRecursion (IsRdn types) rs
 typed_good types text rs e = by (name_of_text text) refl e
   where
     by : (r : Result Name Code) → name_of_text text ≡ r → typed_name types r ≡ Ok rs → AllByRecursion (IsRdn types) rs
     by (Ok n) is said = rdns_are types n rs (name_plain text n is) said
     by (Err c) is said = absurd cc
 
-suffix_line_keeps : (types : List AttributeType) (found : Option (List Parts)) (l : Line) (out : Option (List Parts)) → IsSuffix types found → suffix_line types found l ≡ Ok out → IsSuffix types out
+suffix_line_keeps : (types : List AttributeType) (found : Option (List Rdn)) (l : Line) (out : Option (List Rdn)) → IsSuffix types found → suffix_line types found l ≡ Ok out → IsSuffix types out
 unfolding suffix_line
 suffix_line_keeps types found l out h e =
     let Keeps : Found → Type 0 = λ r. r ≡ Ok out → IsSuffix types out in
@@ -248,8 +248,8 @@ suffix_line_keeps types found l out h e =
     (λ said. some_is types l.number (typed_name types (name_of_text (suffix_text l.text))) out (typed_good types (suffix_text l.text)) said))
     same)) e
 
-pub suffix_is : (types : List AttributeType) (ls : List Line) (out : Option (List Parts)) → suffix_of types None ls ≡ Ok out → IsSuffix types out
+pub suffix_is : (types : List AttributeType) (ls : List Line) (out : Option (List Rdn)) → suffix_of types None ls ≡ Ok out → IsSuffix types out
 suffix_is types ls out e = through_keeps (IsSuffix types) (suffix_line types) (suffix_line_keeps types) ls None out tt e
 
-pub rules_are : (types : List AttributeType) (suffix : List Parts) → AreTypes types → IsSuffix types (Some suffix) → IsRules (record { types = types; suffix = suffix })
+pub rules_are : (types : List AttributeType) (suffix : List Rdn) → AreTypes types → IsSuffix types (Some suffix) → IsConf (record { types = types; suffix = suffix })
 rules_are types suffix h k = record { types = h.good; types_apart = h.apart; types_few = h.few; suffix = k.0; suffix_some = k.1 }

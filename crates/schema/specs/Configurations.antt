@@ -20,9 +20,9 @@ use Rattle.definitions.specs.declared.class_definition.ClassDefinition.{ClassDef
 use Rattle.definitions.specs.TypeDefinitions.{type_definition_of}
 use Rattle.definitions.specs.ClassDefinitions.{class_definition_of}
 use Rattle.schema.specs.TypeRules.{type_with, breaks_with, needs_another_syntax}
-use Rattle.schema.specs.Rdns.{Parts}
+use Rattle.schema.specs.Rdns.{Rdn}
 use Rattle.schema.specs.Names.{Name, name_of_text}
-use Rattle.schema.specs.Rules.{Rules, typed}
+use Rattle.schema.specs.Conf.{Conf, typed}
 
 -- a line's number and its kind of fault
 abbrev pub At : Type 0
@@ -193,36 +193,36 @@ abbrev pub suffix_text : List ℕ → List ℕ
 suffix_text line = unquoted (without_end (skip (after_word line)))
 
 -- a suffix has at least one RDN
-abbrev pub some_rdns : ℕ → Result (List Parts) Code → Result (Option (List Parts)) At
+abbrev pub some_rdns : ℕ → Result (List Rdn) Code → Result (Option (List Rdn)) At
 some_rdns line (Ok []) = Err (line, Suffix)
 some_rdns line (Ok (r ∷ rs)) = Ok (Some (r ∷ rs))
 some_rdns line (Err code) = Err (line, Suffix)
 
-abbrev pub typed_name : List AttributeType → Result Name Code → Result (List Parts) Code
+abbrev pub typed_name : List AttributeType → Result Name Code → Result (List Rdn) Code
 typed_name types (Ok n) = typed types n
 typed_name types (Err code) = Err code
 
-abbrev pub suffix_at : List AttributeType → ℕ → List ℕ → Result (Option (List Parts)) At
+abbrev pub suffix_at : List AttributeType → ℕ → List ℕ → Result (Option (List Rdn)) At
 suffix_at types line text = some_rdns line (typed_name types (name_of_text text))
 
 -- a line of the second pass: one suffix, and no indexes in this profile
-unfoldable pub suffix_line : List AttributeType → Option (List Parts) → Line → Result (Option (List Parts)) At
+unfoldable pub suffix_line : List AttributeType → Option (List Rdn) → Line → Result (Option (List Rdn)) At
 suffix_line types found l =
     if says_nothing l.text then Ok found
     else (if is_first (codes "index") l.text then Err (l.number, Form)
     else (if is_first (codes "suffix") l.text then (if is_some found then Err (l.number, Suffix) else suffix_at types l.number (suffix_text l.text))
     else Ok found))
 
-abbrev pub suffix_of : List AttributeType → Option (List Parts) → List Line → Result (Option (List Parts)) At
+abbrev pub suffix_of : List AttributeType → Option (List Rdn) → List Line → Result (Option (List Rdn)) At
 suffix_of types found ls = through (suffix_line types) found ls
 
 -- ---- the whole text
 
-abbrev pub rules_of : List AttributeType → Option (List Parts) → Result Rules At
+abbrev pub rules_of : List AttributeType → Option (List Rdn) → Result Conf At
 rules_of types None = Err (0, Suffix)
 rules_of types (Some suffix) = Ok (record { types = types; suffix = suffix })
 
-unfoldable pub conf_of : List ℕ → Result Rules At
+unfoldable pub conf_of : List ℕ → Result Conf At
 conf_of text =
     types_in (defined_by built_in (lines_of text)) >>= λ types.
     (suffix_of types None (lines_of text) >>= λ suffix. rules_of types suffix)

@@ -3,19 +3,19 @@ use Rattle.std.specs.Prelude.{◌≡◌, ◌<◌, List, map, reverse, length, Op
 use Rattle.std.specs.List.{AllByRecursion}
 use Rattle.values.specs.declared.types.AttributeType.{AttributeType}
 use Rattle.schema.specs.declared.locate.TypedName.{TypedName}
-use Rattle.schema.specs.Rdns.{Parts, step_of}
+use Rattle.schema.specs.Rdns.{Rdn, rdn_key_of}
 
 -- an RDN of one part, whose type is known
-pub record IsOne (types : List AttributeType) (r : Parts) : Type 0 where
+pub record IsOne (types : List AttributeType) (r : Rdn) : Type 0 where
   pub one : length r ≡ 1
   pub known : AllByRecursion (λ p. p.0 < length types) r
 
 -- the path goes from the root of the tree down
 abbrev pub KeysFit : List AttributeType → TypedName → Type 0
-KeysFit types x = x.path ≡ map (step_of types) (reverse x.rdns.items)
+KeysFit types x = x.path ≡ map (rdn_key_of types) (reverse x.rdns.items)
 
 -- the RDNs of a suffix that was found
-abbrev pub rdns_found : Option TypedName → Option (List Parts)
+abbrev pub rdns_found : Option TypedName → Option (List Rdn)
 rdns_found None = None
 rdns_found (Some x) = Some x.rdns.items
 

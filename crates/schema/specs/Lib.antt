@@ -1,7 +1,7 @@
 pub mod Codes
 pub mod Rdns
 pub mod Names
-pub mod Rules
+pub mod Conf
 pub mod RuleNames
 pub mod TypeRules
 pub mod Gives

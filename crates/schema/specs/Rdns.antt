@@ -5,25 +5,25 @@ use Rattle.std.specs.Char.{is_ascii_alphanumeric}
 use Rattle.values.specs.declared.types.AttributeType.{AttributeType}
 use Rattle.values.specs.Types.{is_known, has_equality}
 use Rattle.values.specs.Values.{is_valid_at, norm_at}
-use Rattle.paths.specs.Paths.{Pair, Step}
+use Rattle.paths.specs.Paths.{Pair, RdnKey}
 
 -- a type's number and a value as written
-abbrev pub Part : Type 0
-Part = ℕ × List ℕ
+abbrev pub Ava : Type 0
+Ava = ℕ × List ℕ
 
 -- an RDN: its parts in the order written
-abbrev pub Parts : Type 0
-Parts = List Part
+abbrev pub Rdn : Type 0
+Rdn = List Ava
 
 -- a pair among others, by type number
-unfoldable pub put_pair : Pair → Step → Step
+unfoldable pub put_pair : Pair → RdnKey → RdnKey
 put_pair p [] = p ∷ []
 put_pair p (q ∷ qs) = if nat_lt q.0 p.0 then q ∷ put_pair p qs else p ∷ q ∷ qs
 
 -- the step of a path that an RDN gives
-unfoldable pub step_of : List AttributeType → Parts → Step
-step_of types [] = []
-step_of types (p ∷ ps) = put_pair (p.0, norm_at types p.0 p.1) (step_of types ps)
+unfoldable pub rdn_key_of : List AttributeType → Rdn → RdnKey
+rdn_key_of types [] = []
+rdn_key_of types (p ∷ ps) = put_pair (p.0, norm_at types p.0 p.1) (rdn_key_of types ps)
 
 -- ---- which values a name can have, in this profile: letters, digits, `-`, `_`, `.` and inner spaces, at least one byte
 
@@ -38,17 +38,17 @@ is_plain_value v = not (length v == 0) && list_all is_inner_byte v && is_plain_b
 
 -- ---- what holds of an RDN
 
-abbrev pub type_in : Part → ℕ
+abbrev pub type_in : Ava → ℕ
 type_in p = p.0
 
-pub record IsPart (types : List AttributeType) (p : Part) : Type 0 where
+pub record IsAva (types : List AttributeType) (p : Ava) : Type 0 where
   pub known : is_known types p.0 ≡ true
   pub comparable : has_equality types p.0 ≡ true
   pub valid : is_valid_at types p.0 p.1 ≡ true
   pub plain : is_plain_value p.1 ≡ true
 
 -- its parts are good, no two of one type; in this profile there is one
-pub record IsRdn (types : List AttributeType) (r : Parts) : Type 0 where
-  pub parts : AllByRecursion (IsPart types) r
+pub record IsRdn (types : List AttributeType) (r : Rdn) : Type 0 where
+  pub parts : AllByRecursion (IsAva types) r
   pub types_apart : IsDistinct nat_eq (map type_in r)
   pub one : length r ≡ 1

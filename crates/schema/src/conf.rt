@@ -1,7 +1,7 @@
 //! A configuration, and what it says of types, values and names.
 
 ghost use Rattle.std.specs.Prelude.{◌≡◌, ◌<◌, ◌≤◌, IfSome, length, map, reverse};
-ghost use Rattle.schema.specs.Rdns.{step_of};
+ghost use Rattle.schema.specs.Rdns.{rdn_key_of};
 ghost use Rattle.values.specs.Types.{type_of, name_of, type_at};
 ghost use Rattle.values.specs.Values.{is_valid_at, norm_at};
 ghost use Rattle.schema.specs.Gives.{Makes};
@@ -25,22 +25,22 @@ pub struct Conf {
 
 impl Model for Conf {
     ghost use Rattle.std.specs.Prelude.{◌≡◌, map, reverse};
-    ghost use Rattle.schema.specs.Rules.{Rules, IsRules};
-    ghost use Rattle.schema.specs.Rdns.{step_of};
+    ghost use Rattle.schema.specs.Conf.{Conf, IsConf};
+    ghost use Rattle.schema.specs.Rdns.{rdn_key_of};
 
-    ghost Value = { Rules };
+    ghost Value = { Conf };
 
     ghost view = { λ c. record { types = c.types; suffix = c.suffix } };
 
-    ghost invariant = { λ c. (IsRules (record { types = c.types; suffix = c.suffix })) × (c.root ≡ map (step_of c.types) (reverse c.suffix)) };
+    ghost invariant = { λ c. (IsConf (record { types = c.types; suffix = c.suffix })) × (c.root ≡ map (rdn_key_of c.types) (reverse c.suffix)) };
 }
 
 impl Conf {
-    ghost use Rattle.schema.specs.Rules.{IsRules, root_rdn};
+    ghost use Rattle.schema.specs.Conf.{IsConf, root_rdn};
     ghost use Rattle.schema.specs.Keys.{KeysFit};
 
     pub(crate) fn new(types: TypeTable, suffix: TypedName) -> Conf
-        requires rules { IsRules (record { types = types; suffix = suffix.rdns.items }) }
+        requires same_conf { IsConf (record { types = types; suffix = suffix.rdns.items }) }
         requires keys { KeysFit types suffix }
         ensures { result ≡ record { types = types; suffix = suffix.rdns.items } }
     {
@@ -53,8 +53,8 @@ impl Conf {
     }
 
     /// What holds of every configuration.
-    pub fn rules_hold(&self)
-        ensures { IsRules self.now }
+    pub fn holds(&self)
+        ensures { IsConf self.now }
     {
         let _ = &self.types;
     }
@@ -97,7 +97,7 @@ impl Conf {
 
     /// What the suffix's RDNs come to, from the root of the tree down.
     pub(crate) fn root(&self) -> &Path
-        ensures { result.now ≡ map (step_of self.now.types) (reverse self.now.suffix) }
+        ensures { result.now ≡ map (rdn_key_of self.now.types) (reverse self.now.suffix) }
     {
         &self.root
     }

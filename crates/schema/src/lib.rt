@@ -11,8 +11,6 @@ mod laws;
 mod locate;
 mod name;
 mod rule_names;
-#[cfg(test)]
-mod tests;
 mod type_lines;
 mod type_rules;
 

@@ -2,9 +2,9 @@
 
 ghost use Rattle.std.specs.Prelude.{◌≡◌, ◌<◌, ◌∷◌, ◌++◌, [], ◌≤◌, IfOk, IfSome, IsTrue, map, reverse, length};
 ghost use Rattle.std.specs.List.{AllByRecursion};
-ghost use Rattle.schema.specs.Rdns.{step_of};
+ghost use Rattle.schema.specs.Rdns.{rdn_key_of};
 ghost use Rattle.schema.specs.Keys.{IsOne, KeysFit};
-ghost use Rattle.schema.specs.Rules.{typed_rdn, typed, below, located, path_of};
+ghost use Rattle.schema.specs.Conf.{typed_rdn, typed, below, located, path_of};
 ghost use Rattle.schema.specs.Gives.{Gives};
 
 use crate::code::Code;
@@ -13,7 +13,7 @@ use crate::fault::PathFault;
 use crate::name::name_of_text;
 use lists::{Bytes, Sequence};
 use matching::is_valid;
-use paths::{Draft, Path, Rdn};
+use paths::{Path, PathDraft, Rdn};
 use std::alloc::{AllocError, Global};
 use values::{TypeId, TypeTable, norm_by};
 
@@ -58,10 +58,15 @@ fn typed_rdn(alloc: Global, types: &TypeTable, name: &[u8], value: &[u8]) -> Res
 }
 
 // goes down by what an RDN comes to
-#[tactic(auto, unfolding(crate::specs::Rdns::step_of, crate::specs::Rdns::put_pair))]
-fn step_down(alloc: Global, types: &TypeTable, path: Draft, rdn: &Rdn) -> Result<Draft, AllocError>
+#[tactic(auto, unfolding(crate::specs::Rdns::rdn_key_of, crate::specs::Rdns::put_pair))]
+fn step_down(
+    alloc: Global,
+    types: &TypeTable,
+    path: PathDraft,
+    rdn: &Rdn,
+) -> Result<PathDraft, AllocError>
     requires { IsOne types.now rdn.now }
-    ensures { IfOk result (λ d. d ≡ path ++ step_of types.now rdn.now ∷ []) }
+    ensures { IfOk result (λ d. d ≡ path ++ rdn_key_of types.now rdn.now ∷ []) }
 {
     match rdn.parts() {
         [(t, value)] => {
@@ -75,9 +80,9 @@ fn step_down(alloc: Global, types: &TypeTable, path: Draft, rdn: &Rdn) -> Result
 // what RDNs come to, from the last on
 fn path_of(alloc: Global, types: &TypeTable, rdns: &[Rdn]) -> Result<Path, AllocError>
     requires { AllByRecursion (IsOne types.now) rdns.now }
-    ensures { IfOk result (λ p. p ≡ map (step_of types.now) (reverse rdns.now)) }
+    ensures { IfOk result (λ p. p ≡ map (rdn_key_of types.now) (reverse rdns.now)) }
 {
-    let mut path = Draft::new(alloc)?;
+    let mut path = PathDraft::new(alloc)?;
     for i in (0..rdns.len()).rev() {
         path = step_down(alloc, types, path, &rdns[i])?;
     }
@@ -136,7 +141,7 @@ impl Conf {
 
     /// Where the name that a text spells stands below the suffix. It is refused with `InvalidDnSyntax` where the text is
     /// no name, a type isn't known or a value isn't valid, and with `NoSuchObject` where it doesn't end with the suffix.
-    #[tactic(auto, unfolding(crate::specs::Rules::located))]
+    #[tactic(auto, unfolding(crate::specs::Conf::located))]
     pub fn locate(&self, alloc: Global, text: &[u8]) -> Result<Located, PathFault>
         ensures rdns { Gives (λ l. l.rdns) result (located self.now text.now) }
         ensures path { IfOk result (λ l. l.path ≡ path_of self.now l.rdns) }

@@ -17,7 +17,7 @@ use std::alloc::{AllocError, Global};
 const PIECE: usize = 65536;
 
 impl Text for Directory {
-    ghost text = { λ d. dump d.rules d.entries };
+    ghost text = { λ d. dump d.conf d.entries };
 
     fn write<W: Sink>(&self, alloc: Global, sink: &mut W) -> Result<(), WriteFault> {
         self.dump(alloc, sink)
@@ -111,7 +111,7 @@ pub fn load_directory<F: Folder>(
     folder: &mut F,
     db: &str,
 ) -> Result<Directory, Fault>
-    ensures { IfOk result (λ d. IsLoaded d.rules d.entries) }
+    ensures { IfOk result (λ d. IsLoaded d.conf d.entries) }
 {
     let conf = configuration(alloc, folder, db)?;
     let name = path(alloc, db, "data.ldif")?;

@@ -25,8 +25,8 @@ fn add_all<S: Source, E: Sink>(
 ) -> Result<Tally, Status>
     requires source { (S.seen source.old).failed < 2 ^ 64 - 1 }
     requires err { (E.written err.old).failed < 2 ^ 64 - 1 }
-    ensures rules { dir.new.rules ≡ dir.old.rules }
-    ensures ran { IfOk result (λ t. RanOver dir.old.rules Content go_on dir.old.entries dir.new.entries (S.seen source.old).left t (E.written err.old) (E.written err.new)) }
+    ensures same_conf { dir.new.conf ≡ dir.old.conf }
+    ensures ran { IfOk result (λ t. RanOver dir.old.conf Content go_on dir.old.entries dir.new.entries (S.seen source.old).left t (E.written err.old) (E.written err.new)) }
     ensures ok { OnOk result ((E.written err.new).failed ≡ (E.written err.old).failed) }
     ensures err { IfErr result (λ s. s ≡ Status.Failed) }
 {
@@ -48,8 +48,8 @@ fn add_records<F: Folder, S: Source, E: Sink>(
 ) -> Result<Tally, Status>
     requires input { (S.seen input.old).failed < 2 ^ 64 - 1 }
     requires err { (E.written err.old).failed < 2 ^ 64 - 1 }
-    ensures rules { dir.new.rules ≡ dir.old.rules }
-    ensures added { IfOk result (λ t. IsAdded dir.old.rules asked.now.go_on dir.old.entries dir.new.entries t (E.written err.old) (E.written err.new)) }
+    ensures same_conf { dir.new.conf ≡ dir.old.conf }
+    ensures added { IfOk result (λ t. IsAdded dir.old.conf asked.now.go_on dir.old.entries dir.new.entries t (E.written err.old) (E.written err.new)) }
     ensures ok { OnOk result ((E.written err.new).failed ≡ (E.written err.old).failed) }
     ensures err { IfErr result (λ s. s ≡ Status.Failed) }
 {
@@ -72,7 +72,7 @@ fn add_and_store<F: Folder, S: Source, E: Sink>(
 ) -> Status
     requires input { (S.seen input.old).failed < 2 ^ 64 - 1 }
     requires err { (E.written err.old).failed < 2 ^ 64 - 1 }
-    ensures { RunEnds dir.rules asked.now.go_on dir.entries (E.written err.old) (E.written err.new) result }
+    ensures { RunEnds dir.conf asked.now.go_on dir.entries (E.written err.old) (E.written err.new) result }
 {
     let tally = match add_records(alloc, asked, &mut dir, folder, input, err) {
         Ok(tally) => tally,

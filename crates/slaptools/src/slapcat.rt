@@ -16,7 +16,7 @@ use std::mem;
 
 fn print<O: Sink>(alloc: Global, dir: &Directory, out: &mut O) -> Result<(), Fault>
     requires { (O.written out.old).failed < 2 ^ 64 - 1 }
-    ensures { OnOk result (Took (O.written out.old) (O.written out.new) (dump dir.now.rules dir.now.entries)) }
+    ensures { OnOk result (Took (O.written out.old) (O.written out.new) (dump dir.now.conf dir.now.entries)) }
 {
     match dir.dump(alloc, out) {
         Ok(()) => Ok(()),
@@ -33,7 +33,7 @@ fn dump_to<F: Folder, O: Sink>(
     out: &mut O,
 ) -> Result<(), Fault>
     requires { (O.written out.old).failed < 2 ^ 64 - 1 }
-    ensures { OnOk result (Dumps (is_some file.entry) dir.now.rules dir.now.entries (O.written out.old) (O.written out.new)) }
+    ensures { OnOk result (Dumps (is_some file.entry) dir.now.conf dir.now.entries (O.written out.old) (O.written out.new)) }
 {
     match file {
         Some(name) => store(alloc, folder, name, dir),

@@ -12,13 +12,13 @@ use Rattle.std.proofs.lemmas.Bool.{and_cases, not-false, leb-false}
 use Rattle.ldif.specs.Attrs.{Attr}
 use Rattle.schema.specs.declared.code.Code.{Code}
 use Rattle.schema.specs.declared.code.Code.TheVariants.{EntryAlreadyExists, NoSuchObject, ObjectClassViolation, ConstraintViolation, AdminLimitExceeded}
-use Rattle.paths.specs.Paths.{Step, Steps, path_cmp, parent_of, is_root}
-use Rattle.schema.specs.Rdns.{Parts, IsRdn, step_of}
-use Rattle.schema.specs.Rules.{Rules, IsRules, root_rdn, first_rdn, located, located_at, path_of}
+use Rattle.paths.specs.Paths.{RdnKey, Path, path_cmp, parent_of, is_root}
+use Rattle.schema.specs.Rdns.{Rdn, IsRdn, rdn_key_of}
+use Rattle.schema.specs.Conf.{Conf, IsConf, root_rdn, first_rdn, located, located_at, path_of}
 use Rattle.schema.specs.Each.{◌>>=◌}
-use Rattle.tree.specs.Entries.{Facts, Attributes, IsGood, add_lines, has_class, are_single}
+use Rattle.tree.specs.Entries.{EntryContent, Attributes, IsGood, add_lines, has_class, are_single}
 use Rattle.tree.specs.Directories.{Entries, IsDirectory}
-use Rattle.tree.specs.Adds.{own_rdn, put_entry, entry_of, add_at, add}
+use Rattle.tree.specs.Adds.{own_rdn, with_entry, entry_of, add_at, add}
 use Rattle.tree.proofs.Order.{path_total, path_exact}
 use Rattle.tree.proofs.Pushed.{AreGood, bind_ok, same_ok, lines_good, rdn_good, all_come}
 use Rattle.tree.proofs.Adding.{parent_is}
@@ -34,43 +34,43 @@ equal Greater h = cc
 
 -- ---- the map
 
-record MayPut (rules : Rules) (d : Entries) (p : Steps) (e : Facts) : Type 0 where
-  pub good : IsGood rules e
+record MayPut (conf : Conf) (d : Entries) (p : Path) (e : EntryContent) : Type 0 where
+  pub good : IsGood conf e
   pub parent : (not (is_root p) && not (finite.contains_key d (parent_of p))) ≡ false
-  pub last : (q : Steps) (s : Step) → p ≡ q ++ s ∷ [] → step_of rules.types e.rdn ≡ s
-  pub root : p ≡ [] → e.rdn ≡ root_rdn rules
+  pub last : (q : Path) (s : RdnKey) → p ≡ q ++ s ∷ [] → rdn_key_of conf.types e.rdn ≡ s
+  pub root : p ≡ [] → e.rdn ≡ root_rdn conf
   pub room : nat_le 4294967295 (finite.len d) ≡ false
 
-not_root : (q : Steps) (s : Step) → is_root (q ++ s ∷ []) ≡ false
+not_root : (q : Path) (s : RdnKey) → is_root (q ++ s ∷ []) ≡ false
 not_root [] s = refl
 not_root (x ∷ q) s = refl
 
-module _ (rules : Rules) (d : Entries) (p : Steps) (e : Facts) (h : IsDirectory rules d) (may : MayPut rules d p e) where
+module _ (conf : Conf) (d : Entries) (p : Path) (e : EntryContent) (h : IsDirectory conf d) (may : MayPut conf d p e) where
   -- what the new map has is the new entry, or was there
-  inserted : (q : Steps) (x : Facts) → finite.get (finite.insert d p e) q ≡ Some x → ((q ≡ p) × (x ≡ e)) ⊎ (finite.get d q ≡ Some x)
+  inserted : (q : Path) (x : EntryContent) → finite.get (finite.insert d p e) q ≡ Some x → ((q ≡ p) × (x ≡ e)) ⊎ (finite.get d q ≡ Some x)
   inserted q x is = by (eq_by_cmp path_cmp q p) refl (sym (finite.get-insert path_total d p e q) ∙ is)
     where
       by : (b : Bool) → eq_by_cmp path_cmp q p ≡ b → cond b (Some e) (finite.get d q) ≡ Some x → ((q ≡ p) × (x ≡ e)) ⊎ (finite.get d q ≡ Some x)
       by true tie said = inl (path_exact q p (equal (path_cmp q p) tie), cc)
       by false tie said = inr said
 
-  still_there : (q : Steps) → finite.contains_key d q ≡ true → finite.contains_key (finite.insert d p e) q ≡ true
+  still_there : (q : Path) → finite.contains_key d q ≡ true → finite.contains_key (finite.insert d p e) q ≡ true
   still_there q there =
       ap is_some (finite.get-insert path_total d p e q)
       ∙ elim (eq_by_cmp path_cmp q p) as (λ b. is_some (cond b (Some e) (finite.get d q)) ≡ true) [ true ↦ refl | false ↦ there ]
 
-  parent_there : (q : Steps) (s : Step) → q ++ s ∷ [] ≡ p → finite.contains_key d q ≡ true
+  parent_there : (q : Path) (s : RdnKey) → q ++ s ∷ [] ≡ p → finite.contains_key d q ≡ true
   parent_there q s is = elim (and_cases (not (is_root p)) (not (finite.contains_key d (parent_of p))) may.parent) [
     | inl none ↦ absurd (let root = sym (not_root q s) ∙ ap is_root is ∙ not-false (is_root p) none in cc)
-    | inr none ↦ ap (λ (x : Steps). finite.contains_key d x) (sym (sym (ap parent_of is) ∙ parent_is q s)) ∙ not-false (finite.contains_key d (parent_of p)) none
+    | inr none ↦ ap (λ (x : Path). finite.contains_key d x) (sym (sym (ap parent_of is) ∙ parent_is q s)) ∙ not-false (finite.contains_key d (parent_of p)) none
   ]
 
-  put_kept : IsDirectory rules (finite.insert d p e)
+  put_kept : IsDirectory conf (finite.insert d p e)
   put_kept = record {
-    good = λ q x is. elim (inserted q x is) [ inl k ↦ subst (IsGood rules) (sym k.1) may.good | inr k ↦ h.good q x k ];
+    good = λ q x is. elim (inserted q x is) [ inl k ↦ subst (IsGood conf) (sym k.1) may.good | inr k ↦ h.good q x k ];
     parent = λ q s x is. still_there q (elim (inserted (q ++ s ∷ []) x is) [ inl k ↦ parent_there q s k.0 | inr k ↦ h.parent q s x k ]);
-    last = λ q s x is. elim (inserted (q ++ s ∷ []) x is) [ inl k ↦ ap (λ (y : Facts). step_of rules.types y.rdn) k.1 ∙ may.last q s (sym k.0) | inr k ↦ h.last q s x k ];
-    root = λ x is. elim (inserted [] x is) [ inl k ↦ ap (λ (y : Facts). y.rdn) k.1 ∙ may.root (sym k.0) | inr k ↦ h.root x k ];
+    last = λ q s x is. elim (inserted (q ++ s ∷ []) x is) [ inl k ↦ ap (λ (y : EntryContent). rdn_key_of conf.types y.rdn) k.1 ∙ may.last q s (sym k.0) | inr k ↦ h.last q s x k ];
+    root = λ x is. elim (inserted [] x is) [ inl k ↦ ap (λ (y : EntryContent). y.rdn) k.1 ∙ may.root (sym k.0) | inr k ↦ h.root x k ];
     few = few;
   }
     where
@@ -83,77 +83,77 @@ module _ (rules : Rules) (d : Entries) (p : Steps) (e : Facts) (h : IsDirectory 
 
 -- ---- the entry
 
-own_last : (rules : Rules) (r : Parts) (rs : List Parts) → (front : Steps) × (path_of rules (r ∷ rs) ≡ front ++ step_of rules.types (own_rdn rules (r ∷ rs)) ∷ [])
-own_last rules r [] = ([], refl)
-own_last rules r (s ∷ rs) = let k = own_last rules s rs in (step_of rules.types r ∷ k.0, ap (λ (x : Steps). step_of rules.types r ∷ x) k.1)
+own_last : (conf : Conf) (r : Rdn) (rs : List Rdn) → (front : Path) × (path_of conf (r ∷ rs) ≡ front ++ rdn_key_of conf.types (own_rdn conf (r ∷ rs)) ∷ [])
+own_last conf r [] = ([], refl)
+own_last conf r (s ∷ rs) = let k = own_last conf s rs in (rdn_key_of conf.types r ∷ k.0, ap (λ (x : Path). rdn_key_of conf.types r ∷ x) k.1)
 
-nil_push : (q : Steps) (s : Step) → ◌≡◌ {A = Steps} [] (q ++ s ∷ []) → ⊥
+nil_push : (q : Path) (s : RdnKey) → ◌≡◌ {A = Path} [] (q ++ s ∷ []) → ⊥
 nil_push q s e = let k = sym (not_root q s) ∙ sym (ap is_root e) in cc
 
-last_is : (rules : Rules) (rs : List Parts) (q : Steps) (s : Step) → path_of rules rs ≡ q ++ s ∷ [] → step_of rules.types (own_rdn rules rs) ≡ s
-last_is rules [] q s e = absurd (nil_push q s e)
-last_is rules (r ∷ rs) q s e = let k = own_last rules r rs in (same_from_push k.0 q (step_of rules.types (own_rdn rules (r ∷ rs))) s (sym k.1 ∙ e)).1
+last_is : (conf : Conf) (rs : List Rdn) (q : Path) (s : RdnKey) → path_of conf rs ≡ q ++ s ∷ [] → rdn_key_of conf.types (own_rdn conf rs) ≡ s
+last_is conf [] q s e = absurd (nil_push q s e)
+last_is conf (r ∷ rs) q s e = let k = own_last conf r rs in (same_from_push k.0 q (rdn_key_of conf.types (own_rdn conf (r ∷ rs))) s (sym k.1 ∙ e)).1
 
-root_is : (rules : Rules) (rs : List Parts) → path_of rules rs ≡ [] → own_rdn rules rs ≡ root_rdn rules
-root_is rules [] e = refl
-root_is rules (r ∷ rs) e = absurd cc
+root_is : (conf : Conf) (rs : List Rdn) → path_of conf rs ≡ [] → own_rdn conf rs ≡ root_rdn conf
+root_is conf [] e = refl
+root_is conf (r ∷ rs) e = absurd cc
 
-first_good : (P : Parts → Type 0) (rs : List Parts) → AllByRecursion P rs → nat_lt 0 (length rs) ≡ true → P (first_rdn rs)
+first_good : (P : Rdn → Type 0) (rs : List Rdn) → AllByRecursion P rs → nat_lt 0 (length rs) ≡ true → P (first_rdn rs)
 first_good P [] h some = absurd cc
 first_good P (r ∷ rs) h some = h.0
 
-pub root_good : (rules : Rules) → IsRules rules → IsRdn rules.types (root_rdn rules)
-root_good rules ok = first_good (IsRdn rules.types) rules.suffix ok.suffix ok.suffix_some
+pub root_good : (conf : Conf) → IsConf conf → IsRdn conf.types (root_rdn conf)
+root_good conf ok = first_good (IsRdn conf.types) conf.suffix ok.suffix ok.suffix_some
 
-pub own_good : (rules : Rules) → IsRules rules → (rs : List Parts) → AllByRecursion (IsRdn rules.types) rs → IsRdn rules.types (own_rdn rules rs)
-own_good rules ok [] h = root_good rules ok
-own_good rules ok (r ∷ []) h = h.0
-own_good rules ok (r ∷ s ∷ rs) h = own_good rules ok (s ∷ rs) h.1
+pub own_good : (conf : Conf) → IsConf conf → (rs : List Rdn) → AllByRecursion (IsRdn conf.types) rs → IsRdn conf.types (own_rdn conf rs)
+own_good conf ok [] h = root_good conf ok
+own_good conf ok (r ∷ []) h = h.0
+own_good conf ok (r ∷ s ∷ rs) h = own_good conf ok (s ∷ rs) h.1
 
-none_good : (rules : Rules) → AreGood rules.types []
+none_good : (conf : Conf) → AreGood conf.types []
 unfolding IsDistinct
-none_good rules = record { all = tt; types_apart = tt }
+none_good conf = record { all = tt; types_apart = tt }
 
-put_ok : (rules : Rules) (d out : Entries) (p : Steps) (e : Facts) → put_entry rules d p e ≡ Ok out → (has_class e.attrs ≡ true) × (are_single rules.types e.attrs ≡ true) × (nat_le 4294967295 (finite.len d) ≡ false) × (finite.insert d p e ≡ out)
-put_ok rules d out p e said =
-    let a = guard_ok (not (has_class e.attrs)) ObjectClassViolation (cond (not (are_single rules.types e.attrs)) (Err ConstraintViolation) (cond (nat_le 4294967295 (finite.len d)) (Err AdminLimitExceeded) (Ok (finite.insert d p e)))) out said in
-    let b = guard_ok (not (are_single rules.types e.attrs)) ConstraintViolation (cond (nat_le 4294967295 (finite.len d)) (Err AdminLimitExceeded) (Ok (finite.insert d p e))) out a.1 in
+put_ok : (conf : Conf) (d out : Entries) (p : Path) (e : EntryContent) → with_entry conf d p e ≡ Ok out → (has_class e.attrs ≡ true) × (are_single conf.types e.attrs ≡ true) × (nat_le 4294967295 (finite.len d) ≡ false) × (finite.insert d p e ≡ out)
+put_ok conf d out p e said =
+    let a = guard_ok (not (has_class e.attrs)) ObjectClassViolation (cond (not (are_single conf.types e.attrs)) (Err ConstraintViolation) (cond (nat_le 4294967295 (finite.len d)) (Err AdminLimitExceeded) (Ok (finite.insert d p e)))) out said in
+    let b = guard_ok (not (are_single conf.types e.attrs)) ConstraintViolation (cond (nat_le 4294967295 (finite.len d)) (Err AdminLimitExceeded) (Ok (finite.insert d p e))) out a.1 in
     let f = guard_ok (nat_le 4294967295 (finite.len d)) AdminLimitExceeded (Ok (finite.insert d p e)) out b.1 in
-    (not-false (has_class e.attrs) a.0, not-false (are_single rules.types e.attrs) b.0, f.0, same_ok (finite.insert d p e) out f.1)
+    (not-false (has_class e.attrs) a.0, not-false (are_single conf.types e.attrs) b.0, f.0, same_ok (finite.insert d p e) out f.1)
 
-pub keeps : ((rules : Rules) (text : List ℕ) (rs : List Parts) → located rules text ≡ located_at rs → AllByRecursion (IsRdn rules.types) rs)
-    → (rules : Rules) (d out : Entries) (dn : List ℕ) (lines : List Attr) → IsRules rules → IsDirectory rules d → add rules d dn lines ≡ Ok out → IsDirectory rules out
+pub keeps : ((conf : Conf) (text : List ℕ) (rs : List Rdn) → located conf text ≡ located_at rs → AllByRecursion (IsRdn conf.types) rs)
+    → (conf : Conf) (d out : Entries) (dn : List ℕ) (lines : List Attr) → IsConf conf → IsDirectory conf d → add conf d dn lines ≡ Ok out → IsDirectory conf out
 unfolding add add_at
-keeps reads rules d out dn lines ok h said =
-    let b = bind_ok (located rules dn) (λ rs. add_at rules d (path_of rules rs) (own_rdn rules rs) lines) out said in
-    let rs : List Parts = b.0 in
-    let p : Steps = path_of rules rs in
-    let rdn : Parts = own_rdn rules rs in
-    let fine = reads rules dn rs b.1 in
-    let put : Attributes → Result Entries Code = λ attrs. put_entry rules d p (entry_of rules rdn attrs) in
-    let g = guard_ok (finite.contains_key d p) EntryAlreadyExists (cond (not (is_root p) && not (finite.contains_key d (parent_of p))) (Err NoSuchObject) (add_lines rules.types [] lines >>= put)) out b.2 in
-    let k = guard_ok (not (is_root p) && not (finite.contains_key d (parent_of p))) NoSuchObject (add_lines rules.types [] lines >>= put) out g.1 in
-    let l = bind_ok (add_lines rules.types [] lines) put out k.1 in
-    let e : Facts = entry_of rules rdn l.0 in
-    let tests = put_ok rules d out p e l.2 in
-    let is_rdn : IsRdn rules.types rdn = own_good rules ok rs fine in
-    let attrs = rdn_good rules.types rdn l.0 is_rdn.parts (lines_good rules.types lines [] l.0 (none_good rules) l.1) in
-    subst (IsDirectory rules) tests.3 (put_kept rules d p e h (record {
-      good = record { attrs = attrs.all; types_apart = attrs.types_apart; class = tests.0; single = tests.1; rdn = is_rdn; rdn_there = all_come rules.types rdn l.0 };
+keeps reads conf d out dn lines ok h said =
+    let b = bind_ok (located conf dn) (λ rs. add_at conf d (path_of conf rs) (own_rdn conf rs) lines) out said in
+    let rs : List Rdn = b.0 in
+    let p : Path = path_of conf rs in
+    let rdn : Rdn = own_rdn conf rs in
+    let fine = reads conf dn rs b.1 in
+    let put : Attributes → Result Entries Code = λ attrs. with_entry conf d p (entry_of conf rdn attrs) in
+    let g = guard_ok (finite.contains_key d p) EntryAlreadyExists (cond (not (is_root p) && not (finite.contains_key d (parent_of p))) (Err NoSuchObject) (add_lines conf.types [] lines >>= put)) out b.2 in
+    let k = guard_ok (not (is_root p) && not (finite.contains_key d (parent_of p))) NoSuchObject (add_lines conf.types [] lines >>= put) out g.1 in
+    let l = bind_ok (add_lines conf.types [] lines) put out k.1 in
+    let e : EntryContent = entry_of conf rdn l.0 in
+    let tests = put_ok conf d out p e l.2 in
+    let is_rdn : IsRdn conf.types rdn = own_good conf ok rs fine in
+    let attrs = rdn_good conf.types rdn l.0 is_rdn.parts (lines_good conf.types lines [] l.0 (none_good conf) l.1) in
+    subst (IsDirectory conf) tests.3 (put_kept conf d p e h (record {
+      good = record { attrs = attrs.all; types_apart = attrs.types_apart; class = tests.0; single = tests.1; rdn = is_rdn; rdn_there = all_come conf.types rdn l.0 };
       parent = k.0;
-      last = λ q s is. last_is rules rs q s is;
-      root = λ is. root_is rules rs is;
+      last = λ q s is. last_is conf rs q s is;
+      root = λ is. root_is conf rs is;
       room = tests.2;
     }))
 
 -- an entry that was put is there
-pub get_inserted : (d : Entries) (p : Steps) (e : Facts) → finite.get (finite.insert d p e) p ≡ Some e
+pub get_inserted : (d : Entries) (p : Path) (e : EntryContent) → finite.get (finite.insert d p e) p ≡ Some e
 get_inserted d p e = finite.get-insert path_total d p e p ∙ ap (λ o. cond (is_eq o) (Some e) (finite.get d p)) (tied_itself path_total p)
 
 -- the last RDN, where there is one
-pub own_rdn_last : (rules : Rules) (rs : List Parts) (d : Parts) → 1 ≤ length rs → own_rdn rules rs ≡ slice_index_or rs (length rs - 1) d
-own_rdn_last rules [] d some = absurd (omega arith)
-own_rdn_last rules (r ∷ []) d some = refl
-own_rdn_last rules (r ∷ s ∷ rs) d some =
+pub own_rdn_last : (conf : Conf) (rs : List Rdn) (d : Rdn) → 1 ≤ length rs → own_rdn conf rs ≡ slice_index_or rs (length rs - 1) d
+own_rdn_last conf [] d some = absurd (omega arith)
+own_rdn_last conf (r ∷ []) d some = refl
+own_rdn_last conf (r ∷ s ∷ rs) d some =
     let n : length (r ∷ s ∷ rs) - 1 ≡ suc (length (s ∷ rs) - 1) = omega arith in
-    own_rdn_last rules (s ∷ rs) d (omega arith) ∙ ap (λ k. slice_index_or (r ∷ s ∷ rs) k d) (sym n)
+    own_rdn_last conf (s ∷ rs) d (omega arith) ∙ ap (λ k. slice_index_or (r ∷ s ∷ rs) k d) (sym n)

@@ -20,11 +20,11 @@ pub struct Entry {
 }
 
 impl Model for Entry {
-    ghost use Rattle.tree.specs.Stored.{Stored, stored_code};
+    ghost use Rattle.tree.specs.StoredEntries.{Entry, entry_code};
 
-    ghost Value = { Stored };
+    ghost Value = { Entry };
 
-    ghost coded = { stored_code };
+    ghost coded = { entry_code };
 
     ghost view = { λ e. record { rdn = e.rdn; attrs = e.attrs.entries } };
 }

@@ -11,8 +11,6 @@ mod planning;
 mod plans;
 mod range;
 mod refusal;
-#[cfg(test)]
-mod tests;
 mod tree;
 
 pub use attribute_values::Values;

@@ -7,7 +7,7 @@ use Rattle.std.proofs.lemmas.List.Folds.{list_any-append}
 use Rattle.std.proofs.lemmas.List.Quantifiers.{position-Some}
 use Rattle.std.proofs.lemmas.Iterator.Adapters.{position_from-zero}
 use Rattle.values.specs.declared.types.AttributeType.{AttributeType}
-use Rattle.values.specs.declared.name_index.Entry.{Entry}
+use Rattle.values.specs.declared.name_index.NameEntry.{NameEntry}
 use Rattle.values.specs.Tables.{number_of, or_if, FindsTypes}
 use Rattle.values.specs.Types.{type_of, is_named, no_type}
 
@@ -56,6 +56,6 @@ is_known types text (Some t) e = (position-Some (is_named text) types t no_type 
 is_known types text None e = tt
 
 -- nothing is found where there is no type
-pub none_found : (buckets : List (List Entry)) → ((name : List ℕ) → number_of buckets name ≡ None) → FindsTypes buckets []
+pub none_found : (buckets : List (List NameEntry)) → ((name : List ℕ) → number_of buckets name ≡ None) → FindsTypes buckets []
 unfolding type_of
 none_found buckets none = none

@@ -3,7 +3,7 @@ use Rattle.std.specs.Prelude.{◌≡◌, ℕ, ◌+◌, ◌*◌, ◌-◌, ◌%◌
 use Rattle.std.specs.List.{fold}
 use Rattle.std.specs.Str.{str_eq_ignore_ascii_case}
 use Rattle.values.specs.declared.types.AttributeType.{AttributeType}
-use Rattle.values.specs.declared.name_index.Entry.{Entry}
+use Rattle.values.specs.declared.name_index.NameEntry.{NameEntry}
 use Rattle.values.specs.Types.{type_of}
 
 -- in ASCII a capital and its small letter differ in this bit
@@ -22,16 +22,16 @@ abbrev pub bucket_of : ℕ → List ℕ → ℕ
 bucket_of count name = bit_and (key_of name) (count - 1)
 
 -- the number of the first entry with this name
-abbrev pub number_in : List Entry → List ℕ → Option ℕ
+abbrev pub number_in : List NameEntry → List ℕ → Option ℕ
 number_in [] name = None
 number_in (e ∷ es) name = if str_eq_ignore_ascii_case e.name name then Some e.number else number_in es name
 
 -- the number that a name has in its bucket
-abbrev pub number_of : List (List Entry) → List ℕ → Option ℕ
+abbrev pub number_of : List (List NameEntry) → List ℕ → Option ℕ
 number_of buckets name = number_in (slice_index_or buckets (bucket_of (length buckets) name) []) name
 
 -- it is that of the first type with this name or OID
-abbrev pub FindsTypes : List (List Entry) → List AttributeType → Type 0
+abbrev pub FindsTypes : List (List NameEntry) → List AttributeType → Type 0
 FindsTypes buckets types = (name : List ℕ) → number_of buckets name ≡ type_of types name
 
 -- what was there, or else t where a test passes

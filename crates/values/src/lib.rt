@@ -3,8 +3,6 @@
 
 mod name_index;
 mod table;
-#[cfg(test)]
-mod tests;
 mod types;
 mod value;
 

@@ -14,7 +14,7 @@ const CASE_BIT: u8 = 0x20;
 
 /// A name or OID of a type, and the type's number.
 #[derive(Debug, Drop)]
-pub(crate) struct Entry {
+pub(crate) struct NameEntry {
     name: Bytes,
     number: TypeId,
 }
@@ -23,14 +23,14 @@ pub(crate) struct Entry {
 #[derive(Debug, Drop)]
 pub(crate) struct NameIndex {
     // in each bucket an earlier entry counts before a later one
-    buckets: Vec<Sequence<Entry>>,
+    buckets: Vec<Sequence<NameEntry>>,
 }
 
 impl Model for NameIndex {
     ghost use Rattle.std.specs.Prelude.{◌<◌, List, length};
-    ghost use Rattle.values.specs.declared.name_index.Entry.{Entry};
+    ghost use Rattle.values.specs.declared.name_index.NameEntry.{NameEntry};
 
-    ghost Value = { List (List Entry) };
+    ghost Value = { List (List NameEntry) };
 
     ghost view = { λ x. x.buckets.items };
 
@@ -63,7 +63,7 @@ fn are_alike(a: &[u8], b: &[u8]) -> bool
     a == b || a.eq_ignore_ascii_case(b)
 }
 
-fn number_in(entries: &[Entry], name: &[u8]) -> Option<TypeId>
+fn number_in(entries: &[NameEntry], name: &[u8]) -> Option<TypeId>
     ensures { result ≡ number_in entries.now name.now }
 {
     for entry in entries {
@@ -74,7 +74,7 @@ fn number_in(entries: &[Entry], name: &[u8]) -> Option<TypeId>
     None
 }
 
-fn empty_buckets(alloc: Global, count: usize) -> Result<Vec<Sequence<Entry>>, AllocError>
+fn empty_buckets(alloc: Global, count: usize) -> Result<Vec<Sequence<NameEntry>>, AllocError>
     ensures count { IfOk result (λ v. length v.items ≡ count) }
     ensures none { IfOk result (λ v. (name : List ℕ) → number_of v.items name ≡ None) }
 {
@@ -107,7 +107,7 @@ impl NameIndex {
     {
         let bucket = bucket_of(self.buckets.len(), name);
         let name = Bytes::from_slice(alloc, name)?;
-        self.buckets[bucket].push(Entry { name, number })
+        self.buckets[bucket].push(NameEntry { name, number })
     }
 
     /// The number at a name, without ASCII case.

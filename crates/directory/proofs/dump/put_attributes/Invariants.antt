@@ -1,6 +1,6 @@
 use Rattle.std.proofs.Common.{◌≡◌, ◌++◌}
 use Rattle.std.specs.List.{AllByRecursion}
-use Rattle.tree.specs.Stored.{IsMadeAttribute}
+use Rattle.tree.specs.StoredEntries.{IsMadeAttribute}
 use Rattle.directory.specs.Dumps.{attributes_text}
 use Rattle.directory.proofs.dump.put_attributes.Given as goal
 

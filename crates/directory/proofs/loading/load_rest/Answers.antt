@@ -4,7 +4,7 @@ use Rattle.ldif.specs.declared.record.Mode.TheVariants.{Content}
 use Rattle.ldif.specs.Reading.{reading}
 use Rattle.ldif_lines.specs.View.{view, texts}
 use Rattle.ldif_lines.specs.Reader.{Takes, records_left}
-use Rattle.schema.specs.Rules.{Rules}
+use Rattle.schema.specs.Conf.{Conf}
 use Rattle.directory.specs.Runs.{outcome}
 use Rattle.directory.specs.Loading.{IsLoaded, Explains}
 use Rattle.directory.proofs.LoadSteps.{begins, goes_on, stops}
@@ -15,30 +15,30 @@ records-init g c = record {
   source_failures = refl;
   going = c.requires.going;
   same_reference = refl;
-  rules = refl;
-  under_way = begins c.args.tree.now.rules c.args.tree.now.entries (records_left g.S.Source.seen c.args.reader.now);
+  conf = refl;
+  under_way = begins c.args.tree.now.conf c.args.tree.now.entries (records_left g.S.Source.seen c.args.reader.now);
 }
 
 pub returns-in_err-load_record-in-Ok-Some-clause-stopped :
     goal.returns-in_err-load_record-in-Ok-Some-clause-stopped
 returns-in_err-load_record-in-Ok-Some-clause-stopped g c =
     let p = err_from_is_err_and c.from_residual.result c.from_residual.ensures.1 in
-    rw (p.1, p.2) (stops c.args.tree.now.rules c.args.tree.now.entries c.records.tree.entries c.load_record.new.tree.entries
+    rw (p.1, p.2) (stops c.args.tree.now.conf c.args.tree.now.entries c.records.tree.entries c.load_record.new.tree.entries
     (records_left g.S.Source.seen c.args.reader.now) (records_left g.S.Source.seen c.records.reader) (records_left g.S.Source.seen c.next.new.self)
     (view c.in-Ok-Some.raw) c.records.invariant.under_way
     (subst (λ o. IfSome o (λ r. Takes (records_left g.S.Source.seen c.records.reader) (records_left g.S.Source.seen c.next.new.self) (view r ∷ []))) c.in-Ok-Some.field-0-is c.in-Ok-Some.ensures.record)
     c.in_err-load_record-in-Ok-Some.field-0.0
-    (subst (λ (rules : Rules). Explains c.in_err-load_record-in-Ok-Some.field-0.0 c.in-Ok-Some.raw.line (outcome rules Content c.records.tree.entries (reading Content c.in-Ok-Some.raw.first (texts c.in-Ok-Some.raw.lines.items)))) c.records.invariant.rules c.in_err-load_record-in-Ok-Some.ensures.refused))
+    (subst (λ (conf : Conf). Explains c.in_err-load_record-in-Ok-Some.field-0.0 c.in-Ok-Some.raw.line (outcome conf Content c.records.tree.entries (reading Content c.in-Ok-Some.raw.first (texts c.in-Ok-Some.raw.lines.items)))) c.records.invariant.conf c.in_err-load_record-in-Ok-Some.ensures.refused))
 
 pub records-preserved : goal.records-preserved
 records-preserved g c = record {
   source_failures = ap (λ s. (g.S.Source.seen s).failed) c.reuse.ensures.source ∙ c.in-Ok-Some.ensures.going ∙ c.records.invariant.source_failures;
   going = c.reuse.ensures.failed ∙ c.in-Ok-Some.ensures.still_good;
   same_reference = c.reuse.ensures.same_reference ∙ c.in-Ok-Some.ensures.same_reference ∙ c.records.invariant.same_reference;
-  rules = c.in_ok-load_record-in-Ok-Some.ensures.rules ∙ c.records.invariant.rules;
-  under_way = rw c.reuse.ensures.records (goes_on c.args.tree.now.rules c.args.tree.now.entries c.records.tree.entries c.load_record.new.tree.entries
+  conf = c.in_ok-load_record-in-Ok-Some.ensures.same_conf ∙ c.records.invariant.conf;
+  under_way = rw c.reuse.ensures.records (goes_on c.args.tree.now.conf c.args.tree.now.entries c.records.tree.entries c.load_record.new.tree.entries
       (records_left g.S.Source.seen c.args.reader.now) (records_left g.S.Source.seen c.records.reader) (records_left g.S.Source.seen c.next.new.self)
       (view c.in-Ok-Some.raw) c.records.invariant.under_way
       (subst (λ o. IfSome o (λ r. Takes (records_left g.S.Source.seen c.records.reader) (records_left g.S.Source.seen c.next.new.self) (view r ∷ []))) c.in-Ok-Some.field-0-is c.in-Ok-Some.ensures.record)
-      (subst (λ (rules : Rules). IsLoaded (outcome rules Content c.records.tree.entries (reading Content c.in-Ok-Some.raw.first (texts c.in-Ok-Some.raw.lines.items))) c.load_record.new.tree.entries) c.records.invariant.rules c.in_ok-load_record-in-Ok-Some.ensures.loaded));
+      (subst (λ (conf : Conf). IsLoaded (outcome conf Content c.records.tree.entries (reading Content c.in-Ok-Some.raw.first (texts c.in-Ok-Some.raw.lines.items))) c.load_record.new.tree.entries) c.records.invariant.conf c.in_ok-load_record-in-Ok-Some.ensures.loaded));
 }

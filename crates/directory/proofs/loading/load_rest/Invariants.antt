@@ -8,8 +8,8 @@ invariant-records g l = record {
   source_failures : (g.S.Source.seen (source_of l.reader)).failed ≡ (g.S.Source.seen (source_of l.fn.reader)).failed;
   going : is_failed l.reader ≡ false;
   same_reference : l.reader.source.ghost_name ≡ l.fn.reader.source.ghost_name;
-  rules : l.tree.rules ≡ l.fn.tree.rules;
-  under_way : IsUnderWay l.fn.tree.rules l.fn.tree.entries l.tree.entries (records_left g.S.Source.seen l.fn.reader) (records_left g.S.Source.seen l.reader);
+  conf : l.tree.conf ≡ l.fn.tree.conf;
+  under_way : IsUnderWay l.fn.tree.conf l.fn.tree.entries l.tree.entries (records_left g.S.Source.seen l.fn.reader) (records_left g.S.Source.seen l.reader);
 }
 
 abbrev pub decreases-records : goal.decreases-records

@@ -14,8 +14,8 @@ records-init g c = record {
   sink_failures = refl;
   going = c.requires.going;
   same_reference = refl;
-  rules = refl;
-  stands = begins c.args.dir.now.rules c.args.mode c.args.go_on c.args.dir.now.entries (records_left g.S.Source.seen c.args.reader.now) (g.W.Sink.written c.args.sink.now);
+  conf = refl;
+  stands = begins c.args.dir.now.conf c.args.mode c.args.go_on c.args.dir.now.entries (records_left g.S.Source.seen c.args.reader.now) (g.W.Sink.written c.args.sink.now);
   few = let few = c.requires.bound in omega (arith, few);
 }
 
@@ -23,25 +23,25 @@ pub returns-in_err-take_record-in-Ok-Some-clause-broke :
     goal.returns-in_err-take_record-in-Ok-Some-clause-broke
 returns-in_err-take_record-in-Ok-Some-clause-broke g c =
     let p = err_from_is_err_and c.from_residual.result c.from_residual.ensures.1 in
-    rw (p.1, p.2) (breaks_off c.args.dir.now.rules c.args.mode c.args.go_on c.args.dir.now.entries
+    rw (p.1, p.2) (breaks_off c.args.dir.now.conf c.args.mode c.args.go_on c.args.dir.now.entries
     c.records.dir.entries c.take_record.new.dir.entries
     (records_left g.S.Source.seen c.args.reader.now) (records_left g.S.Source.seen c.records.reader) (records_left g.S.Source.seen c.next.new.self)
     c.records.tally c.take_record.new.tally
     (g.W.Sink.written c.args.sink.now) (g.W.Sink.written c.records.sink) (g.W.Sink.written c.take_record.new.sink)
     (view c.in-Ok-Some.raw) c.records.invariant.stands (subst (λ o. IfSome o (λ r. Takes (records_left g.S.Source.seen c.records.reader) (records_left g.S.Source.seen c.next.new.self) (view r ∷ []))) c.in-Ok-Some.field-0-is c.in-Ok-Some.ensures.record)
     c.in_err-take_record-in-Ok-Some.field-0.0
-    (subst (λ r. Rattle.directory.specs.Steps.IsBrokenOff (outcome r c.args.mode c.records.dir.entries (reading c.args.mode c.in-Ok-Some.raw.first (texts c.in-Ok-Some.raw.lines.items))) c.in-Ok-Some.raw.line c.records.dir.entries c.take_record.new.dir.entries c.records.tally (g.W.Sink.written c.records.sink) (g.W.Sink.written c.take_record.new.sink) c.in_err-take_record-in-Ok-Some.field-0.0) c.records.invariant.rules c.in_err-take_record-in-Ok-Some.ensures.broken))
+    (subst (λ r. Rattle.directory.specs.Steps.IsBrokenOff (outcome r c.args.mode c.records.dir.entries (reading c.args.mode c.in-Ok-Some.raw.first (texts c.in-Ok-Some.raw.lines.items))) c.in-Ok-Some.raw.line c.records.dir.entries c.take_record.new.dir.entries c.records.tally (g.W.Sink.written c.records.sink) (g.W.Sink.written c.take_record.new.sink) c.in_err-take_record-in-Ok-Some.field-0.0) c.records.invariant.conf c.in_err-take_record-in-Ok-Some.ensures.broken))
 
 pub returns-then-branch-clause-ran : goal.returns-then-branch-clause-ran
 returns-then-branch-clause-ran g c =
-    ends_there c.args.dir.now.rules c.args.mode c.args.go_on c.args.dir.now.entries
+    ends_there c.args.dir.now.conf c.args.mode c.args.go_on c.args.dir.now.entries
     c.records.dir.entries c.take_record.new.dir.entries
     (records_left g.S.Source.seen c.args.reader.now) (records_left g.S.Source.seen c.records.reader) (records_left g.S.Source.seen c.next.new.self)
     c.records.tally c.take_record.new.tally
     (g.W.Sink.written c.args.sink.now) (g.W.Sink.written c.records.sink) (g.W.Sink.written c.take_record.new.sink)
     (view c.in-Ok-Some.raw) c.records.invariant.stands (subst (λ o. IfSome o (λ r. Takes (records_left g.S.Source.seen c.records.reader) (records_left g.S.Source.seen c.next.new.self) (view r ∷ []))) c.in-Ok-Some.field-0-is c.in-Ok-Some.ensures.record)
     c.in_ok-take_record-in-Ok-Some.field-0
-    (subst (λ r. Rattle.directory.specs.Steps.IsTaken (outcome r c.args.mode c.records.dir.entries (reading c.args.mode c.in-Ok-Some.raw.first (texts c.in-Ok-Some.raw.lines.items))) c.args.go_on c.in-Ok-Some.raw.line c.take_record.new.dir.entries c.records.tally c.take_record.new.tally (g.W.Sink.written c.records.sink) (g.W.Sink.written c.take_record.new.sink) c.in_ok-take_record-in-Ok-Some.field-0) c.records.invariant.rules c.in_ok-take_record-in-Ok-Some.ensures.taken)
+    (subst (λ r. Rattle.directory.specs.Steps.IsTaken (outcome r c.args.mode c.records.dir.entries (reading c.args.mode c.in-Ok-Some.raw.first (texts c.in-Ok-Some.raw.lines.items))) c.args.go_on c.in-Ok-Some.raw.line c.take_record.new.dir.entries c.records.tally c.take_record.new.tally (g.W.Sink.written c.records.sink) (g.W.Sink.written c.take_record.new.sink) c.in_ok-take_record-in-Ok-Some.field-0) c.records.invariant.conf c.in_ok-take_record-in-Ok-Some.ensures.taken)
     c.if-branch.true
 
 pub records-preserved : goal.records-preserved
@@ -50,18 +50,18 @@ records-preserved g c = record {
   sink_failures = c.in_ok-take_record-in-Ok-Some.ensures.taken.written.failed ∙ c.records.invariant.sink_failures;
   going = c.reuse.ensures.failed ∙ c.in-Ok-Some.ensures.still_good;
   same_reference = c.reuse.ensures.same_reference ∙ c.in-Ok-Some.ensures.same_reference ∙ c.records.invariant.same_reference;
-  rules = c.in_ok-take_record-in-Ok-Some.ensures.rules ∙ c.records.invariant.rules;
-  stands = rw c.reuse.ensures.records (goes_on c.args.dir.now.rules c.args.mode c.args.go_on c.args.dir.now.entries
+  conf = c.in_ok-take_record-in-Ok-Some.ensures.same_conf ∙ c.records.invariant.conf;
+  stands = rw c.reuse.ensures.records (goes_on c.args.dir.now.conf c.args.mode c.args.go_on c.args.dir.now.entries
       c.records.dir.entries c.take_record.new.dir.entries
       (records_left g.S.Source.seen c.args.reader.now) (records_left g.S.Source.seen c.records.reader) (records_left g.S.Source.seen c.next.new.self)
       c.records.tally c.take_record.new.tally
       (g.W.Sink.written c.args.sink.now) (g.W.Sink.written c.records.sink) (g.W.Sink.written c.take_record.new.sink)
       (view c.in-Ok-Some.raw) c.records.invariant.stands (subst (λ o. IfSome o (λ r. Takes (records_left g.S.Source.seen c.records.reader) (records_left g.S.Source.seen c.next.new.self) (view r ∷ []))) c.in-Ok-Some.field-0-is c.in-Ok-Some.ensures.record)
       c.in_ok-take_record-in-Ok-Some.field-0
-      (subst (λ r. Rattle.directory.specs.Steps.IsTaken (outcome r c.args.mode c.records.dir.entries (reading c.args.mode c.in-Ok-Some.raw.first (texts c.in-Ok-Some.raw.lines.items))) c.args.go_on c.in-Ok-Some.raw.line c.take_record.new.dir.entries c.records.tally c.take_record.new.tally (g.W.Sink.written c.records.sink) (g.W.Sink.written c.take_record.new.sink) c.in_ok-take_record-in-Ok-Some.field-0) c.records.invariant.rules c.in_ok-take_record-in-Ok-Some.ensures.taken)
+      (subst (λ r. Rattle.directory.specs.Steps.IsTaken (outcome r c.args.mode c.records.dir.entries (reading c.args.mode c.in-Ok-Some.raw.first (texts c.in-Ok-Some.raw.lines.items))) c.args.go_on c.in-Ok-Some.raw.line c.take_record.new.dir.entries c.records.tally c.take_record.new.tally (g.W.Sink.written c.records.sink) (g.W.Sink.written c.take_record.new.sink) c.in_ok-take_record-in-Ok-Some.field-0) c.records.invariant.conf c.in_ok-take_record-in-Ok-Some.ensures.taken)
       c.if-branch.false);
   few =
-      let one = counts_few (outcome c.records.dir.rules c.args.mode c.records.dir.entries (reading c.args.mode c.in-Ok-Some.raw.first (texts c.in-Ok-Some.raw.lines.items))).1 c.records.tally in
+      let one = counts_few (outcome c.records.dir.conf c.args.mode c.records.dir.entries (reading c.args.mode c.in-Ok-Some.raw.first (texts c.in-Ok-Some.raw.lines.items))).1 c.records.tally in
       let accepted = ap (λ (x : Rattle.directory.specs.declared.runs.Tally.Tally). x.accepted) c.in_ok-take_record-in-Ok-Some.ensures.taken.counts in
       let refused = ap (λ (x : Rattle.directory.specs.declared.runs.Tally.Tally). x.refused) c.in_ok-take_record-in-Ok-Some.ensures.taken.counts in
       let falls = subst (λ o. IfSome o (λ _. bytes_left g.S.Source.seen c.next.new.self < bytes_left g.S.Source.seen c.records.reader)) c.in-Ok-Some.field-0-is c.in-Ok-Some.ensures.falls in

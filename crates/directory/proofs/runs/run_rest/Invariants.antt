@@ -9,8 +9,8 @@ invariant-records g l = record {
   sink_failures : (g.W.Sink.written l.sink).failed ≡ (g.W.Sink.written l.fn.sink).failed;
   going : is_failed l.reader ≡ false;
   same_reference : l.reader.source.ghost_name ≡ l.fn.reader.source.ghost_name;
-  rules : l.dir.rules ≡ l.fn.dir.rules;
-  stands : Stands l.fn.dir.rules l.mode l.go_on l.fn.dir.entries l.dir.entries (records_left g.S.Source.seen l.fn.reader) (records_left g.S.Source.seen l.reader) l.tally (g.W.Sink.written l.fn.sink) (g.W.Sink.written l.sink);
+  conf : l.dir.conf ≡ l.fn.dir.conf;
+  stands : Stands l.fn.dir.conf l.mode l.go_on l.fn.dir.entries l.dir.entries (records_left g.S.Source.seen l.fn.reader) (records_left g.S.Source.seen l.reader) l.tally (g.W.Sink.written l.fn.sink) (g.W.Sink.written l.sink);
   few : l.tally.accepted + l.tally.refused + bytes_left g.S.Source.seen l.reader ≤ 2 ^ 64;
 }
 

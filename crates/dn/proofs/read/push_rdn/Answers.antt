@@ -1,6 +1,6 @@
 use Rattle.std.proofs.Common.{ap, subst, sym, ◌∙◌}
 use Rattle.std.proofs.lemmas.Result.{err_from_is_err_and}
-use Rattle.dn.specs.Names.{Parts}
+use Rattle.dn.specs.Names.{Rdn}
 use Rattle.dn.specs.Gives.{Fails}
 use Rattle.dn.proofs.Firsts.{before, part_read}
 use Rattle.dn.proofs.Loop.{one_plain, two_plain, first_read, parts_fail}
@@ -18,7 +18,7 @@ returns-in_default-after_plus-clause-ok c =
     let part = c.in-Some-short_part.part in
     let read = c.in_ok-start.ensures.exact ∙ part_read start.ty_text.now start.rest.now c.in-Some.plain.value.now behind part c.in-Some.ensures.read c.in-Some-short_part.ensures.same in
     let one = one_plain c.args.text.now part behind read c.in_default-after_plus.ensures.none in
-    (c.one.result, one ∙ ap (λ (ps : Parts). before behind ps) (sym c.one.ensures), c.in_ok-push.ensures.ok)
+    (c.one.result, one ∙ ap (λ (ps : Rdn). before behind ps) (sym c.one.ensures), c.in_ok-push.ensures.ok)
 
 pub returns-then-not-begins_with_plus-clause-ok : goal.returns-then-not-begins_with_plus-clause-ok
 returns-then-not-begins_with_plus-clause-ok c =
@@ -28,7 +28,7 @@ returns-then-not-begins_with_plus-clause-ok c =
     let part = c.in-Some-short_part.part in
     let read = c.in_ok-start.ensures.exact ∙ part_read start.ty_text.now start.rest.now c.in-Some.plain.value.now behind part c.in-Some.ensures.read c.in-Some-short_part.ensures.same in
     let two = two_plain c.args.text.now part behind c.in-Some-after_plus.more.now c.in-Some-short_in.second end read c.in-Some-after_plus.ensures.some c.in-Some-short_in.ensures.exact (sym c.begins_with_plus.ensures ∙ c.if-not-begins_with_plus.true) in
-    (c.two.result, two ∙ ap (λ (ps : Parts). before end ps) (sym c.two.ensures), c.in_ok-push-2.ensures.ok)
+    (c.two.result, two ∙ ap (λ (ps : Rdn). before end ps) (sym c.two.ensures), c.in_ok-push-2.ensures.ok)
 
 pub returns-in_err-part-clause-err : goal.returns-in_err-part-clause-err
 returns-in_err-part-clause-err c =

@@ -2,7 +2,7 @@ use Rattle.std.proofs.Common.{[], refl, not, eqb, length, sym, ap, ◌∙◌}
 use Rattle.std.proofs.lemmas.Bool.{and_parts}
 use Rattle.std.proofs.lemmas.Result.{err_from_is_err_and}
 use Rattle.std.specs.List.{list_all}
-use Rattle.dn.specs.Names.{Parts, is_part}
+use Rattle.dn.specs.Names.{Rdn, is_ava}
 use Rattle.dn.specs.Reading.{part_of}
 use Rattle.dn.specs.Cuts.{is_separator, parts_from}
 use Rattle.dn.proofs.Firsts.{before}
@@ -12,7 +12,7 @@ use Rattle.dn.proofs.read.rdn_from.Goals as goal
 pub returns-then-not-begins_with_plus : goal.returns-then-not-begins_with_plus
 returns-then-not-begins_with_plus c =
     one_only c.args.part c.args.behind.now (sym c.begins_with_plus.ensures ∙ c.if-not-begins_with_plus.true)
-    ∙ ap (λ (ps : Parts). before c.args.behind.now ps) (sym c.one.ensures)
+    ∙ ap (λ (ps : Rdn). before c.args.behind.now ps) (sym c.one.ensures)
 
 pub loop-more-init : goal.loop-more-init
 loop-more-init c =
@@ -36,7 +36,7 @@ loop-more-preserved c =
     record {
       same = parts_go_on front c.loop-more.rest.now (parts_from (c.args.part, c.args.behind.now)) c.loop-more.invariant.same c.in-Some.more.now c.in-Some.ensures.some c.in_ok-part.part c.in_ok-part.behind.now c.push.new.self.items c.in_ok-part.ensures.exact c.in_ok-push.ensures.items;
       good =
-          let all = (and_parts (not (eqb (length front) 0)) (list_all is_part front) c.loop-more.invariant.good).1 in
+          let all = (and_parts (not (eqb (length front) 0)) (list_all is_ava front) c.loop-more.invariant.good).1 in
           rdn_push front c.in_ok-part.part c.push.new.self.items c.in_ok-push.ensures.items all c.in_ok-part.ensures.good;
     }
 

@@ -10,8 +10,8 @@ new-requires c =
     let law : Defines = λ text d e. (c.defined_types_have_names.ensures.oid text d e, c.defined_types_have_names.ensures.names text d e) in
     (types_are law c.deref.result.now c.in_ok-types_of.field-0.items c.in_ok-types_of.ensures).few
 
-pub new-requires-in-Some-clause-rules : goal.new-requires-in-Some-clause-rules
-new-requires-in-Some-clause-rules c =
+pub new-requires-in-Some-clause-same_conf : goal.new-requires-in-Some-clause-same_conf
+new-requires-in-Some-clause-same_conf c =
     let law : Defines = λ text d e. (c.defined_types_have_names.ensures.oid text d e, c.defined_types_have_names.ensures.names text d e) in
     let lines : List Line = c.deref-2.result.now in
     let found = suffix_is c.in_ok-types.types lines (rdns_found c.in_ok-suffix.field-0) c.in_ok-suffix.ensures.rdns in

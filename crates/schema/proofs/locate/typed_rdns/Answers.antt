@@ -3,15 +3,15 @@ use Rattle.std.specs.List.{AllByRecursion}
 use Rattle.std.proofs.lemmas.Result.{err_from_is_err_and}
 use Rattle.schema.specs.Each.{each}
 use Rattle.schema.specs.Keys.{IsOne}
-use Rattle.schema.specs.Rdns.{Parts}
-use Rattle.schema.specs.Rules.{typed_rdn}
+use Rattle.schema.specs.Rdns.{Rdn}
+use Rattle.schema.specs.Conf.{typed_rdn}
 use Rattle.paths.proofs.Unpacked.{all_append}
 use Rattle.schema.proofs.Loop.{with_front, nothing_front, goes_on, ends, is_done}
 use Rattle.schema.proofs.locate.typed_rdns.Goals as goal
 
 pub loop-kind-init : goal.loop-kind-init
 loop-kind-init c = record {
-  read = ap (λ (front : List Parts). with_front front (each (typed_rdn c.args.types.now) (map (λ p. (p.0.now, p.1.now)) c.args.name.now))) c.in_ok-rdns.ensures.items ∙ nothing_front _;
+  read = ap (λ (front : List Rdn). with_front front (each (typed_rdn c.args.types.now) (map (λ p. (p.0.now, p.1.now)) c.args.name.now))) c.in_ok-rdns.ensures.items ∙ nothing_front _;
   one = subst (AllByRecursion (IsOne c.args.types.now)) (sym c.in_ok-rdns.ensures.items) tt;
 }
 
@@ -20,7 +20,7 @@ loop-kind-preserved c =
     let types = c.args.types.now in
     record {
       read =
-          ap (λ (front : List Parts). with_front front (each (typed_rdn types) (map (λ p. (p.0.now, p.1.now)) (drop (c.loop-kind.kind-index + 1) c.args.name.now)))) c.in_ok-push.ensures.items
+          ap (λ (front : List Rdn). with_front front (each (typed_rdn types) (map (λ p. (p.0.now, p.1.now)) (drop (c.loop-kind.kind-index + 1) c.args.name.now)))) c.in_ok-push.ensures.items
           ∙ goes_on (typed_rdn types) (λ p. (p.0.now, p.1.now)) c.args.name.now c.loop-kind.kind-index _ c.loop-kind.rdns.items c.in_ok-typed_rdn.field-0 (each (typed_rdn types) (map (λ p. (p.0.now, p.1.now)) c.args.name.now)) c.loop-kind-test.true c.in_ok-typed_rdn.ensures.gives c.loop-kind.invariant.read;
       one =
           subst (AllByRecursion (IsOne types)) (sym c.in_ok-push.ensures.items)

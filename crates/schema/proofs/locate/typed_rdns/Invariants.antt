@@ -2,7 +2,7 @@ use Rattle.std.proofs.Common.{◌≡◌, drop, map}
 use Rattle.std.specs.List.{AllByRecursion}
 use Rattle.schema.specs.Each.{each}
 use Rattle.schema.specs.Keys.{IsOne}
-use Rattle.schema.specs.Rules.{typed_rdn}
+use Rattle.schema.specs.Conf.{typed_rdn}
 use Rattle.schema.proofs.Loop.{with_front}
 use Rattle.schema.proofs.locate.typed_rdns.Given as goal
 

@@ -8,6 +8,6 @@ abbrev pub invariant-loop-path : goal.invariant-loop-path
 invariant-loop-path g l = record {
   failures : (g.W.Sink.written l.sink).failed ≡ (g.W.Sink.written l.fn.sink).failed;
   names : l.names ≡ l.self;
-  there : AllByRecursion (IsThere l.self.rules l.self.entries) l.path-iterator;
-  so_far : SoFar (g.W.Sink.written l.fn.sink) (g.W.Sink.written l.sink) (dump l.self.rules l.self.entries) (l.text.items ++ entries_text l.self.rules l.self.entries l.path-iterator);
+  there : AllByRecursion (IsThere l.self.conf l.self.entries) l.path-iterator;
+  so_far : SoFar (g.W.Sink.written l.fn.sink) (g.W.Sink.written l.sink) (dump l.self.conf l.self.entries) (l.text.items ++ entries_text l.self.conf l.self.entries l.path-iterator);
 }

@@ -1,25 +1,25 @@
 use Rattle.std.proofs.Common.{◌≡◌, ℕ, List, [], ◌∷◌, ◌++◌, sym, ap, ◌∙◌, subst, append_assoc}
 use Rattle.std.specs.Prelude.{OnOk}
 use Rattle.ldif.specs.Writing.{written_line}
-use Rattle.schema.specs.Rules.{Rules}
+use Rattle.schema.specs.Conf.{Conf}
 use Rattle.tree.specs.Directories.{name_of_entry}
-use Rattle.tree.specs.Trees.{Directory}
+use Rattle.tree.specs.Trees.{Tree}
 use Rattle.directory.specs.Dumps.{attributes_text, entry_text}
 use Rattle.directory.proofs.EntryText.{entry_is}
 use Rattle.directory.proofs.directory.Directory.put_record.Goals as goal
 
 pub returns-clause-text : goal.returns-clause-text
 returns-clause-text c =
-    let d : Directory = c.args.self.now in
+    let d : Tree = c.args.self.now in
     let p = c.args.path.now in
     let attrs = c.args.entry.now.attrs in
-    let rules : Rules = c.conf.result.now in
-    let name : c.as_slice.result.now ≡ name_of_entry d.rules d.entries p =
-    c.as_slice.ensures ∙ c.in_ok-name.ensures.name ∙ ap (λ (t : Directory). name_of_entry t.rules t.entries p) c.requires.names in
-    let is : c.args.out.now.items ++ written_line (100 ∷ 110 ∷ []) c.as_slice.result.now ++ attributes_text rules.types attrs ≡ c.args.out.now.items ++ entry_text d.rules d.entries (p, c.args.entry.now) =
-    append_assoc c.args.out.now.items (written_line (100 ∷ 110 ∷ []) c.as_slice.result.now) (attributes_text rules.types attrs)
+    let conf : Conf = c.conf.result.now in
+    let name : c.as_slice.result.now ≡ name_of_entry d.conf d.entries p =
+    c.as_slice.ensures ∙ c.in_ok-name.ensures.name ∙ ap (λ (t : Tree). name_of_entry t.conf t.entries p) c.requires.names in
+    let is : c.args.out.now.items ++ written_line (100 ∷ 110 ∷ []) c.as_slice.result.now ++ attributes_text conf.types attrs ≡ c.args.out.now.items ++ entry_text d.conf d.entries (p, c.args.entry.now) =
+    append_assoc c.args.out.now.items (written_line (100 ∷ 110 ∷ []) c.as_slice.result.now) (attributes_text conf.types attrs)
     ∙ ap (λ (bs : List ℕ). c.args.out.now.items ++ bs) (
-    ap (λ (n : List ℕ). written_line (100 ∷ 110 ∷ []) n ++ attributes_text rules.types attrs) name
-    ∙ ap (λ (r : Rules). written_line (100 ∷ 110 ∷ []) (name_of_entry d.rules d.entries p) ++ attributes_text r.types attrs) c.conf.ensures
-    ∙ sym (entry_is d.rules d.entries p c.args.entry.now)) in
+    ap (λ (n : List ℕ). written_line (100 ∷ 110 ∷ []) n ++ attributes_text conf.types attrs) name
+    ∙ ap (λ (r : Conf). written_line (100 ∷ 110 ∷ []) (name_of_entry d.conf d.entries p) ++ attributes_text r.types attrs) c.conf.ensures
+    ∙ sym (entry_is d.conf d.entries p c.args.entry.now)) in
     subst (λ (t : List ℕ). OnOk c.put_entry.result (c.put_entry.new.out.items ≡ t)) is c.put_entry.ensures

@@ -1,55 +1,55 @@
 use Rattle.std.proofs.Common.{◌≡◌, ℕ, ◌≤◌, ◌-◌, List, ap, sym, ◌∙◌, length, reverse, map, take, drop, Result, Ok, arith}
 use Rattle.std.proofs.lemmas.List.{drop-map, length-map, length-reverse}
 use Rattle.schema.specs.declared.code.Code.{Code}
-use Rattle.paths.specs.Paths.{Steps, begins}
-use Rattle.schema.specs.Rdns.{Parts, step_of}
+use Rattle.paths.specs.Paths.{Path, begins}
+use Rattle.schema.specs.Rdns.{Rdn, rdn_key_of}
 use Rattle.schema.proofs.Below.{isnt_below, is_below, reversed_front, begins_long}
 use Rattle.schema.proofs.conf.Conf.below_suffix.Goals as goal
 use Rattle.schema.proofs.conf.Conf.below_suffix.Goals.{After-suffix, After-reverse}
 
-abbrev ok : List Parts → Result (List Parts) Code
+abbrev ok : List Rdn → Result (List Rdn) Code
 ok rs = Ok rs
 
 pub returns-then-not-begins-clause-rdns : goal.returns-then-not-begins-clause-rdns
 returns-then-not-begins-clause-rdns c =
     isnt_below c.args.self.now.types (reverse c.args.self.now.suffix) (reverse c.args.typed.rdns.items) c.args.typed.path c.begins.result c.requires
-    (c.begins.ensures ∙ ap (λ (k : Steps). begins k c.args.typed.path) c.root.ensures) c.if-not-begins.true
+    (c.begins.ensures ∙ ap (λ (k : Path). begins k c.args.typed.path) c.root.ensures) c.if-not-begins.true
 
 -- the name has as many RDNs as the suffix, or more
 long : (c : After-suffix) → length c.args.self.now.suffix ≤ length c.args.typed.rdns.items
 long c =
     let le = begins_long c.root.result.now c.args.typed.path (sym c.begins.ensures ∙ c.if-not-begins.false) in
     let upper : length c.root.result.now ≡ length c.args.self.now.suffix =
-    ap (λ (p : Steps). length p) c.root.ensures ∙ length-map (reverse c.args.self.now.suffix) (step_of c.args.self.now.types) ∙ length-reverse c.args.self.now.suffix in
+    ap (λ (p : Path). length p) c.root.ensures ∙ length-map (reverse c.args.self.now.suffix) (rdn_key_of c.args.self.now.types) ∙ length-reverse c.args.self.now.suffix in
     let whole : length c.args.typed.path ≡ length c.args.typed.rdns.items =
-    ap (λ (p : Steps). length p) c.requires ∙ length-map (reverse c.args.typed.rdns.items) (step_of c.args.self.now.types) ∙ length-reverse c.args.typed.rdns.items in
+    ap (λ (p : Path). length p) c.requires ∙ length-map (reverse c.args.typed.rdns.items) (rdn_key_of c.args.self.now.types) ∙ length-reverse c.args.typed.rdns.items in
     omega (arith, le)
 
 pub overflow_sub-len : goal.overflow_sub-len
 overflow_sub-len c =
     let le = long c in
-    let seen : length c.suffix.result.now ≡ length c.args.self.now.suffix = ap (λ (s : List Parts). length s) c.suffix.ensures in
+    let seen : length c.suffix.result.now ≡ length c.args.self.now.suffix = ap (λ (s : List Rdn). length s) c.suffix.ensures in
     omega (arith, le, c.args.typed.rdns.ok.0)
 
 -- the RDNs below the suffix, from the suffix down
 rest_is : (c : After-reverse) → length c.args.self.now.suffix ≤ length c.args.typed.rdns.items → c.reverse.new.self.items ≡ drop (length (reverse c.args.self.now.suffix)) (reverse c.args.typed.rdns.items)
 rest_is c le =
-    let rdns : List Parts = c.args.typed.rdns.items in
+    let rdns : List Rdn = c.args.typed.rdns.items in
     let few : ℕ = length c.args.self.now.suffix in
     let kept : c.len.result - length c.suffix.result.now ≡ length rdns - few = λ i. (c.len.ensures ∙ c.args.typed.rdns.ok.0) i - length (c.suffix.ensures i) in
-    c.reverse.ensures.items ∙ ap (λ (rs : List Parts). reverse rs) (c.truncate.ensures.items ∙ ap (λ n. take n rdns) kept) ∙ reversed_front rdns few le
+    c.reverse.ensures.items ∙ ap (λ (rs : List Rdn). reverse rs) (c.truncate.ensures.items ∙ ap (λ n. take n rdns) kept) ∙ reversed_front rdns few le
     ∙ ap (λ n. drop n (reverse rdns)) (sym (length-reverse c.args.self.now.suffix))
 
 pub returns-clause-rdns : goal.returns-clause-rdns
 returns-clause-rdns c =
     is_below c.args.self.now.types (reverse c.args.self.now.suffix) (reverse c.args.typed.rdns.items) c.args.typed.path c.begins.result c.requires
-    (c.begins.ensures ∙ ap (λ (k : Steps). begins k c.args.typed.path) c.root.ensures) c.if-not-begins.false
+    (c.begins.ensures ∙ ap (λ (k : Path). begins k c.args.typed.path) c.root.ensures) c.if-not-begins.false
     ∙ ap ok (sym (rest_is (goal.at.returns-clause-rdns c).After-reverse (long (goal.at.returns-clause-rdns c).After-suffix)) ∙ sym c.from_vec.ensures)
 
 pub returns-clause-path : goal.returns-clause-path
 returns-clause-path c =
     let types = c.args.self.now.types in
-    let upper : length c.root-2.result.now ≡ length (reverse c.args.self.now.suffix) = ap (λ (p : Steps). length p) c.root-2.ensures ∙ length-map (reverse c.args.self.now.suffix) (step_of types) in
-    c.in_ok-behind.ensures ∙ ap (λ n. drop n c.args.typed.path) upper ∙ ap (λ (p : Steps). drop (length (reverse c.args.self.now.suffix)) p) c.requires
-    ∙ drop-map (step_of types) (length (reverse c.args.self.now.suffix)) (reverse c.args.typed.rdns.items)
-    ∙ ap (map (step_of types)) (sym (rest_is (goal.at.returns-clause-path c).After-reverse (long (goal.at.returns-clause-path c).After-suffix)) ∙ sym c.from_vec.ensures)
+    let upper : length c.root-2.result.now ≡ length (reverse c.args.self.now.suffix) = ap (λ (p : Path). length p) c.root-2.ensures ∙ length-map (reverse c.args.self.now.suffix) (rdn_key_of types) in
+    c.in_ok-behind.ensures ∙ ap (λ n. drop n c.args.typed.path) upper ∙ ap (λ (p : Path). drop (length (reverse c.args.self.now.suffix)) p) c.requires
+    ∙ drop-map (rdn_key_of types) (length (reverse c.args.self.now.suffix)) (reverse c.args.typed.rdns.items)
+    ∙ ap (map (rdn_key_of types)) (sym (rest_is (goal.at.returns-clause-path c).After-reverse (long (goal.at.returns-clause-path c).After-suffix)) ∙ sym c.from_vec.ensures)

@@ -1,0 +1,62 @@
+//! A name that is read and written while one allocation is refused: `tests/refuse_memory` refuses each in turn, and elsewhere
+//! none is.
+
+use crate::little_memory::spend;
+use crate::names::shown_name;
+use dn::{Name, NameFault, read_name, write_name};
+use std::alloc::{AllocError, Global};
+use std::process::Abort;
+use std::test::Fail;
+
+// RDNs of one part, two and three; values with and without escapes, some of more bytes than lie in place
+const TEXT: &str =
+    "cn=a\\2C b+sn=a value of more than a few bytes+ou = c,o=an escaped \\2C value of more than a few bytes,c=e+st=f,dc=ex";
+
+const SHOWN: &str =
+    "[cn|a, b][sn|a value of more than a few bytes][ou|c]/[o|an escaped , value of more than a few bytes]/[c|e][st|f]/[dc|ex]/";
+
+const WRITTEN: &str =
+    "cn=a\\, b+sn=a value of more than a few bytes+ou=c,o=an escaped \\, value of more than a few bytes,c=e+st=f,dc=ex";
+
+// the name and its text, as far as there was memory for them
+fn read_and_write(alloc: Global) -> Result<(Name, Option<String>), NameFault> {
+    let name = read_name(alloc, TEXT)?;
+    let text = write_name(alloc, &name).ok();
+    Ok((name, text))
+}
+
+fn is_shown_so(alloc: Global, name: &Name) -> Result<bool, AllocError> {
+    Ok(shown_name(alloc, name)?.as_slice() == SHOWN.as_bytes())
+}
+
+// reading and writing with so many allocations before and behind them: whether they went through, and whether one of those was
+// refused
+fn write_between(
+    rt: &impl Abort,
+    alloc: Global,
+    before: usize,
+    behind: usize,
+) -> Result<(bool, bool), Fail> {
+    let met_before = spend(alloc, before);
+    let outcome = read_and_write(alloc);
+    let met = spend(alloc, behind) || met_before;
+    match outcome {
+        Ok((name, text)) => {
+            assert!(rt; is_shown_so(alloc, &name)?);
+            if let Some(text) = text {
+                assert_eq!(rt; text.as_str(), WRITTEN);
+                return Ok((true, met));
+            }
+            Ok((false, met))
+        }
+        Err(NameFault::OutOfMemory) => Ok((false, met)),
+        Err(NameFault::Fault(_)) => Err(Fail::from("the text is a name")),
+    }
+}
+
+#[test]
+fn a_name_is_read_and_written(rt: HostRuntime) -> Result<(), Fail> {
+    let (whole, met) = write_between(&rt, rt.alloc(), 0, 0)?;
+    assert!(rt; whole && !met);
+    Ok(())
+}

@@ -1,0 +1,142 @@
+//! Runs, loads and dumps over sources and sinks that fail, and calls of a directory that no command makes.
+
+use device::{TrySink, TrySource};
+use directory::{Directory, LoadFault, RunFault, Tally, load, load_tree, run};
+use ldif::{Mode, Record, WriteFault};
+use lists::{Bytes, Sequence};
+use schema::{Conf, ConfFault, Path, read_conf};
+use std::alloc::Global;
+use std::test::Fail;
+use tree::Refusal;
+
+const CONF: &str = "suffix \"dc=ex\"
+attributetype ( 0.9.2342.19200300.100.1.25 NAME 'dc' EQUALITY caseIgnoreMatch SYNTAX 1.3.6.1.4.1.1466.115.121.1.15 )
+attributetype ( 2.5.4.3 NAME 'cn' EQUALITY caseIgnoreMatch SYNTAX 1.3.6.1.4.1.1466.115.121.1.15 )
+";
+
+/// The suffix's entry, as it is dumped.
+pub const ROOT: &str = "dn: dc=ex\nobjectClass: domain\ndc: ex\n\n";
+
+pub fn conf(alloc: Global) -> Result<Conf, ConfFault> {
+    read_conf(alloc, CONF.as_bytes())
+}
+
+/// The directory that a text loads to.
+pub fn loaded(alloc: Global, text: &str) -> Result<Directory, Fail> {
+    let mut source = TrySource::new(text.as_bytes(), 8192, None);
+    let Ok(dir) = load(alloc, conf(alloc)?, &mut source) else {
+        return Err(Fail::from("the text loads"));
+    };
+    Ok(dir)
+}
+
+pub fn dump_of(alloc: Global, dir: &Directory) -> Result<Vec<u8>, Fail> {
+    let mut sink = TrySink::new(alloc, 8192, None);
+    dir.dump(alloc, &mut sink)?;
+    Ok(Vec::from_slice(alloc, sink.bytes())?)
+}
+
+// the records on lines 1, 4 and 9 are refused
+const THREE: &str =
+    "dn: dc=ex\nobjectClass: domain\n\ndn: cn=a,dc=no\n\ndn: cn=b,dc=ex\nobjectClass: person\n\ndn: cn=a,dc=ex\nobjectClass: person\ncn:: YSA";
+
+const REPORT: &str = "line 1: 68 entryAlreadyExists\nline 4: 32 noSuchObject\nline 9: L4 base64\n";
+
+/// What became of a run on the suffix's entry, and its report.
+fn run_three(
+    alloc: Global,
+    source_limit: Option<usize>,
+    sink_limit: Option<usize>,
+) -> Result<(Result<Tally, RunFault>, Vec<u8>), Fail> {
+    let mut dir = loaded(alloc, ROOT)?;
+    let mut source = TrySource::new(THREE.as_bytes(), 7, source_limit);
+    let mut sink = TrySink::new(alloc, 5, sink_limit);
+    let outcome = run(alloc, &mut dir, &mut source, &mut sink, Mode::Content, true);
+    Ok((outcome, Vec::from_slice(alloc, sink.bytes())?))
+}
+
+// what is accepted and refused when the report breaks off in its first, second or third line
+fn broken_in(limit: usize) -> Tally {
+    let (accepted, refused) = match limit {
+        0..30 => (0, 1),
+        30..54 => (0, 2),
+        _ => (1, 3),
+    };
+    Tally { accepted, refused }
+}
+
+#[test]
+fn a_report_breaks_off_where_its_sink_fails(rt: HostRuntime) -> Result<(), Fail> {
+    for limit in 0..REPORT.len() {
+        let (outcome, report) = run_three(rt.alloc(), None, Some(limit))?;
+        assert_eq!(rt; outcome, Err(RunFault::Write(broken_in(limit))), "{limit}");
+        assert_eq!(rt; report.as_slice(), &REPORT.as_bytes()[..limit]);
+    }
+    Ok(())
+}
+
+// the whole source is read before the first record is carried out
+#[test]
+fn nothing_is_done_where_the_source_fails(rt: HostRuntime) -> Result<(), Fail> {
+    let none = Tally {
+        accepted: 0,
+        refused: 0,
+    };
+    for limit in [0, 30, 90] {
+        let (outcome, report) = run_three(rt.alloc(), Some(limit), None)?;
+        assert_eq!(rt; outcome, Err(RunFault::Read(none)), "{limit}");
+        assert!(rt; report.is_empty());
+    }
+    Ok(())
+}
+
+#[test]
+fn a_dump_breaks_off_where_its_sink_fails(rt: HostRuntime) -> Result<(), Fail> {
+    let dir = loaded(rt.alloc(), ROOT)?;
+    for limit in 0..ROOT.len() {
+        let mut sink = TrySink::new(rt.alloc(), 4, Some(limit));
+        assert_eq!(rt; dir.dump(rt.alloc(), &mut sink), Err(WriteFault::Device));
+        assert_eq!(rt; sink.bytes(), &ROOT.as_bytes()[..limit]);
+    }
+    Ok(())
+}
+
+#[test]
+fn a_load_ends_where_the_source_fails(rt: HostRuntime) -> Result<(), Fail> {
+    for limit in 0..ROOT.len() {
+        let mut source = TrySource::new(ROOT.as_bytes(), 11, Some(limit));
+        let found = load(rt.alloc(), conf(rt.alloc())?, &mut source).err();
+        assert_eq!(rt; found, Some(LoadFault::Read));
+    }
+    Ok(())
+}
+
+#[test]
+fn a_tree_makes_a_directory(rt: HostRuntime) -> Result<(), Fail> {
+    let conf = conf(rt.alloc())?;
+    let mut source = TrySource::new(ROOT.as_bytes(), 11, None);
+    let Ok(tree) = load_tree(rt.alloc(), &conf, &mut source) else {
+        return Err(Fail::from("the text loads"));
+    };
+    let root = Path::root(rt.alloc());
+    if tree.get(&root).is_some() {
+        let name = tree.name_of(rt.alloc(), &conf, &root)?;
+        assert_eq!(rt; name.as_slice(), b"dc=ex".as_slice());
+    }
+    let dir = Directory::from_tree(rt.alloc(), conf, tree)?;
+    assert_eq!(rt; dump_of(rt.alloc(), &dir)?.as_slice(), ROOT.as_bytes());
+    Ok(())
+}
+
+#[test]
+fn one_record_is_carried_out(rt: HostRuntime) -> Result<(), Fail> {
+    let mut dir = loaded(rt.alloc(), ROOT)?;
+    let delete = Record::Delete {
+        dn: Bytes::from_slice(rt.alloc(), b"dc=ex")?,
+        controls: Sequence::new(rt.alloc()),
+    };
+    let refused = dir.apply(&delete, Mode::Changes { add: false });
+    assert!(rt; matches!(refused, Err(Refusal::Code(_))));
+    assert!(rt; dir.apply(&Record::Empty, Mode::Content).is_ok());
+    Ok(())
+}

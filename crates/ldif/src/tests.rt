@@ -1,5 +1,0 @@
-mod cases;
-mod memory;
-mod shown;
-mod texts;
-mod writing;

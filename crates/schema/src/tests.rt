@@ -1,7 +1,0 @@
-mod codes;
-mod configurations;
-mod faults;
-mod normal_forms;
-mod order;
-mod places;
-mod shown;
