@@ -32,7 +32,7 @@ wants 0 "" slapcat --db db
 [ ! -s out ] || { echo "an empty directory prints something"; failed=1; }
 wants 0 "" slapadd --db db -l "$example/people.ldif"
 wants 0 "" slapadd --db db -l "$example/teams.ldif"
-[ ! -e db/data.ldif.new ] || { echo "a temporary file is left"; failed=1; }
+[ "$(ls -A db | wc -l)" = 2 ] || { echo "a temporary file is left: $(ls -A db)"; failed=1; }
 wants 0 "" slapcat --db db
 same out db/data.ldif
 [ "$(grep -c '^dn:' out)" = 16 ] || { echo "not 16 entries"; failed=1; }
@@ -91,6 +91,26 @@ wants 0 "" slapadd --db db -l /dev/null
 [ "$(stat -c %a db/data.ldif)" = 600 ] || { echo "the permissions have changed"; failed=1; }
 wants 0 "" slapcat --db db -l all.ldif
 same all.ldif db/data.ldif
+
+# beside a file that is stored, files of the user stay, what a link points to stays, and what a killed run left goes
+printf 'mine' > all.new
+printf 'mine' > target
+cp target mine
+ln -s target all.ldif.new
+ln -s target .all.ldif.slaptools
+wants 0 "" slapcat --db db -l all.ldif
+same all.ldif db/data.ldif
+same target mine
+same all.new mine
+[ -L all.ldif.new ] || { echo "a link of the user is gone"; failed=1; }
+[ ! -L .all.ldif.slaptools ] && [ ! -e .all.ldif.slaptools ] || { echo "what a killed run left is still there"; failed=1; }
+printf 'half' > db/.data.ldif.slaptools
+wants 0 "" slapadd --db db -l /dev/null
+same all.ldif db/data.ldif
+[ ! -e db/.data.ldif.slaptools ] || { echo "what a killed run left is still there"; failed=1; }
+mkdir .full.ldif.slaptools
+wants 3 "full.ldif: cannot write" slapcat --db db -l full.ldif
+[ ! -e full.ldif ] || { echo "a file that can't be stored is there"; failed=1; }
 
 # faults of the files of the directory
 line=$(($(wc -l < db/data.ldif) + 1))

@@ -4,9 +4,9 @@ ghost use Rattle.std.specs.Prelude.{◌≡◌, ◌++◌, ◌∷◌, [], IfOk};
 
 use crate::packing::push_single;
 use crate::path::Path;
+use crate::type_id::TypeId;
 use std::alloc::{AllocError, Global};
 use std::marker::Model;
-use values::TypeId;
 
 // most paths take fewer bytes
 const USUAL_LEN: usize = 64;

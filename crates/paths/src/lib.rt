@@ -1,11 +1,13 @@
-//! RDNs, and paths: where entries stand, in the order of a dump.
+//! RDNs of types by their numbers, and paths: where entries stand, in the order of a dump.
 #![tactic(auto)]
 
 mod draft;
 mod laws;
 mod packing;
 mod path;
+mod type_id;
 
 pub use draft::PathDraft;
 pub use laws::order_of_paths;
 pub use path::{Path, Rdn, RdnKey};
+pub use type_id::TypeId;

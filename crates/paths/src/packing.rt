@@ -4,9 +4,9 @@ ghost use Rattle.std.specs.Prelude.{◌≡◌, ◌++◌, ◌∷◌, [], OnOk, na
 ghost use Rattle.std.specs.List.{flat_map, list_all};
 ghost use Rattle.paths.specs.Packed.{byte_code, value_code, type_code, pair_code, step_code};
 
+use crate::type_id::TypeId;
 use lists::Bytes;
 use std::alloc::AllocError;
-use values::TypeId;
 
 /// What ends a value. It is below each byte of a value's code, so that a beginning comes first.
 const VALUE_END: u8 = 1;

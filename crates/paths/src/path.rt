@@ -8,12 +8,12 @@ ghost use Rattle.paths.specs.PathLaws.{path_total};
 ghost use Rattle.paths.specs.Packed.{pack, unpack, IsPacked};
 
 use crate::packing::{STEP_END, push_step};
+use crate::type_id::TypeId;
 use lists::{Bytes, Sequence};
 use smallvec::SmallVec;
 use std::alloc::{AllocError, Global};
 use std::cmp::Ordering;
 use std::marker::Model;
-use values::TypeId;
 
 /// An RDN as written (RFC 4512, 2.3.2): each part's type and value. A contract sees it as the list of its parts.
 #[derive(Debug, PartialEq, Eq, Drop)]

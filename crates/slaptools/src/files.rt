@@ -1,21 +1,11 @@
 //! The files of the system.
-ghost use Rattle.std.specs.Prelude.{◌≡◌};
 
-use crate::folder::{Folder, FolderFault, Text};
+use commands::{FileText, Folder, FolderFault};
 use device::{OfRead, OfWrite};
 use std::alloc::{AllocError, Global};
-use std::fs::{self, OpenFile};
-use std::io::{self, ErrorKind};
+use std::fs::{self, OpenFile, OpenOptions};
+use std::io::ErrorKind;
 use std::rt::Files as HostFiles;
-
-impl From<io::Error> for FolderFault {
-    fn from(error: io::Error) -> FolderFault {
-        match error.kind() {
-            ErrorKind::OutOfMemory => FolderFault::OutOfMemory,
-            _ => FolderFault::Device,
-        }
-    }
-}
 
 /// The files of the system.
 #[derive(Drop)]
@@ -23,8 +13,12 @@ pub struct Files<'r, R> {
     rt: &'r R,
 }
 
-fn beside(alloc: Global, name: &str) -> Result<String, AllocError> {
-    format!(in alloc; "{name}.new")
+/// The name that is reserved beside a file, for its next contents until they are whole.
+fn reserved(alloc: Global, name: &str) -> Result<String, AllocError> {
+    match name.rsplit_once('/') {
+        Some((folder, file)) => format!(in alloc; "{folder}/.{file}.slaptools"),
+        None => format!(in alloc; ".{name}.slaptools"),
+    }
 }
 
 impl<'r, R: HostFiles + AllocGlobal> Files<'r, R> {
@@ -40,27 +34,45 @@ impl<'r, R: HostFiles + AllocGlobal> Files<'r, R> {
         }
     }
 
-    fn write_in_place<T: Text>(&self, name: &str, text: &T) -> Result<(), FolderFault> {
+    fn write_in_place<T: FileText>(&self, name: &str, text: &T) -> Result<(), FolderFault> {
         let mut file = fs::create(self.rt, name)?;
         text.write(self.rt.alloc(), &mut OfWrite::new(&mut file))?;
         Ok(())
     }
 
-    /// Writes a new file with the permissions of the one that it is to replace.
-    fn write_new<T: Text>(&self, new: &str, name: &str, text: &T) -> Result<(), FolderFault> {
-        let mut file = fs::create(self.rt, new)?;
+    /// Makes a file that is in nobody else's hands: what stands under this name goes, and a link is not followed.
+    fn make_anew(&self, name: &str) -> Result<R::File, FolderFault> {
+        let _ = fs::remove_file(self.rt, name);
+        let mut how = OpenOptions::new();
+        how.write(true).create_new(true);
+        Ok(how.open(self.rt, name)?)
+    }
+
+    /// Writes the next contents of a file, with its permissions, and renames them over it.
+    fn fill<T: FileText>(
+        &self,
+        mut file: R::File,
+        new: &str,
+        name: &str,
+        text: &T,
+    ) -> Result<(), FolderFault> {
         if let Ok(found) = fs::metadata(self.rt, name) {
             OpenFile::set_permissions(&file, found.permissions())?;
         }
         text.write(self.rt.alloc(), &mut OfWrite::new(&mut file))?;
         file.sync_all()?;
+        fs::rename(self.rt, new, name)?;
         Ok(())
     }
 
-    fn replace<T: Text>(&self, new: &str, name: &str, text: &T) -> Result<(), FolderFault> {
-        self.write_new(new, name, text)?;
-        fs::rename(self.rt, new, name)?;
-        Ok(())
+    fn replace<T: FileText>(&self, name: &str, text: &T) -> Result<(), FolderFault> {
+        let new = reserved(self.rt.alloc(), name)?;
+        let file = self.make_anew(new.as_str())?;
+        let replaced = self.fill(file, new.as_str(), name, text);
+        if replaced.is_err() {
+            let _ = fs::remove_file(self.rt, new.as_str());
+        }
+        replaced
     }
 }
 
@@ -76,15 +88,11 @@ impl<'r, R: HostFiles + AllocGlobal> Folder for Files<'r, R> {
     }
 
     /// Writes a file beside it and renames that, so that at each moment the old file or the new one is there whole.
-    fn store<T: Text>(&mut self, name: &str, text: &T) -> Result<(), FolderFault> {
+    fn store<T: FileText>(&mut self, name: &str, text: &T) -> Result<(), FolderFault> {
         if self.is_special(name) {
-            return self.write_in_place(name, text);
+            self.write_in_place(name, text)
+        } else {
+            self.replace(name, text)
         }
-        let new = beside(self.rt.alloc(), name)?;
-        let stored = self.replace(new.as_str(), name, text);
-        if stored.is_err() {
-            let _ = fs::remove_file(self.rt, new.as_str());
-        }
-        stored
     }
 }

@@ -1,34 +1,23 @@
 //! Tools for an LDAP directory that is kept as LDIF, without a server.
 #![tactic(auto)]
 
-mod cli;
-mod command;
-mod database;
 mod files;
-mod folder;
-#[cfg(test)]
-mod memory;
-mod messages;
-mod slapadd;
-mod slapcat;
-#[cfg(test)]
-mod tests;
 
+use commands::{CommandFault, command, tell};
 use device::{OfRead, OfWrite};
 use files::Files;
-use messages::{Fault, tell};
 use std::env;
 use std::io::{self, ErrorKind};
 use std::process::ExitCode;
 
-fn fault_of(error: io::Error) -> Fault {
+fn fault_of(error: io::Error) -> CommandFault {
     match error.kind() {
-        ErrorKind::OutOfMemory => Fault::OutOfMemory,
-        _ => Fault::Words,
+        ErrorKind::OutOfMemory => CommandFault::OutOfMemory,
+        _ => CommandFault::Words,
     }
 }
 
-fn words_of(rt: &HostRuntime) -> Result<Vec<String>, Fault> {
+fn words_of(rt: &HostRuntime) -> Result<Vec<String>, CommandFault> {
     match env::args(rt) {
         Ok(words) => Ok(words.collect(rt.alloc())?),
         Err(error) => Err(fault_of(error)),
@@ -44,7 +33,7 @@ fn main(rt: HostRuntime) -> ExitCode {
     let mut folder = Files::new(&rt);
     let mut input = OfRead::new(rt.stdin());
     let mut out = OfWrite::new(rt.stdout());
-    ExitCode::from(command::command(
+    ExitCode::from(command(
         rt.alloc(),
         words.as_slice(),
         &mut folder,

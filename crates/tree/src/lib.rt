@@ -7,7 +7,8 @@ mod entry;
 mod laws;
 mod names;
 mod naming;
-mod planning;
+mod plan_add;
+mod planner;
 mod plans;
 mod range;
 mod refusal;
@@ -19,7 +20,7 @@ pub use laws::{
     adding_keeps_a_directory, an_entry_adds_itself, empty_is_a_directory, own_content_is_written,
 };
 pub use names::Names;
-pub use planning::plan;
+pub use planner::plan;
 pub use plans::Plan;
 pub use range::Below;
 pub use refusal::Refusal;

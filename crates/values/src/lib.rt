@@ -6,6 +6,7 @@ mod table;
 mod types;
 mod value;
 
+pub use paths::TypeId;
 pub use table::TypeTable;
-pub use types::{AttributeType, TypeId};
+pub use types::AttributeType;
 pub use value::{Value, ValueFault, norm_by};

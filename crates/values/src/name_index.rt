@@ -4,8 +4,8 @@ ghost use Rattle.std.specs.Prelude.{◌≡◌, ℕ, ◌<◌, None, IfOk, OnOk, L
 ghost use Rattle.std.specs.Str.{str_eq_ignore_ascii_case};
 ghost use Rattle.values.specs.Tables.{bucket_of, key_of, number_in, number_of, or_if};
 
-use crate::types::TypeId;
 use lists::{Bytes, Sequence};
+use paths::TypeId;
 use std::alloc::{AllocError, Global};
 use std::marker::Model;
 

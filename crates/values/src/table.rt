@@ -7,8 +7,9 @@ ghost use Rattle.values.specs.Tables.{FindsTypes, number_of, or_if};
 ghost use Rattle.values.specs.Types.{is_named, type_of, type_at};
 
 use crate::name_index::NameIndex;
-use crate::types::{AttributeType, TypeId, type_at};
+use crate::types::{AttributeType, type_at};
 use lists::{Bytes, Sequence};
+use paths::TypeId;
 use std::alloc::{AllocError, Global};
 use std::marker::Model;
 

@@ -1,0 +1,31 @@
+-- How a command ends.
+use Rattle.std.specs.Prelude.{ℕ, zero, suc}
+use Rattle.directory.specs.declared.runs.Tally.{Tally}
+use Rattle.commands.specs.declared.messages.Status.{Status}
+use Rattle.commands.specs.declared.messages.Status.TheVariants as statuses
+use Rattle.commands.specs.declared.messages.CommandFault.{CommandFault}
+use Rattle.commands.specs.declared.messages.CommandFault.TheVariants as faults
+
+-- the exit status of the process
+abbrev pub status_number : Status → ℕ
+status_number statuses.Done = 0
+status_number statuses.Refused = 1
+status_number statuses.Usage = 2
+status_number statuses.Failed = 3
+
+abbrev pub status_of_count : ℕ → Status
+status_of_count zero = statuses.Done
+status_of_count (suc n) = statuses.Refused
+
+-- of a run: whether a record was refused
+abbrev pub status_of_tally : Tally → Status
+status_of_tally t = status_of_count t.refused
+
+-- a fault of the command line or of the configuration is one of usage
+abbrev pub status_of_fault : CommandFault → Status
+status_of_fault faults.Words = statuses.Usage
+status_of_fault (faults.Configuration line kind) = statuses.Usage
+status_of_fault (faults.Data line reason) = statuses.Failed
+status_of_fault (faults.CannotRead name) = statuses.Failed
+status_of_fault (faults.CannotWrite name) = statuses.Failed
+status_of_fault faults.OutOfMemory = statuses.Failed

@@ -1,0 +1,142 @@
+//! The files of a directory: its configuration and its entries.
+ghost use Rattle.std.specs.Prelude.{◌≡◌, ◌<◌, ◌-◌, ◌^◌, IfOk, IfErr, IfSome};
+ghost use Rattle.directory.specs.Runs.{dump};
+ghost use Rattle.commands.specs.Ends.{IsLoaded};
+ghost use Rattle.commands.specs.Statuses.{status_of_fault};
+ghost use Rattle.commands.specs.declared.messages.Status.TheVariants.{Failed};
+
+use crate::folder::{FileText, Folder, FolderFault};
+use crate::messages::CommandFault;
+use device::{Device, Sink, Source};
+use directory::{Directory, LoadFault, load};
+use ldif::WriteFault;
+use schema::{Conf, ConfFault, read_conf};
+use std::alloc::{AllocError, Global};
+
+/// How many bytes are asked of a file at a time.
+const PIECE: usize = 65536;
+
+impl FileText for Directory {
+    ghost text = { λ d. dump d.conf d.entries };
+
+    fn write<W: Sink>(&self, alloc: Global, sink: &mut W) -> Result<(), WriteFault> {
+        self.dump(alloc, sink)
+    }
+}
+
+fn path(alloc: Global, db: &str, name: &str) -> Result<String, AllocError> {
+    format!(in alloc; "{db}/{name}")
+}
+
+/// Opens the file of this name.
+fn open<F: Folder>(alloc: Global, folder: &mut F, name: &str) -> Result<Option<F::In>, CommandFault>
+    ensures err { IfErr result (λ f. status_of_fault f ≡ Failed) }
+    ensures ok { IfOk result (λ o. IfSome o (λ s. (F.In.seen s).failed ≡ 0)) }
+{
+    match folder.open(name) {
+        Ok(found) => Ok(found),
+        Err(FolderFault::Device) => Err(CommandFault::cannot_read(alloc, name)),
+        Err(FolderFault::OutOfMemory) => Err(CommandFault::OutOfMemory),
+    }
+}
+
+/// Opens the file of this name, which has to be there.
+pub fn open_present<F: Folder>(
+    alloc: Global,
+    folder: &mut F,
+    name: &str,
+) -> Result<F::In, CommandFault>
+    ensures err { IfErr result (λ f. status_of_fault f ≡ Failed) }
+    ensures ok { IfOk result (λ s. (F.In.seen s).failed ≡ 0) }
+{
+    match open(alloc, folder, name)? {
+        Some(source) => Ok(source),
+        None => Err(CommandFault::cannot_read(alloc, name)),
+    }
+}
+
+/// Puts a text in place of the file of this name.
+pub fn store<F: Folder, T: FileText>(
+    alloc: Global,
+    folder: &mut F,
+    name: &str,
+    text: &T,
+) -> Result<(), CommandFault>
+    ensures { IfErr result (λ f. status_of_fault f ≡ Failed) }
+{
+    match folder.store(name, text) {
+        Ok(()) => Ok(()),
+        Err(FolderFault::Device) => Err(CommandFault::cannot_write(alloc, name)),
+        Err(FolderFault::OutOfMemory) => Err(CommandFault::OutOfMemory),
+    }
+}
+
+/// All bytes of a source that has this name.
+fn contents<S: Source>(alloc: Global, source: &mut S, name: &str) -> Result<Vec<u8>, CommandFault>
+    requires { (S.seen source.old).failed < 2 ^ 64 - 1 }
+    ensures bytes { IfOk result (λ v. IfSome (S.seen source.old).left (λ bs. v.items ≡ bs)) }
+    ensures err { IfErr result (λ f. status_of_fault f ≡ Failed) }
+{
+    let mut bytes = Vec::new(alloc);
+    let mut piece = [0; PIECE];
+    'pulls: loop {
+        match source.pull(&mut piece) {
+            Ok(0) => return Ok(bytes),
+            Ok(n) => bytes.extend_from_slice(&piece[..n])?,
+            Err(Device) => return Err(CommandFault::cannot_read(alloc, name)),
+        }
+    }
+}
+
+fn configuration<F: Folder>(alloc: Global, folder: &mut F, db: &str) -> Result<Conf, CommandFault> {
+    let name = path(alloc, db, "dir.conf")?;
+    let mut source = open_present(alloc, folder, name.as_str())?;
+    let text = contents(alloc, &mut source, name.as_str())?;
+    match read_conf(alloc, &text) {
+        Ok(conf) => Ok(conf),
+        Err(ConfFault::Line { line, kind }) => Err(CommandFault::Configuration { line, kind }),
+        Err(ConfFault::OutOfMemory) => Err(CommandFault::OutOfMemory),
+    }
+}
+
+fn fault_of(alloc: Global, name: &str, fault: LoadFault) -> CommandFault
+    ensures { status_of_fault result ≡ Failed }
+{
+    match fault {
+        LoadFault::Read => CommandFault::cannot_read(alloc, name),
+        LoadFault::OutOfMemory => CommandFault::OutOfMemory,
+        LoadFault::Refused { line, reason } => CommandFault::Data { line, reason },
+    }
+}
+
+/// The directory in the folder `db`. Where it has no data.ldif, the directory has no entry.
+pub fn load_directory<F: Folder>(
+    alloc: Global,
+    folder: &mut F,
+    db: &str,
+) -> Result<Directory, CommandFault>
+    ensures { IfOk result (λ d. IsLoaded d.conf d.entries) }
+{
+    let conf = configuration(alloc, folder, db)?;
+    let name = path(alloc, db, "data.ldif")?;
+    let Some(mut source) = open(alloc, folder, name.as_str())? else {
+        return Ok(Directory::new(alloc, conf)?);
+    };
+    match load(alloc, conf, &mut source) {
+        Ok(found) => Ok(found),
+        Err(fault) => Err(fault_of(alloc, name.as_str(), fault)),
+    }
+}
+
+/// Puts the dump of a directory in place of the folder's data.ldif.
+pub fn store_directory<F: Folder>(
+    alloc: Global,
+    folder: &mut F,
+    db: &str,
+    dir: &Directory,
+) -> Result<(), CommandFault>
+    ensures { IfErr result (λ f. status_of_fault f ≡ Failed) }
+{
+    let name = path(alloc, db, "data.ldif")?;
+    store(alloc, folder, name.as_str(), dir)
+}

@@ -1,0 +1,50 @@
+//! One command, from its words to its status.
+ghost use Rattle.std.specs.Prelude.{◌≡◌, ◌<◌, ◌≤◌, ◌-◌, ◌^◌, ◌⊎◌, length};
+ghost use Rattle.device.specs.Device.{Took};
+
+use crate::folder::Folder;
+use crate::messages::{CommandFault, Status, say, tell};
+use crate::slapadd::slapadd;
+use crate::slapcat::slapcat;
+use command_line::{Request, UsageFault, read};
+use device::{Device, Sink, Source, push_all};
+use std::alloc::Global;
+use std::convert::AsStr;
+
+/// Prints a text on standard output.
+fn print<O: Sink, E: Sink>(alloc: Global, text: &str, out: &mut O, err: &mut E) -> Status
+    requires out { (O.written out.old).failed < 2 ^ 64 - 1 }
+    requires err { (E.written err.old).failed < 2 ^ 64 - 1 }
+    ensures { ((result ≡ Status.Done) × Took (O.written out.old) (O.written out.new) text.now) ⊎ (result ≡ Status.Failed) }
+{
+    match push_all(out, text.as_bytes()) {
+        Ok(()) => Status::Done,
+        Err(Device) => tell(alloc, err, &CommandFault::cannot_write(alloc, "output")),
+    }
+}
+
+/// Carries out the command that the words spell, the first being the program's name, and answers its exit status: 0, or 1
+/// where a record was refused, 2 for a fault of the command line or of dir.conf, 3 for one of a file, a stream or memory.
+pub fn command<W: AsStr, F: Folder, S: Source, O: Sink, E: Sink>(
+    alloc: Global,
+    words: &[W],
+    folder: &mut F,
+    input: &mut S,
+    out: &mut O,
+    err: &mut E,
+) -> u8
+    requires input { (S.seen input.old).failed < 2 ^ 64 - 1 }
+    requires out { (O.written out.old).failed < 2 ^ 64 - 1 }
+    requires err { (E.written err.old).failed < 2 ^ 64 - 1 }
+    ensures range { result ≤ 3 }
+    ensures help { length words.now ≤ 1 → (result ≡ 0) ⊎ (result ≡ 3) }
+{
+    let status = match read(alloc, words) {
+        Ok(Request::Help(text)) => print(alloc, text.as_str(), out, err),
+        Ok(Request::Add(asked)) => slapadd(alloc, &asked, folder, input, err),
+        Ok(Request::Cat(asked)) => slapcat(alloc, &asked, folder, out, err),
+        Err(UsageFault::Words(text)) => say(err, text.as_str(), Status::Usage),
+        Err(UsageFault::OutOfMemory) => tell(alloc, err, &CommandFault::OutOfMemory),
+    };
+    status.number()
+}

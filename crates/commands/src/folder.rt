@@ -1,0 +1,73 @@
+//! Files by their paths.
+ghost use Rattle.std.specs.Prelude.{◌≡◌, ◌<◌, ◌-◌, ◌^◌, ℕ, List, IfOk, IfSome};
+ghost use Rattle.directory.specs.Dumps.{Writes};
+ghost use Rattle.commands.specs.declared.folder.FolderFault.TheVariants.{OutOfMemory};
+
+use device::{Sink, Source};
+use ldif::WriteFault;
+use std::alloc::{AllocError, AllocFailed, Global};
+use std::io::{self, ErrorKind};
+
+/// Why a file was not opened or not stored.
+#[derive(Clone, Copy, Debug, PartialEq, Eq)]
+pub enum FolderFault {
+    Device,
+    OutOfMemory,
+}
+
+impl From<AllocError> for FolderFault {
+    ghost from_gives = { λ _ f. f ≡ OutOfMemory };
+
+    fn from(_: AllocError) -> FolderFault {
+        FolderFault::OutOfMemory
+    }
+}
+
+impl<T: Drop> From<AllocFailed<T>> for FolderFault {
+    ghost from_gives = { λ _ f. f ≡ OutOfMemory };
+
+    fn from(_: AllocFailed<T>) -> FolderFault {
+        FolderFault::OutOfMemory
+    }
+}
+
+impl From<io::Error> for FolderFault {
+    fn from(error: io::Error) -> FolderFault {
+        match error.kind() {
+            ErrorKind::OutOfMemory => FolderFault::OutOfMemory,
+            _ => FolderFault::Device,
+        }
+    }
+}
+
+impl From<WriteFault> for FolderFault {
+    fn from(fault: WriteFault) -> FolderFault {
+        match fault {
+            WriteFault::Device => FolderFault::Device,
+            WriteFault::OutOfMemory => FolderFault::OutOfMemory,
+        }
+    }
+}
+
+/// What can be written to a sink in pieces, so that it need not be in memory whole.
+pub trait FileText {
+    /// Its bytes.
+    ghost text: { Self → List ℕ };
+
+    /// Writes all of it. On a fault a beginning was written.
+    fn write<W: Sink>(&self, alloc: Global, sink: &mut W) -> Result<(), WriteFault>
+        requires { (W.written sink.old).failed < 2 ^ 64 - 1 }
+        ensures { Writes result (W.written sink.old) (W.written sink.new) (text self.now) };
+}
+
+/// Files by their paths.
+pub trait Folder {
+    type In: Source + Drop;
+
+    /// The file's bytes from its beginning, or `None` where there is no such file.
+    fn open(&mut self, name: &str) -> Result<Option<Self::In>, FolderFault>
+        ensures { IfOk result (λ o. IfSome o (λ s. (Self.In.seen s).failed ≡ 0)) };
+
+    /// Puts a file there whole, in place of the one before. On a fault the one before stays.
+    fn store<T: FileText>(&mut self, name: &str, text: &T) -> Result<(), FolderFault>;
+}

@@ -1,0 +1,172 @@
+//! How a command ends, and what it says on standard error.
+ghost use Rattle.std.specs.Prelude.{◌≡◌, ◌≤◌, ◌<◌, ◌-◌, ◌^◌, ◌⊎◌};
+ghost use Rattle.commands.specs.declared.messages.CommandFault.TheVariants.{OutOfMemory};
+ghost use Rattle.commands.specs.Messages.{IsSaid};
+ghost use Rattle.commands.specs.Statuses.{status_number, status_of_fault, status_of_tally};
+
+use device::{Sink, push_all};
+use directory::{Reason, Tally};
+use schema::ConfFaultKind;
+use std::alloc::{AllocError, AllocFailed, Global};
+use std::error::Error;
+use std::fmt;
+
+/// How a command ends.
+#[derive(Clone, Copy, Debug, PartialEq, Eq)]
+pub enum Status {
+    Done,
+    /// A record was refused.
+    Refused,
+    /// The command line or the configuration is at fault.
+    Usage,
+    /// A file, a stream or memory failed, or the directory's own file doesn't load.
+    Failed,
+}
+
+impl Status {
+    /// The exit status of the process.
+    pub fn number(self) -> u8
+        ensures value { result ≡ status_number self }
+        ensures range { result ≤ 3 }
+    {
+        match self {
+            Status::Done => 0,
+            Status::Refused => 1,
+            Status::Usage => 2,
+            Status::Failed => 3,
+        }
+    }
+
+    /// How a run ends that met no fault.
+    pub fn of_tally(tally: Tally) -> Status
+        ensures { result ≡ status_of_tally tally }
+    {
+        if tally.refused == 0 {
+            Status::Done
+        } else {
+            Status::Refused
+        }
+    }
+}
+
+/// Why a command ends before its work is done. Its text is a line of standard error.
+#[derive(Debug, Drop)]
+pub enum CommandFault {
+    /// A word of the command line is not UTF-8.
+    Words,
+    /// The configuration's first line that is at fault, or 0 where a line is missing.
+    Configuration { line: u64, kind: ConfFaultKind },
+    /// The first record of the directory's file that is refused.
+    Data { line: u64, reason: Reason },
+    /// The file or the stream of this name fails when it is read.
+    CannotRead(String),
+    /// The file or the stream of this name fails when it is written.
+    CannotWrite(String),
+    OutOfMemory,
+}
+
+impl CommandFault {
+    /// How a command ends with it.
+    pub fn status(&self) -> Status
+        ensures { result ≡ status_of_fault self.now }
+    {
+        match self {
+            CommandFault::Words | CommandFault::Configuration { .. } => Status::Usage,
+            _ => Status::Failed,
+        }
+    }
+
+    /// The fault of a read of what has this name.
+    pub fn cannot_read(alloc: Global, name: &str) -> CommandFault
+        ensures { status_of_fault result ≡ Status.Failed }
+    {
+        match String::from_str(alloc, name) {
+            Ok(name) => CommandFault::CannotRead(name),
+            Err(_) => CommandFault::OutOfMemory,
+        }
+    }
+
+    /// The fault of a write of what has this name.
+    pub fn cannot_write(alloc: Global, name: &str) -> CommandFault
+        ensures { status_of_fault result ≡ Status.Failed }
+    {
+        match String::from_str(alloc, name) {
+            Ok(name) => CommandFault::CannotWrite(name),
+            Err(_) => CommandFault::OutOfMemory,
+        }
+    }
+}
+
+fn write_reason<W: fmt::Write>(
+    f: &mut fmt::Formatter<W>,
+    line: u64,
+    reason: Reason,
+) -> fmt::Result {
+    match reason {
+        Reason::Fault(fault) => write!(f, "data.ldif line {line}: {fault}"),
+        Reason::Code(code) => write!(
+            f,
+            "data.ldif line {line}: {} {}",
+            code.number(),
+            code.name()
+        ),
+    }
+}
+
+impl fmt::Display for CommandFault {
+    fn fmt<W: fmt::Write>(&self, f: &mut fmt::Formatter<W>) -> fmt::Result {
+        match self {
+            CommandFault::Words => write!(f, "command line: not UTF-8"),
+            CommandFault::Configuration { line, kind } => write!(f, "dir.conf line {line}: {kind}"),
+            CommandFault::Data { line, reason } => write_reason(f, *line, *reason),
+            CommandFault::CannotRead(name) => write!(f, "{name}: cannot read"),
+            CommandFault::CannotWrite(name) => write!(f, "{name}: cannot write"),
+            CommandFault::OutOfMemory => write!(f, "out of memory"),
+        }
+    }
+}
+
+impl Error for CommandFault {}
+
+impl From<AllocError> for CommandFault {
+    ghost from_gives = { λ _ f. f ≡ OutOfMemory };
+
+    fn from(_: AllocError) -> CommandFault {
+        CommandFault::OutOfMemory
+    }
+}
+
+impl<T: Drop> From<AllocFailed<T>> for CommandFault {
+    ghost from_gives = { λ _ f. f ≡ OutOfMemory };
+
+    fn from(_: AllocFailed<T>) -> CommandFault {
+        CommandFault::OutOfMemory
+    }
+}
+
+fn line_of(alloc: Global, fault: &CommandFault) -> Result<String, AllocError> {
+    format!(in alloc; "{fault}\n")
+}
+
+/// Writes a text, and answers the status that is wanted, or `Failed` where it can't be written.
+pub fn say<W: Sink>(sink: &mut W, text: &str, status: Status) -> Status
+    requires { (W.written sink.old).failed < 2 ^ 64 - 1 }
+    ensures { IsSaid (W.written sink.old) (W.written sink.new) text.now status result }
+{
+    match push_all(sink, text.as_bytes()) {
+        Ok(()) => status,
+        Err(_) => Status::Failed,
+    }
+}
+
+/// Writes the line of a fault, and answers how the command ends: as the fault says, or `Failed` where the line can't be
+/// written.
+pub fn tell<E: Sink>(alloc: Global, err: &mut E, fault: &CommandFault) -> Status
+    requires { (E.written err.old).failed < 2 ^ 64 - 1 }
+    ensures { (result ≡ status_of_fault fault.now) ⊎ (result ≡ Status.Failed) }
+{
+    match line_of(alloc, fault) {
+        Ok(line) => say(err, line.as_str(), fault.status()),
+        Err(_) => say(err, "out of memory\n", Status::Failed),
+    }
+}

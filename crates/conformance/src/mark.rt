@@ -1,0 +1,45 @@
+//! The marks of a case file.
+
+/// What a line of a case file says, by the mark that it begins with.
+#[derive(Clone, Copy, Debug, PartialEq, Eq)]
+pub enum Mark {
+    /// `#`: it says nothing.
+    Comment,
+    /// `=`: a case begins, and has this title.
+    Case,
+    /// `+`: a file of this name is there.
+    File,
+    /// `|`: a line of that file.
+    Line,
+    /// `-`: no file of this name is there.
+    NoFile,
+    /// `$`: a command is run.
+    Command,
+    /// `<`: a line of its input.
+    Input,
+    /// `>`: a line of its output.
+    Output,
+    /// `!`: a line of its messages.
+    Message,
+    /// `?`: its exit status.
+    Status,
+}
+
+impl Mark {
+    /// The mark that is spelled so.
+    pub fn of(text: &str) -> Option<Mark> {
+        match text {
+            "#" => Some(Mark::Comment),
+            "=" => Some(Mark::Case),
+            "+" => Some(Mark::File),
+            "|" => Some(Mark::Line),
+            "-" => Some(Mark::NoFile),
+            "$" => Some(Mark::Command),
+            "<" => Some(Mark::Input),
+            ">" => Some(Mark::Output),
+            "!" => Some(Mark::Message),
+            "?" => Some(Mark::Status),
+            _ => None,
+        }
+    }
+}

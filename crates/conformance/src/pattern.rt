@@ -1,0 +1,179 @@
+//! The texts of a case file, in which codes stand for bytes.
+ghost use Rattle.std.specs.Prelude.{◌<◌, IfSome};
+
+use crate::fault::CaseFault;
+use std::alloc::Global;
+
+/// Numbers from the first to the last, each so much more than the one before.
+#[derive(Clone, Copy, Debug)]
+struct Numbers {
+    first: u32,
+    last: u32,
+    step: usize,
+}
+
+/// A piece of a text.
+#[derive(Clone, Copy, Debug)]
+enum Piece<'t> {
+    /// It stands for itself.
+    Plain(&'t str),
+    /// `%{c3a9}`: bytes, as pairs of hexadecimal digits.
+    Bytes(&'t str),
+    /// `%{x*1000}`: a text so many times.
+    Many(&'t str, u32),
+    /// `%{#1..9}` or `%{#1..9/2}`: the line stands once for each of these numbers, which stands here.
+    Numbers(Numbers),
+    /// `%{#}`: that number once more.
+    Number,
+}
+
+fn many_of<'t>(text: &'t str, count: &str) -> Option<Piece<'t>> {
+    Some(Piece::Many(text, count.parse::<u32>().ok()?))
+}
+
+fn numbers_of<'t>(code: &str) -> Option<Piece<'t>> {
+    let (first, rest) = code.split_once("..")?;
+    let (last, step) = rest.split_once('/').unwrap_or((rest, "1"));
+    let numbers = Numbers {
+        first: first.parse::<u32>().ok()?,
+        last: last.parse::<u32>().ok()?,
+        step: step.parse::<usize>().ok()?,
+    };
+    Some(Piece::Numbers(numbers))
+}
+
+/// What stands between `%{` and `}`.
+fn code_of(code: &str) -> Option<Piece<'_>> {
+    if let Some((text, count)) = code.rsplit_once('*') {
+        return many_of(text, count);
+    }
+    match code.strip_prefix('#') {
+        Some("") => Some(Piece::Number),
+        Some(range) => numbers_of(range),
+        None => Some(Piece::Bytes(code)),
+    }
+}
+
+fn digit(byte: u8) -> Option<u8>
+    ensures { IfSome result (λ d. d < 16) }
+{
+    match byte {
+        b'0'..=b'9' => Some(byte - b'0'),
+        b'a'..=b'f' => Some(byte - b'a' + 10),
+        b'A'..=b'F' => Some(byte - b'A' + 10),
+        _ => None,
+    }
+}
+
+fn byte_of(pair: &[u8]) -> Option<u8> {
+    match pair {
+        [high, low] => Some(digit(*high)? * 16 + digit(*low)?),
+        _ => None,
+    }
+}
+
+fn put_bytes(digits: &str, into: &mut Vec<u8>) -> Result<(), CaseFault> {
+    for pair in digits.as_bytes().chunks(2) {
+        match byte_of(pair) {
+            Some(byte) => into.push(byte)?,
+            None => return Err(CaseFault::Code),
+        }
+    }
+    Ok(())
+}
+
+fn put_many(text: &str, count: u32, into: &mut Vec<u8>) -> Result<(), CaseFault> {
+    for _ in 0..count {
+        into.extend_from_slice(text.as_bytes())?;
+    }
+    Ok(())
+}
+
+fn put_number(alloc: Global, number: Option<u32>, into: &mut Vec<u8>) -> Result<(), CaseFault> {
+    let Some(number) = number else {
+        return Err(CaseFault::Code);
+    };
+    into.extend_from_slice(format!(in alloc; "{number}")?.as_bytes())?;
+    Ok(())
+}
+
+fn pieces_of<'t>(alloc: Global, text: &'t str) -> Result<Vec<Piece<'t>>, CaseFault> {
+    let mut pieces = Vec::new(alloc);
+    let mut is_first = true;
+    for part in text.split("%{") {
+        if is_first {
+            is_first = false;
+            pieces.push(Piece::Plain(part))?;
+            continue;
+        }
+        let Some((code, plain)) = part.split_once('}') else {
+            return Err(CaseFault::Code);
+        };
+        let Some(piece) = code_of(code) else {
+            return Err(CaseFault::Code);
+        };
+        pieces.push(piece)?;
+        pieces.push(Piece::Plain(plain))?;
+    }
+    Ok(pieces)
+}
+
+fn put_pieces(
+    alloc: Global,
+    pieces: &[Piece<'_>],
+    number: Option<u32>,
+    into: &mut Vec<u8>,
+) -> Result<(), CaseFault> {
+    for piece in pieces {
+        match piece {
+            Piece::Plain(text) => into.extend_from_slice(text.as_bytes())?,
+            Piece::Bytes(digits) => put_bytes(digits, into)?,
+            Piece::Many(text, count) => put_many(text, *count, into)?,
+            Piece::Numbers(_) | Piece::Number => put_number(alloc, number, into)?,
+        }
+    }
+    Ok(())
+}
+
+/// The numbers for each of which a line stands once, if it has any.
+fn numbers_in(pieces: &[Piece<'_>]) -> Result<Option<Numbers>, CaseFault> {
+    let mut found = None;
+    for piece in pieces {
+        if let Piece::Numbers(numbers) = piece {
+            if found.is_some() || numbers.last < numbers.first || numbers.step == 0 {
+                return Err(CaseFault::Code);
+            }
+            found = Some(*numbers);
+        }
+    }
+    Ok(found)
+}
+
+/// The text that a word or a name stands for.
+pub fn text_of(alloc: Global, text: &str) -> Result<String, CaseFault> {
+    let pieces = pieces_of(alloc, text)?;
+    let mut bytes = Vec::new(alloc);
+    put_pieces(alloc, pieces.as_slice(), None, &mut bytes)?;
+    match String::from_utf8(bytes) {
+        Ok(text) => Ok(text),
+        Err(_) => Err(CaseFault::Code),
+    }
+}
+
+/// Puts down the line that a text stands for, or the lines. `%{}` at its end leaves out the LF.
+pub fn put_lines(alloc: Global, text: &str, into: &mut Vec<u8>) -> Result<(), CaseFault> {
+    let mut pieces = pieces_of(alloc, text)?;
+    if !text.ends_with("%{}") {
+        pieces.push(Piece::Plain("\n"))?;
+    }
+    let Some(numbers) = numbers_in(pieces.as_slice())? else {
+        return put_pieces(alloc, pieces.as_slice(), None, into);
+    };
+    if numbers.step == 0 {
+        return Err(CaseFault::Code);
+    }
+    for number in (numbers.first..=numbers.last).step_by(numbers.step) {
+        put_pieces(alloc, pieces.as_slice(), Some(number), into)?;
+    }
+    Ok(())
+}

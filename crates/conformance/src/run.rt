@@ -1,0 +1,64 @@
+//! Runs a case.
+
+use crate::case::{Case, Step};
+use crate::files::Files;
+use crate::report::{put_files, put_stream};
+use commands::command;
+use device::{TrySink, TrySource};
+use std::alloc::{AllocError, Global};
+
+/// How many bytes a stream gives or takes at a time.
+const PIECE: usize = 4096;
+
+/// Runs a command over files, and answers what is otherwise than the case says, or nothing.
+fn run_step(alloc: Global, step: &Step, files: &mut Files) -> Result<String, AllocError> {
+    let mut input = TrySource::new(step.input.as_slice(), PIECE, None);
+    let mut output = TrySink::new(alloc, PIECE, None);
+    let mut messages = TrySink::new(alloc, PIECE, None);
+    let status = command(
+        alloc,
+        step.words.as_slice(),
+        files,
+        &mut input,
+        &mut output,
+        &mut messages,
+    );
+    let mut report = String::new(alloc);
+    if status != step.status() {
+        let line = format!(in alloc; "  status is {status} and not {}\n", step.status())?;
+        report.push_str(line.as_str())?;
+    }
+    put_stream(
+        alloc,
+        "standard output",
+        '>',
+        output.bytes(),
+        &step.output,
+        &mut report,
+    )?;
+    put_stream(
+        alloc,
+        "standard error",
+        '!',
+        messages.bytes(),
+        &step.messages,
+        &mut report,
+    )?;
+    put_files(alloc, files, &step.files, &mut report)?;
+    Ok(report)
+}
+
+/// Runs a case up to the first command that does otherwise than it says, and answers what that did, or nothing.
+pub fn run(alloc: Global, case: &Case) -> Result<String, AllocError> {
+    let mut files = case.files.copy()?;
+    for step in case.steps.iter() {
+        let report = run_step(alloc, step, &mut files)?;
+        if !report.is_empty() {
+            return format!(in alloc;
+                "line {}: {}\n $ {}\n{report}",
+                case.line, case.title, step.command
+            );
+        }
+    }
+    Ok(String::new(alloc))
+}

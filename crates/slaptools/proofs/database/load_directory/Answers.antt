@@ -1,5 +1,0 @@
-use Rattle.slaptools.proofs.Loaded.{nothing_loaded}
-use Rattle.slaptools.proofs.database.load_directory.Goals as goal
-
-pub returns-in_default : goal.returns-in_default
-returns-in_default g c = nothing_loaded c.in_ok-new.field-0.conf c.in_ok-new.field-0.entries c.in_ok-new.ensures.entries

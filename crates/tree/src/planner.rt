@@ -1,0 +1,84 @@
+//! Makes plans: what a record does to a tree, or the code that it is refused with.
+
+ghost use Rattle.std.specs.Prelude.{◌≡◌, IfOk};
+ghost use Rattle.tree.specs.Adds.{has_critical, apply, record_path};
+ghost use Rattle.tree.specs.Plans.{next_of, path_of_change, IsChange};
+ghost use Rattle.tree.specs.Gives.{Gives};
+
+use crate::plans::{Change, Plan};
+use crate::refusal::Refusal;
+use crate::tree::Tree;
+use ldif::{Control, Mode, Record};
+use schema::{Code, Conf};
+use std::alloc::Global;
+
+/// Works out what a record does to a tree, and changes nothing. `conf` is the configuration that the tree was made with. A
+/// refusal has the code of the first check that fails (RFC 4511, 4.6 to 4.9 and 4.1.9). In this profile an entry can be
+/// added, and any other change is refused with `UnwillingToPerform`.
+pub fn plan(
+    alloc: Global,
+    tree: &Tree,
+    conf: &Conf,
+    asked: &Record<'_>,
+    mode: Mode,
+) -> Result<Plan, Refusal>
+    requires { tree.now.conf ≡ conf.now }
+    ensures of { IfOk result (λ p. p.tree ≡ tree.now) }
+    ensures path { IfOk result (λ p. p.path ≡ record_path conf.now asked.now) }
+    ensures gives { Gives (λ p. p.next) result (apply conf.now mode tree.now.entries asked.now) }
+{
+    let planner = Planner { alloc, tree, conf };
+    let change = planner.change_of(asked, mode)?;
+    Ok(Plan::of(tree, change))
+}
+
+/// A tree, and the configuration that it was made with: what a plan is worked out from.
+#[derive(Drop)]
+pub(crate) struct Planner<'a> {
+    pub(crate) alloc: Global,
+    pub(crate) tree: &'a Tree,
+    pub(crate) conf: &'a Conf,
+    ghost same_conf: { tree.now.conf ≡ conf.now },
+}
+
+impl Planner<'_> {
+    fn change_of(&self, asked: &Record<'_>, mode: Mode) -> Result<Change, Refusal>
+        ensures change { IfOk result (λ c. IsChange self.now.tree.now c) }
+        ensures path { IfOk result (λ c. path_of_change c ≡ record_path self.now.conf.now asked.now) }
+        ensures gives { Gives (λ c. next_of self.now.tree.now.entries c) result (apply self.now.conf.now mode self.now.tree.now.entries asked.now) }
+    {
+        match asked {
+            Record::Empty => self.nothing(),
+            Record::Content { dn, attrs } => self.add_of(dn.as_slice(), attrs.as_slice()),
+            Record::Add {
+                dn,
+                controls,
+                attrs,
+            } => {
+                if has_critical(controls.as_slice()) {
+                    return Err(Refusal::Code(Code::UnavailableCriticalExtension));
+                }
+                self.add_of(dn.as_slice(), attrs.as_slice())
+            }
+            Record::Delete { .. } | Record::Modify { .. } | Record::ModRdn { .. } => {
+                Err(Refusal::Code(Code::UnwillingToPerform))
+            }
+        }
+    }
+
+    // no change
+    fn nothing(&self) -> Result<Change, Refusal>
+        ensures nothing { result ≡ Ok Change.Nothing }
+        ensures change { IsChange self.now.tree.now Change.Nothing }
+    {
+        self.tree.is_directory();
+        Ok(Change::Nothing)
+    }
+}
+
+// whether one of the controls can't be ignored
+fn has_critical(controls: &[Control]) -> bool
+    ensures { result ≡ has_critical controls.now }
+{
+    controls.iter().any(|control| control.critical)
+}
