@@ -7,6 +7,8 @@ mod adapters;
 #[cfg(test)]
 mod changes;
 #[cfg(test)]
+mod lines_in_little_memory;
+#[cfg(test)]
 mod little_memory;
 #[cfg(test)]
 mod names;

@@ -4,6 +4,7 @@ pub mod Each
 pub mod Blocks
 pub mod ControlLines
 pub mod Folds
+pub mod Kept
 pub mod WrittenLines
 pub mod WrittenContents
 pub mod Inverted

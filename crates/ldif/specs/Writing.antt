@@ -1,5 +1,5 @@
 -- How a name and a value are written (RFC 2849, notes 2, 4 and 6).
-use Rattle.std.specs.Prelude.{ℕ, Bool, false, not, ◌&&◌, ◌||◌, ◌==◌, nat_le, if◌then◌else◌, List, [], ◌∷◌, ◌++◌, length, codes}
+use Rattle.std.specs.Prelude.{◌≡◌, ℕ, Bool, false, not, ◌&&◌, ◌||◌, ◌==◌, nat_le, if◌then◌else◌, List, [], ◌∷◌, ◌++◌, length, take, codes}
 use Rattle.std.specs.List.{list_all}
 use Rattle.base64.specs.GeneralPurpose.{encode_of}
 use Rattle.base64.specs.Engines.{standard}
@@ -32,3 +32,7 @@ line_text name value =
 -- the line as it is written: at most 76 bytes, and each further piece a space and at most 75
 abbrev pub written_line : List ℕ → List ℕ → List ℕ
 written_line name value = folded 76 (line_text name value)
+
+-- what stood there still stands in front
+abbrev pub Keeps : List ℕ → List ℕ → Type 0
+Keeps before after = take (length before) after ≡ before

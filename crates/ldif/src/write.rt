@@ -1,12 +1,12 @@
 //! Lines that are written.
 
-ghost use Rattle.std.specs.Prelude.{◌≡◌, ◌<◌, ◌-◌, ◌^◌, ◌++◌, ◌∷◌, length, IfOk, OnOk};
+ghost use Rattle.std.specs.Prelude.{◌≡◌, ◌<◌, ◌-◌, ◌^◌, ◌++◌, ◌∷◌, length, IfOk, OnErr, OnOk};
 ghost use Rattle.std.specs.List.{list_all};
 ghost use Rattle.base64.specs.GeneralPurpose.{encode_of};
 ghost use Rattle.base64.specs.Engines.{standard};
 ghost use Rattle.device.specs.Device.{Took, Broke};
 ghost use Rattle.ldif_lines.specs.Folding.{folded};
-ghost use Rattle.ldif.specs.Writing.{is_safe_byte, ends_with, is_plain, line_text, written_line};
+ghost use Rattle.ldif.specs.Writing.{is_safe_byte, ends_with, is_plain, line_text, written_line, Keeps};
 
 use crate::line::begins_with;
 use base64::engine::general_purpose::STANDARD;
@@ -66,7 +66,8 @@ fn is_plain(value: &[u8]) -> bool
 // Kept apart, since most values are plain, and its tables would be laid out for them too.
 #[inline(never)]
 fn put_encoded(alloc: Global, out: &mut Vec<u8>, value: &[u8]) -> Result<(), AllocError>
-    ensures { OnOk result (out.new.items ≡ out.old.items ++ encode_of standard value.now) }
+    ensures put { OnOk result (out.new.items ≡ out.old.items ++ encode_of standard value.now) }
+    ensures kept { OnErr result (out.new.items ≡ out.old.items) }
 {
     let code = STANDARD.encode(alloc, value)?;
     out.extend_from_slice(code.as_bytes())
@@ -75,7 +76,8 @@ fn put_encoded(alloc: Global, out: &mut Vec<u8>, value: &[u8]) -> Result<(), All
 // Puts the line, before it is folded, at the end.
 #[tactic(auto, unfolding(crate::specs::Writing::line_text))]
 fn put_text(alloc: Global, out: &mut Vec<u8>, name: &[u8], value: &[u8]) -> Result<(), AllocError>
-    ensures { OnOk result (out.new.items ≡ out.old.items ++ line_text name.now value.now) }
+    ensures put { OnOk result (out.new.items ≡ out.old.items ++ line_text name.now value.now) }
+    ensures kept { OnErr result (Keeps out.old.items out.new.items) }
 {
     out.extend_from_slice(name)?;
     if value.is_empty() {
@@ -102,7 +104,8 @@ fn split_piece(text: &[u8], room: usize) -> (&[u8], &[u8])
 }
 
 fn push_piece(out: &mut Vec<u8>, piece: &[u8]) -> Result<(), AllocError>
-    ensures { OnOk result (out.new.items ≡ out.old.items ++ 10 ∷ 32 ∷ piece.now) }
+    ensures put { OnOk result (out.new.items ≡ out.old.items ++ 10 ∷ 32 ∷ piece.now) }
+    ensures kept { OnErr result (Keeps out.old.items out.new.items) }
 {
     out.extend_from_slice(b"\n ")?;
     out.extend_from_slice(piece)
@@ -110,7 +113,8 @@ fn push_piece(out: &mut Vec<u8>, piece: &[u8]) -> Result<(), AllocError>
 
 // Puts the line, folded, at the end.
 fn put_folded(out: &mut Vec<u8>, text: &[u8]) -> Result<(), AllocError>
-    ensures { OnOk result (out.new.items ≡ out.old.items ++ folded 76 text.now) }
+    ensures put { OnOk result (out.new.items ≡ out.old.items ++ folded 76 text.now) }
+    ensures kept { OnErr result (Keeps out.old.items out.new.items) }
 {
     let (front, after) = split_piece(text, FIRST_PIECE);
     out.extend_from_slice(front)?;
@@ -124,15 +128,10 @@ fn put_folded(out: &mut Vec<u8>, text: &[u8]) -> Result<(), AllocError>
     Ok(())
 }
 
-/// Puts the line of a name and a value at the end, as [`write_line`] writes it. Where memory runs out, a beginning of it may
-/// stand there.
-pub fn put_line(
-    alloc: Global,
-    out: &mut Vec<u8>,
-    name: &[u8],
-    value: &[u8],
-) -> Result<(), AllocError>
-    ensures { OnOk result (out.new.items ≡ out.old.items ++ written_line name.now value.now) }
+// Puts the line at the end. Where memory runs out, a beginning of it may stand there.
+fn put_some(alloc: Global, out: &mut Vec<u8>, name: &[u8], value: &[u8]) -> Result<(), AllocError>
+    ensures put { OnOk result (out.new.items ≡ out.old.items ++ written_line name.now value.now) }
+    ensures kept { OnErr result (Keeps out.old.items out.new.items) }
 {
     let start = out.len();
     put_text(alloc, out, name, value)?;
@@ -143,6 +142,24 @@ pub fn put_line(
     let text = Vec::from_slice(alloc, &out[start..])?;
     out.truncate(start);
     put_folded(out, &text)
+}
+
+/// Puts the line of a name and a value at the end, as [`write_line`] writes it. Where memory runs out, nothing is put.
+pub fn put_line(
+    alloc: Global,
+    out: &mut Vec<u8>,
+    name: &[u8],
+    value: &[u8],
+) -> Result<(), AllocError>
+    ensures put { OnOk result (out.new.items ≡ out.old.items ++ written_line name.now value.now) }
+    ensures kept { OnErr result (out.new.items ≡ out.old.items) }
+{
+    let before = out.len();
+    let put = put_some(alloc, out, name, value);
+    if put.is_err() {
+        out.truncate(before);
+    }
+    put
 }
 
 fn written_line(alloc: Global, name: &[u8], value: &[u8]) -> Result<Vec<u8>, AllocError>

@@ -138,7 +138,8 @@ fn suffix_of(
     Ok(found)
 }
 
-/// The configuration that the text of a `dir.conf` says. It is refused with the first line that is at fault.
+/// The configuration that the text of a `dir.conf` says. It is refused with the first line that is at fault; lines of suffixes and
+/// indexes are looked at after all others, and a missing suffix last of all.
 #[tactic(auto, unfolding(crate::specs::Configurations::conf_of))]
 pub fn read_conf(alloc: Global, text: &[u8]) -> Result<Conf, ConfFault>
     ensures { Reads (λ c. c) result (conf_of text.now) }

@@ -14,5 +14,6 @@ pub mod LineLemmas
 pub mod Children
 pub mod PlanLemmas
 pub mod NameLemmas
+pub mod PushedNames
 pub mod Above
 pub mod Writable

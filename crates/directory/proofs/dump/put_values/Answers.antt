@@ -14,4 +14,4 @@ loop-value-preserved c =
     let more : values_text name (drop i vs) ≡ written_line name c.raw.result.now ++ values_text name (drop (i + 1) vs) =
     ap (values_text name) (drop_more vs i c.value-item.result c.loop-value-test.true ∙ ap (λ (v : Value). v ∷ drop (i + 1) vs) (sym c.value-item.is))
     ∙ ap (λ (raw : List ℕ). written_line name raw ++ values_text name (drop (i + 1) vs)) (sym c.raw.ensures) in
-    put_on _ _ (written_line name c.raw.result.now) _ _ _ c.in_ok-put_line.ensures more c.loop-value.invariant
+    put_on _ _ (written_line name c.raw.result.now) _ _ _ c.in_ok-put_line.ensures.put more c.loop-value.invariant

@@ -4,7 +4,9 @@ $T stands for a type of the configuration and $N for a name.
 """
 import base64
 
-import model
+import values
+
+TEXT = values.PREFIX + b"15"
 
 TYPES = {
     b"dc": b"0.9.2342.19200300.100.1.25", b"cn": b"2.5.4.3", b"sn": b"2.5.4.4", b"ou": b"2.5.4.11", b"o": b"2.5.4.10",
@@ -32,10 +34,43 @@ OPEN_LINES = [
 OTHER_LINES = [
     b"objectclass ( 9.9 NAME 'domain' )", b"objectclass", b"ObjectClass ( 2.5.6.0 )", b"attributetype",
     b"attributetype ", b"attributetype ( )", b"attributetype ( 9.9 NAME 'n' )", b"index cn eq", b"index",
-    b"Index no sub",
+    b"Index no sub", b"objectclass ( 9.9 )", b"objectclass ( 9.9 NAME 'top' )", b"objectclass ( 2.5.6.0 NAME 'x' MUST no )",
+    b"objectclass ( 9.9 SUP no )", b"objectclass ( 9.9 MUST $T MAY ( $T $ objectClass ) )", b"objectclass ( 9.9 MAY no )",
+    b"objectclass ( 9.9 MUST ( $T $T ) )", b"objectclass ( 9.9 ABSTRACT AUXILIARY )", b"objectclass ( 9.9 SUP ( top $ ) )",
+    b"objectclass ( 9.9 SUP ( 'top' $ 'TOP' ) )", b"objectclass ( 9.9 MUST 'cn' )", b"objectclass ( 9.9 MAY $T SUP top x-a 'b' )",
+    b"objectclass ( 9.9 NAME ( 'dn' 'control' ) )", b"objectclass ( 2.5.4.0 NAME 'objectClass' )",
+    b"objectclass ( 9.9 SYNTAX 1.1 )", b"objectclass ( 9.9 STRUCTURAL structural )", b"objectclass ( 9.9 NAME ( ) )",
+]
+# definitions that don't go with those before them, or do so only just; and some with two faults
+DEFINITIONS = [
+    b"( 9.8 NAME 'n' SUP $T )", b"( 9.8 NAME 'n' SUP '$T' )", b"( 9.8 NAME 'n' SUP no )", b"( 9.8 NAME 'n' SUP n )",
+    b"( 9.8 NAME 'n' SUP $T EQUALITY integerMatch )", b"( 9.8 NAME 'n' SUP $T EQUALITY caseExactMatch )",
+    b"( 9.8 NAME 'n' SUP $T EQUALITY caseIgnoreIA5Match )", b"( 9.8 NAME 'n' SUP $T EQUALITY nosuchMatch )",
+    b"( 9.8 NAME 'n' SUP $T SYNTAX $S26 )", b"( 9.8 NAME 'n' SUP $T SYNTAX $S15 )", b"( 9.8 NAME 'n' SUP $T SYNTAX $S40 )",
+    b"( 9.8 NAME 'n' EQUALITY integerMatch SYNTAX $S15 )", b"( 9.8 NAME 'n' EQUALITY distinguishedNameMatch SYNTAX $S15 )",
+    b"( 9.8 NAME 'n' EQUALITY distinguishedNameMatch SYNTAX $S12 )", b"( 9.8 NAME 'n' SYNTAX $S15 COLLECTIVE )",
+    b"( 9.8 NAME 'n' SUP no COLLECTIVE )", b"( 9.8 NAME '$N' SYNTAX $S15 COLLECTIVE )", b"( 9.8 NAME '$N' SUP no )",
+    b"( $O NAME 'n' SYNTAX $S15 )", b"( $O NAME 'n' SUP no COLLECTIVE )", b"( $O NAME 'dn' SYNTAX $S15 )",
+    b"( 9.8 NAME ( 'n' 'N' ) SYNTAX $S15 )", b"( 9.8 NAME ( 'n' '$N' ) SYNTAX $S15 )", b"( 9.8 NAME ( 'n' 'Version' ) SUP $T )",
+    b"( 9.8 NAME 'objectclass' SYNTAX $S38 )", b"( 2.5.4.0 NAME '$N' SUP no COLLECTIVE )", b"( 2.5.6.0 NAME 'n' SUP $T )",
+    b"( 9.8 NAME 'top' SUP $T )", b"( 9.8 SUP $T )", b"( 9.8 NAME 'n' SUP $T EQUALITY integerMatch COLLECTIVE )",
+    b"( 9.8 NAME 'n' SUP objectClass )", b"( 9.8 NAME 'n' SUP 2.5.4.0 EQUALITY caseIgnoreMatch )", b"( 9.8 NAME 'n' SUP $O )",
+    b"( 9.8 NAME 'n' SYNTAX $S12 EQUALITY integerMatch )", b"( 9.8 NAME 'n' SYNTAX $S27 EQUALITY distinguishedNameMatch )",
+    b"( 9.8 NAME 'n' SUP $T SYNTAX $S27 EQUALITY integerMatch )", b"( 9.8 NAME 'n' EQUALITY caseIgnoreMatch )",
+]
+# fields of types and of classes that are put anywhere into a definition, most of them faults
+FIELDS = [
+    b"OBSOLETE", b"DESC 'x'", b"DESC ''", b"DESC x", b"DESC '( $ )'", b"NAME 'y'", b"NAME y", b"NAME ( 'y' 'z' )", b"NAME ( )",
+    b"NAME ( 'y' $ 'z' )", b"NAME 'y' 'z'", b"SINGLE-VALUE", b"single-value SINGLE-VALUE", b"NO-USER-MODIFICATION", b"COLLECTIVE",
+    b"USAGE userApplications", b"USAGE DSAOPERATION", b"USAGE x", b"USAGE 'dSAOperation'", b"USAGE", b"X-A 'b'", b"x-a 'b' X-A 'c'",
+    b"X-A ( 'b' 'c' )", b"X-A ( )", b"X-A b", b"X-A", b"XA 'b'", b"ORDERING x", b"ORDERING 'x'", b"ORDERING", b"SUBSTR x",
+    b"SUBSTR ( x )", b"SYNTAX $S15", b"SYNTAX '$S15'", b"SYNTAX $S15{64}", b"SYNTAX '$S15{64}'", b"SYNTAX $S15{}", b"SYNTAX x",
+    b"SYNTAX $S15 {64}", b"SYNTAX $S15{6 4}", b"SYNTAX 1", b"SYNTAX", b"EQUALITY 'caseIgnoreMatch'", b"EQUALITY 2.5.13.2",
+    b"EQUALITY ( caseIgnoreMatch )", b"SUP $T", b"SUP ( $T )", b"SUP ( $T $ $T )", b"MUST $T", b"MAY ( $T )", b"ABSTRACT",
+    b"STRUCTURAL", b"AUXILIARY", b"$", b"(", b")", b"'", b"''", b"x", b"{64}", b"-",
 ]
 # a definition; what changes only its blanks; and what is put in place of a part of it
-DEFINITION = b"attributetype ( 9.8.7 NAME 'n7' EQUALITY caseIgnoreMatch SYNTAX " + model.TEXT + b" )"
+DEFINITION = b"attributetype ( 9.8.7 NAME 'n7' EQUALITY caseIgnoreMatch SYNTAX " + TEXT + b" )"
 BLANK_EDITS = [(b"( ", b"("), (b" )", b")"), (b"NAME '", b"NAME'"), (b"' E", b"'E")]
 DEFINITION_EDITS = [
     (b" )", b" SINGLE-VALUE )"), (b" )", b""), (b" )", b" ) )"), (b" )", b" ) x"), (b" )", b" ) #"), (b" )", b" )\0"),

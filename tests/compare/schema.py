@@ -1,0 +1,325 @@
+"""dir.conf in bytes: its lines, the definitions of attribute types and object classes (RFC 4512, 4.1), and the suffix.
+
+Of a definition the form is read whole first: its fields, in any order and each once. Then it is looked at beside those before it.
+"""
+import re
+from dataclasses import dataclass, field
+from typing import Optional
+
+import ldif
+import values
+
+FAULTS = {
+    "C1": "keyword", "C2": "form", "C3": "twice", "C4": "unknown name", "C5": "subtype", "C6": "rule needs another syntax",
+    "C7": "suffix", "C8": "index", "C9": "collective", "C10": "too many types",
+}
+# objectClass, top and extensibleObject are there already; definitions with their OIDs are skipped
+BUILT_IN = (b"2.5.4.0", b"2.5.6.0", b"1.3.6.1.4.1.1466.101.120.111")
+# names that stand for something else in LDIF
+BARRED = (b"dn", b"version", b"control", b"changetype")
+USAGES = (b"userapplications", b"directoryoperation", b"distributedoperation", b"dsaoperation")
+MOST_TYPES = 65535
+
+TOKEN = re.compile(rb"[ \t]*(?:([()$])|'([^']*)'|([^ \t()$']+))")
+OID = re.compile(rb"[0-9]+(?:\.[0-9]+)*")
+SYNTAX = re.compile(rb"([0-9]+(?:\.[0-9]+)*)(?:\{[0-9]+\})?")
+NAME = re.compile(rb"[A-Za-z][A-Za-z0-9_-]*")
+# the parts of a name that are read so far
+PART = re.compile(rb"([A-Za-z0-9_.-]+)=([A-Za-z0-9_.-](?:[A-Za-z0-9_. -]*[A-Za-z0-9_.-])?)")
+
+# the fields of definitions, and how their values are read
+TYPE_FIELDS = {
+    b"name": "names", b"desc": "quoted", b"obsolete": "flag", b"sup": "word", b"equality": "word", b"ordering": "word",
+    b"substr": "word", b"syntax": "word", b"single-value": "flag", b"collective": "flag",
+    b"no-user-modification": "flag", b"usage": "usage",
+}
+CLASS_FIELDS = {
+    b"name": "names", b"desc": "quoted", b"obsolete": "flag", b"sup": "words", b"abstract": "flag",
+    b"structural": "flag", b"auxiliary": "flag", b"must": "plain words", b"may": "plain words",
+}
+CLASS_KINDS = (b"abstract", b"structural", b"auxiliary")
+
+
+class Fault(Exception):
+    """What is wrong, where the line is known."""
+    def __init__(self, line, code):
+        super().__init__(f"dir.conf line {line}: {code} {FAULTS[code]}")
+
+
+class Wrong(Exception):
+    """What is wrong with a line."""
+
+
+class BadName(Exception):
+    """34 or 64 of a part of a name."""
+
+
+@dataclass
+class Type:
+    oid: bytes
+    names: list
+    kind: str
+    family: Optional[str]
+    is_single: bool = False
+
+    def printed(self):
+        return self.names[0] if self.names else self.oid
+
+
+# definitions as text
+
+def tokens_of(text):
+    """-> [(what it is, its text)]"""
+    tokens, at = [], 0
+    text = text.rstrip(b" \t")
+    while at < len(text):
+        found = TOKEN.match(text, at)
+        if not found:
+            raise Wrong("C2")
+        mark, quoted, word = found.groups()
+        tokens.append(("mark", mark) if mark else ("quoted", quoted) if quoted is not None else ("word", word))
+        at = found.end()
+    return tokens
+
+
+class Cursor:
+    """Takes the tokens of a definition one by one."""
+
+    def __init__(self, tokens):
+        self.tokens, self.at = tokens, 0
+
+    def peek(self):
+        return self.tokens[self.at] if self.at < len(self.tokens) else ("end", b"")
+
+    def take(self, *whats):
+        what, text = self.peek()
+        if what not in whats:
+            raise Wrong("C2")
+        self.at += 1
+        return text
+
+    def mark(self, mark):
+        if self.peek() != ("mark", mark):
+            raise Wrong("C2")
+        self.at += 1
+
+    def listed(self, whats, between):
+        """One text, or a list of them in parentheses."""
+        if self.peek() != ("mark", b"("):
+            return [self.take(*whats)]
+        self.mark(b"(")
+        found = [self.take(*whats)]
+        while self.peek() != ("mark", b")"):
+            if between:
+                self.mark(between)
+            found.append(self.take(*whats))
+        self.mark(b")")
+        return found
+
+    def value(self, form):
+        if form == "flag":
+            return True
+        if form == "quoted":
+            return self.take("quoted")
+        if form == "word":
+            return self.take("word", "quoted")
+        if form in ("names", "extension"):
+            return self.listed(("quoted",), b"")
+        if form == "usage":
+            return self.take("word")
+        return self.listed(("word",) if form == "plain words" else ("word", "quoted"), b"$")
+
+
+def read_definition(text, forms):
+    """-> (OID, {field: value})"""
+    cursor = Cursor(tokens_of(text))
+    cursor.mark(b"(")
+    oid = cursor.take("word")
+    if not OID.fullmatch(oid):
+        raise Wrong("C2")
+    fields = {}
+    while cursor.peek() != ("mark", b")"):
+        word = cursor.take("word").lower()
+        form = "extension" if word.startswith(b"x-") else forms.get(word)
+        if form is None or word in fields:
+            raise Wrong("C2")
+        fields[word] = cursor.value(form)
+    cursor.mark(b")")
+    if cursor.peek() != ("end", b"") or not all(NAME.fullmatch(name) for name in fields.get(b"name", [])):
+        raise Wrong("C2")
+    return oid, fields
+
+
+def read_type(text):
+    oid, fields = read_definition(text, TYPE_FIELDS)
+    syntax = fields.get(b"syntax")
+    if any(name.lower() in BARRED for name in fields.get(b"name", [])) or \
+            fields.get(b"usage", USAGES[0]).lower() not in USAGES or b"sup" not in fields and syntax is None:
+        raise Wrong("C2")
+    if syntax is not None:
+        found = SYNTAX.fullmatch(syntax)
+        if not found:
+            raise Wrong("C2")
+        fields[b"syntax"] = found[1]
+    return oid, fields
+
+
+def read_class(text):
+    oid, fields = read_definition(text, CLASS_FIELDS)
+    if sum(kind in fields for kind in CLASS_KINDS) > 1:
+        raise Wrong("C2")
+    return oid, fields
+
+
+def read_name(text):
+    """A name of RFC 4514 as far as it is read; the empty text is one. -> [(type, value)], own RDN first, or None"""
+    if text == b"":
+        return []
+    parts = [PART.fullmatch(part) for part in text.split(b",")]
+    return [part.groups() for part in parts] if all(parts) else None
+
+
+@dataclass
+class Conf:
+    """The types by their numbers, the names and OIDs of types and classes, and the suffix as (number, value)."""
+    types: list = field(default_factory=lambda: [Type(b"2.5.4.0", [b"objectClass"], "oid", "oid")])
+    numbers: dict = field(default_factory=lambda: {b"objectclass": 0, b"2.5.4.0": 0})
+    classes: set = field(default_factory=lambda: {b"top", b"2.5.6.0", b"extensibleobject", BUILT_IN[2]})
+    suffix: Optional[list] = None
+
+    def type_of(self, text):
+        """The number of the type that a name, in any case, or an OID says (RFC 4512, 2.5)."""
+        return self.numbers.get(text.lower())
+
+    def is_valid(self, number, value):
+        return values.is_valid(self.types[number].kind, value)
+
+    def normal(self, number, value):
+        return values.normal(self.types[number].family, value)
+
+    def add_type(self, text):
+        oid, fields = read_type(text)
+        if oid in BUILT_IN:
+            return
+        if len(self.types) >= MOST_TYPES:
+            raise Wrong("C10")
+        names = fields.get(b"name", [])
+        keys = new_keys(oid, names, self.numbers)
+        if b"collective" in fields:
+            raise Wrong("C9")
+        kind, family = self.inherited(fields)
+        if values.KIND_OF_FAMILY.get(family, kind) != kind:
+            raise Wrong("C6")
+        self.numbers.update((key, len(self.types)) for key in keys)
+        self.types.append(Type(oid, names, kind, family, b"single-value" in fields))
+
+    def inherited(self, fields):
+        """-> (kind, family) of a type, its own or those of the type above it"""
+        kind = values.kind_of(fields[b"syntax"]) if b"syntax" in fields else None
+        family = values.FAMILIES.get(fields.get(b"equality", b"").lower())
+        if b"sup" not in fields:
+            return kind, family
+        number = self.type_of(fields[b"sup"])
+        if number is None:
+            raise Wrong("C4")
+        above = self.types[number]
+        if family and above.family and family != above.family or kind and kind != above.kind:
+            raise Wrong("C5")
+        return above.kind, family or above.family
+
+    def add_class(self, text):
+        oid, fields = read_class(text)
+        if oid in BUILT_IN:
+            return
+        keys = new_keys(oid, fields.get(b"name", []), self.classes)
+        types = fields.get(b"must", []) + fields.get(b"may", [])
+        if any(name.lower() not in self.classes for name in fields.get(b"sup", [])) or \
+                any(self.type_of(name) is None for name in types):
+            raise Wrong("C4")
+        self.classes.update(keys)
+
+    def add_suffix(self, text):
+        text = text.rstrip(b" ")
+        if len(text) >= 2 and text.startswith(b'"') and text.endswith(b'"'):
+            text = text[1:-1]
+        name = read_name(text)
+        if self.suffix is not None or not name:
+            raise Wrong("C7")
+        try:
+            self.suffix = self.pairs_of(name)
+        except BadName:
+            raise Wrong("C7") from None
+
+    def pairs_of(self, name):
+        """Looks at each part of a name before the next. -> [(number, value)]"""
+        pairs = [(self.type_of(kind), value) for kind, value in name]
+        for number, value in pairs:
+            if number is None or self.types[number].kind == "name":
+                raise BadName(34)
+            if self.types[number].family is None:
+                raise BadName(64)
+            if not self.is_valid(number, value):
+                raise BadName(34)
+        return pairs
+
+    def steps(self, pairs):
+        return [(number, self.normal(number, value)) for number, value in pairs]
+
+
+def new_keys(oid, names, there):
+    """The OID and the names without case, where none is there twice."""
+    keys = [oid] + [name.lower() for name in names]
+    if len(set(keys)) < len(keys) or any(key in there for key in keys):
+        raise Wrong("C3")
+    return keys
+
+
+def joined_lines(text):
+    """A line that begins with a space or tab goes on with the one before, a comment too; the break and that byte are one space.
+    -> [(number of its first line, line)]"""
+    lines = []
+    can_go_on = False
+    for number, line in enumerate(ldif.lines_of(text), 1):
+        if can_go_on and line.startswith((b" ", b"\t")):
+            lines[-1][1] += b" " + line[1:]
+        else:
+            lines.append([number, line])
+        can_go_on = line != b""
+    return lines
+
+
+def read_conf(text):
+    """The suffix and index lines come after all others, wherever they stand. No index is known so far."""
+    conf, later = Conf(), []
+    for number, line in joined_lines(text):
+        if line == b"" or line.startswith(b"#"):
+            continue
+        word, rest = re.fullmatch(rb"([^ \t]*)[ \t]*(.*)", line).groups()
+        word = word.lower()
+        if word in (b"suffix", b"index"):
+            later.append((number, word, rest))
+            continue
+        try:
+            first_pass(conf, word, rest)
+        except Wrong as wrong:
+            raise Fault(number, str(wrong)) from None
+    for number, word, rest in later:
+        try:
+            if word == b"index":
+                raise Wrong("C2")
+            conf.add_suffix(rest)
+        except Wrong as wrong:
+            raise Fault(number, str(wrong)) from None
+    if conf.suffix is None:
+        raise Fault(0, "C7")
+    return conf
+
+
+def first_pass(conf, word, rest):
+    if word == b"attributetype":
+        conf.add_type(rest)
+    elif word == b"objectclass":
+        conf.add_class(rest)
+    else:
+        # a line that goes on with none has no first word
+        raise Wrong("C1" if word else "C2")

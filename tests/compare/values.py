@@ -1,0 +1,73 @@
+"""Values in bytes: which ones a syntax has (RFC 4517, 3.3), and what a matching rule compares (RFC 4517, 4.2)."""
+import re
+
+PREFIX = b"1.3.6.1.4.1.1466.115.121.1."
+# the kinds of syntaxes by their last numbers; any other syntax takes any bytes
+KINDS = {
+    b"11": "text", b"15": "text", b"44": "text", b"50": "text", b"26": "ascii", b"36": "numeric", b"7": "boolean",
+    b"27": "integer", b"12": "name", b"38": "oid",
+}
+# the equality rules by their names without case
+FAMILIES = {
+    b"caseignorematch": "ignore", b"caseignoreia5match": "ignore", b"caseexactmatch": "exact",
+    b"caseexactia5match": "exact", b"numericstringmatch": "numeric", b"telephonenumbermatch": "telephone",
+    b"integermatch": "integer", b"booleanmatch": "boolean", b"octetstringmatch": "octet",
+    b"distinguishednamematch": "name", b"objectidentifiermatch": "oid",
+}
+# the one kind of syntax that some rules are for
+KIND_OF_FAMILY = {"integer": "integer", "name": "name"}
+
+INTEGER = re.compile(rb"0|-?[1-9][0-9]{0,38}")
+
+
+def kind_of(syntax):
+    return KINDS.get(syntax.removeprefix(PREFIX), "octet") if syntax.startswith(PREFIX) else "octet"
+
+
+def is_utf8(value):
+    try:
+        value.decode("utf-8")
+    except UnicodeDecodeError:
+        return False
+    return True
+
+
+def is_integer(value):
+    return INTEGER.fullmatch(value) is not None and -1 << 127 <= int(value) < 1 << 127
+
+
+VALID = {
+    "text": lambda value: value != b"" and is_utf8(value),
+    "ascii": lambda value: all(byte < 128 for byte in value),
+    "numeric": lambda value: re.fullmatch(rb"[0-9 ]+", value) is not None,
+    "boolean": lambda value: value in (b"TRUE", b"FALSE"),
+    "integer": is_integer,
+    "oid": lambda value: value != b"" and all(byte < 128 and byte != 32 for byte in value),
+    # a name has no values so far
+    "name": lambda value: False,
+    "octet": lambda value: True,
+}
+
+
+def one_space(value):
+    """No spaces around, and single ones within."""
+    return b" ".join(word for word in value.split(b" ") if word)
+
+
+NORMAL = {
+    # letters of ASCII alone are folded
+    "ignore": lambda value: one_space(value.lower()),
+    "exact": one_space,
+    "numeric": lambda value: value.replace(b" ", b""),
+    "telephone": lambda value: value.lower().replace(b" ", b"").replace(b"-", b""),
+    "oid": lambda value: value.lower(),
+}
+
+
+def is_valid(kind, value):
+    return VALID[kind](value)
+
+
+def normal(family, value):
+    """What is compared; the bytes themselves where there is no rule that sees less."""
+    return NORMAL[family](value) if family in NORMAL else value
