@@ -1,11 +1,11 @@
 #!/usr/bin/env python3
 """Compares a built program with a second reading of the rules: compare.py PROGRAM COUNT SEED ..
 
-The second reading is `model.py` and `ldif.py`. It was written apart from the program and shares no code with it, so that a
-rule that one of the two reads wrongly shows as a difference. For each SEED, COUNT random folders and inputs go through slapadd
-and then slapcat; statuses, outputs, messages, data.ldif and the names of the files are compared byte for byte. A case that
-differs is cut down and printed; at the end stands how often each status, code and fault came up. The exit status is 0 where
-nothing differs, else 1.
+The second reading is `model.py` with `schema.py`, `values.py` and `ldif.py`. It was written apart from the program and shares
+no code with it, so that a rule that one of the two reads wrongly shows as a difference. For each SEED, COUNT random folders
+and inputs go through slapadd and then slapcat; statuses, outputs, messages, data.ldif and the names of the files are compared
+byte for byte. A case that differs is cut down and printed; at the end stands how often each status, code and fault came up.
+The exit status is 0 where nothing differs, else 1.
 """
 import argparse
 import collections
@@ -20,6 +20,7 @@ from dataclasses import fields, replace
 from pathlib import Path
 
 import cases
+import configs
 import model
 
 SECONDS = 10        # for one run of the program
@@ -142,7 +143,7 @@ class Shrinker:
             before = self.small
             for option in ("by_file", "to_file", "go_on", "dry_run"):
                 self.takes(**{option: False})
-            for field, plain in (("data", None), ("input", b""), ("conf", cases.PLAIN_CONF)):
+            for field, plain in (("data", None), ("input", b""), ("conf", configs.PLAIN_CONF)):
                 if len(getattr(self.small, field) or b"") > len(plain or b""):
                     self.takes(**{field: plain})
             for pieces_of in (lambda text: text.splitlines(True), lambda text: [bytes([byte]) for byte in text]):

@@ -1,5 +1,5 @@
-"""What slapadd and slapcat do, byte for byte: `schema.py` reads dir.conf and names, `values.py` compares values, `ldif.py` reads
-and writes records.
+"""What slapadd and slapcat do, byte for byte. `schema.py` reads dir.conf and names, `values.py` compares values, `ldif.py`
+reads and writes records.
 
 Names are read by the profile that the program keeps to so far: RDNs of one part, and values of letters, digits, `-`, `_`,
 `.` and inner spaces; no escapes, and no spaces elsewhere.

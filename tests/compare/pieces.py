@@ -37,7 +37,8 @@ OTHER_LINES = [
     b"Index no sub", b"objectclass ( 9.9 )", b"objectclass ( 9.9 NAME 'top' )", b"objectclass ( 2.5.6.0 NAME 'x' MUST no )",
     b"objectclass ( 9.9 SUP no )", b"objectclass ( 9.9 MUST $T MAY ( $T $ objectClass ) )", b"objectclass ( 9.9 MAY no )",
     b"objectclass ( 9.9 MUST ( $T $T ) )", b"objectclass ( 9.9 ABSTRACT AUXILIARY )", b"objectclass ( 9.9 SUP ( top $ ) )",
-    b"objectclass ( 9.9 SUP ( 'top' $ 'TOP' ) )", b"objectclass ( 9.9 MUST 'cn' )", b"objectclass ( 9.9 MAY $T SUP top x-a 'b' )",
+    b"objectclass ( 9.9 SUP ( 'top' $ 'TOP' ) )", b"objectclass ( 9.9 MUST 'cn' )",
+    b"objectclass ( 9.9 MAY $T SUP top x-a 'b' )",
     b"objectclass ( 9.9 NAME ( 'dn' 'control' ) )", b"objectclass ( 2.5.4.0 NAME 'objectClass' )",
     b"objectclass ( 9.9 SYNTAX 1.1 )", b"objectclass ( 9.9 STRUCTURAL structural )", b"objectclass ( 9.9 NAME ( ) )",
 ]
@@ -51,7 +52,8 @@ DEFINITIONS = [
     b"( 9.8 NAME 'n' EQUALITY distinguishedNameMatch SYNTAX $S12 )", b"( 9.8 NAME 'n' SYNTAX $S15 COLLECTIVE )",
     b"( 9.8 NAME 'n' SUP no COLLECTIVE )", b"( 9.8 NAME '$N' SYNTAX $S15 COLLECTIVE )", b"( 9.8 NAME '$N' SUP no )",
     b"( $O NAME 'n' SYNTAX $S15 )", b"( $O NAME 'n' SUP no COLLECTIVE )", b"( $O NAME 'dn' SYNTAX $S15 )",
-    b"( 9.8 NAME ( 'n' 'N' ) SYNTAX $S15 )", b"( 9.8 NAME ( 'n' '$N' ) SYNTAX $S15 )", b"( 9.8 NAME ( 'n' 'Version' ) SUP $T )",
+    b"( 9.8 NAME ( 'n' 'N' ) SYNTAX $S15 )", b"( 9.8 NAME ( 'n' '$N' ) SYNTAX $S15 )",
+    b"( 9.8 NAME ( 'n' 'Version' ) SUP $T )",
     b"( 9.8 NAME 'objectclass' SYNTAX $S38 )", b"( 2.5.4.0 NAME '$N' SUP no COLLECTIVE )", b"( 2.5.6.0 NAME 'n' SUP $T )",
     b"( 9.8 NAME 'top' SUP $T )", b"( 9.8 SUP $T )", b"( 9.8 NAME 'n' SUP $T EQUALITY integerMatch COLLECTIVE )",
     b"( 9.8 NAME 'n' SUP objectClass )", b"( 9.8 NAME 'n' SUP 2.5.4.0 EQUALITY caseIgnoreMatch )", b"( 9.8 NAME 'n' SUP $O )",
@@ -60,11 +62,13 @@ DEFINITIONS = [
 ]
 # fields of types and of classes that are put anywhere into a definition, most of them faults
 FIELDS = [
-    b"OBSOLETE", b"DESC 'x'", b"DESC ''", b"DESC x", b"DESC '( $ )'", b"NAME 'y'", b"NAME y", b"NAME ( 'y' 'z' )", b"NAME ( )",
-    b"NAME ( 'y' $ 'z' )", b"NAME 'y' 'z'", b"SINGLE-VALUE", b"single-value SINGLE-VALUE", b"NO-USER-MODIFICATION", b"COLLECTIVE",
-    b"USAGE userApplications", b"USAGE DSAOPERATION", b"USAGE x", b"USAGE 'dSAOperation'", b"USAGE", b"X-A 'b'", b"x-a 'b' X-A 'c'",
+    b"OBSOLETE", b"DESC 'x'", b"DESC ''", b"DESC x", b"DESC '( $ )'", b"NAME 'y'", b"NAME y", b"NAME ( 'y' 'z' )",
+    b"NAME ( )", b"NAME ( 'y' $ 'z' )", b"NAME 'y' 'z'", b"SINGLE-VALUE", b"single-value SINGLE-VALUE",
+    b"NO-USER-MODIFICATION", b"COLLECTIVE", b"USAGE userApplications", b"USAGE DSAOPERATION", b"USAGE x",
+    b"USAGE 'dSAOperation'", b"USAGE", b"X-A 'b'", b"x-a 'b' X-A 'c'",
     b"X-A ( 'b' 'c' )", b"X-A ( )", b"X-A b", b"X-A", b"XA 'b'", b"ORDERING x", b"ORDERING 'x'", b"ORDERING", b"SUBSTR x",
-    b"SUBSTR ( x )", b"SYNTAX $S15", b"SYNTAX '$S15'", b"SYNTAX $S15{64}", b"SYNTAX '$S15{64}'", b"SYNTAX $S15{}", b"SYNTAX x",
+    b"SUBSTR ( x )", b"SYNTAX $S15", b"SYNTAX '$S15'", b"SYNTAX $S15{64}", b"SYNTAX '$S15{64}'", b"SYNTAX $S15{}",
+    b"SYNTAX x",
     b"SYNTAX $S15 {64}", b"SYNTAX $S15{6 4}", b"SYNTAX 1", b"SYNTAX", b"EQUALITY 'caseIgnoreMatch'", b"EQUALITY 2.5.13.2",
     b"EQUALITY ( caseIgnoreMatch )", b"SUP $T", b"SUP ( $T )", b"SUP ( $T $ $T )", b"MUST $T", b"MAY ( $T )", b"ABSTRACT",
     b"STRUCTURAL", b"AUXILIARY", b"$", b"(", b")", b"'", b"''", b"x", b"{64}", b"-",
@@ -170,3 +174,8 @@ TINY = [
     b"", b"\n", b"\r\n", b"\r", b"#", b" ", b"\n\n \n", b"version: 1", b"version: 1\n\n", b"#x\n y\n\n", b"\0",
     b"\xef\xbb\xbfdn: x",
 ]
+# values of all kinds, some of them equal under some rules, and those that can stand in a name
+VALUES = [
+    b"", b" ", b"a", b"A", b"a b", b"A  b", b"ab", b"a-b", b"1", b"1 2", b"12", b"-1", b"07", b"TRUE", b"\xc3\xa9", b"\xff",
+    b"a ", b"1-2 3", b"1-23"]
+NAMING = [b"a", b"A", b"A b", b"7", b"07", b"-7", b"TRUE", b"true", b"1 2", b"12", b"1-2", b"a-b", b"AB"]

@@ -1,6 +1,7 @@
 """dir.conf in bytes: its lines, the definitions of attribute types and object classes (RFC 4512, 4.1), and the suffix.
 
-Of a definition the form is read whole first: its fields, in any order and each once. Then it is looked at beside those before it.
+Of a definition the form is read whole first: its fields, in any order and each once. Then it is looked at beside those before
+it.
 """
 import re
 from dataclasses import dataclass, field
@@ -275,7 +276,8 @@ def new_keys(oid, names, there):
 
 
 def joined_lines(text):
-    """A line that begins with a space or tab goes on with the one before, a comment too; the break and that byte are one space.
+    """A line that begins with a space or tab goes on with the one before, a comment too; the break and that byte count as a
+    space.
     -> [(number of its first line, line)]"""
     lines = []
     can_go_on = False

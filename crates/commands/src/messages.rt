@@ -97,28 +97,12 @@ impl CommandFault {
     }
 }
 
-fn write_reason<W: fmt::Write>(
-    f: &mut fmt::Formatter<W>,
-    line: u64,
-    reason: Reason,
-) -> fmt::Result {
-    match reason {
-        Reason::Fault(fault) => write!(f, "data.ldif line {line}: {fault}"),
-        Reason::Code(code) => write!(
-            f,
-            "data.ldif line {line}: {} {}",
-            code.number(),
-            code.name()
-        ),
-    }
-}
-
 impl fmt::Display for CommandFault {
     fn fmt<W: fmt::Write>(&self, f: &mut fmt::Formatter<W>) -> fmt::Result {
         match self {
             CommandFault::Words => write!(f, "command line: not UTF-8"),
             CommandFault::Configuration { line, kind } => write!(f, "dir.conf line {line}: {kind}"),
-            CommandFault::Data { line, reason } => write_reason(f, *line, *reason),
+            CommandFault::Data { line, reason } => write!(f, "data.ldif line {line}: {reason}"),
             CommandFault::CannotRead(name) => write!(f, "{name}: cannot read"),
             CommandFault::CannotWrite(name) => write!(f, "{name}: cannot write"),
             CommandFault::OutOfMemory => write!(f, "out of memory"),

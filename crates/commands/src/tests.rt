@@ -60,15 +60,22 @@ fn text_of(bytes: &[u8]) -> &str {
     std::str::from_utf8(bytes).unwrap_or("not UTF-8")
 }
 
-/// Asserts that a command fails with status 3, what it wrote by then, and that no file has changed.
-fn fails<R: Abort + AllocGlobal>(
+/// What a command left.
+#[derive(Drop)]
+struct Left {
+    status: u8,
+    out: Vec<u8>,
+    err: Vec<u8>,
+}
+
+/// Runs a command, its words parted by spaces.
+fn ran<R: AllocGlobal>(
     rt: &R,
     folder: &mut MemoryFolder,
     line: &str,
     input: &str,
     limits: Limits,
-    written: (&str, &str),
-) -> Result<(), Fail> {
+) -> Result<Left, AllocError> {
     let words: Vec<&str> = line.split(' ').collect(rt.alloc())?;
     let mut source = TrySource::new(input.as_bytes(), 9, limits.input);
     let mut out = TrySink::new(rt.alloc(), 1000, limits.out);
@@ -81,18 +88,38 @@ fn fails<R: Abort + AllocGlobal>(
         &mut out,
         &mut err,
     );
-    let wanted = (3, written.0, written.1);
+    Ok(Left {
+        status,
+        out: Vec::from_slice(rt.alloc(), out.bytes())?,
+        err: Vec::from_slice(rt.alloc(), err.bytes())?,
+    })
+}
+
+/// Asserts what a file holds.
+fn stands<R: Abort>(rt: &R, folder: &MemoryFolder, name: &str, want: &str) {
     assert_eq!(rt;
-        (status, text_of(out.bytes()), text_of(err.bytes())),
-        wanted,
-        "{line}"
+        text_of(folder.get(name).unwrap_or(b"no file")),
+        want,
+        "{name}"
     );
-    assert_eq!(rt;
-        folder.get("d/data.ldif").map(text_of),
-        Some(ROOT),
-        "{line}"
-    );
-    assert_eq!(rt; folder.get("f").map(text_of), Some(MORE), "{line}");
+}
+
+/// Asserts that a command fails with status 3, what it wrote by then, and that no file has changed.
+fn fails<R: Abort + AllocGlobal>(
+    rt: &R,
+    folder: &mut MemoryFolder,
+    line: &str,
+    input: &str,
+    limits: Limits,
+    written: (&str, &str),
+) -> Result<(), Fail> {
+    let left = ran(rt, folder, line, input, limits)?;
+    let (out, err) = written;
+    assert_eq!(rt; text_of(&left.err), err, "{line}");
+    assert_eq!(rt; left.status, 3, "{line}");
+    assert_eq!(rt; text_of(&left.out), out, "{line}");
+    stands(rt, folder, "d/data.ldif", ROOT);
+    stands(rt, folder, "f", MORE);
     Ok(())
 }
 

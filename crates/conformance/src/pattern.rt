@@ -10,6 +10,7 @@ struct Numbers {
     first: u32,
     last: u32,
     step: usize,
+    ghost moves: { 0 < step },
 }
 
 /// A piece of a text.
@@ -34,12 +35,13 @@ fn many_of<'t>(text: &'t str, count: &str) -> Option<Piece<'t>> {
 fn numbers_of<'t>(code: &str) -> Option<Piece<'t>> {
     let (first, rest) = code.split_once("..")?;
     let (last, step) = rest.split_once('/').unwrap_or((rest, "1"));
-    let numbers = Numbers {
-        first: first.parse::<u32>().ok()?,
-        last: last.parse::<u32>().ok()?,
-        step: step.parse::<usize>().ok()?,
-    };
-    Some(Piece::Numbers(numbers))
+    let first = first.parse::<u32>().ok()?;
+    let last = last.parse::<u32>().ok()?;
+    let step = step.parse::<usize>().ok()?;
+    if last < first || step == 0 {
+        return None;
+    }
+    Some(Piece::Numbers(Numbers { first, last, step }))
 }
 
 /// What stands between `%{` and `}`.
@@ -140,7 +142,7 @@ fn numbers_in(pieces: &[Piece<'_>]) -> Result<Option<Numbers>, CaseFault> {
     let mut found = None;
     for piece in pieces {
         if let Piece::Numbers(numbers) = piece {
-            if found.is_some() || numbers.last < numbers.first || numbers.step == 0 {
+            if found.is_some() {
                 return Err(CaseFault::Code);
             }
             found = Some(*numbers);
@@ -169,9 +171,6 @@ pub fn put_lines(alloc: Global, text: &str, into: &mut Vec<u8>) -> Result<(), Ca
     let Some(numbers) = numbers_in(pieces.as_slice())? else {
         return put_pieces(alloc, pieces.as_slice(), None, into);
     };
-    if numbers.step == 0 {
-        return Err(CaseFault::Code);
-    }
     for number in (numbers.first..=numbers.last).step_by(numbers.step) {
         put_pieces(alloc, pieces.as_slice(), Some(number), into)?;
     }

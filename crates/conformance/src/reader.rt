@@ -81,7 +81,7 @@ impl Reader {
     }
 
     fn mark(&mut self, mark: Mark, text: &str, number: usize) -> Result<(), CaseFault> {
-        if mark != Mark::Comment && mark != Mark::Line {
+        if mark != Mark::Line {
             self.name = None;
         }
         match mark {
@@ -97,6 +97,7 @@ impl Reader {
 
     fn line(&mut self, line: &str, number: usize) -> Result<(), CaseFault> {
         if line.is_empty() {
+            self.name = None;
             return Ok(());
         }
         if line.ends_with(' ') || line.ends_with('\r') {

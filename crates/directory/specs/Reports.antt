@@ -2,19 +2,19 @@
 use Rattle.std.specs.Prelude.{ℕ, List, [], ◌∷◌, ◌++◌, codes}
 use Rattle.std.specs.List.{flat_map}
 use Rattle.std.specs.Fmt.{decimal}
-use Rattle.ldif.specs.Faults.{fault_number, fault_text}
-use Rattle.schema.specs.Codes.{code_number, code_name}
+use Rattle.ldif.specs.Faults.{fault_report}
+use Rattle.schema.specs.Codes.{code_report}
 use Rattle.directory.specs.declared.reason.Reason.{Reason}
 use Rattle.directory.specs.declared.reason.Reason.TheVariants as reasons
 
--- a code by its number and name, a fault by its number behind an `L` and its text; and then the rest
-abbrev pub reason_then : Reason → List ℕ → List ℕ
-reason_then (reasons.Code c) rest = decimal (code_number c) ++ (codes " " ++ (code_name c ++ rest))
-reason_then (reasons.Fault f) rest = codes "L" ++ (decimal (fault_number f) ++ (codes " " ++ (fault_text f ++ rest)))
+-- a code by its number and name, a fault by its number behind an `L` and its text
+abbrev pub reason_report : Reason → List ℕ
+reason_report (reasons.Code c) = code_report c
+reason_report (reasons.Fault f) = fault_report f
 
 -- `line N: 32 noSuchObject` or `line N: L4 base64` in kind, and a line feed
 unfoldable pub report_line : ℕ × Reason → List ℕ
-report_line r = codes "line " ++ (decimal r.0 ++ (codes ": " ++ reason_then r.1 (10 ∷ [])))
+report_line r = codes "line " ++ (decimal r.0 ++ (codes ": " ++ (reason_report r.1 ++ 10 ∷ [])))
 
 abbrev pub report : List (ℕ × Reason) → List ℕ
 report refused = flat_map report_line refused

@@ -1,13 +1,14 @@
 //! Why a record is refused.
 
-ghost use Rattle.std.specs.Prelude.{◌≡◌, IfOk, string_bytes};
-ghost use Rattle.directory.specs.Reports.{reason_then, report_line};
+ghost use Rattle.std.specs.Prelude.{◌≡◌, IfOk, Some, string_bytes};
+ghost use Rattle.directory.specs.Reports.{reason_report, report_line};
 
 use ldif::LdifFaultKind;
 use schema::Code;
 use std::alloc::{AllocError, Global};
+use std::fmt;
 
-/// Why a record is refused.
+/// Why a record is refused, printed as `32 noSuchObject` or `L4 base64`.
 #[derive(Clone, Copy, Debug, PartialEq, Eq)]
 pub enum Reason {
     /// Its lines are no record.
@@ -25,30 +26,21 @@ pub(crate) enum Outcome {
     Refused(Reason),
 }
 
-#[tactic(auto, unfolding(crate::specs::Reports::report_line))]
-fn code_line(alloc: Global, line: u64, code: Code) -> Result<String, AllocError>
-    ensures { IfOk result (λ t. string_bytes t ≡ report_line (line, Reason.Code code)) }
-{
-    let number = code.number();
-    let name = code.name();
-    format!(in alloc; "line {line}: {number} {name}\n")
-}
+impl fmt::Display for Reason {
+    ghost output = { λ r. Some (reason_report r) };
 
-#[tactic(auto, unfolding(crate::specs::Reports::report_line))]
-fn fault_line(alloc: Global, line: u64, fault: LdifFaultKind) -> Result<String, AllocError>
-    ensures { IfOk result (λ t. string_bytes t ≡ report_line (line, Reason.Fault fault)) }
-{
-    let number = fault.number();
-    let text = fault.text();
-    format!(in alloc; "line {line}: L{number} {text}\n")
+    fn fmt<W: fmt::Write>(&self, f: &mut fmt::Formatter<W>) -> fmt::Result {
+        match self {
+            Reason::Fault(fault) => write!(f, "{fault}"),
+            Reason::Code(code) => write!(f, "{code}"),
+        }
+    }
 }
 
 /// The line of a report: the number of the line on which the record begins, and the reason.
+#[tactic(auto, unfolding(crate::specs::Reports::report_line))]
 pub(crate) fn report_line(alloc: Global, line: u64, reason: Reason) -> Result<String, AllocError>
     ensures { IfOk result (λ t. string_bytes t ≡ report_line (line, reason)) }
 {
-    match reason {
-        Reason::Code(code) => code_line(alloc, line, code),
-        Reason::Fault(fault) => fault_line(alloc, line, fault),
-    }
+    format!(in alloc; "line {line}: {reason}\n")
 }

@@ -1,5 +1,6 @@
 -- The number and the text of each fault.
-use Rattle.std.specs.Prelude.{ℕ, List, codes}
+use Rattle.std.specs.Prelude.{ℕ, List, ◌++◌, codes}
+use Rattle.std.specs.Fmt.{decimal}
 use Rattle.ldif.specs.declared.fault.LdifFaultKind.{LdifFaultKind}
 use Rattle.ldif.specs.declared.fault.LdifFaultKind.TheVariants.{DnMissing, Continuation, Version, Base64, Url, ColonMissing, ChangetypeUnknown, OtherAttribute, PartMissing, StrayLine, ChangetypeMissing, ChangetypeInContent, Word}
 
@@ -32,3 +33,7 @@ fault_text StrayLine = codes "stray line"
 fault_text ChangetypeMissing = codes "changetype missing"
 fault_text ChangetypeInContent = codes "changetype in content"
 fault_text Word = codes "word"
+
+-- as it is reported: its number behind an `L`, and its text
+abbrev pub fault_report : LdifFaultKind → List ℕ
+fault_report f = codes "L" ++ (decimal (fault_number f) ++ (codes " " ++ fault_text f))

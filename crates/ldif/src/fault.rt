@@ -1,7 +1,7 @@
 //! Why lines are no record.
 
-ghost use Rattle.std.specs.Prelude.{◌≡◌};
-ghost use Rattle.ldif.specs.Faults.{fault_number, fault_text};
+ghost use Rattle.std.specs.Prelude.{◌≡◌, Some};
+ghost use Rattle.ldif.specs.Faults.{fault_number, fault_text, fault_report};
 ghost use Rattle.ldif.specs.declared.fault.LdifFault.TheVariants.{OutOfMemory};
 
 use std::alloc::{AllocError, AllocFailed};
@@ -84,6 +84,8 @@ impl LdifFaultKind {
 }
 
 impl fmt::Display for LdifFaultKind {
+    ghost output = { λ f. Some (fault_report f) };
+
     fn fmt<W: fmt::Write>(&self, f: &mut fmt::Formatter<W>) -> fmt::Result {
         write!(f, "L{} {}", self.number(), self.text())
     }

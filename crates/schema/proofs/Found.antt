@@ -14,6 +14,7 @@ use Rattle.values.specs.Types.{is_named, type_of, no_type, is_known, has_equalit
 use Rattle.values.specs.Values.{is_valid_at}
 use Rattle.schema.specs.Rdns.{Rdn, IsRdn, rdn_key_of, is_plain_byte, is_inner_byte, is_plain_value}
 use Rattle.schema.specs.Names.{NamePart, Name, is_comma, is_equals, is_type_text, part_cut, part_of, name_of_text, part_text, text_of_name}
+use Rattle.schema.specs.TypeRules.{has_name_syntax}
 use Rattle.schema.specs.Conf.{Conf, IsConf, typed_part, typed_rdn, typed, same_rdn_key, below, located, written_part, name_text}
 use Rattle.schema.proofs.Spelled.{IsNamePart, value_inner, type_plain}
 use Rattle.paths.proofs.Unpacked.{all_append}
@@ -72,12 +73,14 @@ rdn_is : (types : List AttributeType) (p : NamePart) (r : Rdn) → IsPlain p →
 unfolding IsDistinct
 rdn_is types p r plain e = by (type_of types p.0) refl e
   where
-    compared : (t : ℕ) → type_of types p.0 ≡ Some t → (b : Bool) → has_equality types t ≡ b → cond b (cond (is_valid_at types t p.1) (Ok ((t, p.1) ∷ [])) (Err InvalidDnSyntax)) (Err NamingViolation) ≡ Ok r → IsRdn types r
-    compared t is false c k = absurd cc
-    compared t is true c k =
+    compared : (t : ℕ) → type_of types p.0 ≡ Some t → (n b : Bool) → has_name_syntax types t ≡ n → has_equality types t ≡ b
+        → cond n (Err InvalidDnSyntax) (cond b (cond (is_valid_at types t p.1) (Ok ((t, p.1) ∷ [])) (Err InvalidDnSyntax)) (Err NamingViolation)) ≡ Ok r → IsRdn types r
+    compared t is true b n c k = absurd cc
+    compared t is false false n c k = absurd cc
+    compared t is false true n c k =
         elim (is_valid_at types t p.1) as (λ b. is_valid_at types t p.1 ≡ b → cond b (Ok ((t, p.1) ∷ [])) (Err InvalidDnSyntax) ≡ Ok r → IsRdn types r) [
           | true ↦ λ v said. subst (IsRdn types) (same_ok ((t, p.1) ∷ []) r said) (record {
-            parts = (record { known = found_is_known types p.0 t is; comparable = c; valid = v; plain = plain }, tt);
+            parts = (record { known = found_is_known types p.0 t is; no_name = n; comparable = c; valid = v; plain = plain }, tt);
             types_apart = (tt, tt);
             one = refl;
           })
@@ -86,7 +89,7 @@ rdn_is types p r plain e = by (type_of types p.0) refl e
 
     by : (o : Option ℕ) → type_of types p.0 ≡ o → typed_part types p.1 o ≡ Ok r → IsRdn types r
     by None is k = absurd cc
-    by (Some t) is k = compared t is (has_equality types t) refl k
+    by (Some t) is k = compared t is (has_name_syntax types t) (has_equality types t) refl refl k
 
 pub rdns_are : (types : List AttributeType) (n : Name) (rs : List Rdn) → AllByRecursion IsPlain n → typed types n ≡ Ok rs → AllByRecursion (IsRdn types) rs
 unfolding each

@@ -7,5 +7,7 @@ pub mod Steps
 pub mod Found
 pub mod Through
 pub mod Whole
+pub mod Taken
+pub mod Twins
 pub mod Examples
 pub mod RulePrefix

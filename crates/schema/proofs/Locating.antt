@@ -12,7 +12,7 @@ use Rattle.values.specs.declared.types.AttributeType.{AttributeType}
 use Rattle.schema.specs.declared.code.Code.{Code}
 use Rattle.schema.specs.declared.code.Code.TheVariants.{InvalidDnSyntax, NamingViolation, NoSuchObject}
 use Rattle.schema.specs.Each.{◌>>=◌, each}
-use Rattle.values.specs.Types.{printed_name, name_of, type_at, is_known, first_or}
+use Rattle.values.specs.Types.{printed_name, name_of, type_at, is_known, has_equality, first_or}
 use Rattle.definitions.specs.Naming.{is_oid, are_groups, is_name, is_name_byte, is_type_name, is_reserved}
 use Rattle.schema.specs.Rdns.{Rdn, IsRdn, rdn_key_of, is_plain_byte}
 use Rattle.schema.specs.Names.{Name, is_type_text}
@@ -153,6 +153,7 @@ module _ (conf : Conf) (c : IsConf conf) where
   rdn_typed [] h = absurd (let k = h.one in omega arith)
   rdn_typed (p ∷ []) h =
       ap (typed_part conf.types p.1) (type_is conf p.0 c h.parts.0.known)
+      ∙ ap (λ b. cond b (Err InvalidDnSyntax) (cond (has_equality conf.types p.0) (cond (is_valid_at conf.types p.0 p.1) (part_ok (p ∷ [])) (Err InvalidDnSyntax)) (Err NamingViolation))) h.parts.0.no_name
       ∙ ap (λ b. cond b (cond (is_valid_at conf.types p.0 p.1) (part_ok (p ∷ [])) (Err InvalidDnSyntax)) (Err NamingViolation)) h.parts.0.comparable
       ∙ ap (λ b. cond b (part_ok (p ∷ [])) (Err InvalidDnSyntax)) h.parts.0.valid
   rdn_typed (p ∷ q ∷ ps) h = absurd (let k = h.one in omega arith)

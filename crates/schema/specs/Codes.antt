@@ -1,5 +1,6 @@
 -- Result codes of LDAP (RFC 4511, 4.1.9 and appendix A): their numbers and names.
-use Rattle.std.specs.Prelude.{ℕ, List, codes}
+use Rattle.std.specs.Prelude.{ℕ, List, ◌++◌, codes}
+use Rattle.std.specs.Fmt.{decimal}
 use Rattle.schema.specs.declared.code.Code.{Code}
 use Rattle.schema.specs.declared.code.Code.TheVariants.{ProtocolError, SizeLimitExceeded, AdminLimitExceeded, UnavailableCriticalExtension, NoSuchAttribute, UndefinedAttributeType, InappropriateMatching, ConstraintViolation, AttributeOrValueExists, InvalidAttributeSyntax, NoSuchObject, InvalidDnSyntax, UnwillingToPerform, NamingViolation, ObjectClassViolation, NotAllowedOnNonLeaf, NotAllowedOnRdn, EntryAlreadyExists}
 
@@ -42,3 +43,7 @@ code_name ObjectClassViolation = codes "objectClassViolation"
 code_name NotAllowedOnNonLeaf = codes "notAllowedOnNonLeaf"
 code_name NotAllowedOnRdn = codes "notAllowedOnRDN"
 code_name EntryAlreadyExists = codes "entryAlreadyExists"
+
+-- as it is reported: its number and its name
+abbrev pub code_report : Code → List ℕ
+code_report c = decimal (code_number c) ++ (codes " " ++ code_name c)

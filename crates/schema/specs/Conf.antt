@@ -10,6 +10,7 @@ use Rattle.definitions.specs.Naming.{is_oid, is_type_name}
 use Rattle.values.specs.Values.{is_valid_at}
 use Rattle.paths.specs.Paths.{RdnKey, Path, rdn_key_cmp}
 use Rattle.schema.specs.Rdns.{Rdn, rdn_key_of, IsRdn}
+use Rattle.schema.specs.TypeRules.{has_name_syntax}
 use Rattle.schema.specs.Each.{◌>>=◌, each}
 use Rattle.schema.specs.Names.{Name, NamePart, name_of_text, text_of_name}
 
@@ -20,9 +21,12 @@ pub record Conf : Type 0 where
 
 -- ---- a name's RDNs, each with its type's number
 
+-- the type is known, its values aren't names, they can be compared, and this one is valid: the first that fails answers
 abbrev pub typed_part : List AttributeType → List ℕ → Option ℕ → Result Rdn Code
 typed_part types v None = Err InvalidDnSyntax
-typed_part types v (Some t) = if has_equality types t then (if is_valid_at types t v then Ok ((t, v) ∷ []) else Err InvalidDnSyntax) else Err NamingViolation
+typed_part types v (Some t) =
+    if has_name_syntax types t then Err InvalidDnSyntax
+    else (if has_equality types t then (if is_valid_at types t v then Ok ((t, v) ∷ []) else Err InvalidDnSyntax) else Err NamingViolation)
 
 abbrev pub typed_rdn : List AttributeType → NamePart → Result Rdn Code
 typed_rdn types p = typed_part types p.1 (type_of types p.0)

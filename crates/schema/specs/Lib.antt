@@ -8,5 +8,6 @@ pub mod Gives
 pub mod Each
 pub mod ConfFaults
 pub mod Configurations
+pub mod Classes
 pub mod Reads
 pub mod Keys

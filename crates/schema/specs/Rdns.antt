@@ -1,10 +1,11 @@
 -- RDNs with their types known (RFC 4512, 2.3.2), and what they come to in a path.
-use Rattle.std.specs.Prelude.{◌≡◌, ℕ, Bool, true, not, ◌&&◌, ◌||◌, ◌==◌, nat_eq, nat_lt, if◌then◌else◌, List, [], ◌∷◌, map, length, slice_index, ◌-◌}
+use Rattle.std.specs.Prelude.{◌≡◌, ℕ, Bool, true, false, not, ◌&&◌, ◌||◌, ◌==◌, nat_eq, nat_lt, if◌then◌else◌, List, [], ◌∷◌, map, length, slice_index, ◌-◌}
 use Rattle.std.specs.List.{list_all, AllByRecursion, IsDistinct}
 use Rattle.std.specs.Char.{is_ascii_alphanumeric}
 use Rattle.values.specs.declared.types.AttributeType.{AttributeType}
 use Rattle.values.specs.Types.{is_known, has_equality}
 use Rattle.values.specs.Values.{is_valid_at, norm_at}
+use Rattle.schema.specs.TypeRules.{has_name_syntax}
 use Rattle.paths.specs.Paths.{Pair, RdnKey}
 
 -- a type's number and a value as written
@@ -43,6 +44,7 @@ type_in p = p.0
 
 pub record IsAva (types : List AttributeType) (p : Ava) : Type 0 where
   pub known : is_known types p.0 ≡ true
+  pub no_name : has_name_syntax types p.0 ≡ false
   pub comparable : has_equality types p.0 ≡ true
   pub valid : is_valid_at types p.0 p.1 ≡ true
   pub plain : is_plain_value p.1 ≡ true

@@ -8,6 +8,7 @@ use Rattle.definitions.specs.declared.type_definition.TypeDefinition.{TypeDefini
 use Rattle.definitions.specs.declared.type_field.Usage.{Usage}
 use Rattle.definitions.specs.declared.type_field.Usage.TheVariants as usages
 use Rattle.values.specs.declared.types.AttributeType.{AttributeType}
+use Rattle.values.specs.Types.{type_at}
 use Rattle.schema.specs.RuleNames.{syntax_of, or_else, equality_of, ordering_of, substrings_of}
 
 -- ---- families and syntaxes told apart
@@ -39,6 +40,10 @@ syntax_number syntaxes.Octet = 7
 
 abbrev pub is_syntax : Syntax → Syntax → Bool
 is_syntax a b = nat_eq (syntax_number a) (syntax_number b)
+
+-- a type of DN syntax, whose values are names themselves
+abbrev pub has_name_syntax : List AttributeType → ℕ → Bool
+has_name_syntax types t = is_syntax syntaxes.Name (type_at types t).syntax
 
 -- ---- what is stated, and what is taken from above
 

@@ -1,9 +1,11 @@
 //! Result codes of LDAP.
 
-ghost use Rattle.std.specs.Prelude.{◌≡◌};
-ghost use Rattle.schema.specs.Codes.{code_number, code_name};
+ghost use Rattle.std.specs.Prelude.{◌≡◌, Some};
+ghost use Rattle.schema.specs.Codes.{code_number, code_name, code_report};
 
-/// The result code of a refused operation (RFC 4511, 4.1.9 and appendix A).
+use std::fmt;
+
+/// The result code of a refused operation (RFC 4511, 4.1.9 and appendix A), printed as `32 noSuchObject`.
 #[derive(Clone, Copy, Debug, PartialEq, Eq)]
 pub enum Code {
     ProtocolError,
@@ -77,5 +79,13 @@ impl Code {
             Code::NotAllowedOnRdn => "notAllowedOnRDN",
             Code::EntryAlreadyExists => "entryAlreadyExists",
         }
+    }
+}
+
+impl fmt::Display for Code {
+    ghost output = { λ c. Some (code_report c) };
+
+    fn fmt<W: fmt::Write>(&self, f: &mut fmt::Formatter<W>) -> fmt::Result {
+        write!(f, "{} {}", self.number(), self.name())
     }
 }

@@ -14,7 +14,7 @@ use std::alloc::Global;
 use std::marker::Model;
 use values::{AttributeType, TypeId, TypeTable, Value, ValueFault};
 
-/// The configuration of a directory. A contract sees it as its rules.
+/// The configuration of a directory. A contract sees its attribute types and its suffix.
 #[derive(Debug, Drop)]
 pub struct Conf {
     types: TypeTable,

@@ -1,9 +1,11 @@
 //! The configuration of a directory: its attribute types and suffix, and where names stand.
 #![tactic(auto)]
 
+mod class_table;
 mod code;
 mod conf;
 mod conf_fault;
+mod conf_lines;
 mod configuration;
 mod defined;
 mod fault;
@@ -11,6 +13,7 @@ mod laws;
 mod locate;
 mod name;
 mod rule_names;
+mod suffix_lines;
 mod type_lines;
 mod type_rules;
 

@@ -11,8 +11,9 @@ use crate::code::Code;
 use crate::conf::Conf;
 use crate::fault::PathFault;
 use crate::name::name_of_text;
+use crate::type_rules::is_syntax;
 use lists::{Bytes, Sequence};
-use matching::is_valid;
+use matching::{Syntax, is_valid};
 use paths::{Path, PathDraft, Rdn};
 use std::alloc::{AllocError, Global};
 use values::{TypeId, TypeTable, norm_by};
@@ -48,6 +49,9 @@ fn typed_rdn(alloc: Global, types: &TypeTable, name: &[u8], value: &[u8]) -> Res
         return Err(PathFault::Code(Code::InvalidDnSyntax));
     };
     let kind = types.at(t);
+    if is_syntax(Syntax::Name, kind.syntax) {
+        return Err(PathFault::Code(Code::InvalidDnSyntax));
+    }
     if kind.equality.is_none() {
         return Err(PathFault::Code(Code::NamingViolation));
     }

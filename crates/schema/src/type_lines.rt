@@ -1,23 +1,22 @@
 //! Reading the attribute types of a configuration.
 
-ghost use Rattle.std.specs.Prelude.{◌≡◌, ◌<◌, ◌≤◌, ◌∷◌, [], ℕ, IfOk, IfSome, Option, Ok, Some, None, length, position};
+ghost use Rattle.std.specs.Prelude.{◌≡◌, ◌<◌, IfOk, IfSome, Some, length};
 ghost use Rattle.std.specs.List.{list_any};
 ghost use Rattle.std.specs.Option.{option_map};
 ghost use Rattle.std.specs.Str.{str_eq_ignore_ascii_case};
-ghost use Rattle.values.specs.Types.{is_named, type_of};
 ghost use Rattle.definitions.specs.TypeDefinitions.{type_definition_of};
-ghost use Rattle.schema.specs.Configurations.{At, is_built_in, object_class, names_one, has_twin, is_taken, superior_of, up_of, flaw_of, below, refused, placed};
+ghost use Rattle.schema.specs.Configurations.{is_built_in, object_class, is_type, names_one, has_twin, is_taken, superior_of, up_of, flaw_of, below, refused, placed};
 ghost use Rattle.schema.specs.TypeRules.{type_with};
 ghost use Rattle.schema.specs.Reads.{Reads};
 
 use crate::conf_fault::{ConfFault, ConfFaultKind};
-use crate::configuration::fault;
+use crate::conf_lines::fault;
 use crate::type_rules::{breaks_with, needs_another_syntax, type_with};
 use definitions::{DefinitionFault, Element, TypeDefinition, read_type_definition};
 use lists::{Bytes, Sequence};
 use matching::{Family, Syntax};
 use std::alloc::{AllocError, Global};
-use values::{AttributeType, TypeId};
+use values::{AttributeType, NameIndex, TypeId, TypeTable};
 
 pub(crate) fn object_class(alloc: Global) -> Result<AttributeType, AllocError>
     ensures { IfOk result (λ t. t ≡ object_class) }
@@ -46,88 +45,64 @@ pub(crate) fn is_built_in(oid: &[u8]) -> bool
         || (b"2.5.6.0".as_slice() == oid || b"1.3.6.1.4.1.1466.101.120.111".as_slice() == oid)
 }
 
-fn any_names(names: &[Bytes], known: &AttributeType) -> bool
-    ensures { result ≡ list_any (λ n. is_named n known.now) names.now }
+/// Whether a type has this name or OID.
+pub(crate) fn is_type(types: &TypeTable, name: &[u8]) -> bool
+    ensures { result ≡ is_type types.now name.now }
 {
-    names.iter().any(|name| known.is_named(name.as_slice()))
+    types.type_of(name).is_some()
 }
 
-fn names_one(element: &Element, known: &AttributeType) -> bool
-    ensures { result ≡ names_one element.now known.now }
+fn any_types(types: &TypeTable, names: &[Bytes]) -> bool
+    ensures { result ≡ list_any (is_type types.now) names.now }
 {
-    known.is_named(element.oid.as_slice()) || any_names(element.names.as_slice(), known)
+    names.iter().any(|name| is_type(types, name.as_slice()))
 }
 
-fn is_known(types: &[AttributeType], element: &Element) -> bool
+fn is_known(types: &TypeTable, element: &Element) -> bool
     ensures { result ≡ list_any (names_one element.now) types.now }
 {
-    types.iter().any(|known| names_one(element, known))
+    is_type(types, element.oid.as_slice()) || any_types(types, element.names.as_slice())
 }
 
-fn stands_in(name: &[u8], others: &[Bytes]) -> bool
-    ensures { result ≡ list_any (λ m. str_eq_ignore_ascii_case m name.now) others.now }
+pub(crate) fn has_twin(alloc: Global, names: &[Bytes]) -> Result<bool, AllocError>
+    ensures { IfOk result (λ b. b ≡ has_twin names.now) }
 {
-    others
-        .iter()
-        .any(|other| other.as_slice().eq_ignore_ascii_case(name))
-}
-
-pub(crate) fn has_twin(names: &[Bytes]) -> bool
-    ensures { result ≡ has_twin names.now }
-{
-    for i in 0..names.len() {
-        if stands_in(names[i].as_slice(), names.split_at(i + 1).1) {
-            return true;
+    let mut seen = NameIndex::with_room(alloc, names.len())?;
+    for name in names {
+        if seen.get(name.as_slice()).is_some() {
+            return Ok(true);
         }
+        seen.add(alloc, name.as_slice(), 0)?;
     }
-    false
+    Ok(false)
 }
 
-fn is_taken(types: &[AttributeType], element: &Element) -> bool
-    ensures { result ≡ is_taken types.now element.now }
+fn is_taken(alloc: Global, types: &TypeTable, element: &Element) -> Result<bool, AllocError>
+    ensures { IfOk result (λ b. b ≡ is_taken types.now element.now) }
 {
-    is_known(types, element) || has_twin(element.names.as_slice())
-}
-
-fn place_of(types: &[AttributeType], name: &[u8]) -> Option<usize>
-    ensures place { result ≡ position (is_named name.now) types.now }
-    ensures bound { IfSome result (λ at. at < length types.now) }
-{
-    types.iter().position(|known| known.is_named(name))
-}
-
-fn type_of(types: &[AttributeType], name: &[u8]) -> Option<TypeId>
-    requires { length types.now ≤ 65535 }
-    ensures place { result ≡ type_of types.now name.now }
-    ensures bound { IfSome result (λ t. t < length types.now) }
-{
-    match place_of(types, name) {
-        Some(at) => Some(TypeId::from_number(at as u16)),
-        None => None,
-    }
+    Ok(is_known(types, element) || has_twin(alloc, element.names.as_slice())?)
 }
 
 // the number of the type above, or that there is none; nothing where no type has this name
-fn superior_of(types: &[AttributeType], name: &Option<Bytes>) -> Option<Option<TypeId>>
-    requires { length types.now ≤ 65535 }
+fn superior_of(types: &TypeTable, name: &Option<Bytes>) -> Option<Option<TypeId>>
     ensures number { result ≡ superior_of types.now name.now }
     ensures bound { IfSome result (λ number. IfSome number (λ t. t < length types.now)) }
 {
     let Some(name) = name else {
         return Some(None);
     };
-    match type_of(types, name.as_slice()) {
+    match types.type_of(name.as_slice()) {
         Some(t) => Some(Some(t)),
         None => None,
     }
 }
 
-fn up_of<'a>(types: &'a [AttributeType], number: &Option<TypeId>) -> Option<&'a AttributeType>
+fn up_of<'a>(types: &'a TypeTable, number: &Option<TypeId>) -> Option<&'a AttributeType>
     requires { IfSome number.now (λ t. t < length types.now) }
     ensures { option_map (λ t. t.now) result ≡ up_of types.entry.now number.now }
 {
     match number {
-        Some(t) => Some(&types[t.number() as usize]),
+        Some(t) => Some(types.at(*t)),
         None => None,
     }
 }
@@ -143,7 +118,7 @@ fn copy_of(number: &Option<TypeId>) -> Option<TypeId>
 
 fn derived(
     alloc: Global,
-    types: &[AttributeType],
+    types: &TypeTable,
     definition: &TypeDefinition,
     number: &Option<TypeId>,
 ) -> Result<AttributeType, AllocError>
@@ -154,11 +129,7 @@ fn derived(
 }
 
 // what is wrong with a type beside the one above it
-fn flaw_of(
-    types: &[AttributeType],
-    new: &AttributeType,
-    number: &Option<TypeId>,
-) -> Option<ConfFaultKind>
+fn flaw_of(types: &TypeTable, new: &AttributeType, number: &Option<TypeId>) -> Option<ConfFaultKind>
     requires { IfSome number.now (λ t. t < length types.now) }
     ensures { result ≡ flaw_of new.now (up_of types.now number.now) }
 {
@@ -173,67 +144,71 @@ fn flaw_of(
 
 fn add_below(
     alloc: Global,
-    types: &mut Vec<AttributeType>,
+    types: TypeTable,
     line: u64,
     definition: &TypeDefinition,
     number: &Option<TypeId>,
-) -> Result<(), ConfFault>
-    requires { IfSome number.now (λ t. t < length types.old.items) }
-    ensures { Reads (λ _. types.new.items) result (below types.old.items line definition.now (Some number.now)) }
+) -> Result<TypeTable, ConfFault>
+    requires room { length types < 65535 }
+    requires number { IfSome number.now (λ t. t < length types) }
+    ensures { Reads (λ t. t) result (below types line definition.now (Some number.now)) }
 {
-    let new = derived(alloc, types, definition, number)?;
-    if let Some(kind) = flaw_of(types, &new, number) {
+    let new = derived(alloc, &types, definition, number)?;
+    if let Some(kind) = flaw_of(&types, &new, number) {
         return Err(fault(line, kind));
     }
-    types.push(new)?;
-    Ok(())
+    Ok(types.with(alloc, new)?)
 }
 
 // the fault of a definition that breaks no rule by itself, but beside the types that are there
-fn refused(types: &[AttributeType], definition: &TypeDefinition) -> Option<ConfFaultKind>
-    ensures { result ≡ refused types.now definition.now }
+fn refused(
+    alloc: Global,
+    types: &TypeTable,
+    definition: &TypeDefinition,
+) -> Result<Option<ConfFaultKind>, AllocError>
+    ensures { IfOk result (λ o. o ≡ refused types.now definition.now) }
 {
     if types.len() >= 65535 {
-        Some(ConfFaultKind::TooManyTypes)
-    } else if is_taken(types, &definition.element) {
-        Some(ConfFaultKind::Twice)
+        Ok(Some(ConfFaultKind::TooManyTypes))
+    } else if is_taken(alloc, types, &definition.element)? {
+        Ok(Some(ConfFaultKind::Twice))
     } else if definition.is_collective {
-        Some(ConfFaultKind::Collective)
+        Ok(Some(ConfFaultKind::Collective))
     } else {
-        None
+        Ok(None)
     }
 }
 
 #[tactic(auto, unfolding(crate::specs::Configurations::placed))]
 fn place(
     alloc: Global,
-    types: &mut Vec<AttributeType>,
+    types: TypeTable,
     line: u64,
     definition: &TypeDefinition,
-) -> Result<(), ConfFault>
-    ensures { Reads (λ _. types.new.items) result (placed types.old.items line (Some definition.now)) }
+) -> Result<TypeTable, ConfFault>
+    ensures { Reads (λ t. t) result (placed types line (Some definition.now)) }
 {
     if is_built_in(definition.element.oid.as_slice()) {
-        return Ok(());
+        return Ok(types);
     }
-    if let Some(kind) = refused(types, definition) {
+    if let Some(kind) = refused(alloc, &types, definition)? {
         return Err(fault(line, kind));
     }
-    match superior_of(types, &definition.superior) {
+    match superior_of(&types, &definition.superior) {
         Some(number) => add_below(alloc, types, line, definition, &number),
         None => Err(fault(line, ConfFaultKind::UnknownName)),
     }
 }
 
-/// Reads a definition of a type.
+/// The types, and one more as its definition reads.
 #[tactic(auto, unfolding(crate::specs::Configurations::placed))]
 pub(crate) fn define_type(
     alloc: Global,
-    types: &mut Vec<AttributeType>,
+    types: TypeTable,
     line: u64,
     text: &[u8],
-) -> Result<(), ConfFault>
-    ensures { Reads (λ _. types.new.items) result (placed types.old.items line (type_definition_of text.now)) }
+) -> Result<TypeTable, ConfFault>
+    ensures { Reads (λ t. t) result (placed types line (type_definition_of text.now)) }
 {
     match read_type_definition(alloc, text) {
         Ok(definition) => place(alloc, types, line, &definition),

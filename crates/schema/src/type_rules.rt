@@ -52,7 +52,7 @@ fn syntax_number(syntax: Syntax) -> u8
     }
 }
 
-fn is_syntax(a: Syntax, b: Syntax) -> bool
+pub(crate) fn is_syntax(a: Syntax, b: Syntax) -> bool
     ensures { result ≡ is_syntax a b }
 {
     syntax_number(a) == syntax_number(b)

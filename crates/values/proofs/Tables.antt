@@ -2,7 +2,7 @@
 use Rattle.std.proofs.Common.{◌≡◌, ℕ, ◌+◌, ◌<◌, Bool, true, false, cond, ◌||◌, List, [], ◌∷◌, ◌++◌, length, get_or, take, Option, Some, None, refl, sym, ap, ◌∙◌, arith}
 use Rattle.std.specs.Prelude.{IfSome, position}
 use Rattle.std.specs.List.{list_any, position_from}
-use Rattle.std.proofs.lemmas.List.{take_more, length-take}
+use Rattle.std.proofs.lemmas.List.{take_more}
 use Rattle.std.proofs.lemmas.List.Folds.{list_any-append}
 use Rattle.std.proofs.lemmas.List.Quantifiers.{position-Some}
 use Rattle.std.proofs.lemmas.Iterator.Adapters.{position_from-zero}
@@ -43,12 +43,12 @@ position_push p xs y =
     position_from-zero p (xs ++ y ∷ []) ∙ from_push p 0 xs y ∙ ap (λ n. or_if (position_from p 0 xs) (p y) n) (omega arith) ∙ ap (λ (o : Option ℕ). or_if o (p y) (length xs)) (sym (position_from-zero p xs))
 
 -- one type more
-pub type_more : (types : List AttributeType) (i : ℕ) (d : AttributeType) (text : List ℕ) → i < length types → type_of (take (i + 1) types) text ≡ or_if (type_of (take i types) text) (is_named text (get_or types i d)) i
+pub type_more : (types : List AttributeType) (new : AttributeType) (text : List ℕ) → type_of (types ++ new ∷ []) text ≡ or_if (type_of types text) (is_named text new) (length types)
 unfolding type_of
-type_more types i d text lt =
-    let k = length-take i types in
-    ap (position (is_named text)) (take_more types i d lt) ∙ position_push (is_named text) (take i types) (get_or types i d)
-    ∙ ap (λ n. or_if (position (is_named text) (take i types)) (is_named text (get_or types i d)) n) (omega (arith, k))
+type_more types new text = position_push (is_named text) types new
+
+abbrev pub some : ℕ → Option ℕ
+some t = Some t
 
 pub is_known : (types : List AttributeType) (text : List ℕ) (o : Option ℕ) → o ≡ type_of types text → IfSome o (λ t. t < length types)
 unfolding type_of

@@ -1,7 +1,6 @@
 -- Attribute types (RFC 4512, 4.1.2): what names one, and what one is printed by.
-use Rattle.std.specs.Prelude.{ℕ, is_some, Bool, true, false, ◌||◌, ◌&&◌, not, ◌==◌, List, [], ◌∷◌, length, codes, Option, Some, None, position, nat_lt, slice_index_or, if◌then◌else◌}
-use Rattle.std.specs.List.{list_any, list_all}
-use Rattle.std.specs.Char.{is_ascii_alphabetic, is_ascii_alphanumeric, is_ascii_digit}
+use Rattle.std.specs.Prelude.{ℕ, is_some, Bool, false, List, [], ◌∷◌, length, Option, None, position, nat_lt, slice_index_or}
+use Rattle.std.specs.List.{list_any}
 use Rattle.std.specs.Str.{str_eq_ignore_ascii_case}
 use Rattle.values.specs.declared.types.AttributeType.{AttributeType}
 use Rattle.matching.specs.declared.syntax.Syntax.TheVariants as syntaxes

@@ -6,6 +6,7 @@ mod table;
 mod types;
 mod value;
 
+pub use name_index::NameIndex;
 pub use paths::TypeId;
 pub use table::TypeTable;
 pub use types::AttributeType;

@@ -1,4 +1,4 @@
-//! Numbers of attribute types that are found by a name.
+//! Numbers that are found by a name.
 
 ghost use Rattle.std.specs.Prelude.{◌≡◌, ℕ, ◌<◌, None, IfOk, OnOk, List, length};
 ghost use Rattle.std.specs.Str.{str_eq_ignore_ascii_case};
@@ -12,16 +12,19 @@ use std::marker::Model;
 /// In ASCII a capital and its small letter differ in this bit.
 const CASE_BIT: u8 = 0x20;
 
-/// A name or OID of a type, and the type's number.
+/// The buckets of an index, at most.
+const MOST_BUCKETS: usize = 1 << 24;
+
+/// A name and its number.
 #[derive(Debug, Drop)]
 pub(crate) struct NameEntry {
     name: Bytes,
-    number: TypeId,
+    number: usize,
 }
 
 /// Names with numbers, in buckets by a key that doesn't see ASCII case. A contract sees the buckets.
 #[derive(Debug, Drop)]
-pub(crate) struct NameIndex {
+pub struct NameIndex {
     // in each bucket an earlier entry counts before a later one
     buckets: Vec<Sequence<NameEntry>>,
 }
@@ -63,7 +66,7 @@ fn are_alike(a: &[u8], b: &[u8]) -> bool
     a == b || a.eq_ignore_ascii_case(b)
 }
 
-fn number_in(entries: &[NameEntry], name: &[u8]) -> Option<TypeId>
+fn number_in(entries: &[NameEntry], name: &[u8]) -> Option<usize>
     ensures { result ≡ number_in entries.now name.now }
 {
     for entry in entries {
@@ -86,23 +89,18 @@ fn empty_buckets(alloc: Global, count: usize) -> Result<Vec<Sequence<NameEntry>>
 }
 
 impl NameIndex {
-    /// No names, with this many buckets for those to come.
-    pub(crate) fn with_buckets(alloc: Global, count: usize) -> Result<NameIndex, AllocError>
-        requires { 0 < count }
+    /// No names. Of those that come some `room` are found quickly.
+    pub fn with_room(alloc: Global, room: usize) -> Result<NameIndex, AllocError>
         ensures { IfOk result (λ x. (name : List ℕ) → number_of x name ≡ None) }
     {
+        let count = room.min(MOST_BUCKETS).next_power_of_two();
         Ok(NameIndex {
             buckets: empty_buckets(alloc, count)?,
         })
     }
 
     /// Puts a number at a name, where none is there.
-    pub(crate) fn add(
-        &mut self,
-        alloc: Global,
-        name: &[u8],
-        number: TypeId,
-    ) -> Result<(), AllocError>
+    pub fn add(&mut self, alloc: Global, name: &[u8], number: usize) -> Result<(), AllocError>
         ensures { OnOk result ((text : List ℕ) → number_of self.new text ≡ or_if (number_of self.old text) (str_eq_ignore_ascii_case name.now text) number) }
     {
         let bucket = bucket_of(self.buckets.len(), name);
@@ -111,7 +109,7 @@ impl NameIndex {
     }
 
     /// The number at a name, without ASCII case.
-    pub(crate) fn get(&self, name: &[u8]) -> Option<TypeId>
+    pub fn get(&self, name: &[u8]) -> Option<usize>
         ensures { result ≡ number_of self.now name.now }
     {
         let bucket = bucket_of(self.buckets.len(), name);

@@ -1,6 +1,6 @@
 //! Attribute types that are found by their names.
 
-ghost use Rattle.std.specs.Prelude.{◌≡◌, ◌<◌, ◌≤◌, IfOk, IfSome, OnOk, ℕ, List, length};
+ghost use Rattle.std.specs.Prelude.{◌≡◌, ◌<◌, ◌≤◌, ◌++◌, ◌∷◌, [], IfOk, IfSome, OnOk, ℕ, List, length};
 ghost use Rattle.std.specs.List.{list_any};
 ghost use Rattle.std.specs.Str.{str_eq_ignore_ascii_case};
 ghost use Rattle.values.specs.Tables.{FindsTypes, number_of, or_if};
@@ -37,7 +37,7 @@ fn add_names(
     alloc: Global,
     numbers: &mut NameIndex,
     names: &[Bytes],
-    t: TypeId,
+    t: usize,
 ) -> Result<(), AllocError>
     ensures { OnOk result ((text : List ℕ) → number_of numbers.new text ≡ or_if (number_of numbers.old text) (list_any (λ n. str_eq_ignore_ascii_case n text) names.now) t) }
 {
@@ -52,7 +52,7 @@ fn add_type(
     alloc: Global,
     numbers: &mut NameIndex,
     new: &AttributeType,
-    t: TypeId,
+    t: usize,
 ) -> Result<(), AllocError>
     ensures { OnOk result ((text : List ℕ) → number_of numbers.new text ≡ or_if (number_of numbers.old text) (is_named text new.now) t) }
 {
@@ -60,31 +60,36 @@ fn add_type(
     add_names(alloc, numbers, new.names.as_slice(), t)
 }
 
-fn numbers_of(alloc: Global, types: &[AttributeType]) -> Result<NameIndex, AllocError>
-    requires { length types.now ≤ 65535 }
-    ensures { IfOk result (λ x. FindsTypes x types.now) }
-{
-    // most types have one name, and an OID
-    let count = (2 * types.len()).next_power_of_two();
-    let mut numbers = NameIndex::with_buckets(alloc, count)?;
-    for i in 0..types.len() {
-        let t = TypeId::from_number(i as u16);
-        add_type(alloc, &mut numbers, &types[i], t)?;
-    }
-    Ok(numbers)
-}
-
 impl TypeTable {
-    /// The types of this list, each at its place.
-    pub fn new(alloc: Global, types: Vec<AttributeType>) -> Result<TypeTable, AllocError>
-        requires { length types.items ≤ 65535 }
-        ensures { IfOk result (λ t. t ≡ types.items) }
+    /// No types. In those that come some `names` are found quickly.
+    pub fn with_room(alloc: Global, names: usize) -> Result<TypeTable, AllocError>
+        ensures { IfOk result (λ t. t ≡ []) }
     {
-        let numbers = numbers_of(alloc, &types)?;
         Ok(TypeTable {
-            types: Sequence::from_vec(types),
-            numbers,
+            types: Sequence::new(alloc),
+            numbers: NameIndex::with_room(alloc, names)?,
         })
+    }
+
+    /// These types and one more, at the end.
+    pub fn with(self, alloc: Global, new: AttributeType) -> Result<TypeTable, AllocError>
+        requires { length self < 65535 }
+        ensures { IfOk result (λ t. t ≡ self ++ new ∷ []) }
+    {
+        let TypeTable {
+            mut types,
+            mut numbers,
+        } = self;
+        add_type(alloc, &mut numbers, &new, types.len())?;
+        types.push(new)?;
+        Ok(TypeTable { types, numbers })
+    }
+
+    /// How many types there are.
+    pub fn len(&self) -> usize
+        ensures { result ≡ length self.now }
+    {
+        self.types.len()
     }
 
     /// The types, each at its number.
@@ -99,7 +104,10 @@ impl TypeTable {
         ensures place { result ≡ type_of self.now name.now }
         ensures known { IfSome result (λ t. t < length self.now) }
     {
-        self.numbers.get(name)
+        match self.numbers.get(name) {
+            Some(number) => Some(TypeId::from_number(number as u16)),
+            None => None,
+        }
     }
 
     /// The type of a number.

@@ -1,21 +1,15 @@
-use Rattle.std.proofs.Common.{List, subst, sym, Option, Some}
+use Rattle.std.proofs.Common.{List, subst, Option, Some}
 use Rattle.definitions.specs.declared.lines.Line.{Line}
 use Rattle.schema.specs.declared.locate.TypedName.{TypedName}
 use Rattle.schema.specs.Keys.{rdns_found}
 use Rattle.schema.proofs.Whole.{AreTypes, Defines, types_are, suffix_is, rules_are, IsSuffix}
 use Rattle.schema.proofs.configuration.read_conf.Goals as goal
 
-pub new-requires : goal.new-requires
-new-requires c =
-    let law : Defines = λ text d e. (c.defined_types_have_names.ensures.oid text d e, c.defined_types_have_names.ensures.names text d e) in
-    (types_are law c.deref.result.now c.in_ok-types_of.field-0.items c.in_ok-types_of.ensures).few
-
-pub new-requires-in-Some-clause-same_conf : goal.new-requires-in-Some-clause-same_conf
-new-requires-in-Some-clause-same_conf c =
+pub new-requires-clause-same_conf : goal.new-requires-clause-same_conf
+new-requires-clause-same_conf c =
     let law : Defines = λ text d e. (c.defined_types_have_names.ensures.oid text d e, c.defined_types_have_names.ensures.names text d e) in
     let lines : List Line = c.deref-2.result.now in
     let found = suffix_is c.in_ok-types.types lines (rdns_found c.in_ok-suffix.field-0) c.in_ok-suffix.ensures.rdns in
     let kept : IsSuffix c.in_ok-types.types (Some c.in-Some.suffix.rdns.items) = subst (λ (o : Option TypedName). IsSuffix c.in_ok-types.types (rdns_found o)) c.in-Some.is found in
-    let good : AreTypes c.in_ok-types.types =
-    subst AreTypes (sym c.in_ok-types.ensures) (types_are law c.deref.result.now c.in_ok-types_of.field-0.items c.in_ok-types_of.ensures) in
+    let good : AreTypes c.in_ok-types.types = types_are law c.deref.result.now c.in_ok-types.types c.in_ok-types.ensures in
     rules_are c.in_ok-types.types c.in-Some.suffix.rdns.items good kept

@@ -1,6 +1,7 @@
 use Rattle.std.proofs.Common.{◌≡◌, drop}
 use Rattle.schema.specs.Configurations.{has_twin}
+use Rattle.schema.proofs.Twins.{twin_left}
 use Rattle.schema.proofs.type_lines.has_twin.Given as goal
 
-abbrev pub invariant-loop-i : goal.invariant-loop-i
-invariant-loop-i l = has_twin (drop l.i l.names) ≡ has_twin l.names
+abbrev pub invariant-loop-name : goal.invariant-loop-name
+invariant-loop-name l = twin_left l.seen (drop l.name-index l.names) ≡ has_twin l.names

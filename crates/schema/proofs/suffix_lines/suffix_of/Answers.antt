@@ -5,7 +5,7 @@ use Rattle.schema.specs.Configurations.{suffix_of, suffix_line}
 use Rattle.schema.specs.Keys.{rdns_found}
 use Rattle.schema.specs.Reads.{FailsAt}
 use Rattle.schema.proofs.Through.{goes_on, ends, is_done}
-use Rattle.schema.proofs.configuration.suffix_of.Goals as goal
+use Rattle.schema.proofs.suffix_lines.suffix_of.Goals as goal
 
 pub loop-line-preserved : goal.loop-line-preserved
 loop-line-preserved c = record {

@@ -1,7 +1,7 @@
 use Rattle.std.proofs.Common.{◌≡◌, None, drop}
 use Rattle.schema.specs.Configurations.{suffix_of}
 use Rattle.schema.specs.Keys.{rdns_found, FoundFits}
-use Rattle.schema.proofs.configuration.suffix_of.Given as goal
+use Rattle.schema.proofs.suffix_lines.suffix_of.Given as goal
 
 abbrev pub invariant-loop-line : goal.invariant-loop-line
 invariant-loop-line l = record {

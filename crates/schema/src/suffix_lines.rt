@@ -1,0 +1,118 @@
+//! Reading the suffix of a configuration.
+
+ghost use Rattle.std.specs.Prelude.{◌≡◌, IfOk, Some, None, OnOk};
+ghost use Rattle.schema.specs.Configurations.{is_quoted, unquoted, suffix_text, typed_name, suffix_at, suffix_line, suffix_of};
+ghost use Rattle.schema.specs.Names.{name_of_text};
+ghost use Rattle.schema.specs.Gives.{Gives};
+ghost use Rattle.schema.specs.Reads.{Reads};
+ghost use Rattle.schema.specs.Keys.{KeysFit, rdns_found, FoundFits};
+
+use crate::conf_fault::{ConfFault, ConfFaultKind};
+use crate::conf_lines::{fault, is_first, says_nothing};
+use crate::fault::PathFault;
+use crate::locate::{TypedName, typed};
+use crate::name::name_of_text;
+use definitions::{Line, begins_with, skip, split_first_word};
+use matching::trim_end;
+use std::alloc::Global;
+use values::TypeTable;
+
+fn is_quoted(text: &[u8]) -> bool
+    ensures { result ≡ is_quoted text.now }
+{
+    text.len() >= 2
+        && begins_with(text, b'"')
+        && text.split_at(text.len() - 1).1 == b"\"".as_slice()
+}
+
+// without the quotes, where both are there
+fn unquoted(text: &[u8]) -> &[u8]
+    ensures { result.now ≡ unquoted text.now }
+{
+    if is_quoted(text) {
+        text.split_at(1).1.split_at(text.len() - 2).0
+    } else {
+        text
+    }
+}
+
+fn suffix_text(line: &[u8]) -> &[u8]
+    ensures { result.now ≡ suffix_text line.now }
+{
+    unquoted(trim_end(skip(split_first_word(line).1)))
+}
+
+fn typed_name(alloc: Global, types: &TypeTable, text: &[u8]) -> Result<TypedName, PathFault>
+    ensures rdns { Gives (λ x. x.rdns.items) result (typed_name types.now (name_of_text text.now)) }
+    ensures keys { IfOk result (KeysFit types.now) }
+{
+    let name = name_of_text(alloc, text)?;
+    typed(alloc, types, &name)
+}
+
+fn suffix_at(
+    alloc: Global,
+    types: &TypeTable,
+    line: u64,
+    text: &[u8],
+) -> Result<TypedName, ConfFault>
+    ensures rdns { Reads (λ x. Some x.rdns.items) result (suffix_at types.now line text.now) }
+    ensures keys { IfOk result (KeysFit types.now) }
+{
+    match typed_name(alloc, types, text) {
+        Ok(found) => {
+            if found.rdns.is_empty() {
+                Err(fault(line, ConfFaultKind::Suffix))
+            } else {
+                Ok(found)
+            }
+        }
+        Err(PathFault::OutOfMemory) => Err(ConfFault::OutOfMemory),
+        Err(PathFault::Code(_)) => Err(fault(line, ConfFaultKind::Suffix)),
+    }
+}
+
+// a line of the second pass
+#[tactic(auto, unfolding(crate::specs::Configurations::suffix_line))]
+fn read_suffix_line(
+    alloc: Global,
+    types: &TypeTable,
+    found: &mut Option<TypedName>,
+    line: &Line,
+) -> Result<(), ConfFault>
+    requires { FoundFits types.now found.old }
+    ensures rdns { Reads (λ _. rdns_found found.new) result (suffix_line types.now (rdns_found found.old) line.now) }
+    ensures keys { OnOk result (FoundFits types.now found.new) }
+{
+    let text = line.text.as_slice();
+    if says_nothing(text) {
+        return Ok(());
+    }
+    if is_first(b"index", text) {
+        return Err(fault(line.number, ConfFaultKind::Form));
+    }
+    if !is_first(b"suffix", text) {
+        return Ok(());
+    }
+    if found.is_some() {
+        return Err(fault(line.number, ConfFaultKind::Suffix));
+    }
+    *found = Some(suffix_at(alloc, types, line.number, suffix_text(text))?);
+    Ok(())
+}
+
+/// The suffix that the lines say, if there is one.
+pub(crate) fn suffix_of(
+    alloc: Global,
+    types: &TypeTable,
+    lines: &[Line],
+) -> Result<Option<TypedName>, ConfFault>
+    ensures rdns { Reads rdns_found result (suffix_of types.now None lines.now) }
+    ensures keys { IfOk result (FoundFits types.now) }
+{
+    let mut found = None;
+    for line in lines {
+        read_suffix_line(alloc, types, &mut found, line)?;
+    }
+    Ok(found)
+}

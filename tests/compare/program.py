@@ -1,0 +1,74 @@
+#!/usr/bin/env python3
+"""The second reading as a program with the words of slaptools: program.py WORD .. So the case files can be run through it, too."""
+import argparse
+import sys
+
+import model
+
+
+def parser_of_words():
+    parser = argparse.ArgumentParser(prog="slaptools", allow_abbrev=False)
+    commands = parser.add_subparsers(dest="command", required=True)
+    parsers = {name: commands.add_parser(name, allow_abbrev=False) for name in ("slapadd", "slapcat", "help")}
+    for name in ("slapadd", "slapcat"):
+        parsers[name].add_argument("--db", required=True, action=Once)
+        parsers[name].add_argument("-l", dest="file", action=Once)
+    for flag in ("-c", "-u"):
+        parsers["slapadd"].add_argument(flag, action=Once, nargs=0, const=True, default=False)
+    parsers["help"].add_argument("of", nargs="?", choices=["slapadd", "slapcat"])
+    return parser, parsers
+
+
+class Once(argparse.Action):
+    """An option that doesn't stand twice."""
+
+    def __call__(self, parser, words, value, option_string=None):
+        if getattr(words, self.dest) not in (None, False):
+            parser.error(f"{option_string} twice")
+        setattr(words, self.dest, self.const if self.nargs == 0 else value)
+
+
+def read(path):
+    try:
+        with open(path, "rb") as file:
+            return file.read()
+    except OSError:
+        return None
+
+
+def write(path, text):
+    with open(path, "wb") as file:
+        file.write(text)
+
+
+def slapadd(words):
+    text, source = (read(words.file), words.file) if words.file is not None else (sys.stdin.buffer.read(), "input")
+    status, messages, stored = model.slapadd(
+        read(f"{words.db}/dir.conf"), read(f"{words.db}/data.ldif"), text, words.c, words.u, words.db, source)
+    if stored is not None:
+        write(f"{words.db}/data.ldif", stored)
+    return status, b"", messages
+
+
+def slapcat(words):
+    status, output, messages = model.slapcat(read(f"{words.db}/dir.conf"), read(f"{words.db}/data.ldif"), words.db)
+    if words.file is None or status != 0:
+        return status, output, messages
+    write(words.file, output)
+    return status, b"", messages
+
+
+def main():
+    parser, parsers = parser_of_words()
+    # argparse doesn't take two hyphens behind a command's options
+    words = parser.parse_args(sys.argv[1:-1] if sys.argv[-1] == "--" else sys.argv[1:])
+    if words.command == "help":
+        parsers.get(words.of, parser).print_help()
+        return 0
+    status, output, messages = slapadd(words) if words.command == "slapadd" else slapcat(words)
+    sys.stdout.buffer.write(output)
+    sys.stderr.buffer.write(messages)
+    return status
+
+
+sys.exit(main())
