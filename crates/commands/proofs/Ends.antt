@@ -6,7 +6,7 @@ use Rattle.schema.specs.Conf.{Conf}
 use Rattle.tree.specs.Directories.{Entries}
 use Rattle.commands.specs.declared.messages.Status.{Status}
 use Rattle.commands.specs.declared.messages.CommandFault.{CommandFault}
-use Rattle.commands.specs.Ends.{IsLoaded, RunEnds, AddEnds, Dumps, IsDumped}
+use Rattle.commands.specs.inner.Ends.{IsLoaded, RunEnds, AddEnds, Dumps, IsDumped}
 
 -- how a run over it ends
 pub loaded_and_ran : (conf : Conf) (go_on : Bool) (old : Entries) (a b : Written) (s : Status) → IsLoaded conf old → RunEnds conf go_on old a b s → AddEnds go_on a b s

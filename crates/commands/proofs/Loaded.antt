@@ -4,7 +4,7 @@ use Rattle.std.specs.FinMap as finite
 use Rattle.schema.specs.Conf.{Conf}
 use Rattle.tree.specs.Directories.{Entries}
 use Rattle.directory.specs.Runs.{after_records}
-use Rattle.commands.specs.Ends.{IsLoaded}
+use Rattle.commands.specs.inner.Ends.{IsLoaded}
 
 pub nothing_loaded : (conf : Conf) (d : Entries) → d ≡ finite.empty → IsLoaded conf d
 unfolding after_records

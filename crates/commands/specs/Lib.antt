@@ -1,3 +1,2 @@
 pub mod Statuses
-pub mod Ends
-pub mod Messages
+pub mod inner

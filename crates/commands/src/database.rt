@@ -1,7 +1,7 @@
 //! The files of a directory: its configuration and its entries.
 ghost use Rattle.std.specs.Prelude.{◌≡◌, ◌<◌, ◌-◌, ◌^◌, IfOk, IfErr, IfSome};
 ghost use Rattle.directory.specs.Runs.{dump};
-ghost use Rattle.commands.specs.Ends.{IsLoaded};
+ghost use Rattle.commands.specs.inner.Ends.{IsLoaded};
 ghost use Rattle.commands.specs.Statuses.{status_of_fault};
 ghost use Rattle.commands.specs.declared.messages.Status.TheVariants.{Failed};
 

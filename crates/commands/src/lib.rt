@@ -4,13 +4,9 @@
 mod database;
 mod dispatch;
 mod folder;
-#[cfg(test)]
-mod memory;
 mod messages;
 mod slapadd;
 mod slapcat;
-#[cfg(test)]
-mod tests;
 
 pub use dispatch::command;
 pub use folder::{FileText, Folder, FolderFault};

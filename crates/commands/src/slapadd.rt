@@ -2,7 +2,7 @@
 ghost use Rattle.std.specs.Prelude.{◌≡◌, ◌<◌, ◌-◌, ◌^◌, OnOk, IfOk, IfErr};
 ghost use Rattle.ldif.specs.declared.record.Mode.TheVariants.{Content};
 ghost use Rattle.directory.specs.Folds.{RanOver};
-ghost use Rattle.commands.specs.Ends.{IsAdded, RunEnds, AddEnds};
+ghost use Rattle.commands.specs.inner.Ends.{IsAdded, RunEnds, AddEnds};
 
 use crate::database::{load_directory, open_present, store_directory};
 use crate::folder::Folder;

@@ -2,7 +2,7 @@
 ghost use Rattle.std.specs.Prelude.{◌≡◌, ◌<◌, ◌-◌, ◌^◌, OnOk, is_some};
 ghost use Rattle.device.specs.Device.{Took};
 ghost use Rattle.directory.specs.Runs.{dump};
-ghost use Rattle.commands.specs.Ends.{Dumps, IsDumped, CatEnds};
+ghost use Rattle.commands.specs.inner.Ends.{Dumps, IsDumped, CatEnds};
 
 use crate::database::{load_directory, store};
 use crate::folder::Folder;

@@ -5,7 +5,8 @@ use Rattle.std.proofs.lemmas.Bool.{ne_eqb}
 use Rattle.std.proofs.lemmas.Bool.Decides.{nat_tests}
 use Rattle.std.proofs.lemmas.List.{drop_more, drop_all, length-drop, length-map}
 use Rattle.definitions.specs.declared.lines.Line.{Line}
-use Rattle.definitions.specs.Lines.{begins_blank, numbered, goes_on_with, joined, onto, unfolded, last_goes_on, join_last, with_line}
+use Rattle.definitions.specs.Lines.{begins_blank, numbered, goes_on_with, joined, onto, unfolded}
+use Rattle.definitions.specs.inner.Lines.{last_goes_on, join_last, with_line}
 
 abbrev pub glued_from : Line → List Line → List Line → List Line
 glued_from x [] rest = onto x rest

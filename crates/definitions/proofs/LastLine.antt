@@ -1,7 +1,8 @@
 -- One more line behind others: it is joined to the last one, or stands by itself.
 use Rattle.std.proofs.Common.{◌≡◌, ℕ, ◌-◌, ◌<◌, true, List, [], ◌∷◌, length, get_or, slice_set, slice_get, Some, suc, ap, ◌∙◌, arith}
 use Rattle.definitions.specs.declared.lines.Line.{Line}
-use Rattle.definitions.specs.Lines.{goes_on_with, joined, last_goes_on, join_last}
+use Rattle.definitions.specs.Lines.{goes_on_with, joined}
+use Rattle.definitions.specs.inner.Lines.{last_goes_on, join_last}
 
 longer : (x y : Line) (ys : List Line) → length (x ∷ y ∷ ys) - 1 ≡ suc (length (y ∷ ys) - 1)
 longer x y ys = omega arith

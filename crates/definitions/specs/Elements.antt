@@ -2,6 +2,7 @@
 use Rattle.std.specs.Prelude.{ℕ, Bool, true, false, ◌&&◌, ◌==◌, nat_lt, if◌then◌else◌, List, [], ◌∷◌, ◌++◌, take, length, Option, Some, None, codes}
 use Rattle.std.specs.List.{list_any, list_all}
 use Rattle.std.specs.Str.{str_eq_ignore_ascii_case}
+use Rattle.base.specs.Ascii.{left_parenthesis, right_parenthesis}
 use Rattle.definitions.specs.declared.element.Sort.{Sort}
 use Rattle.definitions.specs.declared.element.Sort.TheVariants as sorts
 use Rattle.definitions.specs.declared.element.Element.{Element}
@@ -75,7 +76,7 @@ is_end (Some rest) = length (skip rest) == 0
 
 -- `)` and nothing more
 abbrev pub ends_there : List ℕ → Bool
-ends_there text = is_end (sign_at 41 text)
+ends_there text = is_end (sign_at right_parenthesis text)
 
 -- one field after the other, each put into what the fields before it say; each takes at least one of the bytes that come
 unfoldable pub fields_to_end : {D F : Type 0} → (List ℕ → Option (F × List ℕ)) → (D → F → Option D) → D → List ℕ → List ℕ → Option D
@@ -89,4 +90,4 @@ abbrev pub numeric : Cut → Option Cut
 numeric oid = if is_oid oid.0 then Some oid else None
 
 unfoldable pub head_at : List ℕ → Option Cut
-head_at text = sign_at 40 text >>> λ inside. (word_at inside >>> numeric)
+head_at text = sign_at left_parenthesis text >>> λ inside. (word_at inside >>> numeric)

@@ -7,3 +7,4 @@ pub mod Elements
 pub mod TypeFields
 pub mod TypeDefinitions
 pub mod ClassDefinitions
+pub mod inner

@@ -1,5 +1,6 @@
 -- Lists of names in a definition (RFC 4512, 4.1).
 use Rattle.std.specs.Prelude.{ℕ, Bool, if◌then◌else◌, List, [], ◌∷◌, Option, Some, None}
+use Rattle.base.specs.Ascii.{dollar_sign, left_parenthesis, right_parenthesis}
 use Rattle.definitions.specs.Words.{◌>>>◌, Cut, sign_at, word_at, quoted_at, plain_or_quoted_at}
 
 abbrev pub Cuts : Type 0
@@ -15,7 +16,7 @@ closed_by (Some rest) others = Some ([], rest)
 -- parts up to `)`; each takes at least one of the bytes that come
 unfoldable pub to_close : (List ℕ → Option Cut) → List ℕ → List ℕ → Option Cuts
 to_close part_at [] text = None
-to_close part_at (b ∷ bytes) text = closed_by (sign_at 41 text) (part_at text >>> λ part. (to_close part_at bytes part.1 >>> onto part.0))
+to_close part_at (b ∷ bytes) text = closed_by (sign_at right_parenthesis text) (part_at text >>> λ part. (to_close part_at bytes part.1 >>> onto part.0))
 
 abbrev pub not_none : Cuts → Option Cuts
 not_none ([], rest) = None
@@ -30,7 +31,7 @@ in_parentheses (Some inside) single = to_close quoted_at inside inside >>> not_n
 
 -- `'a'`, or `( 'a' 'b' )`: one text in quotes, or some in parentheses
 unfoldable pub quoted_texts_at : List ℕ → Option Cuts
-quoted_texts_at text = in_parentheses (sign_at 40 text) (quoted_at text >>> alone)
+quoted_texts_at text = in_parentheses (sign_at left_parenthesis text) (quoted_at text >>> alone)
 
 -- ---- lists with `$` between
 
@@ -40,7 +41,7 @@ name_at quotes text = if quotes then plain_or_quoted_at text else word_at text
 
 -- `$` and a name
 abbrev pub next_name_at : Bool → List ℕ → Option Cut
-next_name_at quotes text = sign_at 36 text >>> name_at quotes
+next_name_at quotes text = sign_at dollar_sign text >>> name_at quotes
 
 -- names with `$` between, up to `)`
 unfoldable pub names_to_close : Bool → List ℕ → Option Cuts
@@ -52,4 +53,4 @@ list_in_parentheses quotes (Some inside) single = names_to_close quotes inside
 
 -- `a`, or `( a $ b )`
 unfoldable pub names_at : Bool → List ℕ → Option Cuts
-names_at quotes text = list_in_parentheses quotes (sign_at 40 text) (name_at quotes text >>> alone)
+names_at quotes text = list_in_parentheses quotes (sign_at left_parenthesis text) (name_at quotes text >>> alone)

@@ -2,6 +2,7 @@
 use Rattle.std.specs.Prelude.{ℕ, Bool, true, ◌&&◌, ◌==◌, nat_lt, ◌-◌, if◌then◌else◌, List, [], ◌∷◌, take, drop, length, Option, Some, None, codes}
 use Rattle.std.specs.List.{list_all}
 use Rattle.std.specs.Char.{is_ascii_digit}
+use Rattle.base.specs.Ascii.{left_brace, right_brace}
 use Rattle.definitions.specs.declared.element.Sort.TheVariants as sorts
 use Rattle.definitions.specs.declared.type_field.Reference.{Reference}
 use Rattle.definitions.specs.declared.type_field.Reference.TheVariants as references
@@ -12,7 +13,8 @@ use Rattle.definitions.specs.declared.type_field.Usage.TheVariants as usages
 use Rattle.definitions.specs.declared.type_field.TypeField.{TypeField}
 use Rattle.definitions.specs.declared.type_field.TypeField.TheVariants as fields
 use Rattle.definitions.specs.Naming.{is_oid}
-use Rattle.definitions.specs.Words.{◌>>>◌, Cut, begins_with, end_of, word_at, plain_or_quoted_at}
+use Rattle.base.specs.Ends.{begins_with}
+use Rattle.definitions.specs.Words.{◌>>>◌, Cut, end_of, word_at, plain_or_quoted_at}
 use Rattle.definitions.specs.Elements as elements
 use Rattle.definitions.specs.Elements.{is_word, element_field}
 
@@ -46,11 +48,11 @@ usage_of word =
 
 -- an OID without its length, `{64}`
 abbrev pub is_brace : ℕ → Bool
-is_brace b = b == 123
+is_brace b = b == left_brace
 
 -- digits, and a brace that closes
 abbrev pub is_closed : List ℕ → Bool
-is_closed text = nat_lt 1 (length text) && list_all is_ascii_digit (take (length text - 1) text) && begins_with 125 (drop (length text - 1) text)
+is_closed text = nat_lt 1 (length text) && list_all is_ascii_digit (take (length text - 1) text) && begins_with right_brace (drop (length text - 1) text)
 
 abbrev pub is_length : List ℕ → Bool
 is_length [] = true

@@ -1,5 +1,7 @@
 -- Words, signs and quoted texts of a definition (RFC 4512, 4.1).
 use Rattle.std.specs.Prelude.{ℕ, ◌+◌, Bool, false, not, ◌||◌, ◌==◌, nat_lt, if◌then◌else◌, List, [], ◌∷◌, take, drop, length, position, unwrap_or, Option, Some, None}
+use Rattle.base.specs.Ascii.{tab, space, dollar_sign, apostrophe, left_parenthesis, right_parenthesis}
+use Rattle.base.specs.Ends.{begins_with}
 
 infixl 10 ◌>>>◌
 abbrev pub ◌>>>◌ : {A B : Type 0} → Option A → (A → Option B) → Option B
@@ -10,12 +12,8 @@ None >>> f = None
 abbrev pub Cut : Type 0
 Cut = List ℕ × List ℕ
 
-abbrev pub begins_with : ℕ → List ℕ → Bool
-begins_with byte [] = false
-begins_with byte (b ∷ bs) = b == byte
-
 abbrev pub is_blank : ℕ → Bool
-is_blank b = b == 32 || b == 9
+is_blank b = b == space || b == tab
 
 abbrev pub is_no_blank : ℕ → Bool
 is_no_blank b = not (is_blank b)
@@ -37,7 +35,7 @@ after_word line = drop (end_of is_blank line) line
 
 -- space, tab, `'`, `(`, `)` and `$`
 abbrev pub ends_word : ℕ → Bool
-ends_word b = is_blank b || b == 39 || b == 40 || b == 41 || b == 36
+ends_word b = is_blank b || b == apostrophe || b == left_parenthesis || b == right_parenthesis || b == dollar_sign
 
 abbrev pub cut_word : ℕ → List ℕ → Option Cut
 cut_word n text = if n == 0 then None else Some (take n text, drop n text)
@@ -51,15 +49,15 @@ unfoldable pub sign_at : ℕ → List ℕ → Option (List ℕ)
 sign_at sign text = if begins_with sign (skip text) then Some (drop 1 (skip text)) else None
 
 abbrev pub is_quote : ℕ → Bool
-is_quote b = b == 39
+is_quote b = b == apostrophe
 
 abbrev pub cut_quoted : ℕ → List ℕ → Option Cut
 cut_quoted n text = if nat_lt n (length text) then Some (take n text, drop (n + 1) text) else None
 
 -- a text between two quotes, and what follows it
 unfoldable pub quoted_at : List ℕ → Option Cut
-quoted_at text = sign_at 39 text >>> λ inside. cut_quoted (end_of is_quote inside) inside
+quoted_at text = sign_at apostrophe text >>> λ inside. cut_quoted (end_of is_quote inside) inside
 
 -- a word, or a text in quotes
 unfoldable pub plain_or_quoted_at : List ℕ → Option Cut
-plain_or_quoted_at text = if begins_with 39 (skip text) then quoted_at text else word_at text
+plain_or_quoted_at text = if begins_with apostrophe (skip text) then quoted_at text else word_at text

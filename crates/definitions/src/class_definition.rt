@@ -10,7 +10,7 @@ use crate::element::{Element, ElementField, Sort, element_field, ends_there, hea
 use crate::fault::DefinitionFault;
 use crate::texts::names_at;
 use crate::words::word_at;
-use lists::{Bytes, Sequence};
+use base::{Bytes, Sequence};
 use std::alloc::{AllocError, Global};
 
 /// A field that names classes or types.

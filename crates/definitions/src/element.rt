@@ -12,7 +12,7 @@ use crate::fault::DefinitionFault;
 use crate::naming::{is_name, is_oid, is_type_name};
 use crate::texts::quoted_texts_at;
 use crate::words::{quoted_at, sign_at, skip, word_at};
-use lists::{Bytes, Sequence};
+use base::{Bytes, Sequence};
 use std::alloc::{AllocError, Global};
 
 /// What a definition defines.

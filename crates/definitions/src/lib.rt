@@ -1,4 +1,6 @@
 //! Definitions of attribute types and object classes as text (RFC 4512, 4.1).
+//!
+//! The functions of `laws` do nothing: a call of one is made for what it states alone.
 #![tactic(auto)]
 
 mod class_definition;
@@ -19,4 +21,4 @@ pub use laws::defined_types_have_names;
 pub use lines::{Line, lines_of};
 pub use type_definition::{TypeDefinition, read_type_definition};
 pub use type_field::{Flag, Reference, Usage};
-pub use words::{begins_with, skip, split_first_word};
+pub use words::{skip, split_first_word};

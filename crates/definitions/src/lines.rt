@@ -3,10 +3,10 @@
 ghost use Rattle.std.specs.Prelude.{◌≡◌, ◌≢◌, [], IfOk, OnOk, map, drop, if◌then◌else◌};
 ghost use Rattle.std.specs.List.{slice_split};
 ghost use Rattle.std.specs.Str.Lines.{strip_carriage_return};
-ghost use Rattle.definitions.specs.Lines.{is_line_feed, begins_blank, goes_on_with, last_goes_on, lines_of, numbered, unfolded, with_line};
+ghost use Rattle.definitions.specs.Lines.{is_line_feed, begins_blank, goes_on_with, lines_of, numbered, unfolded};
+ghost use Rattle.definitions.specs.inner.Lines.{last_goes_on, with_line};
 
-use crate::words::begins_with;
-use lists::Bytes;
+use base::{Bytes, begins_with};
 use std::alloc::{AllocError, Global};
 
 /// A line with those that it goes on on.

@@ -8,7 +8,7 @@ ghost use Rattle.definitions.specs.Gives.{Gives};
 
 use crate::fault::DefinitionFault;
 use crate::words::{plain_or_quoted_at, quoted_at, sign_at, word_at};
-use lists::{Bytes, Sequence};
+use base::{Bytes, Sequence};
 use std::alloc::{AllocError, Global};
 
 // texts in quotes up to `)`, and what follows it

@@ -10,7 +10,7 @@ ghost use Rattle.definitions.specs.TypeDefinitions.{with_flag, with_reference, w
 use crate::element::{Element, ends_there, head_at, raise};
 use crate::fault::DefinitionFault;
 use crate::type_field::{Flag, Reference, TypeField, Usage, field_at};
-use lists::Bytes;
+use base::Bytes;
 use std::alloc::{AllocError, Global};
 
 /// What a definition says of an attribute type. Names of types, rules and syntaxes are as written.

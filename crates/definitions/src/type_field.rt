@@ -13,7 +13,7 @@ use crate::element::{ElementField, Sort, element_field};
 use crate::fault::DefinitionFault;
 use crate::naming::is_oid;
 use crate::words::{plain_or_quoted_at, word_at};
-use lists::Bytes;
+use base::Bytes;
 use std::alloc::Global;
 
 /// A field that names a type, a rule or a syntax.

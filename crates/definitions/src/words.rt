@@ -2,17 +2,9 @@
 
 ghost use Rattle.std.specs.Prelude.{◌≡◌, ◌<◌, IfSome, length, position};
 ghost use Rattle.std.specs.Option.{option_map};
-ghost use Rattle.definitions.specs.Words.{begins_with, is_blank, is_no_blank, end_of, skip, first_word, after_word, ends_word, word_at, sign_at, is_quote, cut_quoted, quoted_at, plain_or_quoted_at};
+ghost use Rattle.definitions.specs.Words.{is_blank, is_no_blank, end_of, skip, first_word, after_word, ends_word, word_at, sign_at, is_quote, cut_quoted, quoted_at, plain_or_quoted_at};
 
-/// Whether a text begins with a byte.
-pub fn begins_with(text: &[u8], byte: u8) -> bool
-    ensures { result ≡ begins_with byte text.now }
-{
-    match text {
-        [] => false,
-        [first, ..] => *first == byte,
-    }
-}
+use base::begins_with;
 
 fn is_blank(b: u8) -> bool
     ensures { result ≡ is_blank b }

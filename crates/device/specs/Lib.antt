@@ -1,4 +1,4 @@
 pub mod Device
-pub mod Count
 pub mod Memory
 pub mod Adapters
+pub mod inner

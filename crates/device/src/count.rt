@@ -21,7 +21,7 @@ pub struct Count {
 
 impl Model for Count {
     ghost use Rattle.std.specs.Prelude.{ℕ};
-    ghost use Rattle.device.specs.Count.{number_of};
+    ghost use Rattle.device.specs.inner.Count.{number_of};
 
     ghost Value = { ℕ };
 

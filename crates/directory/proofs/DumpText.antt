@@ -11,7 +11,7 @@ use Rattle.tree.specs.Directories.{Entries, IsDirectory}
 use Rattle.tree.specs.StoredEntries.{Entry, IsMade, content_of}
 use Rattle.tree.specs.Trees.{seen_entries}
 use Rattle.directory.specs.Runs.{record_of, dump}
-use Rattle.directory.specs.Dumps.{IsThere, entries_text}
+use Rattle.directory.specs.inner.Dumps.{IsThere, entries_text}
 use Rattle.directory.proofs.LoadLaw.{all_there, flat_map-map}
 
 all_begin : (es : List (Path × EntryContent)) → filter (λ e. begins [] e.0) es ≡ es

@@ -12,7 +12,7 @@ use Rattle.paths.specs.Paths.{Path}
 use Rattle.schema.specs.Conf.{Conf}
 use Rattle.tree.specs.Directories.{Entries, name_of_entry}
 use Rattle.tree.specs.StoredEntries.{Entry, EntryAttribute, attributes_of, raws}
-use Rattle.directory.specs.Dumps.{attr_of, values_text, attributes_text, entry_text}
+use Rattle.directory.specs.inner.Dumps.{attr_of, values_text, attributes_text, entry_text}
 
 of_values : (name : List ℕ) (vs : List Value) → flat_map written_attr (map (λ (v : List ℕ). record { name = name; value = v }) (raws vs)) ≡ values_text name vs
 of_values name [] = refl

@@ -23,7 +23,7 @@ use Rattle.matching.specs.declared.family.Family.TheVariants as families
 use Rattle.matching.specs.declared.syntax.Syntax.TheVariants as syntaxes
 use Rattle.values.specs.declared.types.AttributeType.{AttributeType}
 use Rattle.schema.specs.Configurations.{object_class}
-use Rattle.schema.specs.Each as each_part
+use Rattle.base.specs.Answers.{each}
 use Rattle.schema.specs.Names.{part_of, name_of_text, text_of_name}
 use Rattle.paths.specs.Paths.{Path, path_cmp}
 use Rattle.schema.specs.Rdns.{put_pair, rdn_key_of}
@@ -43,12 +43,12 @@ use Rattle.directory.specs.declared.reason.Reason.TheVariants as reasons
 
 -- what a text is read by
 unfoldable on_texts : ⊤
-unfolding continuation joined joined_block body_of body_of_block with_first records_from form_of value_of value_line reading.each reading.content_line reading.body reading.entry reading.after_version reading.first_of_text readings after_records step outcome
+unfolding continuation joined joined_block body_of body_of_block with_first records_from form_of value_of value_line each reading.content_line reading.body reading.entry reading.after_version reading.first_of_text readings after_records step outcome
 on_texts = tt
 
 -- what a name and attribute lines come to
 unfoldable on_entries : ⊤
-unfolding is_utf8 chars encode each_part.each part_of name_of_text put_pair rdn_key_of below located type_of norm is_valid add push_value add_lines with_rdn
+unfolding is_utf8 chars encode each part_of name_of_text put_pair rdn_key_of below located type_of norm is_valid add push_value add_lines with_rdn
 on_entries = tt
 
 -- what an entry is written by

@@ -8,8 +8,9 @@ use Rattle.ldif.specs.Reading.{reading}
 use Rattle.schema.specs.Conf.{Conf}
 use Rattle.tree.specs.Directories.{Entries}
 use Rattle.directory.specs.Runs.{State, counted, outcome, after_records, loading, Loads}
-use Rattle.directory.specs.Steps.{ends}
-use Rattle.directory.specs.Loading.{is_refused, IsLoaded, Explains, loaded_after, IsUnderWay, LoadsAll, RefusesNext, LoadsUpTo, StopsAt}
+use Rattle.directory.specs.inner.Steps.{ends}
+use Rattle.directory.specs.Loading.{loaded_after, StopsAt}
+use Rattle.directory.specs.inner.Loading.{is_refused, IsLoaded, Explains, IsUnderWay, LoadsAll, RefusesNext, LoadsUpTo}
 use Rattle.directory.specs.Folds.{LoadsOver, RefusesOver, StopsOver}
 use Rattle.directory.specs.declared.loading.LoadFault.{LoadFault}
 use Rattle.directory.specs.declared.loading.LoadFault.TheVariants as faults

@@ -17,8 +17,9 @@ use Rattle.schema.specs.Conf.{Conf}
 use Rattle.tree.specs.Directories.{Entries}
 use Rattle.directory.specs.Runs.{State, start, outcome, counted, take_up, step, after_records}
 use Rattle.directory.specs.Reports.{report, report_line}
-use Rattle.directory.specs.Steps.{counts_after, reported, ends, IsTaken, IsBrokenOff}
-use Rattle.directory.specs.Stands.{read_as, state_after, IsReached, Stands, Ran, BrokeOff}
+use Rattle.directory.specs.inner.Steps.{counts_after, reported, ends, IsTaken, IsBrokenOff}
+use Rattle.directory.specs.Stands.{read_as, state_after}
+use Rattle.directory.specs.inner.Stands.{IsReached, Stands, Ran, BrokeOff}
 use Rattle.directory.specs.Faults.{Failures, AllButLast}
 use Rattle.directory.specs.declared.reason.Reason.{Reason}
 use Rattle.directory.specs.declared.reason.Outcome.{Outcome}

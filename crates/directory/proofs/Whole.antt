@@ -14,7 +14,8 @@ use Rattle.ldif.specs.Contents.{readings}
 use Rattle.schema.specs.Conf.{Conf}
 use Rattle.tree.specs.Directories.{Entries}
 use Rattle.directory.specs.Runs.{State, start, take_up, outcome, step, after, after_records}
-use Rattle.directory.specs.Stands.{read_as, state_after, Ran, BrokeOff}
+use Rattle.directory.specs.Stands.{read_as, state_after}
+use Rattle.directory.specs.inner.Stands.{Ran, BrokeOff}
 use Rattle.directory.specs.Faults.{Went, BrokenOff}
 use Rattle.directory.specs.Folds.{AreRecords, RanOver, BrokeOver}
 use Rattle.directory.specs.Reports.{report}

@@ -1,8 +1,8 @@
 pub mod Reports
 pub mod Runs
 pub mod Faults
-pub mod Steps
 pub mod Stands
 pub mod Dumps
 pub mod Loading
 pub mod Folds
+pub mod inner

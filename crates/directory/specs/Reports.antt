@@ -2,6 +2,7 @@
 use Rattle.std.specs.Prelude.{ℕ, List, [], ◌∷◌, ◌++◌, codes}
 use Rattle.std.specs.List.{flat_map}
 use Rattle.std.specs.Fmt.{decimal}
+use Rattle.base.specs.Ascii.{line_feed}
 use Rattle.ldif.specs.Faults.{fault_report}
 use Rattle.schema.specs.Codes.{code_report}
 use Rattle.directory.specs.declared.reason.Reason.{Reason}
@@ -14,7 +15,7 @@ reason_report (reasons.Fault f) = fault_report f
 
 -- `line N: 32 noSuchObject` or `line N: L4 base64` in kind, and a line feed
 unfoldable pub report_line : ℕ × Reason → List ℕ
-report_line r = codes "line " ++ (decimal r.0 ++ (codes ": " ++ (reason_report r.1 ++ 10 ∷ [])))
+report_line r = codes "line " ++ (decimal r.0 ++ (codes ": " ++ (reason_report r.1 ++ line_feed ∷ [])))
 
 abbrev pub report : List (ℕ × Reason) → List ℕ
 report refused = flat_map report_line refused

@@ -1,8 +1,6 @@
 -- Where a run stands between two records, and where it ends.
-use Rattle.std.specs.Prelude.{◌≡◌, ℕ, ◌⊎◌, Bool, true, false, List, length, map, Option, Result}
-use Rattle.device.specs.Device.{Written, Took}
+use Rattle.std.specs.Prelude.{ℕ, Bool, List, map, Result}
 use Rattle.ldif_lines.specs.Records.{RawRecord}
-use Rattle.ldif_lines.specs.Reader.{Takes, IsEnd}
 use Rattle.ldif.specs.declared.fault.LdifFaultKind.{LdifFaultKind}
 use Rattle.ldif.specs.declared.record.Record.{Record}
 use Rattle.ldif.specs.declared.record.Mode.{Mode}
@@ -10,10 +8,6 @@ use Rattle.ldif.specs.Reading.{reading}
 use Rattle.schema.specs.Conf.{Conf}
 use Rattle.tree.specs.Directories.{Entries}
 use Rattle.directory.specs.Runs.{State, after_records}
-use Rattle.directory.specs.Reports.{report}
-use Rattle.directory.specs.Faults.{WrittenAt, tally_of}
-use Rattle.directory.specs.declared.runs.Tally.{Tally}
-use Rattle.directory.specs.declared.runs.RunFault.{RunFault}
 
 -- a record's line, and what it reads as
 abbrev pub read_as : Mode → RawRecord → ℕ × Result Record LdifFaultKind
@@ -21,31 +15,3 @@ read_as mode r = (r.line, reading mode r.first r.lines)
 
 abbrev pub state_after : Conf → Mode → Bool → Entries → List RawRecord → State
 state_after conf mode go_on old front = after_records conf mode go_on old (map (read_as mode) front)
-
--- these records were carried out, and the entries and the counts are those that they leave
-pub record IsReached (conf : Conf) (mode : Mode) (go_on : Bool) (old now : Entries) (all left : Option (List RawRecord)) (t : Tally) (front : List RawRecord) : Type 0 where
-  pub parts : Takes all left front
-  pub entries : now ≡ (state_after conf mode go_on old front).entries
-  pub accepted : t.accepted ≡ (state_after conf mode go_on old front).accepted
-  pub refused : t.refused ≡ length (state_after conf mode go_on old front).refused
-
-pub record Stands (conf : Conf) (mode : Mode) (go_on : Bool) (old now : Entries) (all left : Option (List RawRecord)) (t : Tally) (a b : Written) : Type 0 where
-  pub front : List RawRecord
-  pub reached : IsReached conf mode go_on old now all left t front
-  pub going : (state_after conf mode go_on old front).ended ≡ false
-  pub written : Took a b (report (state_after conf mode go_on old front).refused)
-
--- all records were carried out, or those up to the one that ended the run
-pub record Ran (conf : Conf) (mode : Mode) (go_on : Bool) (old now : Entries) (all : Option (List RawRecord)) (t : Tally) (a b : Written) : Type 0 where
-  pub front : List RawRecord
-  pub left : Option (List RawRecord)
-  pub reached : IsReached conf mode go_on old now all left t front
-  pub over : IsEnd left ⊎ ((state_after conf mode go_on old front).ended ≡ true)
-  pub written : Took a b (report (state_after conf mode go_on old front).refused)
-
--- some were, and then something failed
-pub record BrokeOff (conf : Conf) (mode : Mode) (go_on : Bool) (old now : Entries) (all : Option (List RawRecord)) (f : RunFault) (a b : Written) : Type 0 where
-  pub front : List RawRecord
-  pub left : Option (List RawRecord)
-  pub reached : IsReached conf mode go_on old now all left (tally_of f) front
-  pub written : WrittenAt f (state_after conf mode go_on old front).refused a b

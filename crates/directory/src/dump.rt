@@ -6,7 +6,8 @@ ghost use Rattle.std.specs.List.{AllByRecursion};
 ghost use Rattle.ldif.specs.Writing.{written_line};
 ghost use Rattle.tree.specs.StoredEntries.{content_of, IsMade, IsMadeAttribute};
 ghost use Rattle.directory.specs.Runs.{dump};
-ghost use Rattle.directory.specs.Dumps.{Writes, WritesOn, values_text, attributes_text, entry_text};
+ghost use Rattle.directory.specs.Dumps.{Writes};
+ghost use Rattle.directory.specs.inner.Dumps.{WritesOn, values_text, attributes_text, entry_text};
 
 use crate::directory::Directory;
 use device::{Device, Sink, push_all};

@@ -1,4 +1,6 @@
 //! A directory: records carried out in turn, the dump, and loading it.
+//!
+//! The functions of `laws` do nothing: a call of one is made for what it states alone.
 #![tactic(auto)]
 
 mod applying;

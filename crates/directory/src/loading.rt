@@ -6,7 +6,8 @@ ghost use Rattle.ldif.specs.Reading.{reading};
 ghost use Rattle.ldif_lines.specs.Reader.{source_of, is_failed, records_left};
 ghost use Rattle.ldif_lines.specs.View.{texts};
 ghost use Rattle.directory.specs.Runs.{outcome, Loads};
-ghost use Rattle.directory.specs.Loading.{IsLoaded, Explains, LoadsAll, LoadsUpTo, StopsAt, PullFailures};
+ghost use Rattle.directory.specs.Loading.{StopsAt, PullFailures};
+ghost use Rattle.directory.specs.inner.Loading.{IsLoaded, Explains, LoadsAll, LoadsUpTo};
 ghost use Rattle.directory.specs.Folds.{LoadsOver, StopsOver};
 
 use crate::applying::carry_out;

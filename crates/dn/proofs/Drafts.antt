@@ -8,7 +8,7 @@ use Rattle.dn.specs.declared.value.State.{State}
 use Rattle.dn.specs.declared.value.State.TheVariants.{Plain, Backslash, HalfPair}
 use Rattle.dn.specs.Spelling.{may_stand, may_follow, is_hex, is_raw_space, byte_of}
 use Rattle.dn.specs.Reading.{with_octet, octets_from, step, keep, trimmed, value_from}
-use Rattle.dn.specs.Drafts.{draft_after}
+use Rattle.dn.specs.inner.Drafts.{draft_after}
 
 -- what a draft is with these octets behind it
 ended : List ℕ → ℕ → List Octet → List ℕ

@@ -5,7 +5,7 @@ use Rattle.std.proofs.lemmas.Slice.{take-put_mid}
 use Rattle.std.proofs.Math.Seq.{set-append_seam, take-append_seam}
 use borrow.Rule.Slice.PartMut.{put_mid}
 use Rattle.dn.specs.Spelling.{spaces}
-use Rattle.dn.specs.Texts.{Starts, EndsAt}
+use Rattle.dn.specs.inner.Texts.{Starts, EndsAt}
 
 one_more : (ty rest : List ℕ) → take (length ty + 1) (ty ++ 61 ∷ rest) ≡ ty ++ 61 ∷ []
 one_more ty rest =

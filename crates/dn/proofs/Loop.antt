@@ -2,65 +2,36 @@
 use Rattle.std.proofs.lemmas.List.{length_push, append-nil}
 use Rattle.std.proofs.lemmas.Bool.Decides.{nat_tests}
 use Rattle.dn.specs.Names.{Ava, Rdn, Name, is_ava, is_rdn}
-use Rattle.std.proofs.Common.{◌≡◌, ℕ, ◌+◌, ◌<◌, ◌≤◌, arith, false, cond, not, eqb, length, Bool, true, List, [], ◌∷◌, ◌++◌, ◌&&◌, Option, Some, None, Result, Ok, Err, refl, sym, ap, ◌∙◌, append_assoc}
+use Rattle.std.proofs.Common.{◌≡◌, ℕ, ◌+◌, ◌<◌, ◌≤◌, arith, false, cond, not, eqb, length, Bool, true, List, [], ◌∷◌, ◌++◌, ◌&&◌, Option, Some, None, Result, Ok, Err, refl, sym, ap, ◌∙◌}
 use Rattle.std.specs.List.{list_all}
 use Rattle.std.proofs.lemmas.List.Folds.{list_all-append}
 use Rattle.dn.specs.declared.faults.NameFaultKind.{NameFaultKind}
-use Rattle.dn.specs.declared.faults.NameFault.{NameFault}
-use Rattle.dn.specs.declared.faults.NameFault.TheVariants as errors
-use Rattle.dn.specs.Gives.{Fails}
-use Rattle.dn.specs.Reading.{◌>>=◌}
-use Rattle.dn.specs.Cuts.{piece, behind, first_by, first_part, first_rdn, parts_behind, parts_from, after_first, begins_with_plus}
-use Rattle.dn.proofs.Parts.{same_ok}
+use Rattle.base.proofs.Each.{passed_on, with_front, nothing_front, more, onto, onto_more, onto_one}
+use Rattle.base.specs.Ascii.{plus_sign}
+use Rattle.base.specs.Ends.{begins_with}
+use Rattle.base.specs.Answers.{◌>>=◌, Fails}
+use Rattle.dn.specs.inner.Cuts.{piece, behind, first_by, first_part, first_rdn, parts_behind, parts_from, after_first}
+use Rattle.base.proofs.Bound.{same_ok}
 use Rattle.dn.proofs.Pieces.{shorter}
 use Rattle.dn.proofs.Firsts.{before}
 use Rattle.dn.proofs.Steps.{Found, with_part, rdn_first, names, names_in, names_behind, names_from, name_first}
 
-pub with_front : {Y : Type 0} → List Y → Result (List Y) NameFaultKind → Result (List Y) NameFaultKind
-with_front front (Ok ys) = Ok (front ++ ys)
-with_front front (Err e) = Err e
-
-nothing_front : {Y : Type 0} (r : Result (List Y) NameFaultKind) → with_front [] r ≡ r
-unfolding with_front
-nothing_front (Ok ys) = refl
-nothing_front (Err e) = refl
-
 abbrev ok : {Y : Type 0} → List Y → Result (List Y) NameFaultKind
 ok ys = Ok ys
 
-pub more : {Y : Type 0} (front : List Y) (y : Y) (r : Result (List Y) NameFaultKind) → with_front (front ++ y ∷ []) r ≡ with_front front (r >>= λ ys. Ok (y ∷ ys))
-unfolding with_front
-more front y (Ok ys) = ap ok (append_assoc front (y ∷ []) ys)
-more front y (Err e) = refl
-
 -- ---- an RDN
-
-pub onto : Rdn → Found → Found
-onto front (Ok t) = Ok (front ++ t.0, t.1)
-onto front (Err e) = Err e
 
 abbrev found : Rdn → List ℕ → Found
 found ps rest = Ok (ps, rest)
 
-more_parts : (front : Rdn) (p : Ava) (r : Found) → onto (front ++ p ∷ []) r ≡ onto front (with_part p r)
-unfolding onto
-more_parts front p (Ok t) = ap (λ (ps : Rdn). found ps t.1) (append_assoc front (p ∷ []) t.0)
-more_parts front p (Err e) = refl
-
-one_part : (p : Ava) (r : Found) → onto (p ∷ []) r ≡ with_part p r
-unfolding onto
-one_part p (Ok t) = refl
-one_part p (Err e) = refl
-
 pub parts_begin : (p : Ava) (rest : List ℕ) (new : Rdn) → new ≡ p ∷ [] → onto new (parts_behind rest) ≡ parts_from (p, rest)
-parts_begin p rest new is = ap (λ (ps : Rdn). onto ps (parts_behind rest)) is ∙ one_part p (parts_behind rest)
+parts_begin p rest new is = ap (λ (ps : Rdn). onto ps (parts_behind rest)) is ∙ onto_one p (parts_behind rest)
 
 pub first_read : (text : List ℕ) (p : Ava) (rest : List ℕ) → first_part text ≡ before rest p → first_rdn text ≡ parts_from (p, rest)
 first_read text p rest h = rdn_first text ∙ ap (λ (r : Result (Ava × List ℕ) NameFaultKind). r >>= parts_from) h
 
-pub parts_fail : (text : List ℕ) (e : NameFault) → Fails e (first_part text) → Fails e (first_rdn text)
-parts_fail text errors.OutOfMemory h = tt
-parts_fail text (errors.Fault fault) h = rdn_first text ∙ ap (λ (r : Result (Ava × List ℕ) NameFaultKind). r >>= parts_from) h
+pub parts_fail : (text : List ℕ) (e : Option NameFaultKind) → Fails e (first_part text) → Fails e (first_rdn text)
+parts_fail text e = passed_on e (first_part text) (first_rdn text) λ fault h. rdn_first text ∙ ap (λ (r : Result (Ava × List ℕ) NameFaultKind). r >>= parts_from) h
 
 module _ (front : Rdn) (rest : List ℕ) (total : Found) (so_far : onto front (parts_behind rest) ≡ total) where
   module _ (more_text : List ℕ) (is : rest ≡ 43 ∷ more_text) where
@@ -70,13 +41,12 @@ module _ (front : Rdn) (rest : List ℕ) (total : Found) (so_far : onto front (p
 
     pub parts_go_on : (p : Ava) (new_rest : List ℕ) (new : Rdn) → first_part more_text ≡ before new_rest p → new ≡ front ++ p ∷ [] → onto new (parts_behind new_rest) ≡ total
     parts_go_on p new_rest new h new_is =
-        ap (λ (ps : Rdn). onto ps (parts_behind new_rest)) new_is ∙ more_parts front p (parts_behind new_rest)
+        ap (λ (ps : Rdn). onto ps (parts_behind new_rest)) new_is ∙ onto_more front p (parts_behind new_rest)
         ∙ sym (ap (onto front) (rdn_first more_text ∙ ap (λ (r : Result (Ava × List ℕ) NameFaultKind). r >>= parts_from) h)) ∙ at_plus
 
-    pub parts_end_at : (e : NameFault) → Fails e (first_part more_text) → Fails e total
+    pub parts_end_at : (e : Option NameFaultKind) → Fails e (first_part more_text) → Fails e total
     unfolding onto
-    parts_end_at errors.OutOfMemory h = tt
-    parts_end_at (errors.Fault fault) h = sym at_plus ∙ ap (onto front) (parts_fail more_text (errors.Fault fault) h)
+    parts_end_at e = passed_on e (first_part more_text) total λ fault h. sym at_plus ∙ ap (onto front) (parts_fail more_text (Some fault) h)
 
   pub parts_done : (parts_behind rest ≡ Ok ([], rest)) → total ≡ found front rest
   unfolding onto
@@ -100,10 +70,9 @@ module _ (front : Name) (text : List ℕ) (total : Result Name NameFaultKind) (s
       ∙ more front r (names_behind rest)
       ∙ sym (ap (λ (s : Found). with_front front (s >>= names_from)) h) ∙ at_text
 
-  pub names_end_at : (e : NameFault) → Fails e (first_rdn text) → Fails e total
+  pub names_end_at : (e : Option NameFaultKind) → Fails e (first_rdn text) → Fails e total
   unfolding with_front
-  names_end_at errors.OutOfMemory h = tt
-  names_end_at (errors.Fault fault) h = sym at_text ∙ ap (λ (s : Found). with_front front (s >>= names_from)) h
+  names_end_at e = passed_on e (first_rdn text) total λ fault h. sym at_text ∙ ap (λ (s : Found). with_front front (s >>= names_from)) h
 
 pub names_done : (front : Name) (left : Option (List ℕ)) (total : Result Name NameFaultKind) → with_front front (names_in left) ≡ total → left ≡ None → total ≡ Ok front
 unfolding with_front names_in
@@ -148,18 +117,18 @@ less_is_left_behind ends read text x rest left old h left_is old_is =
     let le = ap length (left_is_end (read (piece ends false text)) x rest (behind ends false text) h) in
     omega (arith, le, shorter ends false text, ap size left_is, ap size old_is, size_behind rest)
 
-pub no_plus : (text : List ℕ) → begins_with_plus text ≡ false → parts_behind text ≡ Ok ([], text)
+pub no_plus : (text : List ℕ) → begins_with plus_sign text ≡ false → parts_behind text ≡ Ok ([], text)
 unfolding parts_behind
 no_plus [] h = refl
 no_plus (b ∷ bs) h = ap (λ (t : Bool). cond t (first_rdn bs) (found [] (b ∷ bs))) h
 
-pub one_only : (p : Ava) (rest : List ℕ) → begins_with_plus rest ≡ false → parts_from (p, rest) ≡ before rest (p ∷ [])
+pub one_only : (p : Ava) (rest : List ℕ) → begins_with plus_sign rest ≡ false → parts_from (p, rest) ≡ before rest (p ∷ [])
 one_only p rest plain = ap (with_part p) (no_plus rest plain)
 
-pub one_plain : (text : List ℕ) (p : Ava) (rest : List ℕ) → first_part text ≡ before rest p → begins_with_plus rest ≡ false → first_rdn text ≡ before rest (p ∷ [])
+pub one_plain : (text : List ℕ) (p : Ava) (rest : List ℕ) → first_part text ≡ before rest p → begins_with plus_sign rest ≡ false → first_rdn text ≡ before rest (p ∷ [])
 one_plain text p rest h plain = rdn_first text ∙ ap (λ (r : Result (Ava × List ℕ) NameFaultKind). r >>= parts_from) h ∙ ap (with_part p) (no_plus rest plain)
 
-pub two_plain : (text : List ℕ) (p : Ava) (rest more : List ℕ) (q : Ava) (end : List ℕ) → first_part text ≡ before rest p → rest ≡ 43 ∷ more → first_part more ≡ before end q → begins_with_plus end ≡ false → first_rdn text ≡ before end (p ∷ q ∷ [])
+pub two_plain : (text : List ℕ) (p : Ava) (rest more : List ℕ) (q : Ava) (end : List ℕ) → first_part text ≡ before rest p → rest ≡ 43 ∷ more → first_part more ≡ before end q → begins_with plus_sign end ≡ false → first_rdn text ≡ before end (p ∷ q ∷ [])
 unfolding parts_behind
 two_plain text p rest more q end h is g plain =
     first_read text p rest h ∙ ap (λ (x : List ℕ). parts_from (p, x)) is ∙ ap (with_part p) (one_plain more q end g plain)

@@ -6,12 +6,15 @@ use Rattle.dn.specs.declared.faults.NameFaultKind.{NameFaultKind}
 use Rattle.dn.specs.declared.faults.NameFault.{NameFault}
 use Rattle.dn.specs.Names.{Ava, Rdn, Name, is_type}
 use Rattle.dn.specs.Spelling.{spaces, SpellsPart, AreJoined, SpellsRdn, Spells}
-use Rattle.dn.specs.Reading.{◌>>=◌, each, is_space, part_of, cut_raw, rdn_of, name_of}
+use Rattle.base.specs.Answers.{◌>>=◌, each}
+use Rattle.base.specs.Ends.{is_space}
+use Rattle.dn.specs.Reading.{part_of, cut_raw, rdn_of, name_of}
 use Rattle.dn.specs.Gives.{Gives}
 use Rattle.std.specs.Prelude.{IfOk}
 use Rattle.dn.proofs.Octets.{chosen}
 use Rattle.dn.proofs.Runs.{Stops, all_spaces, spaces_are}
-use Rattle.dn.proofs.Parts.{bind_ok, same_ok, part_sound, part_complete, type_first}
+use Rattle.base.proofs.Bound.{bind_ok, same_ok}
+use Rattle.dn.proofs.Parts.{part_sound, part_complete, type_first}
 use Rattle.dn.proofs.Wholes.{IsWhole, IsSome, cut_at, cut_none, cut_some, cut_joins, part_whole, rdn_whole}
 
 -- ---- what is read of each piece

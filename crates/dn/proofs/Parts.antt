@@ -1,5 +1,5 @@
 -- A part is read exactly where a text spells it.
-use Rattle.std.proofs.Common.{◌≡◌, ℕ, zero, suc, Bool, true, false, cond, not, ◌&&◌, eqb, List, [], ◌∷◌, ◌++◌, map, length, Result, Ok, Err, inl, inr, refl, sym, ap, subst, ◌∙◌, arith}
+use Rattle.std.proofs.Common.{◌≡◌, ℕ, drop, zero, suc, Bool, true, false, cond, not, ◌&&◌, eqb, List, [], ◌∷◌, ◌++◌, map, length, Result, Ok, Err, inl, inr, refl, sym, ap, subst, ◌∙◌, arith}
 use Rattle.std.specs.List.{list_all, prefix_len}
 use Rattle.std.proofs.lemmas.Bool.{and_parts, eqb-true, not-true}
 use Rattle.std.proofs.lemmas.Bool.Decides.{nat_tests}
@@ -10,16 +10,13 @@ use Rattle.dn.specs.declared.faults.NameFaultKind.TheVariants.{EqualsMissing, Ty
 use Rattle.dn.specs.declared.value.Octet.{Octet}
 use Rattle.dn.specs.Names.{Ava, is_type_byte, is_type}
 use Rattle.dn.specs.Spelling.{AreOctets, begins_well, ends_well, spaces, SpellsPart, byte_of}
-use Rattle.dn.specs.Reading.{◌>>=◌, is_space, skip, type_in, after_type, after_equals, octets_from, trimmed, value_of, part_at, part_of}
+use Rattle.base.proofs.Bound.{bind_ok, same_ok}
+use Rattle.base.proofs.Front.{front_is}
+use Rattle.base.specs.Answers.{◌>>=◌}
+use Rattle.base.specs.Ends.{is_space, without_front}
+use Rattle.dn.specs.Reading.{type_in, after_type, after_equals, octets_from, trimmed, value_of, part_at, part_of}
 use Rattle.dn.proofs.Octets.{chosen, value_sound, value_complete, body_begins}
 use Rattle.dn.proofs.Runs.{Stops, front_passes, run_front, run_rest, skipped, skip_stops, skip_spaces, all_spaces}
-
-pub bind_ok : {A B : Type 0} (r : Result A NameFaultKind) (f : A → Result B NameFaultKind) (y : B) → (r >>= f) ≡ Ok y → (x : A) × (r ≡ Ok x) × (f x ≡ Ok y)
-bind_ok (Ok x) f y e = (x, refl, e)
-bind_ok (Err d) f y e = absurd cc
-
-pub same_ok : {A : Type 0} (x y : A) → ◌≡◌ {A = Result A NameFaultKind} (Ok x) (Ok y) → x ≡ y
-same_ok x y e = cc
 
 abbrev ok_bytes : List ℕ → Result (List ℕ) NameFaultKind
 ok_bytes v = Ok v
@@ -42,14 +39,14 @@ equals_found ty (b ∷ bs) rest e = elim (chosen (eqb b 61) (cond (eqb (length t
 pub part_sound : (text : List ℕ) (p : Ava) → part_of text ≡ Ok p → SpellsPart text p
 unfolding part_of part_at
 part_sound text p e =
-    let t = skip text in
+    let t = without_front text in
     let ty = type_in t in
-    let rest = skip (after_type t) in
-    let a = bind_ok (after_equals ty rest) (λ rest. (value_of (skip rest) >>= λ value. Ok (ty, value))) p e in
-    let b = bind_ok (value_of (skip a.0)) (λ value. Ok (ty, value)) p a.2 in
+    let rest = without_front (after_type t) in
+    let a = bind_ok (after_equals ty rest) (λ rest. (value_of (without_front rest) >>= λ value. Ok (ty, value))) p e in
+    let b = bind_ok (value_of (without_front a.0)) (λ value. Ok (ty, value)) p a.2 in
     let p_is : (ty, b.0) ≡ p = same_ok (ty, b.0) p b.2 in
     let equals = equals_found ty rest a.0 a.1 in
-    let value = value_sound (skip a.0) b.0 (skip_stops a.0) b.1 in
+    let value = value_sound (without_front a.0) b.0 (skip_stops a.0) b.1 in
     let s1 = skipped text in
     let s2 = skipped (after_type t) in
     let s3 = skipped a.0 in
@@ -91,31 +88,31 @@ type_stops : (n : ℕ) (rest : List ℕ) → Stops is_type_byte (spaces n ++ 61 
 type_stops zero rest = refl
 type_stops (suc n) rest = refl
 
-skip_all : (n m : ℕ) → skip (spaces n ++ spaces m) ≡ []
-skip_all n m = ap skip (sym (append-nil (spaces n ++ spaces m))) ∙ run_rest is_space (spaces n ++ spaces m) [] (list_all-append is_space (spaces n) (spaces m) ∙ ap (λ (t : Bool). t && list_all is_space (spaces m)) (all_spaces n) ∙ all_spaces m) tt
+skip_all : (n m : ℕ) → without_front (spaces n ++ spaces m) ≡ []
+skip_all n m = front_is (spaces n ++ spaces m) ∙ ap (λ (x : List ℕ). drop (prefix_len is_space x) x) (sym (append-nil (spaces n ++ spaces m))) ∙ run_rest is_space (spaces n ++ spaces m) [] (list_all-append is_space (spaces n) (spaces m) ∙ ap (λ (t : Bool). t && list_all is_space (spaces m)) (all_spaces n) ∙ all_spaces m) tt
 
 nothing_read : value_of [] ≡ ok_bytes []
 unfolding value_of octets_from trimmed
 nothing_read = refl
 
-value_read : (after behind : ℕ) (octets : List Octet) (body v : List ℕ) → AreOctets octets body → begins_well octets ≡ true → ends_well octets ≡ true → v ≡ map byte_of octets → value_of (skip (spaces after ++ (body ++ spaces behind))) ≡ ok_bytes v
+value_read : (after behind : ℕ) (octets : List Octet) (body v : List ℕ) → AreOctets octets body → begins_well octets ≡ true → ends_well octets ≡ true → v ≡ map byte_of octets → value_of (without_front (spaces after ++ (body ++ spaces behind))) ≡ ok_bytes v
 value_read after behind [] body v are begins ends is =
-    ap (λ (x : List ℕ). value_of (skip (spaces after ++ (x ++ spaces behind)))) are
+    ap (λ (x : List ℕ). value_of (without_front (spaces after ++ (x ++ spaces behind)))) are
     ∙ ap value_of (skip_all after behind) ∙ nothing_read ∙ ap ok_bytes (sym is)
 value_read after behind (o ∷ os) body v are begins ends is =
     ap value_of (skip_spaces after (body ++ spaces behind) (body_begins o os body (spaces behind) are begins))
     ∙ value_complete (body ++ spaces behind) v (record { octets = o ∷ os; behind = behind; body = body; text_is = refl; body_is = are; begins = begins; ends = ends; value_is = is })
 
 abbrev Reads : List ℕ → Result (List ℕ) NameFaultKind → Result Ava NameFaultKind
-Reads ty r = r >>= λ rest. (value_of (skip rest) >>= λ value. Ok (ty, value))
+Reads ty r = r >>= λ rest. (value_of (without_front rest) >>= λ value. Ok (ty, value))
 
 part_at_type : (ty : List ℕ) (n : ℕ) (rest : List ℕ) → is_type ty ≡ true → part_at (ty ++ (spaces n ++ 61 ∷ rest)) ≡ Reads ty (Ok rest)
 unfolding part_at
 part_at_type ty n rest h =
     let behind = spaces n ++ 61 ∷ rest in
     let front : type_in (ty ++ behind) ≡ ty = run_front is_type_byte ty behind (type_bytes ty h) (type_stops n rest) in
-    let left : skip (after_type (ty ++ behind)) ≡ 61 ∷ rest = ap skip (run_rest is_type_byte ty behind (type_bytes ty h) (type_stops n rest)) ∙ skip_spaces n (61 ∷ rest) refl in
-    ap (λ (x : List ℕ). Reads x (after_equals x (skip (after_type (ty ++ behind))))) front
+    let left : without_front (after_type (ty ++ behind)) ≡ 61 ∷ rest = ap without_front (run_rest is_type_byte ty behind (type_bytes ty h) (type_stops n rest)) ∙ skip_spaces n (61 ∷ rest) refl in
+    ap (λ (x : List ℕ). Reads x (after_equals x (without_front (after_type (ty ++ behind))))) front
     ∙ ap (λ (x : List ℕ). Reads ty (after_equals ty x)) left
     ∙ ap (λ (t : Bool). Reads ty (cond t (Err TypeMissing) (Ok rest))) (type_some ty h)
 
@@ -124,7 +121,7 @@ unfolding part_of
 part_complete text p s =
     let rest = spaces s.after ++ (s.body ++ spaces s.behind) in
     let from = p.0 ++ (spaces s.between ++ 61 ∷ rest) in
-    ap (λ (x : List ℕ). part_at (skip x)) s.text_is
+    ap (λ (x : List ℕ). part_at (without_front x)) s.text_is
     ∙ ap part_at (skip_spaces s.before from (type_first p.0 (spaces s.between ++ 61 ∷ rest) s.type_is))
     ∙ part_at_type p.0 s.between rest s.type_is
     ∙ ap (λ (r : Result (List ℕ) NameFaultKind). r >>= λ value. Ok (p.0, value)) (value_read s.after s.behind s.octets s.body p.1 s.body_is s.begins s.ends s.value_is)

@@ -6,8 +6,9 @@ use Rattle.std.proofs.lemmas.Bool.Decides.{nat_tests}
 use Rattle.std.proofs.lemmas.List.{append-nil, take-append-drop, take_more, take_all, drop_more, drop_all}
 use Rattle.dn.specs.Names.{is_type_byte}
 use Rattle.dn.specs.Spelling.{may_stand}
-use Rattle.dn.specs.Reading.{is_space, escapes}
-use Rattle.dn.specs.Cuts.{piece, behind, is_separator}
+use Rattle.base.specs.Ends.{is_space}
+use Rattle.dn.specs.Reading.{escapes}
+use Rattle.dn.specs.inner.Cuts.{piece, behind, is_separator}
 use Rattle.dn.proofs.Runs.{Stops, front_passes, rest_stops, run_front, run_rest}
 
 -- ---- a piece and what stands behind it

@@ -5,7 +5,8 @@ use Rattle.std.proofs.lemmas.Bool.{and_parts, eqb-true}
 use Rattle.std.proofs.lemmas.List.{take-append-drop}
 use Rattle.std.proofs.Math.Seq.{drop-append_seam, take-append_seam}
 use Rattle.dn.specs.Spelling.{spaces}
-use Rattle.dn.specs.Reading.{is_space, skip}
+use Rattle.base.proofs.Front.{front_is}
+use Rattle.base.specs.Ends.{is_space, without_front}
 
 one : (n : ℕ) → 1 + n ≡ suc n
 one n = omega arith
@@ -61,13 +62,16 @@ spaces_are (x ∷ xs) h =
     ap (λ (b : ℕ). b ∷ xs) (eqb-true x 32 k.0) ∙ ap (λ (bs : List ℕ). 32 ∷ bs) (spaces_are xs k.1)
 
 -- a text is spaces and what is left of it
-pub skipped : (text : List ℕ) → (n : ℕ) × (text ≡ spaces n ++ skip text)
+pub skipped : (text : List ℕ) → (n : ℕ) × (text ≡ spaces n ++ without_front text)
 skipped text =
-    let front = take (prefix_len is_space text) text in
-    (length front, sym (take-append-drop (prefix_len is_space text) text) ∙ ap (λ (bs : List ℕ). bs ++ skip text) (spaces_are front (front_passes is_space text)))
+    let front = take (prefix_len is_space text) text in (
+      length front,
+      sym (take-append-drop (prefix_len is_space text) text) ∙ ap (λ (bs : List ℕ). bs ++ drop (prefix_len is_space text) text) (spaces_are front (front_passes is_space text))
+          ∙ ap (λ (bs : List ℕ). spaces (length front) ++ bs) (sym (front_is text)),
+    )
 
-pub skip_stops : (text : List ℕ) → Stops is_space (skip text)
-skip_stops text = rest_stops is_space text
+pub skip_stops : (text : List ℕ) → Stops is_space (without_front text)
+skip_stops text = subst (Stops is_space) (sym (front_is text)) (rest_stops is_space text)
 
-pub skip_spaces : (n : ℕ) (rest : List ℕ) → Stops is_space rest → skip (spaces n ++ rest) ≡ rest
-skip_spaces n rest h = run_rest is_space (spaces n) rest (all_spaces n) h
+pub skip_spaces : (n : ℕ) (rest : List ℕ) → Stops is_space rest → without_front (spaces n ++ rest) ≡ rest
+skip_spaces n rest h = front_is (spaces n ++ rest) ∙ run_rest is_space (spaces n) rest (all_spaces n) h

@@ -6,7 +6,8 @@ use Rattle.std.proofs.lemmas.Bool.Decides.{nat_tests}
 use Rattle.dn.specs.declared.value.Octet.{Octet}
 use Rattle.dn.specs.Names.{Ava, Rdn, is_type_byte, is_type}
 use Rattle.dn.specs.Spelling.{may_stand, is_hex, IsOctet, AreOctets, spaces, SpellsPart, AreJoined, SpellsRdn}
-use Rattle.dn.specs.Reading.{escapes, cut_raw, is_space}
+use Rattle.base.specs.Ends.{is_space}
+use Rattle.dn.specs.Reading.{escapes, cut_raw}
 use Rattle.dn.proofs.Runs.{all_spaces}
 
 -- no separator but behind a backslash, and no backslash open at the end; the second argument says whether one is open before

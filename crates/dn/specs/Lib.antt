@@ -2,10 +2,7 @@ pub mod Names
 pub mod Spelling
 pub mod Reading
 pub mod Writing
-pub mod Cuts
-pub mod Drafts
 pub mod Gives
 pub mod Faults
-pub mod Examples
 pub mod Texts
-pub mod Places
+pub mod inner

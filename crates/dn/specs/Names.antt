@@ -2,6 +2,7 @@
 use Rattle.std.specs.Prelude.{ℕ, Bool, not, ◌&&◌, ◌||◌, ◌==◌, nat_lt, List, length}
 use Rattle.std.specs.List.{list_all}
 use Rattle.std.specs.Char.{is_ascii_alphanumeric}
+use Rattle.base.specs.Ascii.{hyphen, full_stop, underscore}
 
 -- a type as written, and a value
 abbrev pub Ava : Type 0
@@ -18,7 +19,7 @@ Name = List Rdn
 -- ---- which parts there are
 
 abbrev pub is_type_byte : ℕ → Bool
-is_type_byte b = is_ascii_alphanumeric b || b == 45 || b == 95 || b == 46
+is_type_byte b = is_ascii_alphanumeric b || b == hyphen || b == underscore || b == full_stop
 
 -- letters, digits, `-`, `_` and `.`, not empty
 abbrev pub is_type : List ℕ → Bool

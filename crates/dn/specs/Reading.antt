@@ -1,6 +1,9 @@
 -- The name that a text spells, or the first fault from the left.
 use Rattle.std.specs.Prelude.{ℕ, ◌+◌, ◌*◌, Bool, true, false, not, ◌&&◌, ◌||◌, ◌==◌, if◌then◌else◌, List, [], ◌∷◌, map, take, drop, length, Option, Some, None, Result, Ok, Err}
 use Rattle.std.specs.List.{list_all, onto_first, prefix_len}
+use Rattle.base.specs.Ascii.{quotation_mark, number_sign, plus_sign, comma, semicolon, equals_sign, backslash}
+use Rattle.base.specs.Answers.{◌>>=◌, each}
+use Rattle.base.specs.Ends.{is_space, without_front}
 use Rattle.dn.specs.declared.faults.NameFaultKind.{NameFaultKind}
 use Rattle.dn.specs.declared.faults.NameFaultKind.TheVariants.{EqualsMissing, Escape, NotEscaped, TypeMissing, FormNotSupported}
 use Rattle.dn.specs.declared.value.Octet.{Octet}
@@ -9,21 +12,11 @@ use Rattle.dn.specs.declared.value.State.TheVariants.{Plain, Backslash, HalfPair
 use Rattle.dn.specs.Names.{Ava, Rdn, Name, is_type_byte}
 use Rattle.dn.specs.Spelling.{may_stand, may_follow, is_hex, hex, is_raw_space, byte_of}
 
-infixl 10 ◌>>=◌
-abbrev pub ◌>>=◌ : {A B : Type 0} → Result A NameFaultKind → (A → Result B NameFaultKind) → Result B NameFaultKind
-(Ok x) >>= f = f x
-(Err e) >>= f = Err e
-
--- what each of a list gives, in order
-unfoldable pub each : {X Y : Type 0} → (X → Result Y NameFaultKind) → List X → Result (List Y) NameFaultKind
-each f [] = Ok []
-each f (x ∷ xs) = f x >>= λ y. (each f xs >>= λ ys. Ok (y ∷ ys))
-
 -- ---- a value
 
 -- a byte that may not stand for itself: `;` was once a separator
 abbrev pub raw_fault : ℕ → NameFaultKind
-raw_fault b = if b == 59 then FormNotSupported else NotEscaped
+raw_fault b = if b == semicolon then FormNotSupported else NotEscaped
 
 abbrev pub with_octet : Bool → ℕ → Result (List Octet) NameFaultKind → Result (List Octet) NameFaultKind
 with_octet raw byte (Ok os) = Ok (record { raw = raw; byte = byte } ∷ os)
@@ -34,13 +27,13 @@ unfoldable pub octets_from : State → List ℕ → Result (List Octet) NameFaul
 octets_from Plain [] = Ok []
 octets_from Backslash [] = Err Escape
 octets_from (HalfPair high) [] = Err Escape
-octets_from Plain (b ∷ bs) = if may_stand b then with_octet true b (octets_from Plain bs) else (if b == 92 then octets_from Backslash bs else Err (raw_fault b))
+octets_from Plain (b ∷ bs) = if may_stand b then with_octet true b (octets_from Plain bs) else (if b == backslash then octets_from Backslash bs else Err (raw_fault b))
 octets_from Backslash (b ∷ bs) = if may_follow b then with_octet false b (octets_from Plain bs) else (if is_hex b then octets_from (HalfPair (hex b)) bs else Err Escape)
 octets_from (HalfPair high) (b ∷ bs) = if is_hex b then with_octet false (16 * high + hex b) (octets_from Plain bs) else Err Escape
 
 -- the same, one byte at a time
 unfoldable pub step : State → ℕ → Result (State × Option Octet) NameFaultKind
-step Plain b = if may_stand b then Ok (Plain, Some (record { raw = true; byte = b })) else (if b == 92 then Ok (Backslash, None) else Err (raw_fault b))
+step Plain b = if may_stand b then Ok (Plain, Some (record { raw = true; byte = b })) else (if b == backslash then Ok (Backslash, None) else Err (raw_fault b))
 step Backslash b = if may_follow b then Ok (Plain, Some (record { raw = false; byte = b })) else (if is_hex b then Ok (HalfPair (hex b), None) else Err Escape)
 step (HalfPair high) b = if is_hex b then Ok (Plain, Some (record { raw = false; byte = 16 * high + hex b })) else Err Escape
 
@@ -60,18 +53,12 @@ value_from (Err e) = Err e
 -- a quotation mark or a number sign at the front begins a form that is not read
 abbrev pub begins_form : List ℕ → Bool
 begins_form [] = false
-begins_form (b ∷ bs) = b == 34 || b == 35
+begins_form (b ∷ bs) = b == quotation_mark || b == number_sign
 
 unfoldable pub value_of : List ℕ → Result (List ℕ) NameFaultKind
 value_of text = if begins_form text then Err FormNotSupported else value_from (octets_from Plain text)
 
 -- ---- a part
-
-abbrev pub is_space : ℕ → Bool
-is_space b = b == 32
-
-abbrev pub skip : List ℕ → List ℕ
-skip text = drop (prefix_len is_space text) text
 
 abbrev pub type_in : List ℕ → List ℕ
 type_in text = take (prefix_len is_type_byte text) text
@@ -82,20 +69,20 @@ after_type text = drop (prefix_len is_type_byte text) text
 -- what follows the equals sign that is due behind a type
 abbrev pub after_equals : List ℕ → List ℕ → Result (List ℕ) NameFaultKind
 after_equals ty [] = Err EqualsMissing
-after_equals ty (b ∷ bs) = if b == 61 then (if length ty == 0 then Err TypeMissing else Ok bs) else Err EqualsMissing
+after_equals ty (b ∷ bs) = if b == equals_sign then (if length ty == 0 then Err TypeMissing else Ok bs) else Err EqualsMissing
 
 -- a part from its type on
 unfoldable pub part_at : List ℕ → Result Ava NameFaultKind
-part_at text = after_equals (type_in text) (skip (after_type text)) >>= λ rest. (value_of (skip rest) >>= λ value. Ok (type_in text, value))
+part_at text = after_equals (type_in text) (without_front (after_type text)) >>= λ rest. (value_of (without_front rest) >>= λ value. Ok (type_in text, value))
 
 unfoldable pub part_of : List ℕ → Result Ava NameFaultKind
-part_of text = part_at (skip text)
+part_of text = part_at (without_front text)
 
 -- ---- an RDN, a name
 
 -- whether a byte escapes the next one
 abbrev pub escapes : Bool → ℕ → Bool
-escapes escaped b = not escaped && b == 92
+escapes escaped b = not escaped && b == backslash
 
 -- the text cut at each separator that is not escaped
 unfoldable pub cut_raw : ℕ → Bool → List ℕ → List (List ℕ)
@@ -103,7 +90,7 @@ cut_raw sep escaped [] = [] ∷ []
 cut_raw sep escaped (b ∷ bs) = if not escaped && b == sep then [] ∷ cut_raw sep false bs else onto_first b (cut_raw sep (escapes escaped b) bs)
 
 unfoldable pub rdn_of : List ℕ → Result Rdn NameFaultKind
-rdn_of text = each part_of (cut_raw 43 false text)
+rdn_of text = each part_of (cut_raw plus_sign false text)
 
 unfoldable pub name_of : List ℕ → Result Name NameFaultKind
-name_of text = if list_all is_space text then Ok [] else each rdn_of (cut_raw 44 false text)
+name_of text = if list_all is_space text then Ok [] else each rdn_of (cut_raw comma false text)

@@ -1,5 +1,6 @@
 -- Which text spells which name (RFC 4514, section 3; spaces may stand round types and values).
 use Rattle.std.specs.Prelude.{◌≡◌, ℕ, ◌+◌, ◌-◌, ◌*◌, Bool, true, false, not, ◌&&◌, ◌||◌, nat_le, ◌==◌, if◌then◌else◌, List, [], ◌∷◌, ◌++◌, map, replicate}
+use Rattle.base.specs.Ascii.{space, quotation_mark, number_sign, plus_sign, comma, semicolon, less_than_sign, equals_sign, greater_than_sign, backslash}
 use Rattle.dn.specs.declared.value.Octet.{Octet}
 use Rattle.dn.specs.Names.{Ava, Rdn, Name, is_type}
 
@@ -7,11 +8,11 @@ use Rattle.dn.specs.Names.{Ava, Rdn, Name, is_type}
 
 -- the bytes that stand for themselves: not NUL, `"`, `+`, `,`, `;`, `<`, `>`, `\`
 abbrev pub may_stand : ℕ → Bool
-may_stand b = not (b == 0 || b == 34 || b == 43 || b == 44 || b == 59 || b == 60 || b == 62 || b == 92)
+may_stand b = not (b == 0 || b == quotation_mark || b == plus_sign || b == comma || b == semicolon || b == less_than_sign || b == greater_than_sign || b == backslash)
 
 -- the bytes that a backslash takes as they are: space, `"`, `#`, `+`, `,`, `;`, `<`, `=`, `>`, `\`
 abbrev pub may_follow : ℕ → Bool
-may_follow b = b == 32 || b == 34 || b == 35 || b == 43 || b == 44 || b == 59 || b == 60 || b == 61 || b == 62 || b == 92
+may_follow b = b == space || b == quotation_mark || b == number_sign || b == plus_sign || b == comma || b == semicolon || b == less_than_sign || b == equals_sign || b == greater_than_sign || b == backslash
 
 abbrev pub is_between : ℕ → ℕ → ℕ → Bool
 is_between low high b = nat_le low b && nat_le b high
@@ -27,8 +28,8 @@ hex b = if nat_le b 57 then b - 48 else (if nat_le b 70 then b - 55 else b - 87)
 abbrev pub IsOctet : Octet → List ℕ → Type 0
 IsOctet o [] = ⊥
 IsOctet o (b ∷ []) = (may_stand b ≡ true) × (o ≡ record { raw = true; byte = b })
-IsOctet o (s ∷ b ∷ []) = (s ≡ 92) × (may_follow b ≡ true) × (o ≡ record { raw = false; byte = b })
-IsOctet o (s ∷ b ∷ c ∷ []) = (s ≡ 92) × (is_hex b ≡ true) × (is_hex c ≡ true) × (o ≡ record { raw = false; byte = 16 * hex b + hex c })
+IsOctet o (s ∷ b ∷ []) = (s ≡ backslash) × (may_follow b ≡ true) × (o ≡ record { raw = false; byte = b })
+IsOctet o (s ∷ b ∷ c ∷ []) = (s ≡ backslash) × (is_hex b ≡ true) × (is_hex c ≡ true) × (o ≡ record { raw = false; byte = 16 * hex b + hex c })
 IsOctet o (s ∷ b ∷ c ∷ d ∷ bs) = ⊥
 
 abbrev pub AreOctets : List Octet → List ℕ → Type 0
@@ -36,12 +37,12 @@ AreOctets [] text = text ≡ []
 AreOctets (o ∷ os) text = (front : List ℕ) × (rest : List ℕ) × IsOctet o front × (text ≡ front ++ rest) × AreOctets os rest
 
 abbrev pub is_raw_space : Octet → Bool
-is_raw_space o = o.raw && o.byte == 32
+is_raw_space o = o.raw && o.byte == space
 
 -- the first is no raw space and no raw `#`
 abbrev pub begins_well : List Octet → Bool
 begins_well [] = true
-begins_well (o ∷ os) = not (o.raw && (o.byte == 32 || o.byte == 35))
+begins_well (o ∷ os) = not (o.raw && (o.byte == space || o.byte == number_sign))
 
 -- the last is no raw space
 abbrev pub ends_well : List Octet → Bool
@@ -55,7 +56,7 @@ byte_of o = o.byte
 -- ---- a part, an RDN, a name
 
 abbrev pub spaces : ℕ → List ℕ
-spaces n = replicate n 32
+spaces n = replicate n space
 
 -- spaces, the type, spaces, `=`, spaces, the octets of the value, spaces
 pub record SpellsPart (text : List ℕ) (p : Ava) : Type 0 where
@@ -65,7 +66,7 @@ pub record SpellsPart (text : List ℕ) (p : Ava) : Type 0 where
   pub behind : ℕ
   pub octets : List Octet
   pub body : List ℕ
-  pub text_is : text ≡ spaces before ++ (p.0 ++ (spaces between ++ (61 ∷ (spaces after ++ (body ++ spaces behind)))))
+  pub text_is : text ≡ spaces before ++ (p.0 ++ (spaces between ++ (equals_sign ∷ (spaces after ++ (body ++ spaces behind)))))
   pub type_is : is_type p.0 ≡ true
   pub body_is : AreOctets octets body
   pub begins : begins_well octets ≡ true
@@ -80,9 +81,9 @@ AreJoined Spelled sep text (x ∷ y ∷ ys) = (front : List ℕ) × (rest : List
 
 -- parts joined by `+`
 abbrev pub SpellsRdn : List ℕ → Rdn → Type 0
-SpellsRdn text r = AreJoined SpellsPart 43 text r
+SpellsRdn text r = AreJoined SpellsPart plus_sign text r
 
 -- spaces alone, or RDNs joined by `,`
 abbrev pub Spells : List ℕ → Name → Type 0
 Spells text [] = (n : ℕ) × (text ≡ spaces n)
-Spells text (r ∷ rs) = AreJoined SpellsRdn 44 text (r ∷ rs)
+Spells text (r ∷ rs) = AreJoined SpellsRdn comma text (r ∷ rs)

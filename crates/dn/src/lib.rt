@@ -1,4 +1,6 @@
 //! Names of entries as text (RFC 4514).
+//!
+//! The functions of `laws` do nothing: a call of one is made for what it states alone.
 #![tactic(auto)]
 
 mod faults;

@@ -4,7 +4,7 @@ ghost use Rattle.std.specs.Prelude.{◌≡◌, ◌∷◌, ◌++◌, ◌&&◌, tr
 ghost use Rattle.std.specs.List.{list_all, prefix_len};
 ghost use Rattle.dn.specs.Names.{is_type_byte, is_type, is_byte, is_ava};
 ghost use Rattle.dn.specs.Reading.{type_in, after_type};
-ghost use Rattle.dn.specs.Texts.{EndsAt};
+ghost use Rattle.dn.specs.inner.Texts.{EndsAt};
 
 use crate::text::AvaText;
 use std::alloc::{AllocError, Global};

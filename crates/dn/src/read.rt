@@ -4,10 +4,12 @@ ghost use Rattle.std.specs.Prelude.{◌≡◌, ◌==◌, ◌++◌, not, true, fa
 ghost use Rattle.std.specs.List.{list_all, prefix_len};
 ghost use Rattle.dn.specs.Names.{Name, is_type, is_ava};
 ghost use Rattle.dn.specs.Spelling.{Spells};
-ghost use Rattle.dn.specs.Reading.{is_space, skip, after_equals, each, cut_raw, rdn_of, name_of};
-ghost use Rattle.dn.specs.Cuts.{first_value, first_part, first_rdn, part_from, parts_from, Pushes};
-ghost use Rattle.dn.specs.Texts.{Starts};
-ghost use Rattle.dn.specs.Gives.{Gives, Fails};
+ghost use Rattle.base.specs.Answers.{each, Fails};
+ghost use Rattle.base.specs.Ends.{is_space, without_front};
+ghost use Rattle.dn.specs.Reading.{after_equals, cut_raw, rdn_of, name_of};
+ghost use Rattle.dn.specs.inner.Cuts.{first_value, first_part, first_rdn, part_from, parts_from, Pushes};
+ghost use Rattle.dn.specs.inner.Texts.{Starts};
+ghost use Rattle.dn.specs.Gives.{Gives, fault_of};
 
 use crate::faults::{NameFault, NameFaultKind};
 use crate::names::{Name, Rdn};
@@ -22,9 +24,10 @@ fn spaces_in(text: &[u8]) -> usize
     text.iter().take_while(|b| **b == b' ').count()
 }
 
-/// The text without the spaces at its front.
+/// The text without the spaces at its front. With the functions of `base` in place of this one and `begins_with_plus`, reading a plain
+/// value took three times as long.
 fn skip(text: &[u8]) -> &[u8]
-    ensures { result.now ≡ skip text.now }
+    ensures { result.now ≡ without_front text.now }
 {
     text.split_at(spaces_in(text)).1
 }
@@ -58,7 +61,7 @@ struct Start<'a> {
 #[inline(always)]
 fn start_in(text: &[u8]) -> Result<Start<'_>, NameFault>
     ensures exact { IfOk result (λ s. first_part text.now ≡ part_from s.ty_text.now s.rest.now) }
-    ensures err { IfErr result (λ e. Fails e (first_part text.now)) }
+    ensures err { IfErr result (λ e. Fails (fault_of e) (first_part text.now)) }
     ensures ty_text { IfOk result (λ s. is_type s.ty_text.now ≡ true) }
     ensures text { IfOk result (λ s. Starts s.text.now s.ty_text.now s.rest.now) }
 {
@@ -168,7 +171,7 @@ fn rdn_from<'a>(alloc: Global, part: Ava, behind: &'a [u8]) -> Result<(Rdn, &'a 
 #[inline(always)]
 fn push_rdn<'a>(alloc: Global, name: &mut Name, text: &'a [u8]) -> Result<&'a [u8], NameFault>
     ensures ok { IfOk result (λ rest. Pushes name.old name.new rest.now (first_rdn text.now)) }
-    ensures err { IfErr result (λ e. Fails e (first_rdn text.now)) }
+    ensures err { IfErr result (λ e. Fails (fault_of e) (first_rdn text.now)) }
 {
     let start = start_in(text)?;
     let plain = split_plain(start.rest);

@@ -3,7 +3,9 @@
 ghost use Rattle.std.specs.Prelude.{◌≡◌, ◌≤◌, ◌∷◌, ◌&&◌, not, false, length, take, drop, IfSome, IfNone};
 ghost use Rattle.std.specs.Option.{option_map};
 ghost use Rattle.dn.specs.Reading.{escapes};
-ghost use Rattle.dn.specs.Cuts.{piece, behind, is_separator, ends_piece, begins_with_plus, after_first};
+ghost use Rattle.base.specs.Ascii.{plus_sign};
+ghost use Rattle.base.specs.Ends.{begins_with};
+ghost use Rattle.dn.specs.inner.Cuts.{piece, behind, is_separator, ends_piece, after_first};
 
 fn escapes(escaped: bool, b: u8) -> bool
     ensures { result ≡ escapes escaped b }
@@ -58,7 +60,7 @@ pub(crate) fn ends_piece(text: &[u8]) -> bool
 }
 
 pub(crate) fn begins_with_plus(text: &[u8]) -> bool
-    ensures { result ≡ begins_with_plus text.now }
+    ensures { result ≡ begins_with plus_sign text.now }
 {
     match text {
         [] => false,
@@ -68,8 +70,8 @@ pub(crate) fn begins_with_plus(text: &[u8]) -> bool
 
 /// What stands behind the plus sign that a text begins with.
 pub(crate) fn after_plus(text: &[u8]) -> Option<&[u8]>
-    ensures some { IfSome result (λ more. text.now ≡ 43 ∷ more.now) }
-    ensures none { IfNone result (begins_with_plus text.now ≡ false) }
+    ensures some { IfSome result (λ more. text.now ≡ plus_sign ∷ more.now) }
+    ensures none { IfNone result (begins_with plus_sign text.now ≡ false) }
 {
     match text {
         [first, more @ ..] if *first == b'+' => Some(more),

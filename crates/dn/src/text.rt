@@ -1,7 +1,7 @@
 //! The bytes of a part.
 
 ghost use Rattle.std.specs.Prelude.{◌≡◌, ◌≤◌, ◌+◌, [], ◌∷◌, ◌++◌, length, take, IfOk, IfSome};
-ghost use Rattle.dn.specs.Texts.{EndsAt};
+ghost use Rattle.dn.specs.inner.Texts.{EndsAt};
 
 use std::alloc::{AllocError, Global};
 use std::marker::Model;
@@ -32,7 +32,7 @@ impl Drop for AvaText {
 
 impl Model for AvaText {
     ghost use Rattle.std.specs.Prelude.{List, ℕ};
-    ghost use Rattle.dn.specs.Places.{bytes_in, IsWithin};
+    ghost use Rattle.dn.specs.inner.Places.{bytes_in, IsWithin};
 
     ghost Value = { List ℕ };
 

@@ -3,9 +3,11 @@
 ghost use Rattle.std.specs.Prelude.{◌≡◌, ◌<◌, ◌&&◌, ◌==◌, ◌++◌, ◌≤◌, [], true, false, length, take, drop, Ok, IfOk, OnOk, IfSome, Some, None, if◌then◌else◌};
 ghost use Rattle.std.specs.List.{list_all, prefix_len};
 ghost use Rattle.dn.specs.Spelling.{may_stand, may_follow, is_hex, hex};
-ghost use Rattle.dn.specs.Reading.{is_space, raw_fault, octets_from, step, begins_form, value_from, value_of};
-ghost use Rattle.dn.specs.Cuts.{first_value, ends_in_space};
-ghost use Rattle.dn.specs.Drafts.{draft_after, IsInRange};
+ghost use Rattle.base.specs.Ascii.{space};
+ghost use Rattle.base.specs.Ends.{is_space};
+ghost use Rattle.dn.specs.Reading.{raw_fault, octets_from, step, begins_form, value_from, value_of};
+ghost use Rattle.dn.specs.inner.Cuts.{first_value, ends_in_space};
+ghost use Rattle.dn.specs.inner.Drafts.{draft_after, IsInRange};
 ghost use Rattle.dn.specs.Gives.{Gives};
 ghost use Rattle.dn.specs.declared.value.State.TheVariants as states;
 
@@ -116,7 +118,7 @@ struct ValueDraft {
 }
 
 fn kept_after(octet: Octet, kept: usize, len: usize) -> usize
-    ensures { result ≡ (if octet.raw && octet.byte == 32 then kept else len) }
+    ensures { result ≡ (if octet.raw && octet.byte == space then kept else len) }
 {
     if octet.raw && octet.byte == b' ' {
         kept

@@ -7,6 +7,8 @@ mod adapters;
 #[cfg(test)]
 mod changes;
 #[cfg(test)]
+mod commands_in_trouble;
+#[cfg(test)]
 mod lines_in_little_memory;
 #[cfg(test)]
 mod little_memory;
@@ -26,3 +28,5 @@ mod records_in_little_memory;
 mod runs;
 #[cfg(test)]
 mod runs_in_little_memory;
+#[cfg(test)]
+mod troubled_folder;

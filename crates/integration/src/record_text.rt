@@ -1,7 +1,7 @@
 //! Records and faults as short texts.
 
+use base::Bytes;
 use ldif::{Attr, Control, LdifFault, Mod, Op, Record};
-use lists::Bytes;
 use std::alloc::{AllocError, Global};
 
 /// Bytes as they are, where they are printed in ASCII, and else as `~` and two digits.

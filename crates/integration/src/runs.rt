@@ -1,9 +1,9 @@
 //! Runs, loads and dumps over sources and sinks that fail, and calls of a directory that no command makes.
 
+use base::{Bytes, Sequence};
 use device::{TrySink, TrySource};
 use directory::{Directory, LoadFault, RunFault, Tally, load, load_tree, run};
 use ldif::{Mode, Record, WriteFault};
-use lists::{Bytes, Sequence};
 use schema::{Conf, ConfFault, Path, read_conf};
 use std::alloc::Global;
 use std::test::Fail;

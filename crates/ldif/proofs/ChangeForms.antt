@@ -14,11 +14,13 @@ use Rattle.ldif.specs.declared.record.Op.{Op}
 use Rattle.ldif.specs.declared.record.Op.TheVariants as ops
 use Rattle.ldif.specs.declared.record.Record.{Record}
 use Rattle.ldif.specs.declared.record.Record.TheVariants as records
-use Rattle.ldif.specs.Gives.{◌>>=◌}
-use Rattle.ldif.specs.Line.{value_line, lower, same_name, is_word, without_end}
-use Rattle.ldif.specs.Reading.{each, part, nothing_more, new_superior_of, flag_of, delete_old_of, is_dash, blocks, op_of, value_under, block, renaming, change}
+use Rattle.base.specs.Answers.{◌>>=◌, each}
+use Rattle.base.specs.Ends.{without_end}
+use Rattle.ldif.specs.Line.{value_line, lower, same_name, is_word}
+use Rattle.ldif.specs.Reading.{part, nothing_more, new_superior_of, flag_of, delete_old_of, is_dash, blocks, op_of, value_under, block, renaming, change}
 use Rattle.ldif.specs.Forms.{IsEach, IsValueLine, IsSame, IsLineOf, IsWord, is_no_colon, IsDash, op_word, IsBlock, IsBlocks, IsNewSuperior, flag_word, IsRenaming, IsAdd, IsDelete, IsModify, IsChange}
-use Rattle.ldif.proofs.Inverted.{bind_ok, chosen, okay, ok_is, good, same_found, same_only, other_word, each_found, each_only, each_map, each_all, Reads}
+use Rattle.base.proofs.Bound.{bind_ok}
+use Rattle.ldif.proofs.Inverted.{chosen, okay, ok_is, good, same_found, same_only, other_word, each_found, each_only, each_map, each_all, Reads}
 use Rattle.ldif.proofs.Spaces.{end_is, cut_end, trimmed_found, trimmed_only}
 use Rattle.ldif.proofs.ValueForms.{line_found, line_only}
 

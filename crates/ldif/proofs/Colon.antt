@@ -8,7 +8,7 @@ use Rattle.memchr.specs.Find.{IsFirstByte}
 use Rattle.ldif.specs.declared.fault.LdifFaultKind.{LdifFaultKind}
 use Rattle.ldif.specs.declared.fault.LdifFaultKind.TheVariants.{ColonMissing}
 use Rattle.ldif.specs.Attrs.{Attr}
-use Rattle.ldif.specs.Gives.{◌>>=◌}
+use Rattle.base.specs.Answers.{◌>>=◌}
 use Rattle.ldif.specs.Line.{is_colon, form_of, value_at, value_of}
 use Rattle.ldif.specs.Forms.{is_no_colon}
 

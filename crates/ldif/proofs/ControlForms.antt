@@ -8,15 +8,16 @@ use Rattle.std.proofs.lemmas.List.{take_at, drop_at, length-append, length-take,
 use Rattle.std.proofs.lemmas.List.Sums.{prefix_len-le-length}
 use Rattle.std.proofs.lemmas.Bool.{eqb-true, eqb-false, ne_eqb, ltb-false, and_parts, and_from, false_from_ne_true, true≢false}
 use Rattle.base64.specs.GeneralPurpose.{IsBytes}
-use Rattle.ldif_lines.specs.Records.{begins_with}
+use Rattle.base.specs.Ends.{begins_with, without_front}
 use Rattle.ldif.specs.declared.fault.LdifFaultKind.{LdifFaultKind}
 use Rattle.ldif.specs.declared.fault.LdifFaultKind.TheVariants.{Word}
 use Rattle.ldif.specs.declared.record.Control.{Control}
-use Rattle.ldif.specs.Gives.{◌>>=◌}
-use Rattle.ldif.specs.Line.{without_front, form_of, lower, same_name}
+use Rattle.base.specs.Answers.{◌>>=◌}
+use Rattle.ldif.specs.Line.{form_of, lower, same_name}
 use Rattle.ldif.specs.Controls.{ends_oid, oid_len, criticality, control_value, control_of}
 use Rattle.ldif.specs.Forms.{IsSame, is_oid_byte, IsCritical, IsCriticality, IsControlValue, IsControl}
-use Rattle.ldif.proofs.Inverted.{bind_ok, okay, ok_is, good, bad, same_found, same_only}
+use Rattle.base.proofs.Bound.{bind_ok}
+use Rattle.ldif.proofs.Inverted.{okay, ok_is, good, bad, same_found, same_only}
 use Rattle.ldif.proofs.Spaces.{front_is, skip}
 use Rattle.ldif.proofs.ValueForms.{form_found, form_only, drop_bytes, back_bytes}
 use Rattle.ldif.proofs.WrittenLines.{no_front}

@@ -13,10 +13,11 @@ use Rattle.ldif.specs.declared.record.Mode.{Mode}
 use Rattle.ldif.specs.declared.record.Mode.TheVariants.{Content, Changes}
 use Rattle.ldif.specs.declared.record.Record.{Record}
 use Rattle.ldif.specs.declared.record.Record.TheVariants as records
-use Rattle.ldif.specs.Gives.{◌>>=◌}
-use Rattle.ldif.specs.Line.{form_of, is_colon, value_at, value_of, value_line, same_name, is_word, without_end}
+use Rattle.base.specs.Answers.{◌>>=◌, each}
+use Rattle.base.specs.Ends.{without_end}
+use Rattle.ldif.specs.Line.{form_of, is_colon, value_at, value_of, value_line, same_name, is_word}
 use Rattle.ldif.specs.Controls.{control_of}
-use Rattle.ldif.specs.Reading.{each, content_line, part, nothing_more, new_superior_of, flag_of, delete_old_of, controls_of, is_dash, blocks, op_of, value_under, block, renaming, change, after_controls, body, entry, after_version, first_of_text, reading}
+use Rattle.ldif.specs.Reading.{content_line, part, nothing_more, new_superior_of, flag_of, delete_old_of, controls_of, is_dash, blocks, op_of, value_under, block, renaming, change, after_controls, body, entry, after_version, first_of_text, reading}
 use Rattle.ldif.specs.Forms.{is_no_colon}
 use Rattle.ldif.specs.Earliest.{Begins, IsEarliest}
 use Rattle.ldif.proofs.ChangeForms.{dash_found, spaces_no_colon}

@@ -5,14 +5,10 @@ use Rattle.std.specs.Str.{bytes_eq}
 use Rattle.std.proofs.lemmas.Bool.{false_from_ne_true, true≢false}
 use Rattle.std.proofs.lemmas.Slice.Eq.{bytes_eq-Decides}
 use Rattle.ldif.specs.declared.fault.LdifFaultKind.{LdifFaultKind}
-use Rattle.ldif.specs.Gives.{◌>>=◌}
+use Rattle.base.specs.Answers.{◌>>=◌, each}
+use Rattle.base.proofs.Bound.{bind_ok}
 use Rattle.ldif.specs.Line.{lower, same_name}
-use Rattle.ldif.specs.Reading.{each}
 use Rattle.ldif.specs.Forms.{IsEach, IsSame}
-
-pub bind_ok : {A B : Type 0} (r : Result A LdifFaultKind) (f : A → Result B LdifFaultKind) (y : B) → (r >>= f) ≡ Ok y → (x : A) × (r ≡ Ok x) × (f x ≡ Ok y)
-bind_ok (Ok x) f y e = (x, refl, e)
-bind_ok (Err g) f y e = absurd cc
 
 pub chosen : {A : Type 0} (b : Bool) (x y z : A) → cond b x y ≡ z → ((b ≡ true) × (x ≡ z)) ⊎ ((b ≡ false) × (y ≡ z))
 chosen true x y z e = inl (refl, e)

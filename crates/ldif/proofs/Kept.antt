@@ -3,7 +3,7 @@ use Rattle.std.proofs.Common.{◌≡◌, ℕ, zero, suc, ◌≤◌, List, [], �
 use Rattle.std.specs.Prelude.{OnErr}
 use Rattle.std.proofs.lemmas.List.{length-take}
 use Rattle.std.proofs.Math.Seq.{take-append_seam}
-use Rattle.ldif.specs.Writing.{Keeps}
+use Rattle.ldif.specs.inner.Writing.{Keeps}
 
 pub keeps_put : (a b : List ℕ) → Keeps a (a ++ b)
 keeps_put a b = take-append_seam a b

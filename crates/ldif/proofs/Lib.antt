@@ -1,6 +1,4 @@
 pub mod Colon
-pub mod Ends
-pub mod Each
 pub mod Blocks
 pub mod ControlLines
 pub mod Folds

@@ -5,12 +5,12 @@ use Rattle.std.proofs.lemmas.Bool.{eqb-true, lt-ltb, and_from, not_from_false, t
 use Rattle.base64.specs.GeneralPurpose.{decode_of, IsBytes}
 use Rattle.base64.specs.Engines.{standard}
 use Rattle.base64.specs.declared.decode.DecodeError.{DecodeError}
-use Rattle.ldif_lines.specs.Records.{begins_with}
+use Rattle.base.specs.Ends.{begins_with, without_front, without_end}
 use Rattle.ldif.specs.declared.fault.LdifFaultKind.{LdifFaultKind}
 use Rattle.ldif.specs.declared.fault.LdifFaultKind.TheVariants.{DnMissing, Continuation, Version, Base64, Url, ColonMissing, ChangetypeUnknown, OtherAttribute, PartMissing, StrayLine, ChangetypeMissing, ChangetypeInContent, Word}
 use Rattle.ldif.specs.Attrs.{Attr}
-use Rattle.ldif.specs.Gives.{◌>>=◌}
-use Rattle.ldif.specs.Line.{without_front, without_end, or_base64, decoded, form_of, value_at, value_of, value_line}
+use Rattle.base.specs.Answers.{◌>>=◌}
+use Rattle.ldif.specs.Line.{or_base64, decoded, form_of, value_at, value_of, value_line}
 use Rattle.ldif.specs.Forms.{IsCoded, is_no_colon}
 use Rattle.ldif.specs.Earliest.{IsNamed, IsLineFault}
 use Rattle.ldif.proofs.Colon.{said, value_is}

@@ -11,12 +11,13 @@ use Rattle.ldif.specs.declared.record.Mode.{Mode}
 use Rattle.ldif.specs.declared.record.Mode.TheVariants.{Content, Changes}
 use Rattle.ldif.specs.declared.record.Record.{Record}
 use Rattle.ldif.specs.declared.record.Record.TheVariants as records
-use Rattle.ldif.specs.Gives.{◌>>=◌}
+use Rattle.base.specs.Answers.{◌>>=◌, each}
 use Rattle.ldif.specs.Line.{value_line, same_name}
 use Rattle.ldif.specs.Controls.{control_of}
-use Rattle.ldif.specs.Reading.{each, content_line, controls_of, change, after_controls, body, entry, after_version, first_of_text, reading}
+use Rattle.ldif.specs.Reading.{content_line, controls_of, change, after_controls, body, entry, after_version, first_of_text, reading}
 use Rattle.ldif.specs.Forms.{IsEach, IsValueLine, IsSame, IsLineOf, IsControlLine, BeginsPlain, IsTyped, IsTail, IsContentLine, IsBody, IsEntry, IsVersioned, IsRecord}
-use Rattle.ldif.proofs.Inverted.{bind_ok, chosen, okay, ok_is, good, bad, same_only, other_found, other_only, other_word, each_found, each_only, each_map, each_all, Reads}
+use Rattle.base.proofs.Bound.{bind_ok}
+use Rattle.ldif.proofs.Inverted.{chosen, okay, ok_is, good, bad, same_only, other_found, other_only, other_word, each_found, each_only, each_map, each_all, Reads}
 use Rattle.ldif.proofs.ValueForms.{line_found, line_only, value_bytes}
 use Rattle.ldif.proofs.ControlForms.{control_found, control_only}
 use Rattle.ldif.proofs.ChangeForms.{AreBytes, named_found, named_only, attr_of, attrs_only, change_found, change_only, bytes_back}

@@ -2,11 +2,9 @@
 use Rattle.std.proofs.Common.{◌≡◌, ℕ, zero, suc, Bool, true, false, cond, eqb, List, [], ◌∷◌, ◌++◌, replicate, refl, sym, ap, ◌∙◌, append_assoc}
 use Rattle.std.proofs.lemmas.List.{append-nil}
 use Rattle.std.proofs.lemmas.Bool.{eqb-true}
-use Rattle.ldif_lines.specs.Records.{begins_with}
-use Rattle.ldif.specs.Line.{without_front, without_end, onto_text}
-use Rattle.ldif.specs.Writing.{ends_with}
+use Rattle.base.specs.Ends.{begins_with, without_front, without_end, onto_text, ends_with}
 use Rattle.ldif.specs.Forms.{IsTrimmed}
-use Rattle.ldif.proofs.Ends.{end_space}
+use Rattle.base.proofs.LastByte.{end_space}
 
 Front : ℕ → List ℕ → Bool → Type 0
 Front b bs t = (n : ℕ) × (b ∷ bs ≡ replicate n 32 ++ cond t (without_front bs) (b ∷ bs)) × (begins_with 32 (cond t (without_front bs) (b ∷ bs)) ≡ false)

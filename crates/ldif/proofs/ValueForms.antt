@@ -8,17 +8,18 @@ use Rattle.base64.specs.GeneralPurpose.{encode_of, decode_of, IsBytes}
 use Rattle.base64.specs.Engines.{standard}
 use Rattle.base64.specs.declared.decode.DecodeError.{DecodeError}
 use Rattle.base64.proofs.EngineFacts.{decode_of-encode_of, decode_of_strict, front_bytes}
-use Rattle.ldif_lines.specs.Records.{begins_with}
+use Rattle.base.specs.Ends.{begins_with, without_front, without_end}
 use Rattle.ldif.specs.declared.fault.LdifFaultKind.{LdifFaultKind}
 use Rattle.ldif.specs.declared.fault.LdifFaultKind.TheVariants.{Url, ColonMissing, Continuation}
 use Rattle.ldif.specs.Attrs.{Attr}
-use Rattle.ldif.specs.Gives.{◌>>=◌}
-use Rattle.ldif.specs.Line.{without_front, without_end, or_base64, decoded, form_of, is_colon, value_at, value_of, value_line}
+use Rattle.base.specs.Answers.{◌>>=◌}
+use Rattle.ldif.specs.Line.{or_base64, decoded, form_of, is_colon, value_at, value_of, value_line}
 use Rattle.ldif.specs.Forms.{IsCoded, IsBare, IsForm, IsValueLine}
 use Rattle.ldif.proofs.WrittenLines.{is_clean, code_clean, clean_end, not_space, no_front}
 use Rattle.ldif.proofs.Colon.{said, value_is, front_colons}
 use Rattle.ldif.proofs.DecodedBytes.{decoded_are_bytes}
-use Rattle.ldif.proofs.Inverted.{bind_ok, okay, ok_is, bad}
+use Rattle.base.proofs.Bound.{bind_ok}
+use Rattle.ldif.proofs.Inverted.{okay, ok_is, bad}
 use Rattle.ldif.proofs.Spaces.{front_is, end_is, skip, cut_end}
 
 -- ---- what is read has a form

@@ -10,9 +10,9 @@ use Rattle.ldif.specs.declared.fault.LdifFaultKind.TheVariants.{DnMissing, Chang
 use Rattle.ldif.specs.Attrs.{Attr}
 use Rattle.ldif.specs.declared.record.Record.{Record}
 use Rattle.ldif.specs.declared.record.Mode.TheVariants.{Content}
-use Rattle.ldif.specs.Gives.{◌>>=◌}
+use Rattle.base.specs.Answers.{◌>>=◌, each}
 use Rattle.ldif.specs.Line.{value_line, same_name}
-use Rattle.ldif.specs.Reading.{each, content_line, body, entry, after_version, first_of_text, reading}
+use Rattle.ldif.specs.Reading.{content_line, body, entry, after_version, first_of_text, reading}
 use Rattle.ldif.specs.Writing.{line_text, written_line}
 use Rattle.ldif.specs.Contents.{is_name_byte, is_inner_name_byte, IsName, IsWritableAttr, ContentRecord, IsWritableContent, written_attr, write_content, readings, reading_of, as_record}
 use Rattle.ldif.proofs.WrittenLines.{read_again, writable}

@@ -6,13 +6,13 @@ use Rattle.base64.specs.Rfc4648.{encode_symbols, padding_len}
 use Rattle.base64.specs.GeneralPurpose.{encode_of, decode_of, IsBytes}
 use Rattle.base64.specs.Engines.{standard}
 use Rattle.base64.proofs.EngineFacts.{decode_of-encode_of}
-use Rattle.ldif_lines.specs.Records.{begins_with}
+use Rattle.base.specs.Ends.{begins_with, without_front, without_end, onto_text, ends_with}
 use Rattle.ldif_lines.specs.Folding.{begins_line, is_line_byte, IsWritable}
 use Rattle.ldif.specs.declared.fault.LdifFaultKind.{LdifFaultKind}
 use Rattle.ldif.specs.declared.fault.LdifFaultKind.TheVariants.{Continuation}
-use Rattle.ldif.specs.Gives.{◌>>=◌}
-use Rattle.ldif.specs.Line.{without_front, without_end, onto_text, or_base64, decoded, form_of, value_of, value_line}
-use Rattle.ldif.specs.Writing.{is_safe_byte, ends_with, is_plain, line_text}
+use Rattle.base.specs.Answers.{◌>>=◌}
+use Rattle.ldif.specs.Line.{or_base64, decoded, form_of, value_of, value_line}
+use Rattle.ldif.specs.Writing.{is_safe_byte, is_plain, line_text}
 use Rattle.ldif.specs.Contents.{is_byte, is_inner_name_byte, IsName}
 use Rattle.ldif.specs.Forms.{is_no_colon}
 use Rattle.ldif.proofs.Colon.{said, value_is}

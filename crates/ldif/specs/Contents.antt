@@ -1,6 +1,7 @@
 -- The records of a text with what they read as, and content records that are written.
 use Rattle.std.specs.Prelude.{◌≡◌, ℕ, ◌<◌, Bool, true, false, not, ◌&&◌, ◌||◌, ◌==◌, nat_le, List, [], ◌∷◌, ◌++◌, length, map, Result, Ok, codes}
 use Rattle.std.specs.List.{flat_map, list_all, AllByRecursion}
+use Rattle.base.specs.Ascii.{line_feed, hyphen, full_stop, colon, underscore}
 use Rattle.ldif_lines.specs.Records.{records}
 use Rattle.ldif_lines.specs.Folding.{begins_line, is_line_byte}
 use Rattle.ldif.specs.declared.fault.LdifFaultKind.{LdifFaultKind}
@@ -29,7 +30,7 @@ written_attr a = written_line a.name a.value
 
 -- its lines, and an empty line
 unfoldable pub write_content : ContentRecord → List ℕ
-write_content c = written_line (codes "dn") c.dn ++ flat_map written_attr c.attrs ++ 10 ∷ []
+write_content c = written_line (codes "dn") c.dn ++ flat_map written_attr c.attrs ++ line_feed ∷ []
 
 -- the record that it is
 abbrev pub as_record : ContentRecord → Result Record LdifFaultKind
@@ -42,10 +43,10 @@ is_byte b = nat_le b 255
 
 -- a letter, a digit, `-`, `_` or `.`
 abbrev pub is_name_byte : ℕ → Bool
-is_name_byte b = (nat_le 97 b && nat_le b 122) || (nat_le 65 b && nat_le b 90) || (nat_le 48 b && nat_le b 57) || b == 45 || b == 95 || b == 46
+is_name_byte b = (nat_le 97 b && nat_le b 122) || (nat_le 65 b && nat_le b 90) || (nat_le 48 b && nat_le b 57) || b == hyphen || b == underscore || b == full_stop
 
 abbrev pub is_inner_name_byte : ℕ → Bool
-is_inner_name_byte b = is_line_byte b && not (b == 58)
+is_inner_name_byte b = is_line_byte b && not (b == colon)
 
 -- what may stand before the first colon of a line that can be written
 pub record IsName (name : List ℕ) : Type 0 where

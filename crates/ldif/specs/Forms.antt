@@ -1,9 +1,10 @@
 -- The forms of lines and of records, as relations (RFC 2849, "Formal Syntax Definition of LDIF").
 use Rattle.std.specs.Prelude.{◌≡◌, ℕ, suc, ◌<◌, Bool, true, false, not, ◌&&◌, ◌||◌, ◌==◌, nat_le, ◌⊎◌, if◌then◌else◌, List, [], ◌∷◌, ◌++◌, length, replicate, Option, Some, None, codes}
 use Rattle.std.specs.List.{list_all}
+use Rattle.base.specs.Ascii.{space, hyphen, full_stop, colon, less_than_sign}
 use Rattle.base64.specs.GeneralPurpose.{encode_of, IsBytes}
 use Rattle.base64.specs.Engines.{standard}
-use Rattle.ldif_lines.specs.Records.{begins_with}
+use Rattle.base.specs.Ends.{begins_with, ends_with}
 use Rattle.ldif.specs.Attrs.{Attr}
 use Rattle.ldif.specs.declared.record.Control.{Control}
 use Rattle.ldif.specs.declared.record.Mod.{Mod}
@@ -14,7 +15,6 @@ use Rattle.ldif.specs.declared.record.Mode.TheVariants.{Content, Changes}
 use Rattle.ldif.specs.declared.record.Record.{Record}
 use Rattle.ldif.specs.declared.record.Record.TheVariants as records
 use Rattle.ldif.specs.Line.{lower}
-use Rattle.ldif.specs.Writing.{ends_with}
 
 -- lists of the same length whose items stand in the relation, each to the one in its place
 abbrev pub IsEach : {X Y : Type 0} → (X → Y → Type 0) → List X → List Y → Type 0
@@ -29,16 +29,16 @@ IsEach R (x ∷ xs) (y ∷ ys) = R x y × IsEach R xs ys
 pub record IsCoded (rest value : List ℕ) : Type 0 where
   pub front : ℕ
   pub back : ℕ
-  pub is : rest ≡ 58 ∷ (replicate front 32 ++ (encode_of standard value ++ replicate back 32))
+  pub is : rest ≡ colon ∷ (replicate front space ++ (encode_of standard value ++ replicate back space))
   pub bytes : IsBytes value
 
 -- spaces, and the value
 pub record IsBare (rest value : List ℕ) : Type 0 where
   pub front : ℕ
-  pub is : rest ≡ replicate front 32 ++ value
-  pub no_space : begins_with 32 value ≡ false
-  pub no_colon : begins_with 58 rest ≡ false
-  pub no_angle : begins_with 60 rest ≡ false
+  pub is : rest ≡ replicate front space ++ value
+  pub no_space : begins_with space value ≡ false
+  pub no_colon : begins_with colon rest ≡ false
+  pub no_angle : begins_with less_than_sign rest ≡ false
 
 -- what stands after the first colon of a line, and the value that it says
 abbrev pub IsForm : List ℕ → List ℕ → Type 0
@@ -47,15 +47,15 @@ IsForm rest value = IsCoded rest value ⊎ IsBare rest value
 -- ---- lines
 
 abbrev pub is_no_colon : ℕ → Bool
-is_no_colon b = not (b == 58)
+is_no_colon b = not (b == colon)
 
 -- a name, the first colon, and a form of the value
 pub record IsValueLine (line : List ℕ) (attr : Attr) : Type 0 where
   pub rest : List ℕ
-  pub is : line ≡ attr.name ++ 58 ∷ rest
+  pub is : line ≡ attr.name ++ colon ∷ rest
   pub some : 0 < length attr.name
   pub name : list_all is_no_colon attr.name ≡ true
-  pub front : begins_with 32 line ≡ false
+  pub front : begins_with space line ≡ false
   pub value : IsForm rest attr.value
 
 -- the same name without ASCII case
@@ -71,8 +71,8 @@ pub record IsLineOf (key : List ℕ) (line value : List ℕ) : Type 0 where
 -- a text less all spaces at its end
 pub record IsTrimmed (text trimmed : List ℕ) : Type 0 where
   pub spaces : ℕ
-  pub is : text ≡ trimmed ++ replicate spaces 32
-  pub end : ends_with 32 trimmed ≡ false
+  pub is : text ≡ trimmed ++ replicate spaces space
+  pub end : ends_with space trimmed ≡ false
 
 -- a word in any case, and perhaps spaces
 pub record IsWord (text word : List ℕ) : Type 0 where
@@ -83,13 +83,13 @@ pub record IsWord (text word : List ℕ) : Type 0 where
 -- ---- controls
 
 abbrev pub is_oid_byte : ℕ → Bool
-is_oid_byte b = (nat_le 48 b && nat_le b 57) || b == 46
+is_oid_byte b = (nat_le 48 b && nat_le b 57) || b == full_stop
 
 -- a space at least and `true` or `false`; or nothing, and the control is not critical
 pub record IsCritical (text : List ℕ) (critical : Bool) (rest : List ℕ) : Type 0 where
   pub spaces : ℕ
   pub word : List ℕ
-  pub is : text ≡ replicate (suc spaces) 32 ++ (word ++ rest)
+  pub is : text ≡ replicate (suc spaces) space ++ (word ++ rest)
   pub same : IsSame word (if critical then codes "true" else codes "false")
 
 abbrev pub IsCriticality : List ℕ → Bool → List ℕ → Type 0
@@ -98,7 +98,7 @@ IsCriticality text critical rest = IsCritical text critical rest ⊎ ((text ≡ 
 -- nothing, or a colon with a form of a value
 abbrev pub IsControlValue : List ℕ → Option (List ℕ) → Type 0
 IsControlValue text None = text ≡ []
-IsControlValue text (Some value) = (rest : List ℕ) × (text ≡ 58 ∷ rest) × IsForm rest value
+IsControlValue text (Some value) = (rest : List ℕ) × (text ≡ colon ∷ rest) × IsForm rest value
 
 -- an OID, perhaps a criticality, spaces, perhaps a value
 pub record IsControl (text : List ℕ) (control : Control) : Type 0 where
@@ -108,7 +108,7 @@ pub record IsControl (text : List ℕ) (control : Control) : Type 0 where
   pub oid : list_all is_oid_byte control.oid ≡ true
   pub spaces : ℕ
   pub rest : List ℕ
-  pub critical : IsCriticality after control.critical (replicate spaces 32 ++ rest)
+  pub critical : IsCriticality after control.critical (replicate spaces space ++ rest)
   pub value : IsControlValue rest control.value
 
 pub record IsControlLine (line : List ℕ) (control : Control) : Type 0 where
@@ -121,7 +121,7 @@ pub record IsControlLine (line : List ℕ) (control : Control) : Type 0 where
 -- `-`, and perhaps spaces
 pub record IsDash (line : List ℕ) : Type 0 where
   pub spaces : ℕ
-  pub is : line ≡ 45 ∷ replicate spaces 32
+  pub is : line ≡ hyphen ∷ replicate spaces space
 
 abbrev pub op_word : Op → List ℕ
 op_word ops.Add = codes "add"

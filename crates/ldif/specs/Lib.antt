@@ -9,3 +9,4 @@ pub mod Attrs
 pub mod Contents
 pub mod Forms
 pub mod Earliest
+pub mod inner

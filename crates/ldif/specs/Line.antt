@@ -1,30 +1,16 @@
 -- Value lines: a name, and one of three forms of a value (RFC 2849, "Formal Syntax Definition of LDIF": attrval-spec, value-spec).
-use Rattle.std.specs.Prelude.{ℕ, ◌+◌, Bool, ◌==◌, if◌then◌else◌, List, [], ◌∷◌, take, drop, Option, Some, None, Result, Ok, Err, position, map}
+use Rattle.std.specs.Prelude.{ℕ, ◌+◌, Bool, ◌==◌, if◌then◌else◌, List, take, drop, Option, Some, None, Result, Ok, Err, position, map}
 use Rattle.std.specs.Char.{to_ascii_lowercase}
 use Rattle.std.specs.Str.{bytes_eq}
 use Rattle.base64.specs.GeneralPurpose.{decode_of}
 use Rattle.base64.specs.Engines.{standard}
 use Rattle.base64.specs.declared.decode.DecodeError.{DecodeError}
-use Rattle.ldif_lines.specs.Records.{begins_with}
+use Rattle.base.specs.Ascii.{colon, less_than_sign, space}
+use Rattle.base.specs.Ends.{begins_with, without_front, without_end}
 use Rattle.ldif.specs.declared.fault.LdifFaultKind.{LdifFaultKind}
 use Rattle.ldif.specs.declared.fault.LdifFaultKind.TheVariants.{ColonMissing, Url, Base64, Continuation}
 use Rattle.ldif.specs.Attrs.{Attr}
-use Rattle.ldif.specs.Gives.{◌>>=◌}
-
--- without the spaces at the front
-abbrev pub without_front : List ℕ → List ℕ
-without_front [] = []
-without_front (b ∷ bs) = if b == 32 then without_front bs else b ∷ bs
-
--- b in front of bs, where a space in front of nothing goes away
-abbrev pub onto_text : ℕ → List ℕ → List ℕ
-onto_text b [] = if b == 32 then [] else b ∷ []
-onto_text b (c ∷ cs) = b ∷ c ∷ cs
-
--- without the spaces at the end
-abbrev pub without_end : List ℕ → List ℕ
-without_end [] = []
-without_end (b ∷ bs) = onto_text b (without_end bs)
+use Rattle.base.specs.Answers.{◌>>=◌}
 
 abbrev pub or_base64 : Result (List ℕ) DecodeError → Result (List ℕ) LdifFaultKind
 or_base64 (Ok bytes) = Ok bytes
@@ -37,12 +23,12 @@ decoded text = or_base64 (decode_of standard text)
 -- the value, by what stands after the first colon
 unfoldable pub form_of : List ℕ → Result (List ℕ) LdifFaultKind
 form_of rest =
-    if begins_with 58 rest then decoded (without_end (without_front (drop 1 rest)))
-    else if begins_with 60 rest then Err Url
+    if begins_with colon rest then decoded (without_end (without_front (drop 1 rest)))
+    else if begins_with less_than_sign rest then Err Url
     else Ok (without_front rest)
 
 abbrev pub is_colon : ℕ → Bool
-is_colon b = b == 58
+is_colon b = b == colon
 
 abbrev pub value_at : List ℕ → Option ℕ → Result Attr LdifFaultKind
 value_at line None = Err ColonMissing
@@ -56,7 +42,7 @@ value_of line = value_at line (position is_colon line)
 
 -- a line of a record: where it still begins with a space, it continues no line
 unfoldable pub value_line : List ℕ → Result Attr LdifFaultKind
-value_line line = if begins_with 32 line then Err Continuation else value_of line
+value_line line = if begins_with space line then Err Continuation else value_of line
 
 abbrev pub lower : List ℕ → List ℕ
 lower text = map to_ascii_lowercase text

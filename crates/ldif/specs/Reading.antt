@@ -15,8 +15,9 @@ use Rattle.ldif.specs.declared.record.Mode.{Mode}
 use Rattle.ldif.specs.declared.record.Mode.TheVariants.{Content, Changes}
 use Rattle.ldif.specs.declared.record.Record.{Record}
 use Rattle.ldif.specs.declared.record.Record.TheVariants as records
-use Rattle.ldif.specs.Gives.{◌>>=◌}
-use Rattle.ldif.specs.Line.{value_line, same_name, is_word, without_end}
+use Rattle.base.specs.Answers.{◌>>=◌, each}
+use Rattle.base.specs.Ends.{without_end}
+use Rattle.ldif.specs.Line.{value_line, same_name, is_word}
 use Rattle.ldif.specs.Controls.{control_of}
 
 abbrev pub items_of : Vec ℕ → List ℕ
@@ -24,14 +25,6 @@ items_of v = v.items
 
 abbrev pub texts : List (Vec ℕ) → List (List ℕ)
 texts vs = map items_of vs
-
--- what each reads as, or the fault of the first that has one
-unfoldable pub each : {X Y : Type 0} → (X → Result Y LdifFaultKind) → List X → Result (List Y) LdifFaultKind
-each read [] = Ok []
-each read (x ∷ xs) = do
-  y ← read x
-  ys ← each read xs
-  Ok (y ∷ ys)
 
 -- an attribute line of a content record
 unfoldable pub content_line : List ℕ → Result Attr LdifFaultKind

@@ -3,13 +3,14 @@
 ghost use Rattle.std.specs.Prelude.{◌≡◌};
 ghost use Rattle.ldif.specs.Gives.{Gives};
 ghost use Rattle.ldif.specs.Line.{value_line};
-ghost use Rattle.ldif.specs.Reading.{texts, content_line, each};
+ghost use Rattle.base.specs.Answers.{each};
+ghost use Rattle.ldif.specs.Reading.{texts, content_line};
 
 use crate::fault::{LdifFault, LdifFaultKind};
 use crate::line::value_line;
 use crate::value::Attr;
 use crate::word::same_name;
-use lists::Sequence;
+use base::Sequence;
 use std::alloc::Global;
 
 #[tactic(auto, unfolding(crate::specs::Reading::content_line))]

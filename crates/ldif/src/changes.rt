@@ -10,7 +10,7 @@ use crate::line::value_line;
 use crate::modify::mods_of;
 use crate::record::{Control, Record};
 use crate::word::{is_word, same_name};
-use lists::{Bytes, Sequence};
+use base::{Bytes, Sequence};
 use std::alloc::Global;
 
 /// The value of a line of this keyword, and the lines after it.

@@ -6,10 +6,10 @@ ghost use Rattle.ldif.specs.Gives.{Gives};
 ghost use Rattle.ldif.specs.Line.{same_name};
 
 use crate::fault::{LdifFault, LdifFaultKind};
-use crate::line::{begins_with, form_of, without_front};
+use crate::line::form_of;
 use crate::record::Control;
 use crate::word::same_name;
-use lists::Bytes;
+use base::{Bytes, begins_with, without_front};
 use std::alloc::Global;
 
 fn ends_oid(b: u8) -> bool

@@ -1,4 +1,6 @@
 //! Records of LDIF (RFC 2849): from the lines of a record to what it asks for, and lines that are written.
+//!
+//! The functions of `laws` do nothing: a call of one is made for what it states alone.
 #![tactic(auto)]
 
 mod attributes;

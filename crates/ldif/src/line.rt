@@ -1,49 +1,17 @@
 //! Value lines.
 
 ghost use Rattle.std.specs.Prelude.{◌≡◌, ◌<◌, List, ℕ, position, length, IfSome};
-ghost use Rattle.ldif_lines.specs.Records.{begins_with};
 ghost use Rattle.ldif.specs.Gives.{Gives, GivesBy};
 ghost use Rattle.ldif.specs.LineValues.{bytes_in};
-ghost use Rattle.ldif.specs.Line.{without_front, without_end, decoded, form_of, is_colon, value_of, value_line};
+ghost use Rattle.ldif.specs.Line.{decoded, form_of, is_colon, value_of, value_line};
 
 use crate::fault::{LdifFault, LdifFaultKind};
 use crate::value::{Attr, LineValue};
+use base::{Bytes, without_end, without_front};
 use base64::DecodeAllocError;
 use base64::engine::general_purpose::STANDARD;
-use lists::Bytes;
 use memchr::memchr;
 use std::alloc::Global;
-
-pub fn begins_with(line: &[u8], byte: u8) -> bool
-    ensures { result ≡ begins_with byte line.now }
-{
-    match line {
-        [] => false,
-        [first, ..] => *first == byte,
-    }
-}
-
-/// Skips the spaces at the front.
-pub fn without_front(text: &[u8]) -> &[u8]
-    ensures { result.now ≡ without_front text.now }
-{
-    let mut rest = text;
-    while let [b' ', after @ ..] = rest {
-        rest = after;
-    }
-    rest
-}
-
-/// Drops the spaces at the end.
-pub fn without_end(text: &[u8]) -> &[u8]
-    ensures { result.now ≡ without_end text.now }
-{
-    let mut len = text.len();
-    while len > 0 && text[len - 1] == b' ' {
-        len -= 1;
-    }
-    &text[..len]
-}
 
 // Kept apart, since most values are plain, and its tables would be laid out for them too.
 #[inline(never)]

@@ -2,13 +2,14 @@
 
 ghost use Rattle.std.specs.Prelude.{◌≡◌, ◌<◌, ◌∷◌, length};
 ghost use Rattle.ldif.specs.Gives.{Gives};
-ghost use Rattle.ldif.specs.Reading.{texts, each, is_dash, blocks, op_of, value_under, block};
+ghost use Rattle.base.specs.Answers.{each};
+ghost use Rattle.ldif.specs.Reading.{texts, is_dash, blocks, op_of, value_under, block};
 
 use crate::fault::{LdifFault, LdifFaultKind};
-use crate::line::{value_line, without_end};
+use crate::line::value_line;
 use crate::record::{Mod, Op};
 use crate::word::same_name;
-use lists::{Bytes, Sequence};
+use base::{Bytes, Sequence, without_end};
 use std::alloc::Global;
 
 #[tactic(auto, unfolding(crate::specs::Reading::is_dash))]

@@ -11,8 +11,8 @@ use crate::fault::{LdifFault, LdifFaultKind};
 use crate::line::value_line;
 use crate::record::{Control, Mode, Record};
 use crate::word::same_name;
+use base::{Bytes, Sequence};
 use ldif_lines::RawRecord;
-use lists::{Bytes, Sequence};
 use std::alloc::Global;
 
 fn split_line(lines: &[Vec<u8>]) -> (&[u8], &[Vec<u8>])

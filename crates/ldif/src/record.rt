@@ -1,7 +1,7 @@
 //! What a record asks for.
 
 use crate::value::Attr;
-use lists::{Bytes, Sequence};
+use base::{Bytes, Sequence};
 
 /// What the records of a text are.
 #[derive(Clone, Copy, Debug, PartialEq, Eq)]

@@ -3,7 +3,7 @@
 ghost use Rattle.std.specs.Prelude.{◌≡◌, IfOk};
 ghost use Rattle.ldif.specs.LineValues.{bytes_in};
 
-use lists::Bytes;
+use base::Bytes;
 use std::alloc::{AllocError, Global};
 use std::marker::Model;
 

@@ -4,11 +4,13 @@ ghost use Rattle.std.specs.Prelude.{◌≡◌, ◌<◌, ◌-◌, ◌^◌, ◌++�
 ghost use Rattle.std.specs.List.{list_all};
 ghost use Rattle.base64.specs.GeneralPurpose.{encode_of};
 ghost use Rattle.base64.specs.Engines.{standard};
+ghost use Rattle.base.specs.Ascii.{line_feed, space};
 ghost use Rattle.device.specs.Device.{Took, Broke};
 ghost use Rattle.ldif_lines.specs.Folding.{folded};
-ghost use Rattle.ldif.specs.Writing.{is_safe_byte, ends_with, is_plain, line_text, written_line, Keeps};
+ghost use Rattle.ldif.specs.Writing.{is_safe_byte, is_plain, line_text, written_line};
+ghost use Rattle.ldif.specs.inner.Writing.{Keeps};
 
-use crate::line::begins_with;
+use base::{begins_with, ends_with};
 use base64::engine::general_purpose::STANDARD;
 use device::{Device, Sink, push_all};
 use std::alloc::{AllocError, Global};
@@ -43,15 +45,6 @@ fn are_safe(value: &[u8]) -> bool
         safe &= is_safe_byte(*b);
     }
     safe
-}
-
-fn ends_with(text: &[u8], byte: u8) -> bool
-    ensures { result ≡ ends_with byte text.now }
-{
-    match text {
-        [] => false,
-        [.., last] => *last == byte,
-    }
 }
 
 #[tactic(auto, unfolding(crate::specs::Writing::is_plain))]
@@ -104,7 +97,7 @@ fn split_piece(text: &[u8], room: usize) -> (&[u8], &[u8])
 }
 
 fn push_piece(out: &mut Vec<u8>, piece: &[u8]) -> Result<(), AllocError>
-    ensures put { OnOk result (out.new.items ≡ out.old.items ++ 10 ∷ 32 ∷ piece.now) }
+    ensures put { OnOk result (out.new.items ≡ out.old.items ++ line_feed ∷ space ∷ piece.now) }
     ensures kept { OnErr result (Keeps out.old.items out.new.items) }
 {
     out.extend_from_slice(b"\n ")?;

@@ -4,8 +4,9 @@ use Rattle.std.specs.List.{slice_split, onto_first, filter_map, enumerate_from, 
 use Rattle.std.specs.Str.Lines.{lines}
 use Rattle.std.proofs.lemmas.List.{append-nil}
 use Rattle.std.proofs.lemmas.List.Splits.{slice_split-cons_yes, slice_split-cons_no}
-use Rattle.ldif_lines.specs.Records.{Body, RawRecord, begins_with, is_blank, continues, is_kept, bytes_of, continuation, joined, joined_block, body_of, body_of_block, with_first, records_from}
-use Rattle.ldif_lines.specs.Drafts.{RecordDraft, append_last, add_by, add}
+use Rattle.base.specs.Ends.{begins_with}
+use Rattle.ldif_lines.specs.Records.{Body, RawRecord, is_blank, continues, is_kept, bytes_of, continuation, joined, joined_block, body_of, body_of_block, with_first, records_from}
+use Rattle.ldif_lines.specs.inner.Drafts.{RecordDraft, append_last, add_by, add}
 use Rattle.std.proofs.lemmas.Bool.{eqb-true, false_from_ne_true}
 use Rattle.ldif_lines.proofs.LineLemmas.{split_cons}
 

@@ -1,28 +1,29 @@
 -- How lines are written: folded to at most 76 bytes (RFC 2849, note 2), each record with an empty line behind it.
 use Rattle.std.specs.Prelude.{◌≡◌, ℕ, zero, suc, Bool, true, false, not, ◌&&◌, ◌==◌, List, [], ◌∷◌, ◌++◌}
 use Rattle.std.specs.List.{flat_map, list_all, AllByRecursion}
+use Rattle.base.specs.Ascii.{line_feed, carriage_return, space, number_sign}
 use Rattle.ldif_lines.specs.Records.{RawRecord}
 
 -- a line that is folded, with room for so many bytes before the first fold: each further piece is a space and at most 75 bytes
 unfoldable pub folded : ℕ → List ℕ → List ℕ
-folded room [] = 10 ∷ []
-folded zero (b ∷ bs) = 10 ∷ 32 ∷ b ∷ folded 74 bs
+folded room [] = line_feed ∷ []
+folded zero (b ∷ bs) = line_feed ∷ space ∷ b ∷ folded 74 bs
 folded (suc room) (b ∷ bs) = b ∷ folded room bs
 
 abbrev pub written_block : List (List ℕ) → List ℕ
-written_block block = flat_map (folded 76) block ++ 10 ∷ []
+written_block block = flat_map (folded 76) block ++ line_feed ∷ []
 
 abbrev pub written_blocks : List (List (List ℕ)) → List ℕ
 written_blocks blocks = flat_map written_block blocks
 
 -- what may stand within a line: neither a line feed nor a carriage return
 abbrev pub is_line_byte : ℕ → Bool
-is_line_byte b = not (b == 10) && not (b == 13)
+is_line_byte b = not (b == line_feed) && not (b == carriage_return)
 
 -- there is a first byte, and it makes the line neither a continuation nor a comment
 abbrev pub begins_line : List ℕ → Bool
 begins_line [] = false
-begins_line (b ∷ bs) = not (b == 32) && not (b == 35)
+begins_line (b ∷ bs) = not (b == space) && not (b == number_sign)
 
 -- a line that can be written
 pub record IsWritable (line : List ℕ) : Type 0 where

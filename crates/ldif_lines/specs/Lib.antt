@@ -1,6 +1,5 @@
 pub mod Records
 pub mod Folding
-pub mod Drafts
 pub mod View
 pub mod Reader
-pub mod Examples
+pub mod inner

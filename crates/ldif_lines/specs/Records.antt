@@ -7,6 +7,8 @@
 use Rattle.std.specs.Prelude.{ℕ, Bool, true, false, not, List, [], ◌∷◌, ◌++◌, map, filter, length, drop, ◌==◌, Option, Some, None, if◌then◌else◌}
 use Rattle.std.specs.List.{slice_split, enumerate_from, filter_map}
 use Rattle.std.specs.Str.Lines.{lines}
+use Rattle.base.specs.Ascii.{space, number_sign}
+use Rattle.base.specs.Ends.{begins_with}
 
 -- a record: the number of its first line that is no comment, whether it is the text's first record, and its lines
 pub record RawRecord : Type 0 where
@@ -19,19 +21,15 @@ pub record Body : Type 0 where
   pub line : ℕ
   pub lines : List (List ℕ)
 
-abbrev pub begins_with : ℕ → List ℕ → Bool
-begins_with byte [] = false
-begins_with byte (b ∷ bs) = b == byte
-
 -- Below, a line is the number that it has in its text, and its bytes.
 abbrev pub is_blank : ℕ × List ℕ → Bool
 is_blank line = length line.1 == 0
 
 abbrev pub continues : ℕ × List ℕ → Bool
-continues line = begins_with 32 line.1
+continues line = begins_with space line.1
 
 abbrev pub is_kept : ℕ × List ℕ → Bool
-is_kept line = not (begins_with 35 line.1)
+is_kept line = not (begins_with number_sign line.1)
 
 abbrev pub bytes_of : ℕ × List ℕ → List ℕ
 bytes_of line = line.1

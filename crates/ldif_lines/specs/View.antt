@@ -2,9 +2,7 @@
 use Rattle.std.specs.Prelude.{ℕ, List, map}
 use Rattle.std.specs.Global.{Vec}
 use Rattle.ldif_lines.specs.Records as records
-use Rattle.ldif_lines.specs.Drafts as drafts
 use Rattle.ldif_lines.specs.declared.raw_record.RawRecord.{RawRecord}
-use Rattle.ldif_lines.specs.declared.draft.RecordDraft.{RecordDraft}
 
 abbrev pub items_of : Vec ℕ → List ℕ
 items_of v = v.items
@@ -14,6 +12,3 @@ texts vs = map items_of vs
 
 abbrev pub view : RawRecord → records.RawRecord
 view r = record { line = r.line; first = r.first; lines = texts r.lines.items }
-
-abbrev pub draft_of : RecordDraft → drafts.RecordDraft
-draft_of d = record { line = d.line; comment = d.in_comment; lines = texts d.lines.items }

@@ -1,11 +1,12 @@
 //! A record whose block is not yet at its end.
 
 ghost use Rattle.std.specs.Prelude.{◌≡◌, ◌<◌, ◌^◌, length, OnOk};
-ghost use Rattle.ldif_lines.specs.Drafts.{add, append_last};
-ghost use Rattle.ldif_lines.specs.View.{draft_of, texts};
+ghost use Rattle.ldif_lines.specs.inner.Drafts.{add, append_last};
+ghost use Rattle.ldif_lines.specs.View.{texts};
+ghost use Rattle.ldif_lines.specs.inner.View.{draft_of};
 
-use crate::line::begins_with;
 use crate::spare::Spare;
+use base::begins_with;
 use std::alloc::{AllocError, Global};
 
 /// Adds the bytes to the last of the lines.
@@ -30,7 +31,7 @@ pub struct RecordDraft {
 
 impl RecordDraft {
     /// Adds a line of the block, which is not empty.
-    #[tactic(auto, unfolding(crate::specs::Drafts::add_by))]
+    #[tactic(auto, unfolding(crate::specs::inner::Drafts::add_by))]
     pub fn add(
         &mut self,
         alloc: Global,

@@ -1,4 +1,6 @@
 //! The records of an LDIF text, each as its lines.
+//!
+//! The functions of `laws` do nothing: a call of one is made for what it states alone.
 #![tactic(auto)]
 
 mod draft;

@@ -2,7 +2,6 @@
 
 ghost use Rattle.std.specs.Prelude.{◌≡◌, ◌<◌, ◌≤◌, ◌∷◌, length, drop};
 ghost use Rattle.std.specs.Str.Lines.{lines, strip_carriage_return};
-ghost use Rattle.ldif_lines.specs.Records.{begins_with};
 
 use memchr::memchr;
 
@@ -26,14 +25,5 @@ pub fn split_line(text: &[u8]) -> (&[u8], usize)
     match memchr(b'\n', text) {
         Some(end) => (without_return(&text[..end]), end + 1),
         None => (text, text.len()),
-    }
-}
-
-pub fn begins_with(line: &[u8], byte: u8) -> bool
-    ensures { result ≡ begins_with byte line.now }
-{
-    match line {
-        [] => false,
-        [first, ..] => *first == byte,
     }
 }

@@ -5,7 +5,8 @@ use Rattle.std.proofs.lemmas.Str.Ascii.{lowercase-lowercase}
 use Rattle.std.proofs.lemmas.Bool.{cases_lt, le-ltb, lt-ltb, ne_eqb}
 use Rattle.matching.specs.declared.family.Family.{Family}
 use Rattle.matching.specs.declared.family.Family.TheVariants.{Ignore, Exact, Numeric, Telephone, Integer, Boolean, Octet, Name, Oid}
-use Rattle.matching.specs.Forms.{is_space, begins_with_space, one_spaces, without_front, without_end, onto_text, tidy, lower, is_no_space, is_no_filler, norm}
+use Rattle.base.specs.Ends.{is_space, without_front, without_end, onto_text}
+use Rattle.matching.specs.Forms.{begins_with_space, one_spaces, tidy, lower, is_no_space, is_no_filler, norm}
 use Rattle.matching.proofs.GapLoop.{kept}
 
 pub known : (b : Bool) → (b ≡ true) ⊎ (b ≡ false)

@@ -1,7 +1,8 @@
 -- The loop that drops spaces, one byte at a time.
 use Rattle.std.proofs.Common.{◌≡◌, ℕ, ◌+◌, Bool, true, false, cond, List, [], ◌∷◌, ◌++◌, ◌<◌, ◌≤◌, ◌≢◌, length, get_or, drop, refl, sym, ap, ◌∙◌, append_assoc}
-use Rattle.matching.specs.Forms.{is_space, one_spaces, without_end, onto_text, tidy}
-use Rattle.matching.specs.Gaps.{with_gap}
+use Rattle.base.specs.Ends.{is_space, without_end, onto_text}
+use Rattle.matching.specs.Forms.{one_spaces, tidy}
+use Rattle.matching.specs.inner.Gaps.{with_gap}
 use Rattle.std.proofs.lemmas.List.{append-nil, drop_more, drop_all}
 use Rattle.std.proofs.lemmas.Bool.{ne_eqb}
 

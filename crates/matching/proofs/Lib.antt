@@ -4,5 +4,4 @@ pub mod Again
 pub mod Texts
 pub mod Digits
 pub mod Stretches
-pub mod Ends
 pub mod ValidBytes

@@ -4,7 +4,7 @@ use Rattle.std.proofs.lemmas.Bool.{cases_lt}
 use Rattle.std.proofs.lemmas.List.{append_cancel_left, append-nil, drop_more, drop_all, drop_at, drop-append-le, take-append-drop, length-append, length-drop}
 use Rattle.std.proofs.lemmas.List.Prefix.{at_reads, at_from_reads}
 use Rattle.memchr.specs.Find.{OccursAt, NoneBefore, Nowhere}
-use Rattle.matching.specs.Places.{InOrder, AtEnd, FollowsFirst}
+use Rattle.matching.specs.inner.Places.{InOrder, AtEnd, FollowsFirst}
 use Rattle.matching.specs.Substrings.{Fits, joined}
 
 -- ---- one piece

@@ -1,11 +1,12 @@
 -- A text in which no space is to go.
 use Rattle.std.proofs.Common.{◌≡◌, ℕ, Bool, true, false, not, ◌&&◌, cond, List, [], ◌∷◌, refl, sym, ap, ◌∙◌, arith}
-use Rattle.matching.specs.Forms.{is_space, begins_with_space, one_spaces, without_front, without_end, onto_text, tidy, lower}
+use Rattle.base.specs.Ends.{is_space, without_front, without_end, onto_text}
+use Rattle.matching.specs.Forms.{begins_with_space, one_spaces, tidy, lower}
 use Rattle.std.specs.List.{list_any}
 use Rattle.std.specs.Char.{is_ascii_uppercase, to_ascii_lowercase}
 use Rattle.std.proofs.lemmas.Bool.{or_parts}
 use Rattle.std.proofs.lemmas.Bool.Decides.{nat_tests}
-use Rattle.matching.specs.Gaps.{is_tidy_after}
+use Rattle.matching.specs.inner.Gaps.{is_tidy_after}
 
 second : (a b : Bool) → a && b ≡ true → b ≡ true
 second true b h = h

@@ -1,11 +1,10 @@
 -- Normal forms of values (RFC 4518 for ASCII): two values are equal under a matching rule where their normal forms are (RFC 4517, 4.2).
 use Rattle.std.specs.Prelude.{ℕ, Bool, false, ◌&&◌, not, ◌==◌, if◌then◌else◌, List, [], ◌∷◌, map, filter}
 use Rattle.std.specs.Char.{to_ascii_lowercase}
+use Rattle.base.specs.Ascii.{hyphen}
+use Rattle.base.specs.Ends.{is_space, without_front, without_end}
 use Rattle.matching.specs.declared.family.Family.{Family}
 use Rattle.matching.specs.declared.family.Family.TheVariants as families
-
-abbrev pub is_space : ℕ → Bool
-is_space b = b == 32
 
 abbrev pub begins_with_space : List ℕ → Bool
 begins_with_space [] = false
@@ -15,21 +14,6 @@ begins_with_space (b ∷ bs) = is_space b
 abbrev pub one_spaces : List ℕ → List ℕ
 one_spaces [] = []
 one_spaces (b ∷ bs) = if is_space b && begins_with_space bs then one_spaces bs else b ∷ one_spaces bs
-
--- without the spaces at the front
-abbrev pub without_front : List ℕ → List ℕ
-without_front [] = []
-without_front (b ∷ bs) = if is_space b then without_front bs else b ∷ bs
-
--- b in front of bs, but a space in front of nothing goes away
-abbrev pub onto_text : ℕ → List ℕ → List ℕ
-onto_text b [] = if is_space b then [] else b ∷ []
-onto_text b (c ∷ cs) = b ∷ c ∷ cs
-
--- without the spaces at the end
-abbrev pub without_end : List ℕ → List ℕ
-without_end [] = []
-without_end (b ∷ bs) = onto_text b (without_end bs)
 
 -- no spaces at the ends, and one in each gap
 abbrev pub tidy : List ℕ → List ℕ
@@ -43,7 +27,7 @@ is_no_space b = not (is_space b)
 
 -- neither a space nor a hyphen
 abbrev pub is_no_filler : ℕ → Bool
-is_no_filler b = not (is_space b) && not (b == 45)
+is_no_filler b = not (is_space b) && not (b == hyphen)
 
 unfoldable pub norm : Family → List ℕ → List ℕ
 norm families.Ignore bs = lower (tidy bs)

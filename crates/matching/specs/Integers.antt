@@ -2,6 +2,7 @@
 use Rattle.std.specs.Prelude.{ℕ, ◌^◌, Bool, false, ◌&&◌, ◌||◌, not, ◌==◌, nat_lt, nat_le, List, [], ◌∷◌, length, slice_index, ℤ, pos, neg_ℤ, if◌then◌else◌}
 use Rattle.std.specs.Str.{all_ascii_digits}
 use Rattle.std.specs.Str.Parse.{digits_value}
+use Rattle.base.specs.Ascii.{hyphen}
 
 -- digits, at least one, and no zero before another digit
 abbrev pub are_plain_digits : List ℕ → Bool
@@ -9,11 +10,11 @@ are_plain_digits ds = all_ascii_digits ds && nat_lt 0 (length ds) && (length ds 
 
 abbrev pub is_minus : List ℕ → Bool
 is_minus [] = false
-is_minus (b ∷ bs) = b == 45
+is_minus (b ∷ bs) = b == hyphen
 
 abbrev pub after_minus : List ℕ → List ℕ
 after_minus [] = []
-after_minus (b ∷ bs) = if b == 45 then bs else b ∷ bs
+after_minus (b ∷ bs) = if b == hyphen then bs else b ∷ bs
 
 abbrev pub magnitude : List ℕ → ℕ
 magnitude bytes = digits_value 10 (after_minus bytes)

@@ -1,9 +1,7 @@
 pub mod Syntaxes
 pub mod Integers
-pub mod Numbers
 pub mod Forms
-pub mod Gaps
 pub mod Orders
 pub mod Differences
 pub mod Substrings
-pub mod Places
+pub mod inner

@@ -2,7 +2,8 @@
 use Rattle.std.specs.Prelude.{◌≡◌, ℕ, ◌+◌, Bool, true, false, List, [], ◌∷◌, ◌++◌, length, slice_index_or, if◌then◌else◌}
 use Rattle.matching.specs.declared.family.Family.{Family}
 use Rattle.matching.specs.declared.family.Family.TheVariants as families
-use Rattle.matching.specs.Forms.{one_spaces, without_front, without_end, lower, norm}
+use Rattle.base.specs.Ends.{without_front, without_end}
+use Rattle.matching.specs.Forms.{one_spaces, lower, norm}
 
 -- ---- the normal form of a piece
 

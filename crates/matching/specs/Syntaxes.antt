@@ -3,6 +3,7 @@ use Rattle.std.specs.Prelude.{ℕ, Bool, false, ◌&&◌, ◌||◌, not, ◌==�
 use Rattle.std.specs.List.{list_all}
 use Rattle.std.specs.Char.{is_ascii_digit}
 use Rattle.std.specs.Str.{is_utf8, bytes_eq}
+use Rattle.base.specs.Ascii.{space}
 use Rattle.matching.specs.declared.syntax.Syntax.{Syntax}
 use Rattle.matching.specs.declared.syntax.Syntax.TheVariants as syntaxes
 use Rattle.matching.specs.Integers.{is_integer}
@@ -14,11 +15,11 @@ abbrev pub is_ascii : ℕ → Bool
 is_ascii b = nat_lt b 128
 
 abbrev pub is_digit_or_space : ℕ → Bool
-is_digit_or_space b = is_ascii_digit b || b == 32
+is_digit_or_space b = is_ascii_digit b || b == space
 
 -- ASCII without the space
 abbrev pub is_oid_byte : ℕ → Bool
-is_oid_byte b = is_ascii b && not (b == 32)
+is_oid_byte b = is_ascii b && not (b == space)
 
 abbrev pub is_some_text : List ℕ → Bool
 is_some_text bytes = not (length bytes == 0)

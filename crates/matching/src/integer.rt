@@ -6,7 +6,7 @@ ghost use Rattle.std.specs.Char.{is_ascii_digit};
 ghost use Rattle.std.specs.List.{list_all};
 ghost use Rattle.std.specs.Str.Parse.{digits_value};
 ghost use Rattle.matching.specs.Integers.{are_plain_digits, is_minus, after_minus, fits, is_integer, value};
-ghost use Rattle.matching.specs.Numbers.{number};
+ghost use Rattle.matching.specs.inner.Numbers.{number};
 
 /// The magnitude of the least number of 128 signed bits.
 const LIMIT: u128 = 1 << 127;

@@ -1,4 +1,6 @@
 //! Syntaxes and matching rules of attribute values (RFC 4517).
+//!
+//! The functions of `laws` do nothing: a call of one is made for what it states alone.
 #![tactic(auto)]
 
 mod family;
@@ -14,6 +16,5 @@ pub use family::Family;
 pub use laws::{normal_forms_stay, valid_values_are_bytes};
 pub use normal::{Form, normal_form};
 pub use order::is_less;
-pub use spaces::{trim_end, trim_front};
 pub use substrings::{Pieces, contains_pieces};
 pub use syntax::{Syntax, is_valid};

@@ -4,10 +4,10 @@ ghost use Rattle.std.specs.Prelude.{◌≡◌, ◌≢◌, [], true, IfOk, IsTrue
 ghost use Rattle.std.specs.List.{list_any};
 ghost use Rattle.std.specs.Char.{is_ascii_uppercase};
 ghost use Rattle.matching.specs.Forms.{norm, tidy, lower, is_no_space, is_no_filler};
-ghost use Rattle.matching.specs.Gaps.{with_gap, is_tidy_after};
+ghost use Rattle.matching.specs.inner.Gaps.{with_gap, is_tidy_after};
 
 use crate::family::Family;
-use lists::Bytes;
+use base::Bytes;
 use std::alloc::{AllocError, Global};
 
 fn put_gap(out: &mut Vec<u8>, gap: bool) -> Result<(), AllocError>

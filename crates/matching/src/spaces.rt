@@ -1,31 +1,10 @@
 //! Spaces in values.
 
 ghost use Rattle.std.specs.Prelude.{◌≡◌, ◌&&◌, ◌+◌, ◌<◌, IfOk, drop, length, slice_index};
-ghost use Rattle.matching.specs.Forms.{is_space, begins_with_space, one_spaces, without_front, without_end};
+ghost use Rattle.base.specs.Ends.{is_space};
+ghost use Rattle.matching.specs.Forms.{begins_with_space, one_spaces};
 
 use std::alloc::{AllocError, Global};
-
-/// Without the spaces at the front.
-pub fn trim_front(text: &[u8]) -> &[u8]
-    ensures { result.now ≡ without_front text.now }
-{
-    let mut start = 0;
-    while start < text.len() && text[start] == b' ' {
-        start += 1;
-    }
-    text.split_at(start).1
-}
-
-/// Without the spaces at the end.
-pub fn trim_end(text: &[u8]) -> &[u8]
-    ensures { result.now ≡ without_end text.now }
-{
-    let mut end = text.len();
-    while end > 0 && text[end - 1] == b' ' {
-        end -= 1;
-    }
-    &text[..end]
-}
 
 // whether two spaces stand here
 fn is_double(text: &[u8], at: usize) -> bool

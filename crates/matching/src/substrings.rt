@@ -4,12 +4,12 @@ ghost use Rattle.std.specs.Prelude.{◌≡◌, ◌≢◌, ◌↔◌, ◌++◌, L
 ghost use Rattle.memchr.specs.Find.{OccursAt, Nowhere};
 ghost use Rattle.matching.specs.Forms.{lower};
 ghost use Rattle.matching.specs.Substrings.{Fits, cut_front, cut_end, tidy_piece, piece_norm, piece_norms};
-ghost use Rattle.matching.specs.Places.{InOrder, FollowsFirst};
+ghost use Rattle.matching.specs.inner.Places.{InOrder, FollowsFirst};
 
 use crate::family::Family;
 use crate::normal::normal_form;
-use crate::spaces::{one_spaces, trim_end, trim_front};
-use lists::{Bytes, Sequence};
+use crate::spaces::one_spaces;
+use base::{Bytes, Sequence, without_end, without_front};
 use memchr::memmem;
 use std::alloc::{AllocError, Global};
 
@@ -26,13 +26,13 @@ pub struct Pieces {
 fn cut_front(before: bool, text: &[u8]) -> &[u8]
     ensures { result.now ≡ cut_front before text.now }
 {
-    if before { text } else { trim_front(text) }
+    if before { text } else { without_front(text) }
 }
 
 fn cut_end(after: bool, text: &[u8]) -> &[u8]
     ensures { result.now ≡ cut_end after text.now }
 {
-    if after { text } else { trim_end(text) }
+    if after { text } else { without_end(text) }
 }
 
 fn tidy_piece(alloc: Global, before: bool, after: bool, text: &[u8]) -> Result<Bytes, AllocError>

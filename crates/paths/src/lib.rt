@@ -1,4 +1,6 @@
 //! RDNs of types by their numbers, and paths: where entries stand, in the order of a dump.
+//!
+//! The functions of `laws` do nothing: a call of one is made for what it states alone.
 #![tactic(auto)]
 
 mod draft;

@@ -5,7 +5,7 @@ ghost use Rattle.std.specs.List.{flat_map, list_all};
 ghost use Rattle.paths.specs.Packed.{byte_code, value_code, type_code, pair_code, step_code};
 
 use crate::type_id::TypeId;
-use lists::Bytes;
+use base::Bytes;
 use std::alloc::AllocError;
 
 /// What ends a value. It is below each byte of a value's code, so that a beginning comes first.

@@ -9,7 +9,7 @@ ghost use Rattle.paths.specs.Packed.{pack, unpack, IsPacked};
 
 use crate::packing::{STEP_END, push_step};
 use crate::type_id::TypeId;
-use lists::{Bytes, Sequence};
+use base::{Bytes, Sequence};
 use smallvec::SmallVec;
 use std::alloc::{AllocError, Global};
 use std::cmp::Ordering;

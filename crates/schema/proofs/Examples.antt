@@ -33,7 +33,7 @@ abbrev pub conf : Conf
 conf = record { types = object_class ∷ text_type (codes "1.2") (codes "x") ∷ []; suffix = step 0 (codes "top") ∷ [] }
 
 pub a_name_stands : located conf (codes "2.5.4.0=Person,OBJECTCLASS=Top") ≡ located_at (step 0 (codes "Person") ∷ [])
-unfolding located Rattle.schema.specs.Conf.below Rattle.schema.specs.Names.name_of_text Rattle.schema.specs.Each.each Rattle.schema.specs.Names.part_of Rattle.values.specs.Types.type_of Rattle.schema.specs.Rdns.rdn_key_of Rattle.schema.specs.Rdns.put_pair Rattle.matching.specs.Forms.norm Rattle.matching.specs.Syntaxes.is_valid
+unfolding located Rattle.schema.specs.Conf.below Rattle.schema.specs.Names.name_of_text Rattle.base.specs.Answers.each Rattle.schema.specs.Names.part_of Rattle.values.specs.Types.type_of Rattle.schema.specs.Rdns.rdn_key_of Rattle.schema.specs.Rdns.put_pair Rattle.matching.specs.Forms.norm Rattle.matching.specs.Syntaxes.is_valid
 a_name_stands = refl
 
 pub path_of_text : path_of conf (step 1 (codes "Big  Bob") ∷ []) ≡ step 1 (codes "big bob") ∷ []
@@ -41,9 +41,9 @@ unfolding Rattle.schema.specs.Rdns.rdn_key_of Rattle.schema.specs.Rdns.put_pair 
 path_of_text = refl
 
 pub beside_the_suffix : located conf (codes "objectClass=top,objectClass=domain") ≡ Err NoSuchObject
-unfolding located Rattle.schema.specs.Conf.below Rattle.schema.specs.Names.name_of_text Rattle.schema.specs.Each.each Rattle.schema.specs.Names.part_of Rattle.values.specs.Types.type_of Rattle.schema.specs.Rdns.rdn_key_of Rattle.schema.specs.Rdns.put_pair Rattle.matching.specs.Forms.norm Rattle.matching.specs.Syntaxes.is_valid
+unfolding located Rattle.schema.specs.Conf.below Rattle.schema.specs.Names.name_of_text Rattle.base.specs.Answers.each Rattle.schema.specs.Names.part_of Rattle.values.specs.Types.type_of Rattle.schema.specs.Rdns.rdn_key_of Rattle.schema.specs.Rdns.put_pair Rattle.matching.specs.Forms.norm Rattle.matching.specs.Syntaxes.is_valid
 beside_the_suffix = refl
 
 pub no_name : located conf (codes "x = a,objectClass=top") ≡ Err InvalidDnSyntax
-unfolding located Rattle.schema.specs.Names.name_of_text Rattle.schema.specs.Each.each Rattle.schema.specs.Names.part_of
+unfolding located Rattle.schema.specs.Names.name_of_text Rattle.base.specs.Answers.each Rattle.schema.specs.Names.part_of
 no_name = refl

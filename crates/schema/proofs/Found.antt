@@ -9,7 +9,8 @@ use Rattle.std.proofs.lemmas.List.Quantifiers.{position-Some}
 use Rattle.values.specs.declared.types.AttributeType.{AttributeType}
 use Rattle.schema.specs.declared.code.Code.{Code}
 use Rattle.schema.specs.declared.code.Code.TheVariants.{InvalidDnSyntax, NamingViolation, NoSuchObject}
-use Rattle.schema.specs.Each.{◌>>=◌, each}
+use Rattle.base.proofs.Bound.{bind_ok, same_ok}
+use Rattle.base.specs.Answers.{◌>>=◌, each}
 use Rattle.values.specs.Types.{is_named, type_of, no_type, is_known, has_equality}
 use Rattle.values.specs.Values.{is_valid_at}
 use Rattle.schema.specs.Rdns.{Rdn, IsRdn, rdn_key_of, is_plain_byte, is_inner_byte, is_plain_value}
@@ -22,13 +23,6 @@ use Rattle.schema.proofs.Locating.{all_reverse, all_mapped, written_is_part}
 
 both : (a b : Bool) → a ≡ true → b ≡ true → (a && b) ≡ true
 both a b h k = ap (λ x. x && b) h ∙ k
-
-bind_ok : {A B : Type 0} (r : Result A Code) (f : A → Result B Code) (y : B) → (r >>= f) ≡ Ok y → (x : A) × (r ≡ Ok x) × (f x ≡ Ok y)
-bind_ok (Ok x) f y e = (x, refl, e)
-bind_ok (Err d) f y e = absurd cc
-
-same_ok : {A : Type 0} (x y : A) → ◌≡◌ {A = Result A Code} (Ok x) (Ok y) → x ≡ y
-same_ok x y e = cc
 
 -- what each gives has what one gives
 each_ok : {X Y : Type 0} (P : Y → Type 0) (f : X → Result Y Code) → ((x : X) (y : Y) → f x ≡ Ok y → P y) → (xs : List X) (ys : List Y) → each f xs ≡ Ok ys → AllByRecursion P ys

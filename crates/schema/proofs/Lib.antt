@@ -1,11 +1,9 @@
-pub mod Loop
 pub mod Below
 pub mod Named
 pub mod Spelled
 pub mod Locating
 pub mod Steps
 pub mod Found
-pub mod Through
 pub mod Whole
 pub mod Taken
 pub mod Twins

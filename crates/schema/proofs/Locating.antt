@@ -11,7 +11,7 @@ use Rattle.std.proofs.lemmas.Cmp.{tied_itself}
 use Rattle.values.specs.declared.types.AttributeType.{AttributeType}
 use Rattle.schema.specs.declared.code.Code.{Code}
 use Rattle.schema.specs.declared.code.Code.TheVariants.{InvalidDnSyntax, NamingViolation, NoSuchObject}
-use Rattle.schema.specs.Each.{◌>>=◌, each}
+use Rattle.base.specs.Answers.{◌>>=◌, each}
 use Rattle.values.specs.Types.{printed_name, name_of, type_at, is_known, has_equality, first_or}
 use Rattle.definitions.specs.Naming.{is_oid, are_groups, is_name, is_name_byte, is_type_name, is_reserved}
 use Rattle.schema.specs.Rdns.{Rdn, IsRdn, rdn_key_of, is_plain_byte}

@@ -10,7 +10,7 @@ use Rattle.std.proofs.lemmas.List.Folds.{list_all-append}
 use Rattle.std.proofs.lemmas.Bool.{ne_eqb}
 use Rattle.schema.specs.declared.code.Code.{Code}
 use Rattle.schema.specs.declared.code.Code.TheVariants.{InvalidDnSyntax}
-use Rattle.schema.specs.Each.{◌>>=◌, each}
+use Rattle.base.specs.Answers.{◌>>=◌, each}
 use Rattle.schema.specs.Rdns.{is_plain_byte, is_inner_byte, is_plain_value}
 use Rattle.schema.specs.Names.{NamePart, Name, is_comma, is_equals, is_type_text, part_cut, part_of, name_of_text, part_text, text_of_name}
 

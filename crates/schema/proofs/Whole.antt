@@ -18,14 +18,14 @@ use Rattle.schema.specs.declared.conf_fault.ConfFaultKind.{ConfFaultKind}
 use Rattle.schema.specs.declared.conf_fault.ConfFaultKind.TheVariants.{Keyword, Form, Twice, Suffix, Collective, TooManyTypes}
 use Rattle.definitions.specs.declared.class_definition.ClassDefinition.{ClassDefinition}
 use Rattle.definitions.specs.ClassDefinitions.{class_definition_of}
-use Rattle.schema.specs.declared.conf_fault.ConfFault.{ConfFault}
-use Rattle.schema.specs.declared.conf_fault.ConfFault.TheVariants as faults
-use Rattle.schema.specs.Reads.{FailsAt}
 use Rattle.schema.specs.TypeRules.{type_with}
 use Rattle.schema.specs.Rdns.{Rdn, IsRdn}
 use Rattle.schema.specs.Names.{Name, name_of_text}
 use Rattle.schema.specs.Conf.{IsConf, IsType, share_name}
-use Rattle.schema.specs.Configurations.{At, ◌>>=◌, through, says_nothing, is_first, is_built_in, names_one, has_twin, is_taken, superior_of, up_of, flaw_of, unless, below, refused, placed, object_class, Defined, built_in, or_fault, class_refused, class_placed, with_types, types_in, definition_line, defined_by, some_rdns, typed_name, suffix_at, suffix_text, suffix_line, suffix_of}
+use Rattle.base.proofs.Each.{passed_on}
+use Rattle.base.proofs.Bound.{bind_ok, same_ok}
+use Rattle.base.specs.Answers.{◌>>=◌, through, Fails}
+use Rattle.schema.specs.Configurations.{At, says_nothing, is_first, is_built_in, names_one, has_twin, is_taken, superior_of, up_of, flaw_of, unless, below, refused, placed, object_class, Defined, built_in, or_fault, class_refused, class_placed, with_types, types_in, definition_line, defined_by, some_rdns, typed_name, suffix_at, suffix_text, suffix_line, suffix_of}
 use Rattle.schema.proofs.Found.{name_plain, rdns_are}
 
 -- what the crate below says of each type that a text defines
@@ -34,13 +34,6 @@ Defines = (text : List ℕ) (d : TypeDefinition) → type_definition_of text ≡
 
 abbrev IsNamed : TypeDefinition → Type 0
 IsNamed d = (is_oid d.element.oid ≡ true) × (list_all is_type_name d.element.names ≡ true)
-
-bind_ok : {A B : Type 0} (r : Result A At) (f : A → Result B At) (y : B) → (r >>= f) ≡ Ok y → (x : A) × (r ≡ Ok x) × (f x ≡ Ok y)
-bind_ok (Ok x) f y e = (x, refl, e)
-bind_ok (Err d) f y e = absurd cc
-
-same_ok : {A : Type 0} (x y : A) → ◌≡◌ {A = Result A At} (Ok x) (Ok y) → x ≡ y
-same_ok x y e = cc
 
 -- what each step keeps, the whole keeps
 through_keeps : {S L : Type 0} (P : S → Type 0) (step : S → L → Result S At) → ((s : S) (l : L) (t : S) → P s → step s l ≡ Ok t → P t) → (ls : List L) (s out : S) → P s → through step s ls ≡ Ok out → P out
@@ -190,9 +183,8 @@ line_keeps law s l out h e =
     (class_keeps s l.number (class_definition_of (after_word l.text)) out h)
     (λ said. absurd cc))))) e
 
-pub types_fail : (e : ConfFault) (r : Outcome) → FailsAt e r → FailsAt e (types_in r)
-types_fail faults.OutOfMemory r h = tt
-types_fail (faults.Line line kind) r h = ap types_in h
+pub types_fail : (e : Option At) (r : Outcome) → Fails e r → Fails e (types_in r)
+types_fail e r = passed_on e r (types_in r) λ fault is. ap types_in is
 
 object_class_is : AreTypes (object_class ∷ [])
 unfolding IsDistinct are_groups

@@ -11,7 +11,7 @@ use Rattle.values.specs.Values.{is_valid_at}
 use Rattle.paths.specs.Paths.{RdnKey, Path, rdn_key_cmp}
 use Rattle.schema.specs.Rdns.{Rdn, rdn_key_of, IsRdn}
 use Rattle.schema.specs.TypeRules.{has_name_syntax}
-use Rattle.schema.specs.Each.{◌>>=◌, each}
+use Rattle.base.specs.Answers.{◌>>=◌, each}
 use Rattle.schema.specs.Names.{Name, NamePart, name_of_text, text_of_name}
 
 pub record Conf : Type 0 where

@@ -3,18 +3,20 @@ use Rattle.std.specs.Prelude.{ℕ, Bool, false, ◌&&◌, ◌||◌, ◌==◌, na
 use Rattle.std.specs.List.{list_any, list_all}
 use Rattle.std.specs.Option.{option_map}
 use Rattle.std.specs.Str.{str_eq_ignore_ascii_case, bytes_eq}
+use Rattle.base.specs.Ascii.{quotation_mark, number_sign}
 use Rattle.schema.specs.declared.conf_fault.ConfFaultKind.{ConfFaultKind}
 use Rattle.schema.specs.declared.conf_fault.ConfFaultKind.TheVariants.{Keyword, Form, Twice, UnknownName, Subtype, RuleSyntax, Suffix, Collective, TooManyTypes}
 use Rattle.schema.specs.declared.code.Code.{Code}
 use Rattle.values.specs.declared.types.AttributeType.{AttributeType}
 use Rattle.values.specs.Types.{is_named, type_of, type_at}
+use Rattle.base.specs.Answers.{◌>>=◌, through}
 use Rattle.matching.specs.declared.syntax.Syntax.TheVariants as syntaxes
 use Rattle.matching.specs.declared.family.Family.TheVariants as families
-use Rattle.matching.specs.Forms.{without_end}
+use Rattle.base.specs.Ends.{without_end, begins_with}
 use Rattle.definitions.specs.declared.lines.Line.{Line}
 use Rattle.definitions.specs.declared.element.Element.{Element}
 use Rattle.definitions.specs.declared.type_definition.TypeDefinition.{TypeDefinition}
-use Rattle.definitions.specs.Words.{begins_with, skip, first_word, after_word}
+use Rattle.definitions.specs.Words.{skip, first_word, after_word}
 use Rattle.definitions.specs.Lines.{begins_blank, lines_of}
 use Rattle.definitions.specs.declared.class_definition.ClassDefinition.{ClassDefinition}
 use Rattle.definitions.specs.TypeDefinitions.{type_definition_of}
@@ -28,21 +30,9 @@ use Rattle.schema.specs.Conf.{Conf, typed}
 abbrev pub At : Type 0
 At = ℕ × ConfFaultKind
 
-infixl 10 ◌>>=◌
-abbrev pub ◌>>=◌ : {A B : Type 0} → Result A At → (A → Result B At) → Result B At
-(Ok x) >>= f = f x
-(Err e) >>= f = Err e
-
--- ---- lines
-
--- one line after the other; the first fault answers
-unfoldable pub through : {S L : Type 0} → (S → L → Result S At) → S → List L → Result S At
-through step s [] = Ok s
-through step s (l ∷ ls) = step s l >>= λ next. through step next ls
-
 -- an empty line or a comment
 abbrev pub says_nothing : List ℕ → Bool
-says_nothing line = length line == 0 || begins_with 35 line
+says_nothing line = length line == 0 || begins_with number_sign line
 
 -- ---- types
 
@@ -184,7 +174,7 @@ types_in r = r >>= λ s. Ok s.types
 
 -- both ends are `"`
 abbrev pub is_quoted : List ℕ → Bool
-is_quoted text = nat_le 2 (length text) && begins_with 34 text && bytes_eq (drop (length text - 1) text) (34 ∷ [])
+is_quoted text = nat_le 2 (length text) && begins_with quotation_mark text && bytes_eq (drop (length text - 1) text) (quotation_mark ∷ [])
 
 abbrev pub unquoted : List ℕ → List ℕ
 unquoted text = if is_quoted text then take (length text - 2) (drop 1 text) else text

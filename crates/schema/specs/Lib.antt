@@ -5,9 +5,7 @@ pub mod Conf
 pub mod RuleNames
 pub mod TypeRules
 pub mod Gives
-pub mod Each
 pub mod ConfFaults
 pub mod Configurations
-pub mod Classes
 pub mod Reads
-pub mod Keys
+pub mod inner

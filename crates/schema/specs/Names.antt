@@ -1,9 +1,10 @@
 -- Names as text, in this profile of RFC 4514: RDNs of one part, no spaces round them, plain values.
 use Rattle.std.specs.Prelude.{ℕ, ◌+◌, Bool, not, ◌&&◌, ◌==◌, if◌then◌else◌, List, [], ◌∷◌, ◌++◌, map, take, drop, length, position, Option, Some, None, Result, Ok, Err}
 use Rattle.std.specs.List.{list_all, slice_split, join_with_byte}
+use Rattle.base.specs.Ascii.{comma, equals_sign}
 use Rattle.schema.specs.declared.code.Code.{Code}
 use Rattle.schema.specs.declared.code.Code.TheVariants.{InvalidDnSyntax}
-use Rattle.schema.specs.Each.{each}
+use Rattle.base.specs.Answers.{each}
 use Rattle.schema.specs.Rdns.{is_plain_byte, is_plain_value}
 
 -- a type as written, and a value
@@ -15,10 +16,10 @@ abbrev pub Name : Type 0
 Name = List NamePart
 
 abbrev pub is_comma : ℕ → Bool
-is_comma b = b == 44
+is_comma b = b == comma
 
 abbrev pub is_equals : ℕ → Bool
-is_equals b = b == 61
+is_equals b = b == equals_sign
 
 -- letters, digits, `-`, `_` and `.`, not empty
 abbrev pub is_type_text : List ℕ → Bool
@@ -39,7 +40,7 @@ name_of_text text = if length text == 0 then Ok [] else each part_of (slice_spli
 -- ---- a name as it is written
 
 abbrev pub part_text : NamePart → List ℕ
-part_text p = p.0 ++ 61 ∷ p.1
+part_text p = p.0 ++ equals_sign ∷ p.1
 
 unfoldable pub text_of_name : Name → List ℕ
-text_of_name n = join_with_byte 44 (map part_text n)
+text_of_name n = join_with_byte comma (map part_text n)

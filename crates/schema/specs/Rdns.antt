@@ -2,6 +2,7 @@
 use Rattle.std.specs.Prelude.{◌≡◌, ℕ, Bool, true, false, not, ◌&&◌, ◌||◌, ◌==◌, nat_eq, nat_lt, if◌then◌else◌, List, [], ◌∷◌, map, length, slice_index, ◌-◌}
 use Rattle.std.specs.List.{list_all, AllByRecursion, IsDistinct}
 use Rattle.std.specs.Char.{is_ascii_alphanumeric}
+use Rattle.base.specs.Ascii.{space, hyphen, full_stop, underscore}
 use Rattle.values.specs.declared.types.AttributeType.{AttributeType}
 use Rattle.values.specs.Types.{is_known, has_equality}
 use Rattle.values.specs.Values.{is_valid_at, norm_at}
@@ -29,10 +30,10 @@ rdn_key_of types (p ∷ ps) = put_pair (p.0, norm_at types p.0 p.1) (rdn_key_of 
 -- ---- which values a name can have, in this profile: letters, digits, `-`, `_`, `.` and inner spaces, at least one byte
 
 abbrev pub is_plain_byte : ℕ → Bool
-is_plain_byte b = is_ascii_alphanumeric b || b == 45 || b == 95 || b == 46
+is_plain_byte b = is_ascii_alphanumeric b || b == hyphen || b == underscore || b == full_stop
 
 abbrev pub is_inner_byte : ℕ → Bool
-is_inner_byte b = is_plain_byte b || b == 32
+is_inner_byte b = is_plain_byte b || b == space
 
 abbrev pub is_plain_value : List ℕ → Bool
 is_plain_value v = not (length v == 0) && list_all is_inner_byte v && is_plain_byte (slice_index v 0) && is_plain_byte (slice_index v (length v - 1))

@@ -6,8 +6,8 @@ ghost use Rattle.std.specs.Str.{str_eq_ignore_ascii_case};
 ghost use Rattle.values.specs.Tables.{number_of};
 ghost use Rattle.schema.specs.Configurations.{is_class_named, is_class};
 
+use base::{Bytes, Sequence};
 use definitions::Element;
-use lists::{Bytes, Sequence};
 use std::alloc::{AllocError, Global};
 use std::marker::Model;
 use values::NameIndex;
@@ -23,7 +23,7 @@ pub(crate) struct ClassTable {
 impl Model for ClassTable {
     ghost use Rattle.std.specs.Prelude.{List};
     ghost use Rattle.definitions.specs.declared.element.Element.{Element};
-    ghost use Rattle.schema.specs.Classes.{KnowsClasses};
+    ghost use Rattle.schema.specs.inner.Classes.{KnowsClasses};
 
     ghost Value = { List Element };
 
@@ -59,7 +59,7 @@ fn add_class(
 }
 
 impl ClassTable {
-    /// No classes. In those that come some `names` are found quickly.
+    /// No classes. As many `names` as are expected are found quickly, more than them less so.
     pub(crate) fn with_room(alloc: Global, names: usize) -> Result<ClassTable, AllocError>
         ensures { IfOk result (λ t. t ≡ []) }
     {

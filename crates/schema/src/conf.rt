@@ -7,7 +7,7 @@ ghost use Rattle.values.specs.Values.{is_valid_at, norm_at};
 ghost use Rattle.schema.specs.Gives.{Makes};
 
 use crate::locate::TypedName;
-use lists::Sequence;
+use base::Sequence;
 use matching::is_valid;
 use paths::{Path, Rdn};
 use std::alloc::Global;
@@ -37,7 +37,7 @@ impl Model for Conf {
 
 impl Conf {
     ghost use Rattle.schema.specs.Conf.{IsConf, root_rdn};
-    ghost use Rattle.schema.specs.Keys.{KeysFit};
+    ghost use Rattle.schema.specs.inner.Keys.{KeysFit};
 
     pub(crate) fn new(types: TypeTable, suffix: TypedName) -> Conf
         requires same_conf { IsConf (record { types = types; suffix = suffix.rdns.items }) }

@@ -4,7 +4,8 @@ ghost use Rattle.std.specs.Prelude.{◌≡◌};
 ghost use Rattle.schema.specs.Configurations.{says_nothing, is_first};
 
 use crate::conf_fault::{ConfFault, ConfFaultKind};
-use definitions::{begins_with, split_first_word};
+use base::begins_with;
+use definitions::split_first_word;
 
 pub(crate) fn says_nothing(line: &[u8]) -> bool
     ensures { result ≡ says_nothing line.now }

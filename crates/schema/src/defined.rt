@@ -11,11 +11,10 @@ use crate::class_table::ClassTable;
 use crate::conf_fault::{ConfFault, ConfFaultKind};
 use crate::conf_lines::{fault, is_first, says_nothing};
 use crate::type_lines::{define_type, has_twin, is_built_in, is_type, object_class};
+use base::{Bytes, Sequence, begins_with};
 use definitions::{
-    ClassDefinition, DefinitionFault, Element, Line, begins_with, read_class_definition,
-    split_first_word,
+    ClassDefinition, DefinitionFault, Element, Line, read_class_definition, split_first_word,
 };
-use lists::{Bytes, Sequence};
 use std::alloc::{AllocError, Global};
 use values::TypeTable;
 
@@ -192,7 +191,7 @@ fn built_in_types(alloc: Global, names: usize) -> Result<TypeTable, AllocError>
     none.with(alloc, object_class(alloc)?)
 }
 
-/// The types that the lines define, after the one that is built in. Some `names` are found quickly.
+/// The types that the lines define, after the one that is built in. `names` is how many names are expected.
 pub(crate) fn types_of(alloc: Global, names: usize, lines: &[Line]) -> Result<TypeTable, ConfFault>
     ensures { Reads (λ t. t) result (types_in (defined_by built_in lines.now)) }
 {

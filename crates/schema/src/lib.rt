@@ -1,4 +1,6 @@
 //! The configuration of a directory: its attribute types and suffix, and where names stand.
+//!
+//! The functions of `laws` do nothing, and neither does `Conf::holds`: a call of one is made for what it states alone.
 #![tactic(auto)]
 
 mod class_table;

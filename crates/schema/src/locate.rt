@@ -3,7 +3,7 @@
 ghost use Rattle.std.specs.Prelude.{◌≡◌, ◌<◌, ◌∷◌, ◌++◌, [], ◌≤◌, IfOk, IfSome, IsTrue, map, reverse, length};
 ghost use Rattle.std.specs.List.{AllByRecursion};
 ghost use Rattle.schema.specs.Rdns.{rdn_key_of};
-ghost use Rattle.schema.specs.Keys.{IsOne, KeysFit};
+ghost use Rattle.schema.specs.inner.Keys.{IsOne, KeysFit};
 ghost use Rattle.schema.specs.Conf.{typed_rdn, typed, below, located, path_of};
 ghost use Rattle.schema.specs.Gives.{Gives};
 
@@ -12,7 +12,7 @@ use crate::conf::Conf;
 use crate::fault::PathFault;
 use crate::name::name_of_text;
 use crate::type_rules::is_syntax;
-use lists::{Bytes, Sequence};
+use base::{Bytes, Sequence};
 use matching::{Syntax, is_valid};
 use paths::{Path, PathDraft, Rdn};
 use std::alloc::{AllocError, Global};
@@ -123,7 +123,7 @@ pub(crate) fn typed(
 }
 
 impl Conf {
-    ghost use Rattle.schema.specs.Keys.{KeysFit};
+    ghost use Rattle.schema.specs.inner.Keys.{KeysFit};
 
     // the RDNs below the suffix, from the suffix down
     fn below_suffix(&self, alloc: Global, typed: TypedName) -> Result<Located, PathFault>

@@ -4,7 +4,7 @@ ghost use Rattle.std.specs.Prelude.{◌≡◌, ◌<◌, IfOk, IfSome, map, lengt
 ghost use Rattle.std.specs.List.{list_all, slice_split};
 ghost use Rattle.schema.specs.Rdns.{is_plain_byte, is_inner_byte, is_plain_value};
 ghost use Rattle.schema.specs.Names.{is_comma, is_equals, is_type_text, part_of, name_of_text};
-ghost use Rattle.schema.specs.Each.{each};
+ghost use Rattle.base.specs.Answers.{each};
 ghost use Rattle.schema.specs.Gives.{Gives};
 
 use crate::code::Code;

@@ -5,15 +5,15 @@ ghost use Rattle.schema.specs.Configurations.{is_quoted, unquoted, suffix_text, 
 ghost use Rattle.schema.specs.Names.{name_of_text};
 ghost use Rattle.schema.specs.Gives.{Gives};
 ghost use Rattle.schema.specs.Reads.{Reads};
-ghost use Rattle.schema.specs.Keys.{KeysFit, rdns_found, FoundFits};
+ghost use Rattle.schema.specs.inner.Keys.{KeysFit, rdns_found, FoundFits};
 
 use crate::conf_fault::{ConfFault, ConfFaultKind};
 use crate::conf_lines::{fault, is_first, says_nothing};
 use crate::fault::PathFault;
 use crate::locate::{TypedName, typed};
 use crate::name::name_of_text;
-use definitions::{Line, begins_with, skip, split_first_word};
-use matching::trim_end;
+use base::{begins_with, without_end};
+use definitions::{Line, skip, split_first_word};
 use std::alloc::Global;
 use values::TypeTable;
 
@@ -39,7 +39,7 @@ fn unquoted(text: &[u8]) -> &[u8]
 fn suffix_text(line: &[u8]) -> &[u8]
     ensures { result.now ≡ suffix_text line.now }
 {
-    unquoted(trim_end(skip(split_first_word(line).1)))
+    unquoted(without_end(skip(split_first_word(line).1)))
 }
 
 fn typed_name(alloc: Global, types: &TypeTable, text: &[u8]) -> Result<TypedName, PathFault>

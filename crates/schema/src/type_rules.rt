@@ -6,8 +6,8 @@ ghost use Rattle.schema.specs.TypeRules.{family_number, is_family, syntax_number
 ghost use Rattle.schema.specs.RuleNames.{or_else, equality_of, ordering_of, substrings_of};
 
 use crate::rule_names::{equality_of, ordering_of, substrings_of, syntax_of};
+use base::{Bytes, Sequence};
 use definitions::{TypeDefinition, Usage};
-use lists::{Bytes, Sequence};
 use matching::{Family, Syntax};
 use std::alloc::{AllocError, Global};
 use values::{AttributeType, TypeId};

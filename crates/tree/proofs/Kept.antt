@@ -15,12 +15,13 @@ use Rattle.schema.specs.declared.code.Code.TheVariants.{EntryAlreadyExists, NoSu
 use Rattle.paths.specs.Paths.{RdnKey, Path, path_cmp, parent_of, is_root}
 use Rattle.schema.specs.Rdns.{Rdn, IsRdn, rdn_key_of}
 use Rattle.schema.specs.Conf.{Conf, IsConf, root_rdn, first_rdn, located, located_at, path_of}
-use Rattle.schema.specs.Each.{◌>>=◌}
+use Rattle.base.specs.Answers.{◌>>=◌}
 use Rattle.tree.specs.Entries.{EntryContent, Attributes, IsGood, add_lines, has_class, are_single}
 use Rattle.tree.specs.Directories.{Entries, IsDirectory}
 use Rattle.tree.specs.Adds.{own_rdn, with_entry, entry_of, add_at, add}
 use Rattle.tree.proofs.Order.{path_total, path_exact}
-use Rattle.tree.proofs.Pushed.{AreGood, bind_ok, same_ok, lines_good, rdn_good, all_come}
+use Rattle.base.proofs.Bound.{bind_ok, same_ok}
+use Rattle.tree.proofs.Pushed.{AreGood, lines_good, rdn_good, all_come}
 use Rattle.tree.proofs.Adding.{parent_is}
 
 guard_ok : {A : Type 0} (b : Bool) (d : Code) (x : Result A Code) (y : A) → cond b (Err d) x ≡ Ok y → (b ≡ false) × (x ≡ Ok y)

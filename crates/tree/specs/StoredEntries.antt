@@ -1,14 +1,11 @@
 -- Entries as they are stored: each value with its normal form.
-use Rattle.std.specs.Prelude.{◌≡◌, ℕ, ◌<◌, Bool, List, map, length, refl}
+use Rattle.std.specs.Prelude.{◌≡◌, ℕ, ◌<◌, List, map, length, refl}
 use Rattle.std.specs.Coded.{Coded, code_by, coded×, coded_ℕ, coded_list}
-use Rattle.std.specs.BTreeSet.{BTreeSet, contains}
-use Rattle.std.specs.List.{AllByRecursion, list_any}
-use Rattle.std.specs.Str.{bytes_eq}
+use Rattle.std.specs.List.{AllByRecursion}
 use Rattle.values.specs.declared.types.AttributeType.{AttributeType}
 use Rattle.values.specs.Values.{Value, norm_at, value_code}
-use Rattle.paths.specs.Paths.{Pair, pair_cmp}
 use Rattle.schema.specs.Rdns.{Rdn}
-use Rattle.tree.specs.Entries.{Attributes, EntryContent, values_of}
+use Rattle.tree.specs.Entries.{Attributes, EntryContent}
 
 -- a type's number, and its values
 abbrev pub EntryAttribute : Type 0
@@ -39,14 +36,6 @@ pub record IsMadeAttribute (types : List AttributeType) (a : EntryAttribute) : T
 
 pub record IsMade (types : List AttributeType) (attrs : List EntryAttribute) : Type 0 where
   pub each : AllByRecursion (IsMadeAttribute types) attrs
-
--- whether one of the values has this normal form
-abbrev pub has_norm : List ℕ → List Value → Bool
-has_norm norm vs = list_any (λ v. bytes_eq v.norm norm) vs
-
--- the set has the normal form of each value, with its type, and no other
-pub record AreNormsOf (norms : BTreeSet Pair) (attrs : List EntryAttribute) : Type 0 where
-  pub each : (t : ℕ) (norm : List ℕ) → contains pair_cmp norms (t, norm) ≡ has_norm norm (values_of attrs t)
 
 abbrev rdn_code : Coded Rdn
 rdn_code = coded_list (coded× coded_ℕ (coded_list coded_ℕ))

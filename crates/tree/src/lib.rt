@@ -1,4 +1,6 @@
 //! Entries, the tree of a directory, and what a record does to it.
+//!
+//! The functions of `laws` do nothing, and neither does `Tree::is_directory`: a call of one is made for what it states alone.
 #![tactic(auto)]
 
 mod attribute_values;

@@ -32,7 +32,6 @@ impl Planner<'_> {
         ensures path { IfOk result (λ c. path_of_change c ≡ path_in self.now.conf.now (located self.now.conf.now dn.now)) }
         ensures gives { Gives (λ c. next_of self.now.tree.now.entries c) result (add self.now.conf.now self.now.tree.now.entries dn.now lines.now) }
     {
-        // these four are called for what they state
         self.conf.holds();
         self.tree.is_directory();
         located_rdns_are_good();

@@ -4,7 +4,7 @@ ghost use Rattle.std.specs.Prelude.{◌≡◌, ℕ, ◌<◌, None, IfOk, OnOk, L
 ghost use Rattle.std.specs.Str.{str_eq_ignore_ascii_case};
 ghost use Rattle.values.specs.Tables.{bucket_of, key_of, number_in, number_of, or_if};
 
-use lists::{Bytes, Sequence};
+use base::{Bytes, Sequence};
 use paths::TypeId;
 use std::alloc::{AllocError, Global};
 use std::marker::Model;
@@ -89,7 +89,7 @@ fn empty_buckets(alloc: Global, count: usize) -> Result<Vec<Sequence<NameEntry>>
 }
 
 impl NameIndex {
-    /// No names. Of those that come some `room` are found quickly.
+    /// No names. As many as there is `room` for are found quickly, more than them less so.
     pub fn with_room(alloc: Global, room: usize) -> Result<NameIndex, AllocError>
         ensures { IfOk result (λ x. (name : List ℕ) → number_of x name ≡ None) }
     {

@@ -8,7 +8,7 @@ ghost use Rattle.values.specs.Types.{is_named, type_of, type_at};
 
 use crate::name_index::NameIndex;
 use crate::types::{AttributeType, type_at};
-use lists::{Bytes, Sequence};
+use base::{Bytes, Sequence};
 use paths::TypeId;
 use std::alloc::{AllocError, Global};
 use std::marker::Model;
@@ -61,7 +61,7 @@ fn add_type(
 }
 
 impl TypeTable {
-    /// No types. In those that come some `names` are found quickly.
+    /// No types. As many `names` as are expected are found quickly, more than them less so.
     pub fn with_room(alloc: Global, names: usize) -> Result<TypeTable, AllocError>
         ensures { IfOk result (λ t. t ≡ []) }
     {

@@ -5,7 +5,7 @@ ghost use Rattle.std.specs.List.{list_any};
 ghost use Rattle.std.specs.Str.{str_eq_ignore_ascii_case};
 ghost use Rattle.values.specs.Types.{is_named, printed_name, type_at};
 
-use lists::{Bytes, Sequence};
+use base::{Bytes, Sequence};
 use matching::{Family, Syntax};
 use paths::TypeId;
 

@@ -4,7 +4,7 @@ ghost use Rattle.std.specs.Prelude.{◌≡◌, ◌++◌, [], IfOk};
 ghost use Rattle.matching.specs.Forms.{lower, norm};
 ghost use Rattle.values.specs.Values.{norm_by};
 
-use lists::Bytes;
+use base::Bytes;
 use matching::{Family, Form, normal_form};
 use std::alloc::{AllocError, AllocFailed, Global};
 use std::default::MadeWith;

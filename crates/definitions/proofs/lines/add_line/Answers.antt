@@ -1,7 +1,7 @@
 use Rattle.std.proofs.Common.{◌≡◌, ◌-◌, Bool, true, cond, List, ℕ, ◌∷◌, [], ◌++◌, length, get_or, slice_set, ap, sym, ◌∙◌}
 use Rattle.std.proofs.lemmas.Result.{on_ok_weaker}
 use Rattle.definitions.specs.declared.lines.Line.{Line}
-use Rattle.definitions.specs.Lines.{last_goes_on, join_last}
+use Rattle.definitions.specs.inner.Lines.{last_goes_on, join_last}
 use Rattle.definitions.proofs.LastLine.{begun, some_line, joined_last}
 use Rattle.definitions.proofs.lines.add_line.Goals as goal
 

@@ -2,7 +2,7 @@ use Rattle.std.proofs.Common.{◌≡◌, ℕ, List, ◌++◌, sym, ap, ◌∙◌
 use Rattle.std.specs.List.{AllByRecursion}
 use Rattle.values.specs.Types.{name_of}
 use Rattle.tree.specs.StoredEntries.{EntryAttribute, IsMadeAttribute}
-use Rattle.directory.specs.Dumps.{values_text, attributes_text}
+use Rattle.directory.specs.inner.Dumps.{values_text, attributes_text}
 use Rattle.directory.proofs.EntryText.{first_attribute, no_attribute}
 use Rattle.directory.proofs.Pieces.{put_on}
 use Rattle.directory.proofs.dump.put_attributes.Goals as goal

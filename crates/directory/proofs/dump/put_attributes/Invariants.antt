@@ -1,7 +1,7 @@
 use Rattle.std.proofs.Common.{◌≡◌, ◌++◌}
 use Rattle.std.specs.List.{AllByRecursion}
 use Rattle.tree.specs.StoredEntries.{IsMadeAttribute}
-use Rattle.directory.specs.Dumps.{attributes_text}
+use Rattle.directory.specs.inner.Dumps.{attributes_text}
 use Rattle.directory.proofs.dump.put_attributes.Given as goal
 
 abbrev pub invariant-loop-t : goal.invariant-loop-t

@@ -2,7 +2,7 @@ use Rattle.std.proofs.Common.{◌≡◌, ℕ, List, ◌∷◌, ◌++◌, ◌+◌
 use Rattle.std.proofs.lemmas.List.{drop_more}
 use Rattle.ldif.specs.Writing.{written_line}
 use Rattle.values.specs.Values.{Value}
-use Rattle.directory.specs.Dumps.{values_text}
+use Rattle.directory.specs.inner.Dumps.{values_text}
 use Rattle.directory.proofs.Pieces.{put_on}
 use Rattle.directory.proofs.dump.put_values.Goals as goal
 

@@ -1,5 +1,5 @@
 use Rattle.std.proofs.Common.{◌≡◌, ◌++◌, drop}
-use Rattle.directory.specs.Dumps.{values_text}
+use Rattle.directory.specs.inner.Dumps.{values_text}
 use Rattle.directory.proofs.dump.put_values.Given as goal
 
 abbrev pub invariant-loop-value : goal.invariant-loop-value

@@ -6,7 +6,7 @@ use Rattle.ldif_lines.specs.View.{view, texts}
 use Rattle.ldif_lines.specs.Reader.{Takes, records_left}
 use Rattle.schema.specs.Conf.{Conf}
 use Rattle.directory.specs.Runs.{outcome}
-use Rattle.directory.specs.Loading.{IsLoaded, Explains}
+use Rattle.directory.specs.inner.Loading.{IsLoaded, Explains}
 use Rattle.directory.proofs.LoadSteps.{begins, goes_on, stops}
 use Rattle.directory.proofs.loading.load_rest.Goals as goal
 

@@ -1,6 +1,6 @@
 use Rattle.std.proofs.Common.{◌≡◌, false}
 use Rattle.ldif_lines.specs.Reader.{source_of, is_failed, records_left, bytes_left}
-use Rattle.directory.specs.Loading.{IsUnderWay}
+use Rattle.directory.specs.inner.Loading.{IsUnderWay}
 use Rattle.directory.proofs.loading.load_rest.Given as goal
 
 abbrev pub invariant-records : goal.invariant-records

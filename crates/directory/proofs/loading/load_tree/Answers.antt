@@ -3,7 +3,7 @@ use Rattle.std.specs.FinMap as finite
 use Rattle.ldif_lines.specs.Reader.{records_left}
 use Rattle.schema.specs.Conf.{Conf}
 use Rattle.tree.specs.Directories.{Entries}
-use Rattle.directory.specs.Loading.{LoadsAll, LoadsUpTo}
+use Rattle.directory.specs.inner.Loading.{LoadsAll, LoadsUpTo}
 use Rattle.directory.proofs.LoadSteps.{loads_over, stops_over, loads_of, stops_of}
 use Rattle.directory.proofs.loading.load_tree.Goals as goal
 

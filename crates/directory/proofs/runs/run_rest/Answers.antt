@@ -4,7 +4,7 @@ use Rattle.ldif_lines.specs.View.{view, texts}
 use Rattle.ldif.specs.Reading.{reading}
 use Rattle.ldif_lines.specs.Reader.{Takes, records_left, bytes_left}
 use Rattle.directory.specs.Runs.{outcome}
-use Rattle.directory.specs.Steps.{counts_after}
+use Rattle.directory.specs.inner.Steps.{counts_after}
 use Rattle.directory.proofs.Records.{begins, goes_on, ends_there, breaks_off, counts_few}
 use Rattle.directory.proofs.runs.run_rest.Goals as goal
 
@@ -30,7 +30,7 @@ returns-in_err-take_record-in-Ok-Some-clause-broke g c =
     (g.W.Sink.written c.args.sink.now) (g.W.Sink.written c.records.sink) (g.W.Sink.written c.take_record.new.sink)
     (view c.in-Ok-Some.raw) c.records.invariant.stands (subst (λ o. IfSome o (λ r. Takes (records_left g.S.Source.seen c.records.reader) (records_left g.S.Source.seen c.next.new.self) (view r ∷ []))) c.in-Ok-Some.field-0-is c.in-Ok-Some.ensures.record)
     c.in_err-take_record-in-Ok-Some.field-0.0
-    (subst (λ r. Rattle.directory.specs.Steps.IsBrokenOff (outcome r c.args.mode c.records.dir.entries (reading c.args.mode c.in-Ok-Some.raw.first (texts c.in-Ok-Some.raw.lines.items))) c.in-Ok-Some.raw.line c.records.dir.entries c.take_record.new.dir.entries c.records.tally (g.W.Sink.written c.records.sink) (g.W.Sink.written c.take_record.new.sink) c.in_err-take_record-in-Ok-Some.field-0.0) c.records.invariant.conf c.in_err-take_record-in-Ok-Some.ensures.broken))
+    (subst (λ r. Rattle.directory.specs.inner.Steps.IsBrokenOff (outcome r c.args.mode c.records.dir.entries (reading c.args.mode c.in-Ok-Some.raw.first (texts c.in-Ok-Some.raw.lines.items))) c.in-Ok-Some.raw.line c.records.dir.entries c.take_record.new.dir.entries c.records.tally (g.W.Sink.written c.records.sink) (g.W.Sink.written c.take_record.new.sink) c.in_err-take_record-in-Ok-Some.field-0.0) c.records.invariant.conf c.in_err-take_record-in-Ok-Some.ensures.broken))
 
 pub returns-then-branch-clause-ran : goal.returns-then-branch-clause-ran
 returns-then-branch-clause-ran g c =
@@ -41,7 +41,7 @@ returns-then-branch-clause-ran g c =
     (g.W.Sink.written c.args.sink.now) (g.W.Sink.written c.records.sink) (g.W.Sink.written c.take_record.new.sink)
     (view c.in-Ok-Some.raw) c.records.invariant.stands (subst (λ o. IfSome o (λ r. Takes (records_left g.S.Source.seen c.records.reader) (records_left g.S.Source.seen c.next.new.self) (view r ∷ []))) c.in-Ok-Some.field-0-is c.in-Ok-Some.ensures.record)
     c.in_ok-take_record-in-Ok-Some.field-0
-    (subst (λ r. Rattle.directory.specs.Steps.IsTaken (outcome r c.args.mode c.records.dir.entries (reading c.args.mode c.in-Ok-Some.raw.first (texts c.in-Ok-Some.raw.lines.items))) c.args.go_on c.in-Ok-Some.raw.line c.take_record.new.dir.entries c.records.tally c.take_record.new.tally (g.W.Sink.written c.records.sink) (g.W.Sink.written c.take_record.new.sink) c.in_ok-take_record-in-Ok-Some.field-0) c.records.invariant.conf c.in_ok-take_record-in-Ok-Some.ensures.taken)
+    (subst (λ r. Rattle.directory.specs.inner.Steps.IsTaken (outcome r c.args.mode c.records.dir.entries (reading c.args.mode c.in-Ok-Some.raw.first (texts c.in-Ok-Some.raw.lines.items))) c.args.go_on c.in-Ok-Some.raw.line c.take_record.new.dir.entries c.records.tally c.take_record.new.tally (g.W.Sink.written c.records.sink) (g.W.Sink.written c.take_record.new.sink) c.in_ok-take_record-in-Ok-Some.field-0) c.records.invariant.conf c.in_ok-take_record-in-Ok-Some.ensures.taken)
     c.if-branch.true
 
 pub records-preserved : goal.records-preserved
@@ -58,7 +58,7 @@ records-preserved g c = record {
       (g.W.Sink.written c.args.sink.now) (g.W.Sink.written c.records.sink) (g.W.Sink.written c.take_record.new.sink)
       (view c.in-Ok-Some.raw) c.records.invariant.stands (subst (λ o. IfSome o (λ r. Takes (records_left g.S.Source.seen c.records.reader) (records_left g.S.Source.seen c.next.new.self) (view r ∷ []))) c.in-Ok-Some.field-0-is c.in-Ok-Some.ensures.record)
       c.in_ok-take_record-in-Ok-Some.field-0
-      (subst (λ r. Rattle.directory.specs.Steps.IsTaken (outcome r c.args.mode c.records.dir.entries (reading c.args.mode c.in-Ok-Some.raw.first (texts c.in-Ok-Some.raw.lines.items))) c.args.go_on c.in-Ok-Some.raw.line c.take_record.new.dir.entries c.records.tally c.take_record.new.tally (g.W.Sink.written c.records.sink) (g.W.Sink.written c.take_record.new.sink) c.in_ok-take_record-in-Ok-Some.field-0) c.records.invariant.conf c.in_ok-take_record-in-Ok-Some.ensures.taken)
+      (subst (λ r. Rattle.directory.specs.inner.Steps.IsTaken (outcome r c.args.mode c.records.dir.entries (reading c.args.mode c.in-Ok-Some.raw.first (texts c.in-Ok-Some.raw.lines.items))) c.args.go_on c.in-Ok-Some.raw.line c.take_record.new.dir.entries c.records.tally c.take_record.new.tally (g.W.Sink.written c.records.sink) (g.W.Sink.written c.take_record.new.sink) c.in_ok-take_record-in-Ok-Some.field-0) c.records.invariant.conf c.in_ok-take_record-in-Ok-Some.ensures.taken)
       c.if-branch.false);
   few =
       let one = counts_few (outcome c.records.dir.conf c.args.mode c.records.dir.entries (reading c.args.mode c.in-Ok-Some.raw.first (texts c.in-Ok-Some.raw.lines.items))).1 c.records.tally in

@@ -1,6 +1,6 @@
 use Rattle.std.proofs.Common.{◌≡◌, ◌+◌, ◌^◌, ◌≤◌, false}
 use Rattle.ldif_lines.specs.Reader.{source_of, is_failed, records_left, bytes_left}
-use Rattle.directory.specs.Stands.{Stands}
+use Rattle.directory.specs.inner.Stands.{Stands}
 use Rattle.directory.proofs.runs.run_rest.Given as goal
 
 abbrev pub invariant-records : goal.invariant-records

@@ -1,12 +1,13 @@
 use Rattle.std.proofs.Common.{ap, ℕ, List, ◌∙◌}
 use Rattle.std.proofs.lemmas.Result.{err_from_is_err_and}
+use Rattle.dn.specs.Gives.{fault_of}
 use Rattle.dn.proofs.Firsts.{value_fails, value_of_piece, part_read}
 use Rattle.dn.proofs.read.escaped_part.Goals as goal
 
 pub returns-in_err-value-clause-exact : goal.returns-in_err-value-clause-exact
 returns-in_err-value-clause-exact c =
     let p = err_from_is_err_and c.from_residual.result c.from_residual.ensures.1 in
-    rw (p.1, p.2) (value_fails c.args.start.ty_text.now c.args.start.rest.now c.in_err-value.field-0.0 c.split_piece.result.0.now c.split_piece.ensures.piece c.in_err-value.ensures)
+    rw (p.1, p.2) (value_fails c.args.start.ty_text.now c.args.start.rest.now (fault_of c.in_err-value.field-0.0) c.split_piece.result.0.now c.split_piece.ensures.piece c.in_err-value.ensures)
 
 pub returns-clause-exact : goal.returns-clause-exact
 returns-clause-exact c =

@@ -1,7 +1,8 @@
 use Rattle.std.proofs.Common.{ap, subst, sym, ◌∙◌}
 use Rattle.std.proofs.lemmas.Result.{err_from_is_err_and}
+use Rattle.dn.specs.Gives.{fault_of}
 use Rattle.dn.specs.Names.{Rdn}
-use Rattle.dn.specs.Gives.{Fails}
+use Rattle.base.specs.Answers.{Fails}
 use Rattle.dn.proofs.Firsts.{before, part_read}
 use Rattle.dn.proofs.Loop.{one_plain, two_plain, first_read, parts_fail}
 use Rattle.dn.proofs.read.push_rdn.Goals as goal
@@ -9,7 +10,7 @@ use Rattle.dn.proofs.read.push_rdn.Goals as goal
 pub returns-in_err-start-clause-err : goal.returns-in_err-start-clause-err
 returns-in_err-start-clause-err c =
     let p = err_from_is_err_and c.from_residual.result c.from_residual.ensures.1 in
-    rw (p.1, p.2) (parts_fail c.args.text.now c.in_err-start.field-0.0 c.in_err-start.ensures.err)
+    rw (p.1, p.2) (parts_fail c.args.text.now (fault_of c.in_err-start.field-0.0) c.in_err-start.ensures.err)
 
 pub returns-in_default-after_plus-clause-ok : goal.returns-in_default-after_plus-clause-ok
 returns-in_default-after_plus-clause-ok c =
@@ -33,13 +34,13 @@ returns-then-not-begins_with_plus-clause-ok c =
 pub returns-in_err-part-clause-err : goal.returns-in_err-part-clause-err
 returns-in_err-part-clause-err c =
     let p = err_from_is_err_and c.from_residual-in_err-part.result c.from_residual-in_err-part.ensures.1 in
-    let e = c.in_err-part.field-0.0 in
+    let e = fault_of c.in_err-part.field-0.0 in
     rw (p.1, p.2) (parts_fail c.args.text.now e (subst (Fails e) (sym c.in_ok-start.ensures.exact) c.in_err-part.ensures.exact))
 
 pub returns-in_err-rdn-clause-err : goal.returns-in_err-rdn-clause-err
 returns-in_err-rdn-clause-err c =
     let p = err_from_is_err_and c.from_residual-in_err-rdn.result c.from_residual-in_err-rdn.ensures.1 in
-    let e = c.in_err-rdn.field-0.0 in
+    let e = fault_of c.in_err-rdn.field-0.0 in
     let read = first_read c.args.text.now c.in_ok-part.part c.in_ok-part.behind.now (c.in_ok-start.ensures.exact ∙ c.in_ok-part.ensures.exact) in
     rw (p.1, p.2) (subst (Fails e) (sym read) c.in_err-rdn.ensures)
 

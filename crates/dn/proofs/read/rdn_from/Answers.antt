@@ -2,9 +2,10 @@ use Rattle.std.proofs.Common.{[], refl, not, eqb, length, sym, ap, ◌∙◌}
 use Rattle.std.proofs.lemmas.Bool.{and_parts}
 use Rattle.std.proofs.lemmas.Result.{err_from_is_err_and}
 use Rattle.std.specs.List.{list_all}
+use Rattle.dn.specs.Gives.{fault_of}
 use Rattle.dn.specs.Names.{Rdn, is_ava}
 use Rattle.dn.specs.Reading.{part_of}
-use Rattle.dn.specs.Cuts.{is_separator, parts_from}
+use Rattle.dn.specs.inner.Cuts.{is_separator, parts_from}
 use Rattle.dn.proofs.Firsts.{before}
 use Rattle.dn.proofs.Loop.{one_only, parts_begin, parts_go_on, parts_end_at, parts_done, rdn_push, less_is_left, no_plus}
 use Rattle.dn.proofs.read.rdn_from.Goals as goal
@@ -25,7 +26,7 @@ loop-more-init c =
 pub returns-in_err-part : goal.returns-in_err-part
 returns-in_err-part c =
     let p = err_from_is_err_and c.from_residual-in_err-part.result c.from_residual-in_err-part.ensures.1 in
-    rw (p.1, p.2) (parts_end_at c.loop-more.parts.items c.loop-more.rest.now (parts_from (c.args.part, c.args.behind.now)) c.loop-more.invariant.same c.in-Some.more.now c.in-Some.ensures.some c.in_err-part.field-0.0 c.in_err-part.ensures.exact)
+    rw (p.1, p.2) (parts_end_at c.loop-more.parts.items c.loop-more.rest.now (parts_from (c.args.part, c.args.behind.now)) c.loop-more.invariant.same c.in-Some.more.now c.in-Some.ensures.some (fault_of c.in_err-part.field-0.0) c.in_err-part.ensures.exact)
 
 pub loop-more-smaller : goal.loop-more-smaller
 loop-more-smaller c = less_is_left is_separator part_of c.in-Some.more.now c.in_ok-part.part 43 c.in_ok-part.behind.now c.loop-more.rest.now c.in_ok-part.ensures.exact c.in-Some.ensures.some

@@ -1,7 +1,7 @@
 use Rattle.std.proofs.Common.{◌≡◌, true, length}
 use Rattle.dn.specs.Names.{is_rdn}
-use Rattle.dn.specs.Cuts.{parts_behind, parts_from}
-use Rattle.dn.proofs.Loop.{onto}
+use Rattle.dn.specs.inner.Cuts.{parts_behind, parts_from}
+use Rattle.base.proofs.Each.{onto}
 use Rattle.dn.proofs.read.rdn_from.Given as goal
 
 abbrev pub invariant-loop-more : goal.invariant-loop-more

@@ -1,8 +1,9 @@
 use Rattle.std.proofs.Common.{ap}
 use Rattle.std.proofs.lemmas.Result.{err_from_is_err_and}
 use Rattle.std.specs.Option.{option_map}
+use Rattle.dn.specs.Gives.{fault_of}
 use Rattle.dn.specs.Reading.{rdn_of}
-use Rattle.dn.specs.Cuts.{is_comma}
+use Rattle.dn.specs.inner.Cuts.{is_comma}
 use Rattle.dn.proofs.Steps.{names}
 use Rattle.dn.proofs.Loop.{names_begin, names_go_on, names_end_at, names_done, less_is_left_behind}
 use Rattle.dn.proofs.read.rdns_of.Goals as goal
@@ -14,7 +15,7 @@ pub returns-in_err-push_rdn : goal.returns-in_err-push_rdn
 returns-in_err-push_rdn c =
     let p = err_from_is_err_and c.from_residual.result c.from_residual.ensures.1 in
     let so_far = rw c.in-Some.is at c.loop-rest.invariant in
-    rw (p.1, p.2) (names_end_at c.loop-rest.name c.in-Some.text.now (names c.args.text.now) so_far c.in_err-push_rdn.field-0.0 c.in_err-push_rdn.ensures.err)
+    rw (p.1, p.2) (names_end_at c.loop-rest.name c.in-Some.text.now (names c.args.text.now) so_far (fault_of c.in_err-push_rdn.field-0.0) c.in_err-push_rdn.ensures.err)
 
 pub loop-rest-smaller : goal.loop-rest-smaller
 loop-rest-smaller c =

@@ -1,7 +1,8 @@
 use Rattle.std.proofs.Common.{◌≡◌}
 use Rattle.std.specs.Option.{option_map}
 use Rattle.dn.proofs.Steps.{names, names_in}
-use Rattle.dn.proofs.Loop.{with_front, size}
+use Rattle.base.proofs.Each.{with_front}
+use Rattle.dn.proofs.Loop.{size}
 use Rattle.dn.proofs.read.rdns_of.Given as goal
 
 abbrev pub invariant-loop-rest : goal.invariant-loop-rest

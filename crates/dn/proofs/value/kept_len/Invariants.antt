@@ -1,6 +1,6 @@
 use Rattle.std.proofs.Common.{◌≡◌, ◌≤◌, true, drop, length}
 use Rattle.std.specs.List.{list_all}
-use Rattle.dn.specs.Reading.{is_space}
+use Rattle.base.specs.Ends.{is_space}
 use Rattle.dn.proofs.value.kept_len.Given as goal
 
 abbrev pub invariant-loop-len : goal.invariant-loop-len

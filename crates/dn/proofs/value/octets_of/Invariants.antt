@@ -1,7 +1,7 @@
 use Rattle.std.proofs.Common.{◌≡◌, ◌≤◌, drop, length}
 use Rattle.dn.specs.declared.value.State.TheVariants.{Plain}
 use Rattle.dn.specs.Reading.{octets_from, value_from}
-use Rattle.dn.specs.Drafts.{IsInRange}
+use Rattle.dn.specs.inner.Drafts.{IsInRange}
 use Rattle.dn.proofs.Drafts.{finished}
 use Rattle.dn.proofs.value.octets_of.Given as goal
 

@@ -3,7 +3,7 @@ use Rattle.std.specs.List.{list_all}
 use Rattle.std.proofs.lemmas.List.{take-append-drop, take-append-le}
 use Rattle.std.proofs.lemmas.List.Sums.{prefix_len-le-length}
 use Rattle.dn.specs.Spelling.{may_stand}
-use Rattle.dn.specs.Cuts.{ends_in_space}
+use Rattle.dn.specs.inner.Cuts.{ends_in_space}
 use Rattle.dn.proofs.Runs.{front_passes}
 use Rattle.dn.proofs.Plain.{plain_first}
 use Rattle.dn.proofs.value.split_plain.Goals as goal

@@ -2,9 +2,11 @@ use Rattle.std.proofs.Common.{List, sym, ap, ◌∙◌}
 use Rattle.std.proofs.lemmas.Result.{err_from_is_err_and}
 use Rattle.std.proofs.lemmas.Bool.{eqb-true}
 use Rattle.ldif.specs.declared.record.Mod.{Mod}
-use Rattle.ldif.specs.Reading.{each, texts, block, blocks}
+use Rattle.ldif.specs.Gives.{fault_of}
+use Rattle.base.specs.Answers.{each}
+use Rattle.ldif.specs.Reading.{texts, block, blocks}
 use Rattle.ldif.proofs.Blocks.{blocks_nil}
-use Rattle.ldif.proofs.Each.{with_front, nothing_front, on_cons, ends_cons, done_nil}
+use Rattle.base.proofs.Each.{with_front, nothing_front, on_cons, ends_cons, done_nil}
 use Rattle.ldif.proofs.modify.mods_of.Goals as goal
 
 pub walk-init : goal.walk-init
@@ -18,7 +20,7 @@ walk-preserved c =
 pub returns-in_err-block : goal.returns-in_err-block
 returns-in_err-block c =
     let p = err_from_is_err_and c.from_residual.result c.from_residual.ensures.1 in
-    rw (p.1, p.2) (ends_cons block (blocks (texts c.walk.rest.now)) (texts c.split_block.result.0.now) (blocks (texts c.split_block.result.1.now)) c.in_err-block.field-0.0 c.walk.mods _ c.split_block.ensures.parts c.in_err-block.ensures c.walk.invariant)
+    rw (p.1, p.2) (ends_cons block (blocks (texts c.walk.rest.now)) (texts c.split_block.result.0.now) (blocks (texts c.split_block.result.1.now)) (fault_of c.in_err-block.field-0.0) c.walk.mods _ c.split_block.ensures.parts c.in_err-block.ensures c.walk.invariant)
 
 pub returns : goal.returns
 returns c = done_nil block (blocks (texts c.walk.rest.now)) c.walk.mods _ (blocks_nil c.walk.rest.now (eqb-true _ _ (sym c.is_empty.ensures ∙ c.walk-test.false))) c.walk.invariant

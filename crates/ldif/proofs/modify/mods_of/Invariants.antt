@@ -1,6 +1,7 @@
 use Rattle.std.proofs.Common.{◌≡◌, length}
-use Rattle.ldif.specs.Reading.{texts, each, block, blocks}
-use Rattle.ldif.proofs.Each.{with_front}
+use Rattle.base.specs.Answers.{each}
+use Rattle.ldif.specs.Reading.{texts, block, blocks}
+use Rattle.base.proofs.Each.{with_front}
 use Rattle.ldif.proofs.modify.mods_of.Given as goal
 
 abbrev pub invariant-walk : goal.invariant-walk

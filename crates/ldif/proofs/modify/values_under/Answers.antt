@@ -1,7 +1,9 @@
 use Rattle.std.proofs.Common.{◌≡◌, ℕ, List, Ok, sym, ap, ◌∙◌, ◌+◌, get_or, drop}
 use Rattle.std.proofs.lemmas.Result.{err_from_is_err_and}
-use Rattle.ldif.specs.Reading.{each, texts, items_of, value_under}
-use Rattle.ldif.proofs.Each.{with_front, nothing_front, goes_on, ends, is_done}
+use Rattle.ldif.specs.Gives.{fault_of}
+use Rattle.base.specs.Answers.{each}
+use Rattle.ldif.specs.Reading.{texts, items_of, value_under}
+use Rattle.base.proofs.Each.{with_front, nothing_front, goes_on, ends, is_done}
 use Rattle.ldif.proofs.modify.values_under.Goals as goal
 
 pub loop-line-init : goal.loop-line-init
@@ -19,7 +21,7 @@ returns-in_err-value_under c =
     let read = value_under c.args.attr.now in
     let line : c.deref.result.now ≡ items_of (get_or c.args.lines.now c.loop-line.line-index c.line-item.result) = c.deref.ensures.value ∙ ap items_of c.line-item.is in
     let p = err_from_is_err_and c.from_residual-in_err-value_under.result c.from_residual-in_err-value_under.ensures.1 in
-    rw (p.1, p.2) (ends read items_of c.args.lines.now c.loop-line.line-index c.line-item.result c.in_err-value_under.field-0.0 c.loop-line.values.items (each read (texts c.args.lines.now)) c.loop-line-test.true (rw (← line) c.in_err-value_under.ensures) c.loop-line.invariant)
+    rw (p.1, p.2) (ends read items_of c.args.lines.now c.loop-line.line-index c.line-item.result (fault_of c.in_err-value_under.field-0.0) c.loop-line.values.items (each read (texts c.args.lines.now)) c.loop-line-test.true (rw (← line) c.in_err-value_under.ensures) c.loop-line.invariant)
 
 pub returns : goal.returns
 returns c = is_done (value_under c.args.attr.now) items_of c.args.lines.now c.loop-line.line-index c.loop-line.values.items (each (value_under c.args.attr.now) (texts c.args.lines.now)) c.loop-line-test.false c.loop-line.invariant ∙ ap (λ (xs : List (List ℕ)). Ok xs) (sym c.from_vec.ensures)

@@ -1,7 +1,8 @@
 use Rattle.std.proofs.Common.{◌≡◌, drop}
-use Rattle.ldif.specs.Reading.{texts, each}
+use Rattle.base.specs.Answers.{each}
+use Rattle.ldif.specs.Reading.{texts}
 use Rattle.ldif.specs.Reading.{value_under}
-use Rattle.ldif.proofs.Each.{with_front}
+use Rattle.base.proofs.Each.{with_front}
 use Rattle.ldif.proofs.modify.values_under.Given as goal
 
 abbrev pub invariant-loop-line : goal.invariant-loop-line

@@ -1,7 +1,7 @@
 use Rattle.std.proofs.Common.{ℕ, List, ◌∷◌, ◌++◌, sym, ap, subst, ◌∙◌, arith}
 use Rattle.std.proofs.lemmas.Bool.{eqb-true, eqb-false}
 use Rattle.ldif_lines.specs.Folding.{folded}
-use Rattle.ldif.specs.Writing.{Keeps}
+use Rattle.ldif.specs.inner.Writing.{Keeps}
 use Rattle.ldif.proofs.Folds.{one_piece, last_piece}
 use Rattle.ldif.proofs.Kept.{keeps_put, keeps_on, on_err_too}
 use Rattle.ldif.proofs.write.put_folded.Goals as goal

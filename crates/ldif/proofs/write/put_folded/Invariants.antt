@@ -1,6 +1,6 @@
 use Rattle.std.proofs.Common.{◌≡◌, ◌++◌, length}
 use Rattle.ldif_lines.specs.Folding.{folded}
-use Rattle.ldif.specs.Writing.{Keeps}
+use Rattle.ldif.specs.inner.Writing.{Keeps}
 use Rattle.ldif.proofs.write.put_folded.Given as goal
 
 abbrev pub invariant-pieces : goal.invariant-pieces

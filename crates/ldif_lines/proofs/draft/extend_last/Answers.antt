@@ -2,7 +2,7 @@ use Rattle.std.proofs.Common.{◌≡◌, ◌++◌, ◌∷◌, ◌+◌, [], zero,
 use Rattle.std.proofs.lemmas.List.{length-map}
 use Rattle.std.specs.Global.{Vec}
 use Rattle.ldif_lines.specs.View.{items_of, texts}
-use Rattle.ldif_lines.specs.Drafts.{append_last}
+use Rattle.ldif_lines.specs.inner.Drafts.{append_last}
 use Rattle.ldif_lines.proofs.DraftLemmas.{append_last-none}
 use Rattle.ldif_lines.proofs.draft.extend_last.Goals as goal
 

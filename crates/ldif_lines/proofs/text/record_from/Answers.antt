@@ -2,7 +2,8 @@ use Rattle.std.proofs.Common.{◌≡◌, ◌<◌, ◌+◌, ◌-◌, ℕ, List, �
 use Rattle.std.proofs.lemmas.Bool.Decides.{nat_tests}
 use Rattle.std.proofs.lemmas.List.{length-map, length-drop, take_rest, drop-drop}
 use Rattle.std.specs.Str.Lines.{lines}
-use Rattle.ldif_lines.specs.View.{items_of, texts, draft_of}
+use Rattle.ldif_lines.specs.View.{items_of, texts}
+use Rattle.ldif_lines.specs.inner.View.{draft_of}
 use Rattle.ldif_lines.proofs.DraftLemmas.{pending-fresh, pending-line, pending-gap, pending-done, pending-over, pending-rest}
 use Rattle.ldif_lines.proofs.text.record_from.Goals as goal
 

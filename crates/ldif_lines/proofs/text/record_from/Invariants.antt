@@ -2,7 +2,7 @@ use Rattle.std.proofs.Common.{◌≡◌, ◌≤◌, ◌+◌, length, drop, ◌<�
 use Rattle.std.specs.List.{enumerate_from}
 use Rattle.std.specs.Str.Lines.{lines}
 use Rattle.ldif_lines.specs.Records.{records_from}
-use Rattle.ldif_lines.specs.View.{draft_of}
+use Rattle.ldif_lines.specs.inner.View.{draft_of}
 use Rattle.ldif_lines.proofs.DraftLemmas.{pending}
 use Rattle.ldif_lines.proofs.text.record_from.Given as goal
 

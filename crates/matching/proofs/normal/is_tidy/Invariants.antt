@@ -1,6 +1,6 @@
 use Rattle.std.proofs.Common.{◌≡◌, ◌&&◌, ◌-◌, true, drop, get_or}
-use Rattle.matching.specs.Forms.{is_space}
-use Rattle.matching.specs.Gaps.{is_tidy_after}
+use Rattle.base.specs.Ends.{is_space}
+use Rattle.matching.specs.inner.Gaps.{is_tidy_after}
 use Rattle.matching.proofs.normal.is_tidy.Given as goal
 
 abbrev pub invariant-loop-i : goal.invariant-loop-i

@@ -1,5 +1,5 @@
 use Rattle.std.proofs.Common.{◌↔◌, drop}
-use Rattle.matching.specs.Places.{InOrder}
+use Rattle.matching.specs.inner.Places.{InOrder}
 use Rattle.matching.proofs.substrings.stand_in_order.Given as goal
 
 -- the pieces stand in order in the text just where those that are left do in the rest

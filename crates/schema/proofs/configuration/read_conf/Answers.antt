@@ -1,7 +1,7 @@
 use Rattle.std.proofs.Common.{List, subst, Option, Some}
 use Rattle.definitions.specs.declared.lines.Line.{Line}
 use Rattle.schema.specs.declared.locate.TypedName.{TypedName}
-use Rattle.schema.specs.Keys.{rdns_found}
+use Rattle.schema.specs.inner.Keys.{rdns_found}
 use Rattle.schema.proofs.Whole.{AreTypes, Defines, types_are, suffix_is, rules_are, IsSuffix}
 use Rattle.schema.proofs.configuration.read_conf.Goals as goal
 

@@ -1,9 +1,9 @@
 use Rattle.std.proofs.Common.{◌≡◌, drop, map}
 use Rattle.std.specs.List.{AllByRecursion}
-use Rattle.schema.specs.Each.{each}
-use Rattle.schema.specs.Keys.{IsOne}
+use Rattle.base.specs.Answers.{each}
+use Rattle.schema.specs.inner.Keys.{IsOne}
 use Rattle.schema.specs.Conf.{typed_rdn}
-use Rattle.schema.proofs.Loop.{with_front}
+use Rattle.base.proofs.Each.{with_front}
 use Rattle.schema.proofs.locate.typed_rdns.Given as goal
 
 abbrev pub invariant-loop-kind : goal.invariant-loop-kind

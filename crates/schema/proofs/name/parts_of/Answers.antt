@@ -1,9 +1,9 @@
 use Rattle.std.proofs.Common.{◌+◌, map, drop, ap, ◌∙◌}
 use Rattle.std.proofs.lemmas.Result.{err_from_is_err_and}
-use Rattle.schema.specs.Each.{each}
+use Rattle.base.specs.Answers.{each}
 use Rattle.schema.specs.Names.{Name, part_of}
-use Rattle.schema.proofs.Loop.{with_front, nothing_front, goes_on, ends, is_done}
-use Rattle.schema.proofs.Loop.{map_put}
+use Rattle.base.proofs.Each.{with_front, nothing_front, goes_on, ends, is_done, map_put}
+use Rattle.schema.specs.Gives.{fault_of}
 use Rattle.schema.proofs.name.parts_of.Goals as goal
 
 pub loop-piece-init : goal.loop-piece-init
@@ -18,7 +18,7 @@ loop-piece-preserved c =
 pub returns-in_err-part_of : goal.returns-in_err-part_of
 returns-in_err-part_of c =
     let p = err_from_is_err_and c.from_residual-in_err-part_of.result c.from_residual-in_err-part_of.ensures.1 in
-    rw (p.1, p.2) (ends part_of (λ x. x.now) c.args.pieces.now c.loop-piece.piece-index _ c.in_err-part_of.field-0.0 (map (λ p. (p.0.now, p.1.now)) c.loop-piece.parts.items) (each part_of (map (λ x. x.now) c.args.pieces.now)) c.loop-piece-test.true c.in_err-part_of.ensures c.loop-piece.invariant)
+    rw (p.1, p.2) (ends part_of (λ x. x.now) c.args.pieces.now c.loop-piece.piece-index _ (fault_of c.in_err-part_of.field-0.0) (map (λ p. (p.0.now, p.1.now)) c.loop-piece.parts.items) (each part_of (map (λ x. x.now) c.args.pieces.now)) c.loop-piece-test.true c.in_err-part_of.ensures c.loop-piece.invariant)
 
 pub returns : goal.returns
 returns c =

@@ -1,7 +1,7 @@
 use Rattle.std.proofs.Common.{◌≡◌, drop, map}
-use Rattle.schema.specs.Each.{each}
+use Rattle.base.specs.Answers.{each}
 use Rattle.schema.specs.Names.{part_of}
-use Rattle.schema.proofs.Loop.{with_front}
+use Rattle.base.proofs.Each.{with_front}
 use Rattle.schema.proofs.name.parts_of.Given as goal
 
 abbrev pub invariant-loop-piece : goal.invariant-loop-piece

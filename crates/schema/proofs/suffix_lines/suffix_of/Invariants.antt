@@ -1,6 +1,6 @@
 use Rattle.std.proofs.Common.{◌≡◌, None, drop}
 use Rattle.schema.specs.Configurations.{suffix_of}
-use Rattle.schema.specs.Keys.{rdns_found, FoundFits}
+use Rattle.schema.specs.inner.Keys.{rdns_found, FoundFits}
 use Rattle.schema.proofs.suffix_lines.suffix_of.Given as goal
 
 abbrev pub invariant-loop-line : goal.invariant-loop-line

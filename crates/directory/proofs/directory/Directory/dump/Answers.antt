@@ -8,7 +8,8 @@ use Rattle.tree.specs.Directories.{IsDirectory}
 use Rattle.tree.specs.StoredEntries.{Entry, IsMade}
 use Rattle.tree.specs.Trees.{Tree, seen_entries}
 use Rattle.directory.specs.Runs.{dump}
-use Rattle.directory.specs.Dumps.{IsThere, SoFar, entry_text, entries_text}
+use Rattle.directory.specs.Dumps.{SoFar}
+use Rattle.directory.specs.inner.Dumps.{IsThere, entry_text, entries_text}
 use Rattle.directory.proofs.DumpText.{dump_is, all_in}
 use Rattle.directory.proofs.Pieces as pieces
 use Rattle.directory.proofs.directory.Directory.dump.Goals as goal

@@ -1,7 +1,8 @@
 use Rattle.std.proofs.Common.{◌≡◌, ◌++◌}
 use Rattle.std.specs.List.{AllByRecursion}
 use Rattle.directory.specs.Runs.{dump}
-use Rattle.directory.specs.Dumps.{SoFar, IsThere, entries_text}
+use Rattle.directory.specs.Dumps.{SoFar}
+use Rattle.directory.specs.inner.Dumps.{IsThere, entries_text}
 use Rattle.directory.proofs.directory.Directory.dump.Given as goal
 
 abbrev pub invariant-loop-path : goal.invariant-loop-path

@@ -4,7 +4,7 @@ use Rattle.ldif.specs.Writing.{written_line}
 use Rattle.schema.specs.Conf.{Conf}
 use Rattle.tree.specs.Directories.{name_of_entry}
 use Rattle.tree.specs.Trees.{Tree}
-use Rattle.directory.specs.Dumps.{attributes_text, entry_text}
+use Rattle.directory.specs.inner.Dumps.{attributes_text, entry_text}
 use Rattle.directory.proofs.EntryText.{entry_is}
 use Rattle.directory.proofs.directory.Directory.put_record.Goals as goal
 

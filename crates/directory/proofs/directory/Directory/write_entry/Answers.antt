@@ -1,5 +1,5 @@
 use Rattle.std.proofs.Common.{◌++◌}
-use Rattle.directory.specs.Dumps.{entry_text}
+use Rattle.directory.specs.inner.Dumps.{entry_text}
 use Rattle.directory.proofs.Pieces.{want_at_once}
 use Rattle.directory.proofs.directory.Directory.write_entry.Goals as goal
 

@@ -5,7 +5,8 @@ use Rattle.std.proofs.lemmas.Bool.{not-false, not-true}
 use Rattle.schema.specs.declared.code.Code.TheVariants.{AttributeOrValueExists}
 use Rattle.paths.specs.Paths.{pair_cmp}
 use Rattle.tree.specs.Entries.{Attributes, push_value}
-use Rattle.tree.specs.StoredEntries.{attributes_of, IsMade, AreNormsOf}
+use Rattle.tree.specs.StoredEntries.{attributes_of, IsMade}
+use Rattle.tree.specs.inner.StoredEntries.{AreNormsOf}
 use Rattle.tree.proofs.LineLemmas.{line_is}
 use Rattle.tree.proofs.NormLemmas.{norms_pushed}
 use Rattle.tree.proofs.StoredLemmas.{raws_pushed, made_pushed}

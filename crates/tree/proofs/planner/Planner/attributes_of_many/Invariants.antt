@@ -1,6 +1,7 @@
 use Rattle.std.proofs.Common.{◌≡◌, [], drop}
 use Rattle.tree.specs.Entries.{add_lines}
-use Rattle.tree.specs.StoredEntries.{attributes_of, IsMade, AreNormsOf}
+use Rattle.tree.specs.StoredEntries.{attributes_of, IsMade}
+use Rattle.tree.specs.inner.StoredEntries.{AreNormsOf}
 use Rattle.tree.proofs.planner.Planner.attributes_of_many.Given as goal
 
 abbrev pub invariant-loop-line : goal.invariant-loop-line

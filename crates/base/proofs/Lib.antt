@@ -1,0 +1,5 @@
+pub mod Front
+pub mod LastByte
+pub mod Each
+pub mod Through
+pub mod Bound

@@ -1,0 +1,4 @@
+pub mod Steps
+pub mod Dumps
+pub mod Loading
+pub mod Stands

@@ -1,8 +1,0 @@
-//! Byte strings and sequences that contracts see as lists.
-#![tactic(auto)]
-
-mod bytes;
-mod sequence;
-
-pub use bytes::Bytes;
-pub use sequence::Sequence;

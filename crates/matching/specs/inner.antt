@@ -1,0 +1,3 @@
+pub mod Gaps
+pub mod Numbers
+pub mod Places
