@@ -5,3 +5,4 @@ pub mod Texts
 pub mod Digits
 pub mod Stretches
 pub mod ValidBytes
+pub mod Examples
