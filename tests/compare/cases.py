@@ -93,11 +93,12 @@ class Records:
         if len(parent) > 12:
             parent = self.names[0]
         kind = b"objectClass" if some(rng, .035) else rng.choice(config.types if some(rng, .05) else config.naming)
-        return [(kind, config.word(kind))] + parent
+        return [[(kind, config.word(kind))] if kind == b"objectClass" else config.rdn(kind)] + parent
 
     def respelled(self, name):
         rng = self.rng
-        return [(kind, rng.choice([word, self.variant(kind, word)])) for kind, word in name]
+        rdns = [[(kind, rng.choice([word, self.variant(kind, word)])) for kind, word in rdn] for rdn in name]
+        return [rng.choice([rdn, rdn, rdn[::-1]]) for rdn in rdns]
 
     def variant(self, kind, word):
         """A value that is equal under most rules, in bytes that a name may have."""
@@ -132,7 +133,7 @@ class Records:
         self.names.append(name)
         lines = self.named(self.respelled(name) if some(rng, .3) else name)
         if some(rng, .3):   # the value of the RDN
-            lines.insert(rng.randrange(1, len(lines) + 1), self.line(*self.respelled(name)[0]))
+            lines.insert(rng.randrange(1, len(lines) + 1), self.line(*self.respelled(name)[0][0]))
         return [rng.choice(VERSIONS)] + lines if first and some(rng, .3) else lines
 
     def again(self, _):
@@ -141,9 +142,11 @@ class Records:
     def nowhere(self, _):
         rng, suffix = self.rng, self.config.suffix
         kind = rng.choice(self.config.types)
+        no, nowhere, single = [(kind, b"no")], [(kind, b"nowhere")], [(kind, b"x")]
         return self.named(rng.choice([
-            [(kind, b"no"), (kind, b"nowhere")] + suffix, suffix[1:], [(kind, b"x")] + suffix[:-1], [(kind, b"zz")],
-            [(kind, b"x")] + suffix + [(kind, b"y")], suffix + suffix, [(kind, word + b"x") for kind, word in suffix]]))
+            [no, nowhere] + suffix, suffix[1:], [single] + suffix[:-1], [single], [single] + suffix + [no], suffix + suffix,
+            [[(kind, word + b"x") for kind, word in rdn] for rdn in suffix], [rdn + single for rdn in suffix],
+            [rdn[:1] for rdn in suffix], [single + no] + suffix]))
 
     def badly_named(self, _):
         rng = self.rng
@@ -214,7 +217,7 @@ class Records:
             name = self.new_name()
             self.names.append(name)
             width = rng.choice([76, 76, 76, 78, 60])
-            for kind, text in [(b"dn", self.config.name_text(name)), name[0]] + self.server_attributes(serial):
+            for kind, text in [(b"dn", self.config.name_text(name))] + name[0] + self.server_attributes(serial):
                 plain = ldif.is_plain(text) and kind != b"userPassword"
                 line = kind + (b": " + text if plain else b":: " + base64.b64encode(text))
                 out += line[:width] + b"\n"
@@ -299,7 +302,8 @@ def types_case(rng, config, _):
     lines.insert(rng.randrange(len(lines) + 1), b"suffix cn=ex")
     records = [[b"dn: cn=ex", b"objectClass: p"]]
     for at in range(rng.randrange(1, 9)):
-        name = b"%b=%b" % (rng.choice(names), rng.choice(NAMING)) if some(rng, .4) else b"cn=k%d" % at
+        part = b"%b=%b" % (rng.choice(names), rng.choice(NAMING))
+        name = rng.choice([part, part + b"+cn=a", part + b"+%b=b" % rng.choice(names)]) if some(rng, .4) else b"cn=k%d" % at
         records.append([b"dn: " + name + b",cn=ex", b"objectClass: p"] + values_of(rng, rng.choice(names)))
     return config.joined(lines), None, Speller(rng, True).text(records)
 

@@ -66,8 +66,25 @@ class Type:
         return self.family() is not None and self.kind() != "name"
 
 
+def spelled(rng, value):
+    """A value as it may stand in a name, with the escapes that it needs and some that it doesn't."""
+    is_text, out = values.is_utf8(value), b""
+    for at, byte in enumerate(value):
+        character, digits = bytes([byte]), b"\\%02x" % byte
+        is_edge = byte == 32 and at in (0, len(value) - 1) or byte == 35 and at == 0
+        if byte in b"\0\r\n" or byte > 127 and not is_text:
+            out += rng.choice([digits, digits.upper()])
+        elif byte in b'"+,;<>\\' or is_edge:
+            out += rng.choice([b"\\" + character] * 3 + [digits])
+        elif some(rng, .03) and byte < 128:
+            out += rng.choice([digits, b"\\" + character if byte in b" #=" else digits])
+        else:
+            out += character
+    return out
+
+
 class Config:
-    """A good dir.conf, and the types and the suffix of it. A name is [(type, value)], own RDN first."""
+    """A good dir.conf, and the types and the suffix of it. A name is a list of RDNs, own one first, each [(type, value)]."""
 
     def __init__(self, rng):
         self.rng = rng
@@ -79,9 +96,9 @@ class Config:
         self.types = list(self.kinds)
         self.naming = [name for name in self.types if self.kinds[name].names_entries()]
         first = [rng.choice(self.naming[:6]) for _ in range(rng.choice([1, 1, 1, 2, 3]))]
-        self.suffix = [(name, self.word(name)) for name in first]
+        self.suffix = [self.rdn(name) for name in first]
         if some(rng, .05):
-            self.suffix[0] = b"objectClass", b"a.b"
+            self.suffix[0] = [(b"objectClass", b"a.b")]
         self.lines = [b"attributetype " + kind.text for kind in self.kinds.values()]
         if some(rng, .3):
             self.lines = [self.respelled(line) for line in self.lines]
@@ -134,7 +151,20 @@ class Config:
             return rng.choice([b"0", b"-1", b"7", b"%d" % rng.randrange(-50, 50)])
         if kind == "boolean":
             return rng.choice([b"TRUE", b"FALSE"])
+        if kind in ("text", "octet") and some(rng, .1):
+            return rng.choice([text for text in STRANGE if text != b""] + [b'a,b+c"d;e<f>g\\h=i#', b"#", b"\x7f"])
+        if kind == "octet" and some(rng, .2):
+            return rng.choice([b"", b"\xff", b"\xc3", b"\0"])
         return rng.choice(WORDS) if some(rng, .5) else b"n%d" % rng.randrange(200)
+
+    def rdn(self, name):
+        """An RDN of the type, and of another one or two where it has more parts."""
+        rng = self.rng
+        more = [other for other in self.naming if other != name]
+        names = [name] + (rng.sample(more, min(len(more), rng.choice([1, 1, 2]))) if some(rng, .15) else [])
+        if some(rng, .3):
+            rng.shuffle(names)
+        return [(one, self.word(one)) for one in names]
 
     def value(self, name, odd=.08):
         """A value of a type; some aren't valid."""
@@ -148,7 +178,8 @@ class Config:
         if kind == "boolean":
             return rng.choice([b"true", b"", b"FALSE "] if some(rng, odd) else [b"TRUE", b"FALSE"])
         if kind == "name":
-            return rng.choice([b"", b"dc=ex", self.name_text(self.suffix)])
+            known = [self.name_text([self.rdn(rng.choice(self.naming)) for _ in range(rng.choice([0, 1, 1, 2]))]) for _ in (0, 1)]
+            return rng.choice(known * 4 + [b"", b" ", b"dc=ex", b"no", self.name_text(self.suffix)])
         if kind == "oid":
             return rng.choice(OIDS + [b"t%d" % rng.randrange(9)])
         if self.kinds[name].syntax == b"50" and some(rng, .5):
@@ -192,7 +223,15 @@ class Config:
         return rng.choice([name] * 14 + [other_case(rng, name)] * 3 + self.kinds[name].names * 2)
 
     def name_text(self, name):
-        return b",".join(self.type_text(kind) + b"=" + value for kind, value in name)
+        loose = some(self.rng, .2)
+        rdns = [b"+".join(self.part_text(kind, value, loose) for kind, value in rdn) for rdn in name]
+        return b",".join(rdns)
+
+    def part_text(self, kind, value, loose):
+        """A part of a name, with spaces where it is loose."""
+        rng = self.rng
+        spaces = [rng.choice([b"", b"", b" ", b"  "]) if loose else b"" for _ in range(4)]
+        return spaces[0] + self.type_text(kind) + spaces[1] + b"=" + spaces[2] + spelled(rng, value) + spaces[3]
 
     def filled(self, line, name=()):
         while b"$T" in line:

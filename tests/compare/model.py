@@ -1,8 +1,5 @@
 """What slapadd and slapcat do, byte for byte. `schema.py` reads dir.conf and names, `values.py` compares values, `ldif.py`
 reads and writes records.
-
-Names are read by the profile that the program keeps to so far: RDNs of one part, and values of letters, digits, `-`, `_`,
-`.` and inner spaces; no escapes, and no spaces elsewhere.
 """
 import ldif
 import schema
@@ -62,7 +59,7 @@ class Directory:
         depth = len(steps) - len(suffix)
         if depth < 0 or steps[depth:] != suffix:
             raise Refused(32)
-        return pairs, tuple(reversed(steps[:depth]))
+        return pairs, tuple(tuple(step) for step in reversed(steps[:depth]))
 
     def add(self, dn, lines):
         """Adds an entry, or changes nothing and raises the code of the first rule that it breaks."""
@@ -74,8 +71,9 @@ class Directory:
         attributes = self.attributes_of(lines)
         # the entry of the suffix is named as dir.conf writes it
         rdn = pairs[0] if path else self.conf.suffix[0]
-        if not attributes.has(*rdn):
-            attributes.add(*rdn)
+        for pair in rdn:
+            if not attributes.has(*pair):
+                attributes.add(*pair)
         if OBJECT_CLASS not in attributes.values:
             raise Refused(65)
         if any(self.conf.types[number].is_single and len(values) > 1 for number, values in attributes.values.items()):
@@ -100,7 +98,7 @@ class Directory:
         names, out = [kind.printed() for kind in self.conf.types], []
         for path in sorted(self.entries):
             rdns = [self.entries[path[:depth]][0] for depth in range(len(path), 0, -1)] + self.conf.suffix
-            out.append(ldif.written_line(b"dn", b",".join(names[number] + b"=" + value for number, value in rdns)))
+            out.append(ldif.written_line(b"dn", self.conf.written_name(rdns)))
             for number, values in self.entries[path][1].values.items():
                 out += [ldif.written_line(names[number], value) for value in values]
             out.append(b"\n")

@@ -25,8 +25,9 @@ TOKEN = re.compile(rb"[ \t]*(?:([()$])|'([^']*)'|([^ \t()$']+))")
 OID = re.compile(rb"[0-9]+(?:\.[0-9]+)*")
 SYNTAX = re.compile(rb"([0-9]+(?:\.[0-9]+)*)(?:\{[0-9]+\})?")
 NAME = re.compile(rb"[A-Za-z][A-Za-z0-9_-]*")
-# the parts of a name that are read so far
-PART = re.compile(rb"([A-Za-z0-9_.-]+)=([A-Za-z0-9_.-](?:[A-Za-z0-9_. -]*[A-Za-z0-9_.-])?)")
+# a part of a name: its type, and the bytes and escapes of its value (RFC 4514, 3)
+PART = re.compile(rb" *([A-Za-z0-9_.-]+) *= *")
+UNIT = re.compile(rb"""\\(?:(["+,;<>\\ #=])|([0-9A-Fa-f]{2}))|([^"+,;<>\\\0])""", re.DOTALL)
 
 # the fields of definitions, and how their values are read
 TYPE_FIELDS = {
@@ -172,17 +173,67 @@ def read_class(text):
     return oid, fields
 
 
+def read_value(text, at):
+    """-> (a value of a name, where it ends)"""
+    value, kept = b"", 0
+    if text[at:at + 1] == b"#":
+        raise ValueError
+    while text[at:at + 1] not in (b"", b",", b"+"):
+        found = UNIT.match(text, at)
+        if not found:
+            raise ValueError
+        character, digits, raw = found.groups()
+        value += bytes.fromhex(digits.decode()) if digits else character or raw
+        # spaces at the end count where they are escaped
+        if raw != b" ":
+            kept = len(value)
+        at = found.end()
+    return value[:kept], at
+
+
+def read_rdns(text):
+    rdns, at = [[]], 0
+    while True:
+        found = PART.match(text, at)
+        if not found:
+            raise ValueError
+        value, at = read_value(text, found.end())
+        rdns[-1].append((found[1], value))
+        if at == len(text):
+            return rdns
+        if text[at:at + 1] == b",":
+            rdns.append([])
+        at += 1
+
+
 def read_name(text):
-    """A name of RFC 4514 as far as it is read; the empty text is one. -> [(type, value)], own RDN first, or None"""
-    if text == b"":
+    """A name of RFC 4514, 3, but for values in hexadecimal. -> its RDNs, own one first, each [(type, value)], or None"""
+    if not values.is_utf8(text):
+        return None
+    if text.strip(b" ") == b"":
         return []
-    parts = [PART.fullmatch(part) for part in text.split(b",")]
-    return [part.groups() for part in parts] if all(parts) else None
+    try:
+        return read_rdns(text)
+    except ValueError:
+        return None
+
+
+def written_value(value):
+    """A value as it stands in a name (RFC 4514, 2.4)."""
+    out = b""
+    for at, byte in enumerate(value):
+        is_edge = byte == 32 and at in (0, len(value) - 1) or byte == 35 and at == 0
+        if byte < 32 or byte > 126:
+            out += b"\\%02X" % byte
+        else:
+            out += b"\\" * (is_edge or byte in b'"+,;<>\\') + bytes([byte])
+    return out
 
 
 @dataclass
 class Conf:
-    """The types by their numbers, the names and OIDs of types and classes, and the suffix as (number, value)."""
+    """The types by their numbers, the names and OIDs of types and classes, and the suffix, each of its RDNs as
+    [(number, value)]."""
     types: list = field(default_factory=lambda: [Type(b"2.5.4.0", [b"objectClass"], "oid", "oid")])
     numbers: dict = field(default_factory=lambda: {b"objectclass": 0, b"2.5.4.0": 0})
     classes: set = field(default_factory=lambda: {b"top", b"2.5.6.0", b"extensibleobject", BUILT_IN[2]})
@@ -193,10 +244,31 @@ class Conf:
         return self.numbers.get(text.lower())
 
     def is_valid(self, number, value):
+        if self.types[number].kind == "name":
+            return self.parts_of(value) is not None
         return values.is_valid(self.types[number].kind, value)
 
     def normal(self, number, value):
+        if self.types[number].family == "name":
+            return self.normal_name(self.parts_of(value))
         return values.normal(self.types[number].family, value)
+
+    def parts_of(self, value):
+        """The parts of a value that is a name, or None"""
+        name = read_name(value)
+        try:
+            return None if name is None else self.pairs_of(name)
+        except BadName:
+            return None
+
+    def normal_name(self, name):
+        rdns = [b"+".join(self.types[number].printed().lower() + b"=" + written_value(value) for number, value in step)
+                for step in self.steps(name)]
+        return b",".join(rdns)
+
+    def written_name(self, name):
+        return b",".join(b"+".join(self.types[number].printed() + b"=" + written_value(value) for number, value in rdn)
+                         for rdn in name)
 
     def add_type(self, text):
         oid, fields = read_type(text)
@@ -252,19 +324,27 @@ class Conf:
             raise Wrong("C7") from None
 
     def pairs_of(self, name):
-        """Looks at each part of a name before the next. -> [(number, value)]"""
-        pairs = [(self.type_of(kind), value) for kind, value in name]
-        for number, value in pairs:
+        """Looks at each part of a name before the next. -> its RDNs, each [(number, value)]"""
+        return [self.pairs_of_rdn(rdn) for rdn in name]
+
+    def pairs_of_rdn(self, rdn):
+        pairs = []
+        for kind, value in rdn:
+            number = self.type_of(kind)
             if number is None or self.types[number].kind == "name":
                 raise BadName(34)
             if self.types[number].family is None:
                 raise BadName(64)
             if not self.is_valid(number, value):
                 raise BadName(34)
+            if number in [number for number, _ in pairs]:
+                raise BadName(64)
+            pairs.append((number, value))
         return pairs
 
-    def steps(self, pairs):
-        return [(number, self.normal(number, value)) for number, value in pairs]
+    def steps(self, name):
+        """The RDNs as they compare: their parts by type."""
+        return [sorted((number, self.normal(number, value)) for number, value in rdn) for rdn in name]
 
 
 def new_keys(oid, names, there):

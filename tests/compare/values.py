@@ -43,8 +43,6 @@ VALID = {
     "boolean": lambda value: value in (b"TRUE", b"FALSE"),
     "integer": is_integer,
     "oid": lambda value: value != b"" and all(byte < 128 and byte != 32 for byte in value),
-    # a name has no values so far
-    "name": lambda value: False,
     "octet": lambda value: True,
 }
 

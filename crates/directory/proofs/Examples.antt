@@ -24,15 +24,18 @@ use Rattle.matching.specs.declared.syntax.Syntax.TheVariants as syntaxes
 use Rattle.values.specs.declared.types.AttributeType.{AttributeType}
 use Rattle.schema.specs.Configurations.{object_class}
 use Rattle.base.specs.Answers.{each}
-use Rattle.schema.specs.Names.{part_of, name_of_text, text_of_name}
+use Rattle.dn.specs.Reading.{octets_from, trimmed, value_of, part_at, part_of, cut_raw, rdn_of, name_of}
+use Rattle.dn.specs.Writing.{written, text_from, text_of}
+use Rattle.schema.specs.Names.{name_in}
 use Rattle.paths.specs.Paths.{Path, path_cmp}
-use Rattle.schema.specs.Rdns.{put_pair, rdn_key_of}
-use Rattle.schema.specs.Conf.{Conf, below, located, name_text}
+use Rattle.schema.specs.Rdns.{parts_from, rdns_from, put_pair, key_from, rdn_key_of}
+use Rattle.schema.specs.Conf.{Conf, below, place_of, located, name_text}
 use Rattle.values.specs.Types.{type_of}
 use Rattle.matching.specs.Forms.{norm}
 use Rattle.matching.specs.Syntaxes.{is_valid}
 use Rattle.tree.specs.Adds.{add, add_at, added}
-use Rattle.tree.specs.Directories.{Entries, rdn_in, rdns_from}
+use Rattle.tree.specs.Directories as directories
+use Rattle.tree.specs.Directories.{Entries, rdn_in}
 use Rattle.tree.specs.Entries.{EntryContent, push_value, add_lines, with_rdn, lines_of}
 use Rattle.directory.specs.Runs.{State, start, of_change, take_up, outcome, step, after_records, after, record_of, dump, Loads}
 use Rattle.directory.specs.Loading.{StopsAt}
@@ -48,12 +51,12 @@ on_texts = tt
 
 -- what a name and attribute lines come to
 unfoldable on_entries : ⊤
-unfolding is_utf8 chars encode each part_of name_of_text put_pair rdn_key_of below located type_of norm is_valid add push_value add_lines with_rdn
+unfolding is_utf8 chars encode each octets_from trimmed value_of part_at part_of cut_raw rdn_of name_of name_in parts_from rdns_from put_pair key_from rdn_key_of below place_of located type_of norm is_valid add push_value add_lines with_rdn
 on_entries = tt
 
 -- what an entry is written by
 unfoldable on_writing : ⊤
-unfolding write_content name_text text_of_name rdns_from lines_of is_plain line_text folded
+unfolding write_content name_text written text_from text_of directories.rdns_from lines_of is_plain line_text folded
 on_writing = tt
 
 -- a line with its end

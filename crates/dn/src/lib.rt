@@ -18,4 +18,4 @@ pub use laws::{spelled_names_are_read, texts_spell_one_name, written_names_are_r
 pub use names::{Name, Rdn};
 pub use part::Ava;
 pub use read::read_name;
-pub use write::write_name;
+pub use write::{put_value, write_name};

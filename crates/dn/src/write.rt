@@ -44,7 +44,8 @@ fn put_byte(out: &mut Vec<u8>, first: bool, last: bool, b: u8) -> Result<(), All
     out.extend_from_slice(&[b'\\', b])
 }
 
-fn put_value(out: &mut Vec<u8>, value: &[u8]) -> Result<(), AllocError>
+/// Writes a value as it stands in a name (RFC 4514, section 2.4), behind what `out` has.
+pub fn put_value(out: &mut Vec<u8>, value: &[u8]) -> Result<(), AllocError>
     ensures { OnOk result (out.new.items ≡ out.old.items ++ value_text value.now) }
 {
     for i in 0..value.len() {

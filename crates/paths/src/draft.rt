@@ -2,8 +2,8 @@
 
 ghost use Rattle.std.specs.Prelude.{◌≡◌, ◌++◌, ◌∷◌, [], IfOk};
 
-use crate::packing::push_single;
-use crate::path::Path;
+use crate::packing::{push_single, push_step};
+use crate::path::{Path, RdnKey};
 use crate::type_id::TypeId;
 use std::alloc::{AllocError, Global};
 use std::marker::Model;
@@ -44,6 +44,15 @@ impl PathDraft {
     {
         let mut bytes = self.bytes;
         push_single(&mut bytes, t, norm)?;
+        Ok(PathDraft { bytes })
+    }
+
+    /// One step more, of an RDN with this key.
+    pub fn with_key(self, key: &RdnKey) -> Result<PathDraft, AllocError>
+        ensures { IfOk result (λ d. d ≡ self ++ key.now ∷ []) }
+    {
+        let mut bytes = self.bytes;
+        push_step(&mut bytes, key.pairs())?;
         Ok(PathDraft { bytes })
     }
 

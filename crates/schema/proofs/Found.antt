@@ -1,97 +1,144 @@
--- What is located are RDNs of the configuration; and the text of a name is ASCII.
-use Rattle.std.proofs.Common.{◌≡◌, ℕ, ◌+◌, Bool, true, false, cond, ◌&&◌, List, [], ◌∷◌, ◌++◌, length, map, reverse, take, drop, Option, Some, None, Result, Ok, Err, refl, ap, subst, ◌∙◌, arith}
-use Rattle.std.specs.Prelude.{position, nat_lt, ◌==◌}
-use Rattle.std.specs.List.{list_all, slice_split, join_with_byte, AllByRecursion, IsDistinct}
-use Rattle.std.proofs.lemmas.Bool.{and_parts, lt-ltb}
+-- What is located are RDNs of the configuration.
+use Rattle.std.proofs.Common.{◌≡◌, ℕ, ◌+◌, ◌<◌, Bool, true, false, cond, not, List, [], ◌∷◌, ◌++◌, length, map, reverse, Option, Some, None, Result, Ok, Err, inl, inr, refl, sym, ap, subst, ◌∙◌, append_assoc, arith}
+use Rattle.std.specs.Prelude.{nat_eq, nat_lt, ◌==◌}
+use Rattle.std.specs.List.{AllByRecursion, IsDistinct}
+use Rattle.std.specs.Str.{is_utf8}
+use Rattle.std.proofs.lemmas.Bool.{lt-ltb, ltb-true, ne_eqb, or_parts}
 use Rattle.std.proofs.lemmas.Bool.Decides.{nat_tests}
-use Rattle.std.proofs.lemmas.List.Folds.{list_all-append}
+use Rattle.std.proofs.lemmas.List.{length-append, map-append}
 use Rattle.std.proofs.lemmas.List.Quantifiers.{position-Some}
 use Rattle.values.specs.declared.types.AttributeType.{AttributeType}
 use Rattle.schema.specs.declared.code.Code.{Code}
 use Rattle.schema.specs.declared.code.Code.TheVariants.{InvalidDnSyntax, NamingViolation, NoSuchObject}
 use Rattle.base.proofs.Bound.{bind_ok, same_ok}
-use Rattle.base.specs.Answers.{◌>>=◌, each}
+use Rattle.base.specs.Answers.{◌>>=◌}
+use Rattle.dn.specs.Names as names
+use Rattle.dn.specs.Reading as reading
+use Rattle.dn.specs.Spelling.{Spells, SpellsRdn, SpellsPart, AreJoined}
+use Rattle.dn.specs.declared.faults.NameFaultKind.{NameFaultKind}
 use Rattle.values.specs.Types.{is_named, type_of, no_type, is_known, has_equality}
 use Rattle.values.specs.Values.{is_valid_at}
-use Rattle.schema.specs.Rdns.{Rdn, IsRdn, rdn_key_of, is_plain_byte, is_inner_byte, is_plain_value}
-use Rattle.schema.specs.Names.{NamePart, Name, is_comma, is_equals, is_type_text, part_cut, part_of, name_of_text, part_text, text_of_name}
+use Rattle.schema.specs.Rdns.{Ava, Rdn, IsAva, IsRdn, type_in, has_type, part_type, type_among, parts_from, typed_rdn, rdns_from, typed, rdn_key_of}
+use Rattle.schema.specs.Names.{or_invalid, name_in}
 use Rattle.schema.specs.TypeRules.{has_name_syntax}
-use Rattle.schema.specs.Conf.{Conf, IsConf, typed_part, typed_rdn, typed, same_rdn_key, below, located, written_part, name_text}
-use Rattle.schema.proofs.Spelled.{IsNamePart, value_inner, type_plain}
+use Rattle.schema.specs.Conf.{Conf, same_rdn_key, below, place_of, located}
 use Rattle.paths.proofs.Unpacked.{all_append}
-use Rattle.schema.proofs.Locating.{all_reverse, all_mapped, written_is_part}
+use Rattle.schema.proofs.Locating.{all_reverse}
 
-both : (a b : Bool) → a ≡ true → b ≡ true → (a && b) ≡ true
-both a b h k = ap (λ x. x && b) h ∙ k
+-- ---- a name's RDNs have parts
 
--- what each gives has what one gives
-each_ok : {X Y : Type 0} (P : Y → Type 0) (f : X → Result Y Code) → ((x : X) (y : Y) → f x ≡ Ok y → P y) → (xs : List X) (ys : List Y) → each f xs ≡ Ok ys → AllByRecursion P ys
-unfolding each
-each_ok {Y = Y} P f g [] ys e = subst (AllByRecursion P) (same_ok [] ys e) tt
-each_ok {Y = Y} P f g (x ∷ xs) ys e =
-    let k = bind_ok (f x) (λ y. (each f xs >>= λ zs. Ok (y ∷ zs))) ys e in
-    let l = bind_ok (each f xs) (λ zs. Ok (k.0 ∷ zs)) ys k.2 in
-    subst (AllByRecursion P) (same_ok (k.0 ∷ l.0) ys l.2) (g x k.0 k.1, each_ok P f g xs l.0 l.1)
+-- what a law of names says: what is read was spelled so
+abbrev pub SpellsRead : Type 0
+SpellsRead = (text : List ℕ) (n : names.Name) → reading.name_of text ≡ Ok n → Spells text n
 
-abbrev pub IsPlain : NamePart → Type 0
-IsPlain p = is_plain_value p.1 ≡ true
+abbrev pub HasParts : names.Rdn → Type 0
+HasParts r = (length r == 0) ≡ false
 
-part_plain : (text : List ℕ) (p : NamePart) → part_of text ≡ Ok p → IsPlain p
-unfolding part_of
-part_plain text p e = by (position is_equals text) e
-  where
-    by : (o : Option ℕ) → part_cut text o ≡ Ok p → IsPlain p
-    by None k = absurd cc
-    by (Some at) k =
-        elim (is_type_text (take at text)) as (λ a. (b : Bool) → is_plain_value (drop (at + 1) text) ≡ b → cond (a && b) (Ok (take at text, drop (at + 1) text)) (Err InvalidDnSyntax) ≡ Ok p → IsPlain p) [
-          | true ↦ λ b. elim b as (λ c. is_plain_value (drop (at + 1) text) ≡ c → cond c (Ok (take at text, drop (at + 1) text)) (Err InvalidDnSyntax) ≡ Ok p → IsPlain p) [
-            | true ↦ λ v is. let same = same_ok (take at text, drop (at + 1) text) p is in subst IsPlain same v
-            | false ↦ λ v is. absurd cc
-          ]
-          | false ↦ λ b v is. absurd cc
-        ] (is_plain_value (drop (at + 1) text)) refl k
+some_parts : (p : names.Ava) (ps : names.Rdn) → HasParts (p ∷ ps)
+some_parts p ps = ne_eqb (length (p ∷ ps)) 0 (λ e. omega arith)
 
-pub name_plain : (text : List ℕ) (n : Name) → name_of_text text ≡ Ok n → AllByRecursion IsPlain n
-unfolding name_of_text
-name_plain text n e =
-    elim (length text == 0) as (λ b. cond b (Ok []) (each part_of (slice_split is_comma text)) ≡ Ok n → AllByRecursion IsPlain n) [
-      | true ↦ λ is. subst (AllByRecursion IsPlain) (same_ok [] n is) tt
-      | false ↦ λ is. each_ok IsPlain part_of part_plain (slice_split is_comma text) n is
+spelled_some : (text : List ℕ) (r : names.Rdn) → SpellsRdn text r → HasParts r
+spelled_some text [] h = absurd h
+spelled_some text (p ∷ ps) h = some_parts p ps
+
+joined_some : (text : List ℕ) (r : names.Rdn) (rs : names.Name) → AreJoined SpellsRdn 44 text (r ∷ rs) → AllByRecursion HasParts (r ∷ rs)
+joined_some text r [] h = (spelled_some text r h, tt)
+joined_some text r (s ∷ rs) h = (spelled_some h.0 r h.2, joined_some h.1 s rs h.4)
+
+name_some : (text : List ℕ) (n : names.Name) → Spells text n → AllByRecursion HasParts n
+name_some text [] h = tt
+name_some text (r ∷ rs) h = joined_some text r rs h
+
+pub name_has_parts : SpellsRead → (text : List ℕ) (n : names.Name) → name_in text ≡ Ok n → AllByRecursion HasParts n
+unfolding name_in
+name_has_parts read text n e =
+    elim (is_utf8 text) as (λ b. cond b (or_invalid (reading.name_of text)) (Err InvalidDnSyntax) ≡ Ok n → AllByRecursion HasParts n) [
+      | true ↦ λ is. by (reading.name_of text) refl is
+      | false ↦ λ is. absurd cc
     ] e
+  where
+    by : (r : Result names.Name NameFaultKind) → reading.name_of text ≡ r → or_invalid r ≡ Ok n → AllByRecursion HasParts n
+    by (Ok m) is said = subst (AllByRecursion HasParts) (same_ok m n said) (name_some text m (read text m is))
+    by (Err fault) is said = absurd cc
+
+-- ---- the parts of an RDN
 
 found_is_known : (types : List AttributeType) (text : List ℕ) (t : ℕ) → type_of types text ≡ Some t → is_known types t ≡ true
 unfolding type_of
 found_is_known types text t e = lt-ltb t (length types) (position-Some (is_named text) types t no_type e).0
 
-rdn_is : (types : List AttributeType) (p : NamePart) (r : Rdn) → IsPlain p → typed_rdn types p ≡ Ok r → IsRdn types r
-unfolding IsDistinct
-rdn_is types p r plain e = by (type_of types p.0) refl e
+record IsNext (types : List AttributeType) (earlier : Rdn) (p : Ava) : Type 0 where
+  good : IsAva types p
+  apart : has_type p.0 earlier ≡ false
+
+is_not : (b : Bool) → not b ≡ false → b ≡ true
+is_not true h = refl
+is_not false h = sym h
+
+part_is : (types : List AttributeType) (earlier : Rdn) (p : names.Ava) (t : ℕ) → part_type types earlier p ≡ Ok t → IsNext types earlier (t, p.1)
+part_is types earlier p t e = by (type_of types p.0) refl e
   where
-    compared : (t : ℕ) → type_of types p.0 ≡ Some t → (n b : Bool) → has_name_syntax types t ≡ n → has_equality types t ≡ b
-        → cond n (Err InvalidDnSyntax) (cond b (cond (is_valid_at types t p.1) (Ok ((t, p.1) ∷ [])) (Err InvalidDnSyntax)) (Err NamingViolation)) ≡ Ok r → IsRdn types r
-    compared t is true b n c k = absurd cc
-    compared t is false false n c k = absurd cc
-    compared t is false true n c k =
-        elim (is_valid_at types t p.1) as (λ b. is_valid_at types t p.1 ≡ b → cond b (Ok ((t, p.1) ∷ [])) (Err InvalidDnSyntax) ≡ Ok r → IsRdn types r) [
-          | true ↦ λ v said. subst (IsRdn types) (same_ok ((t, p.1) ∷ []) r said) (record {
-            parts = (record { known = found_is_known types p.0 t is; no_name = n; comparable = c; valid = v; plain = plain }, tt);
-            types_apart = (tt, tt);
-            one = refl;
-          })
-          | false ↦ λ v said. absurd cc
-        ] refl k
+    checked : (s : ℕ) → type_of types p.0 ≡ Some s → (n q v d : Bool) → has_name_syntax types s ≡ n → not (has_equality types s) ≡ q → not (is_valid_at types s p.1) ≡ v → has_type s earlier ≡ d
+        → ◌≡◌ {A = Result ℕ Code} (cond n (Err InvalidDnSyntax) (cond q (Err NamingViolation) (cond v (Err InvalidDnSyntax) (cond d (Err NamingViolation) (Ok s))))) (Ok t) → IsNext types earlier (t, p.1)
+    checked s is true q v d n-is q-is v-is d-is said = absurd cc
+    checked s is false true v d n-is q-is v-is d-is said = absurd cc
+    checked s is false false true d n-is q-is v-is d-is said = absurd cc
+    checked s is false false false true n-is q-is v-is d-is said = absurd cc
+    checked s is false false false false n-is q-is v-is d-is said =
+        subst (λ (x : ℕ). IsNext types earlier (x, p.1)) (same_ok s t said) (record {
+          good = record { known = found_is_known types p.0 s is; no_name = n-is; comparable = is_not (has_equality types s) q-is; valid = is_not (is_valid_at types s p.1) v-is };
+          apart = d-is;
+        })
 
-    by : (o : Option ℕ) → type_of types p.0 ≡ o → typed_part types p.1 o ≡ Ok r → IsRdn types r
-    by None is k = absurd cc
-    by (Some t) is k = compared t is (has_name_syntax types t) (has_equality types t) refl refl k
+    by : (o : Option ℕ) → type_of types p.0 ≡ o → type_among types earlier p.1 o ≡ Ok t → IsNext types earlier (t, p.1)
+    by None is said = absurd cc
+    by (Some s) is said = checked s is (has_name_syntax types s) (not (has_equality types s)) (not (is_valid_at types s p.1)) (has_type s earlier) refl refl refl refl said
 
-pub rdns_are : (types : List AttributeType) (n : Name) (rs : List Rdn) → AllByRecursion IsPlain n → typed types n ≡ Ok rs → AllByRecursion (IsRdn types) rs
-unfolding each
-rdns_are types [] rs h e = subst (AllByRecursion (IsRdn types)) (same_ok [] rs e) tt
-rdns_are types (p ∷ ps) rs h e =
-    let k = bind_ok (typed_rdn types p) (λ y. (typed types ps >>= λ zs. Ok (y ∷ zs))) rs e in
-    let l = bind_ok (typed types ps) (λ zs. Ok (k.0 ∷ zs)) rs k.2 in
-    subst (AllByRecursion (IsRdn types)) (same_ok (k.0 ∷ l.0) rs l.2) (rdn_is types p k.0 h.0 k.1, rdns_are types ps l.0 h.1 l.1)
+-- one more type, which none before it is
+distinct_more : (r : Rdn) (p : Ava) → IsDistinct nat_eq (map type_in r) → has_type p.0 r ≡ false → IsDistinct nat_eq (map type_in (r ++ p ∷ []))
+unfolding IsDistinct
+distinct_more [] p h none = (tt, tt)
+distinct_more (q ∷ qs) p h none =
+    let k = or_parts (nat_eq q.0 p.0) (has_type p.0 qs) none in
+    (before qs h.0 k.0, distinct_more qs p h.1 k.1)
+  where
+    before : (rs : Rdn) → AllByRecursion (λ t. nat_eq q.0 t ≡ false) (map type_in rs) → nat_eq q.0 p.0 ≡ false → AllByRecursion (λ t. nat_eq q.0 t ≡ false) (map type_in (rs ++ p ∷ []))
+    before [] k off = (off, tt)
+    before (r ∷ rs) k off = (k.0, before rs k.1 off)
+
+record AreParts (types : List AttributeType) (r : Rdn) : Type 0 where
+  parts : AllByRecursion (IsAva types) r
+  apart : IsDistinct nat_eq (map type_in r)
+
+parts_are : (types : List AttributeType) (earlier : Rdn) (ps : names.Rdn) (r : Rdn) → AreParts types earlier → parts_from types earlier ps ≡ Ok r → AreParts types r × (length r ≡ length earlier + length ps)
+unfolding parts_from
+parts_are types earlier [] r h e = subst (λ (x : Rdn). AreParts types x × (length x ≡ length earlier + 0)) (same_ok earlier r e) (h, omega arith)
+parts_are types earlier (p ∷ ps) r h e =
+    let k = bind_ok (part_type types earlier p) (λ t. parts_from types (earlier ++ (t, p.1) ∷ []) ps) r e in
+    let next = part_is types earlier p k.0 k.1 in
+    let more = parts_are types (earlier ++ (k.0, p.1) ∷ []) ps r (record {
+      parts = all_append (IsAva types) earlier ((k.0, p.1) ∷ []) h.parts (next.good, tt);
+      apart = distinct_more earlier (k.0, p.1) h.apart next.apart;
+    }) k.2 in
+    let long = length-append earlier ((k.0, p.1) ∷ []) in
+    (more.0, omega (arith, more.1, long))
+
+rdn_is : (types : List AttributeType) (n : names.Rdn) (r : Rdn) → HasParts n → typed_rdn types n ≡ Ok r → IsRdn types r
+unfolding IsDistinct
+rdn_is types n r some e =
+    let k = parts_are types [] n r (record { parts = tt; apart = tt }) e in
+    let long : length r ≡ length n = omega (arith, k.1) in
+    record { parts = k.0.parts; types_apart = k.0.apart; some = ap (λ x. x == 0) long ∙ some }
+
+rdns_are_from : (types : List AttributeType) (done : List Rdn) (n : names.Name) (rs : List Rdn) → AllByRecursion (IsRdn types) done → AllByRecursion HasParts n → rdns_from types done n ≡ Ok rs → AllByRecursion (IsRdn types) rs
+unfolding rdns_from
+rdns_are_from types done [] rs h some e = subst (AllByRecursion (IsRdn types)) (same_ok done rs e) h
+rdns_are_from types done (r ∷ more) rs h some e =
+    let k = bind_ok (typed_rdn types r) (λ t. rdns_from types (done ++ t ∷ []) more) rs e in
+    rdns_are_from types (done ++ k.0 ∷ []) more rs (all_append (IsRdn types) done (k.0 ∷ []) h (rdn_is types r k.0 some.0 k.1, tt)) some.1 k.2
+
+pub rdns_are : (types : List AttributeType) (n : names.Name) (rs : List Rdn) → AllByRecursion HasParts n → typed types n ≡ Ok rs → AllByRecursion (IsRdn types) rs
+rdns_are types n rs = rdns_are_from types [] n rs tt
 
 below_are : (types : List AttributeType) (P : Rdn → Type 0) (ss rs out : List Rdn) → AllByRecursion P rs → below types ss rs ≡ Ok out → AllByRecursion P out
 unfolding below
@@ -103,44 +150,15 @@ below_are types P (s ∷ ss) (r ∷ rs) out h e =
       | false ↦ λ is. absurd cc
     ] e
 
-pub located_are : (conf : Conf) (text : List ℕ) (rs : List Rdn) → located conf text ≡ Ok rs → AllByRecursion (IsRdn conf.types) rs
-unfolding located
-located_are conf text rs e =
-    let k = bind_ok (name_of_text text) (λ n. (typed conf.types n >>= λ ys. below conf.types (reverse conf.suffix) (reverse ys))) rs e in
+pub located_are : SpellsRead → (conf : Conf) (text : List ℕ) (rs : List Rdn) → located conf text ≡ Ok rs → AllByRecursion (IsRdn conf.types) rs
+unfolding located place_of
+located_are read conf text rs e =
+    let k = bind_ok (name_in text) (place_of conf) rs e in
     let l = bind_ok (typed conf.types k.0) (λ ys. below conf.types (reverse conf.suffix) (reverse ys)) rs k.2 in
     below_are conf.types (IsRdn conf.types) (reverse conf.suffix) (reverse l.0) rs
-    (all_reverse (IsRdn conf.types) l.0 (rdns_are conf.types k.0 l.0 (name_plain text k.0 k.1) l.1)) l.2
+    (all_reverse (IsRdn conf.types) l.0 (rdns_are conf.types k.0 l.0 (name_has_parts read text k.0 k.1) l.1)) l.2
 
--- ---- ASCII
-
-abbrev pub is_ascii_byte : ℕ → Bool
-is_ascii_byte b = nat_lt b 128
-
-inner_ascii : (b : ℕ) → is_inner_byte b ≡ true → is_ascii_byte b ≡ true
-inner_ascii b h = grind (arith, nat_tests)
-
-plain_ascii : (b : ℕ) → is_plain_byte b ≡ true → is_ascii_byte b ≡ true
-plain_ascii b h = grind (arith, nat_tests)
-
-all_of : (p q : ℕ → Bool) → ((b : ℕ) → p b ≡ true → q b ≡ true) → (bs : List ℕ) → list_all p bs ≡ true → list_all q bs ≡ true
-all_of p q f [] h = refl
-all_of p q f (b ∷ bs) h = let k = and_parts (p b) (list_all p bs) h in both (q b) (list_all q bs) (f b k.0) (all_of p q f bs k.1)
-
-part_ascii : (p : NamePart) → IsNamePart p → list_all is_ascii_byte (part_text p) ≡ true
-part_ascii p h =
-    list_all-append is_ascii_byte p.0 (61 ∷ p.1)
-    ∙ both (list_all is_ascii_byte p.0) (list_all is_ascii_byte (61 ∷ p.1)) (all_of is_plain_byte is_ascii_byte plain_ascii p.0 (type_plain p.0 h.type)) (all_of is_inner_byte is_ascii_byte inner_ascii p.1 (value_inner p.1 h.value))
-
-joined_ascii : (ts : List (List ℕ)) → AllByRecursion (λ t. list_all is_ascii_byte t ≡ true) ts → list_all is_ascii_byte (join_with_byte 44 ts) ≡ true
-joined_ascii [] h = refl
-joined_ascii (t ∷ []) h = h.0
-joined_ascii (t ∷ u ∷ us) h =
-    list_all-append is_ascii_byte t (44 ∷ join_with_byte 44 (u ∷ us)) ∙ both (list_all is_ascii_byte t) (list_all is_ascii_byte (44 ∷ join_with_byte 44 (u ∷ us))) h.0 (joined_ascii (u ∷ us) h.1)
-
-pub name_ascii : (conf : Conf) → IsConf conf → (rs : List Rdn) → AllByRecursion (IsRdn conf.types) rs → list_all is_ascii_byte (name_text conf rs) ≡ true
-unfolding name_text text_of_name
-name_ascii conf c rs h =
-    let all : List Rdn = reverse rs ++ conf.suffix in
-    let good : AllByRecursion (IsRdn conf.types) all = all_append (IsRdn conf.types) (reverse rs) conf.suffix (all_reverse (IsRdn conf.types) rs h) c.suffix in
-    let named = all_mapped (IsRdn conf.types) IsNamePart (written_part conf.types) (written_is_part conf c) all good in
-    joined_ascii (map part_text (map (written_part conf.types) all)) (all_mapped IsNamePart (λ t. list_all is_ascii_byte t ≡ true) part_text part_ascii (map (written_part conf.types) all) named)
+-- the types of a good RDN are known
+pub types_known : (types : List AttributeType) (r : Rdn) → AllByRecursion (IsAva types) r → AllByRecursion (λ p. p.0 < length types) r
+types_known types [] h = tt
+types_known types (p ∷ ps) h = (ltb-true p.0 (length types) h.0.known, types_known types ps h.1)

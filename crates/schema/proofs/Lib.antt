@@ -1,6 +1,5 @@
 pub mod Below
 pub mod Named
-pub mod Spelled
 pub mod Locating
 pub mod Steps
 pub mod Found

@@ -1,72 +1,79 @@
 -- Where names stand: the name of RDNs leads back to them, and what is found are RDNs of the configuration.
-use Rattle.std.proofs.Common.{◌≡◌, ℕ, ◌≤◌, Bool, true, false, cond, not, ◌&&◌, ◌||◌, List, [], ◌∷◌, ◌++◌, length, map, reverse, Result, Ok, Err, refl, sym, ap, subst, ◌∙◌, arith, lit≤}
-use Rattle.std.specs.Prelude.{◌==◌}
-use Rattle.std.specs.List.{list_all, AllByRecursion}
+use Rattle.std.proofs.Common.{◌≡◌, ℕ, ◌≤◌, Bool, true, false, cond, not, ◌&&◌, ◌||◌, List, [], ◌∷◌, ◌++◌, length, map, reverse, Result, Ok, Err, refl, sym, ap, subst, ◌∙◌, append_assoc, arith, lit≤}
+use Rattle.std.specs.Prelude.{◌==◌, nat_eq}
+use Rattle.std.specs.List.{list_all, AllByRecursion, IsDistinct}
 use Rattle.std.specs.Char.{is_ascii_alphabetic, is_ascii_digit, to_ascii_lowercase}
 use Rattle.std.specs.Ordering.{is_eq}
 use Rattle.std.proofs.lemmas.Bool.{and_parts, ne_eqb}
 use Rattle.std.proofs.lemmas.Bool.Decides.{nat_tests}
-use Rattle.std.proofs.lemmas.List.{reverse-append, reverse-reverse}
+use Rattle.std.proofs.lemmas.List.{append-nil, length-map, reverse-append, reverse-reverse}
+use Rattle.std.proofs.lemmas.Str.{is_utf8-from_IsUtf8}
 use Rattle.std.proofs.lemmas.Cmp.{tied_itself}
 use Rattle.values.specs.declared.types.AttributeType.{AttributeType}
 use Rattle.schema.specs.declared.code.Code.{Code}
 use Rattle.schema.specs.declared.code.Code.TheVariants.{InvalidDnSyntax, NamingViolation, NoSuchObject}
-use Rattle.base.specs.Answers.{◌>>=◌, each}
+use Rattle.base.specs.Answers.{◌>>=◌}
 use Rattle.values.specs.Types.{printed_name, name_of, type_at, is_known, has_equality, first_or}
 use Rattle.definitions.specs.Naming.{is_oid, are_groups, is_name, is_name_byte, is_type_name, is_reserved}
-use Rattle.schema.specs.Rdns.{Rdn, IsRdn, rdn_key_of, is_plain_byte}
-use Rattle.schema.specs.Names.{Name, is_type_text}
+use Rattle.schema.specs.Rdns.{Ava, Rdn, IsAva, IsRdn, type_in, has_type, part_type, type_among, parts_from, typed_rdn, rdns_from, typed, rdn_key_of}
+use Rattle.dn.specs.Names as names
+use Rattle.dn.specs.Names.{is_type_byte, is_type, is_byte, is_ava, is_rdn, is_ascii}
+use Rattle.dn.specs.Reading as reading
+use Rattle.dn.specs.Writing.{text_of}
+use Rattle.schema.specs.Names.{or_invalid, name_in, written_part, written_rdn}
 use Rattle.values.specs.Values.{is_valid_at}
-use Rattle.schema.specs.Conf.{Conf, IsConf, IsType, typed_part, typed_rdn, typed, below, located, written_part, name_text}
+use Rattle.matching.specs.declared.syntax.Syntax.{Syntax}
+use Rattle.matching.specs.Syntaxes.{is_valid}
+use Rattle.schema.specs.Conf.{Conf, IsConf, IsType, below, place_of, located, name_text}
 use Rattle.schema.proofs.Named.{type_is, is_type_at}
 use Rattle.paths.specs.PathLaws.{rdn_key_total}
 use Rattle.paths.proofs.Unpacked.{all_append}
-use Rattle.schema.proofs.Spelled.{IsNamePart, name_read}
+use Rattle.dn.proofs.Ascii.{ascii_utf8}
 
 both : (a b : Bool) → a ≡ true → b ≡ true → (a && b) ≡ true
 both a b h k = ap (λ x. x && b) h ∙ k
 
 -- ---- printed names
 
-name_byte_plain : (b : ℕ) → is_name_byte b ≡ true → is_plain_byte b ≡ true
+name_byte_plain : (b : ℕ) → is_name_byte b ≡ true → is_type_byte b ≡ true
 name_byte_plain b h = grind (arith, nat_tests)
 
-letter_plain : (b : ℕ) → is_ascii_alphabetic b ≡ true → is_plain_byte b ≡ true
+letter_plain : (b : ℕ) → is_ascii_alphabetic b ≡ true → is_type_byte b ≡ true
 letter_plain b h = grind (arith, nat_tests)
 
-digit_plain : (b : ℕ) → is_ascii_digit b ≡ true → is_plain_byte b ≡ true
+digit_plain : (b : ℕ) → is_ascii_digit b ≡ true → is_type_byte b ≡ true
 digit_plain b h = grind (arith, nat_tests)
 
-dot_plain : (b : ℕ) → (b == 46) ≡ true → is_plain_byte b ≡ true
+dot_plain : (b : ℕ) → (b == 46) ≡ true → is_type_byte b ≡ true
 dot_plain b h = grind (arith, nat_tests)
 
 digit_is_low : (b : ℕ) → is_ascii_digit b ≡ true → (100 == to_ascii_lowercase b) ≡ false
 digit_is_low b h = grind (arith, nat_tests)
 
-names_plain : (bs : List ℕ) → list_all is_name_byte bs ≡ true → list_all is_plain_byte bs ≡ true
+names_plain : (bs : List ℕ) → list_all is_name_byte bs ≡ true → list_all is_type_byte bs ≡ true
 names_plain [] h = refl
 names_plain (b ∷ bs) h =
     let k = and_parts (is_name_byte b) (list_all is_name_byte bs) h in
-    both (is_plain_byte b) (list_all is_plain_byte bs) (name_byte_plain b k.0) (names_plain bs k.1)
+    both (is_type_byte b) (list_all is_type_byte bs) (name_byte_plain b k.0) (names_plain bs k.1)
 
-text_from : (b : ℕ) (bs : List ℕ) → list_all is_plain_byte (b ∷ bs) ≡ true → is_type_text (b ∷ bs) ≡ true
-text_from b bs h = both (not (length (b ∷ bs) == 0)) (list_all is_plain_byte (b ∷ bs)) (ap not (ne_eqb (length (b ∷ bs)) 0 (λ e. omega arith))) h
+text_from : (b : ℕ) (bs : List ℕ) → list_all is_type_byte (b ∷ bs) ≡ true → is_type (b ∷ bs) ≡ true
+text_from b bs h = both (not (length (b ∷ bs) == 0)) (list_all is_type_byte (b ∷ bs)) (ap not (ne_eqb (length (b ∷ bs)) 0 (λ e. omega arith))) h
 
-name_is_text : (t : List ℕ) → is_name t ≡ true → is_type_text t ≡ true
+name_is_text : (t : List ℕ) → is_name t ≡ true → is_type t ≡ true
 name_is_text [] h = absurd cc
 name_is_text (b ∷ bs) h =
     let k = and_parts (is_ascii_alphabetic b) (list_all is_name_byte bs) h in
-    text_from b bs (both (is_plain_byte b) (list_all is_plain_byte bs) (letter_plain b k.0) (names_plain bs k.1))
+    text_from b bs (both (is_type_byte b) (list_all is_type_byte bs) (letter_plain b k.0) (names_plain bs k.1))
 
-groups_plain : (due : Bool) (bs : List ℕ) → are_groups due bs ≡ true → list_all is_plain_byte bs ≡ true
+groups_plain : (due : Bool) (bs : List ℕ) → are_groups due bs ≡ true → list_all is_type_byte bs ≡ true
 unfolding are_groups
 groups_plain due [] h = refl
 groups_plain due (b ∷ bs) h =
-    elim (is_ascii_digit b) as (λ d. is_ascii_digit b ≡ d → cond d (are_groups false bs) (b == 46 && not due && are_groups true bs) ≡ true → list_all is_plain_byte (b ∷ bs) ≡ true) [
-      | true ↦ λ is k. both (is_plain_byte b) (list_all is_plain_byte bs) (digit_plain b is) (groups_plain false bs k)
+    elim (is_ascii_digit b) as (λ d. is_ascii_digit b ≡ d → cond d (are_groups false bs) (b == 46 && not due && are_groups true bs) ≡ true → list_all is_type_byte (b ∷ bs) ≡ true) [
+      | true ↦ λ is k. both (is_type_byte b) (list_all is_type_byte bs) (digit_plain b is) (groups_plain false bs k)
       | false ↦ λ is k.
           let p = and_parts (b == 46 && not due) (are_groups true bs) k in
-          both (is_plain_byte b) (list_all is_plain_byte bs) (dot_plain b (and_parts (b == 46) (not due) p.0).0) (groups_plain true bs p.1)
+          both (is_type_byte b) (list_all is_type_byte bs) (dot_plain b (and_parts (b == 46) (not due) p.0).0) (groups_plain true bs p.1)
     ] refl h
 
 -- an OID begins with a digit
@@ -78,7 +85,7 @@ oid_digit b bs h =
       | false ↦ λ k. (and_parts (b == 46) false (and_parts (b == 46 && false) (are_groups true bs) k).0).1
     ] h
 
-oid_is_text : (t : List ℕ) → is_oid t ≡ true → is_type_text t ≡ true
+oid_is_text : (t : List ℕ) → is_oid t ≡ true → is_type t ≡ true
 unfolding are_groups
 oid_is_text [] h = absurd cc
 oid_is_text (b ∷ bs) h = text_from b bs (groups_plain true (b ∷ bs) h)
@@ -102,10 +109,10 @@ not_true : (b : Bool) → not b ≡ true → b ≡ false
 not_true true h = sym h
 not_true false h = refl
 
-printed_text : (t : AttributeType) → IsType t → is_type_text (printed_name t) ≡ true
+printed_text : (t : AttributeType) → IsType t → is_type (printed_name t) ≡ true
 printed_text t h = by t.names h.names
   where
-    by : (ns : List (List ℕ)) → list_all is_type_name ns ≡ true → is_type_text (first_or ns t.oid) ≡ true
+    by : (ns : List (List ℕ)) → list_all is_type_name ns ≡ true → is_type (first_or ns t.oid) ≡ true
     by [] k = oid_is_text t.oid h.oid
     by (n ∷ ns) k = name_is_text n (and_parts (is_name n) (not (is_reserved n)) (and_parts (is_type_name n) (list_all is_type_name ns) k).0).0
 
@@ -116,7 +123,7 @@ printed_free t h = by t.names h.names
     by [] k = oid_isnt_reserved t.oid h.oid
     by (n ∷ ns) k = not_true (is_reserved n) (and_parts (is_name n) (not (is_reserved n)) (and_parts (is_type_name n) (list_all is_type_name ns) k).0).1
 
-pub printed_is_text : (conf : Conf) (t : ℕ) → IsConf conf → is_known conf.types t ≡ true → is_type_text (name_of conf.types t) ≡ true
+pub printed_is_text : (conf : Conf) (t : ℕ) → IsConf conf → is_known conf.types t ≡ true → is_type (name_of conf.types t) ≡ true
 printed_is_text conf t h known = printed_text (type_at conf.types t) (is_type_at conf t h known)
 
 pub printed_isnt_reserved : (conf : Conf) (t : ℕ) → IsConf conf → is_known conf.types t ≡ true → is_reserved (name_of conf.types t) ≡ false
@@ -135,8 +142,14 @@ all_mapped P Q f g (x ∷ xs) h = (g x h.0, all_mapped P Q f g xs h.1)
 abbrev rdns_ok : List Rdn → Result (List Rdn) Code
 rdns_ok rs = Ok rs
 
-abbrev part_ok : Rdn → Result Rdn Code
-part_ok r = Ok r
+abbrev rdn_ok : Rdn → Result Rdn Code
+rdn_ok r = Ok r
+
+abbrev type_ok : ℕ → Result ℕ Code
+type_ok t = Ok t
+
+abbrev names_ok : names.Name → Result names.Name Code
+names_ok n = Ok n
 
 below_is : (types : List AttributeType) (ss rs : List Rdn) → below types ss (ss ++ rs) ≡ Ok rs
 unfolding below
@@ -144,35 +157,93 @@ below_is types [] rs = refl
 below_is types (s ∷ ss) rs =
     ap (λ b. cond b (below types ss (ss ++ rs)) (Err NoSuchObject)) (ap is_eq (tied_itself rdn_key_total (rdn_key_of types s))) ∙ below_is types ss rs
 
-module _ (conf : Conf) (c : IsConf conf) where
-  pub written_is_part : (r : Rdn) → IsRdn conf.types r → IsNamePart (written_part conf.types r)
-  written_is_part [] h = absurd (let k = h.one in omega arith)
-  written_is_part (p ∷ ps) h = record { type = printed_is_text conf p.0 c h.parts.0.known; value = h.parts.0.plain }
+-- no part before another is of its type
+apart_before : (earlier : Rdn) (p : Ava) (ps : Rdn) → IsDistinct nat_eq (map type_in (earlier ++ p ∷ ps)) → has_type p.0 earlier ≡ false
+unfolding IsDistinct
+apart_before [] p ps h = refl
+apart_before (q ∷ qs) p ps h = ap (λ b. b || has_type p.0 qs) (before qs h.0) ∙ apart_before qs p ps h.1
+  where
+    before : (rs : Rdn) → AllByRecursion (λ t. nat_eq q.0 t ≡ false) (map type_in (rs ++ p ∷ ps)) → nat_eq q.0 p.0 ≡ false
+    before [] k = k.0
+    before (r ∷ rs) k = before rs k.1
 
-  rdn_typed : (r : Rdn) → IsRdn conf.types r → typed_rdn conf.types (written_part conf.types r) ≡ Ok r
-  rdn_typed [] h = absurd (let k = h.one in omega arith)
-  rdn_typed (p ∷ []) h =
-      ap (typed_part conf.types p.1) (type_is conf p.0 c h.parts.0.known)
-      ∙ ap (λ b. cond b (Err InvalidDnSyntax) (cond (has_equality conf.types p.0) (cond (is_valid_at conf.types p.0 p.1) (part_ok (p ∷ [])) (Err InvalidDnSyntax)) (Err NamingViolation))) h.parts.0.no_name
-      ∙ ap (λ b. cond b (cond (is_valid_at conf.types p.0 p.1) (part_ok (p ∷ [])) (Err InvalidDnSyntax)) (Err NamingViolation)) h.parts.0.comparable
-      ∙ ap (λ b. cond b (part_ok (p ∷ [])) (Err InvalidDnSyntax)) h.parts.0.valid
-  rdn_typed (p ∷ q ∷ ps) h = absurd (let k = h.one in omega arith)
+-- what a law of names says: a written name is read
+abbrev pub ReadsWritten : Type 0
+ReadsWritten = (n : names.Name) → names.is_name n ≡ true → reading.name_of (text_of n) ≡ Ok n
 
-  rdns_typed : (rs : List Rdn) → AllByRecursion (IsRdn conf.types) rs → typed conf.types (map (written_part conf.types) rs) ≡ Ok rs
-  unfolding each
-  rdns_typed [] h = refl
-  rdns_typed (r ∷ rs) h =
-      ap (λ (x : Result Rdn Code). x >>= λ y. (typed conf.types (map (written_part conf.types) rs) >>= λ ys. rdns_ok (y ∷ ys))) (rdn_typed r h.0)
-      ∙ ap (λ (x : Result (List Rdn) Code). x >>= λ ys. rdns_ok (r ∷ ys)) (rdns_typed rs h.1)
+abbrev pub WritesAscii : Type 0
+WritesAscii = (n : names.Name) → names.is_name n ≡ true → list_all is_ascii (text_of n) ≡ true
+
+-- and one of values: valid ones are bytes
+abbrev pub HaveBytes : Type 0
+HaveBytes = (syntax : Syntax) (value : List ℕ) → is_valid syntax value ≡ true → list_all is_byte value ≡ true
+
+module _ (bytes : HaveBytes) (conf : Conf) (c : IsConf conf) where
+  -- an RDN of the configuration can be written
+  part_is : (p : Ava) → IsAva conf.types p → is_ava (written_part conf.types p) ≡ true
+  part_is p h = both (is_type (name_of conf.types p.0)) (list_all is_byte p.1) (printed_is_text conf p.0 c h.known) (bytes (type_at conf.types p.0).syntax p.1 h.valid)
+
+  parts_are : (ps : Rdn) → AllByRecursion (IsAva conf.types) ps → list_all is_ava (written_rdn conf.types ps) ≡ true
+  parts_are [] h = refl
+  parts_are (p ∷ ps) h = both (is_ava (written_part conf.types p)) (list_all is_ava (written_rdn conf.types ps)) (part_is p h.0) (parts_are ps h.1)
+
+  rdn_is : (r : Rdn) → IsRdn conf.types r → is_rdn (written_rdn conf.types r) ≡ true
+  rdn_is r h =
+      both (not (length (written_rdn conf.types r) == 0)) (list_all is_ava (written_rdn conf.types r))
+      (ap (λ n. not (n == 0)) (length-map r (written_part conf.types)) ∙ ap not h.some) (parts_are r h.parts)
+
+  pub name_is : (rs : List Rdn) → AllByRecursion (IsRdn conf.types) rs → names.is_name (map (written_rdn conf.types) rs) ≡ true
+  name_is [] h = refl
+  name_is (r ∷ rs) h = both (is_rdn (written_rdn conf.types r)) (names.is_name (map (written_rdn conf.types) rs)) (rdn_is r h.0) (name_is rs h.1)
+
+  -- the RDNs of an entry, and those of the suffix behind them
+  abbrev pub all_of : List Rdn → List Rdn
+  all_of rs = reverse rs ++ conf.suffix
+
+  pub all_are : (rs : List Rdn) → AllByRecursion (IsRdn conf.types) rs → AllByRecursion (IsRdn conf.types) (all_of rs)
+  all_are rs h = all_append (IsRdn conf.types) (reverse rs) conf.suffix (all_reverse (IsRdn conf.types) rs h) c.suffix
+
+  part_typed : (earlier : Rdn) (p : Ava) → IsAva conf.types p → has_type p.0 earlier ≡ false → part_type conf.types earlier (written_part conf.types p) ≡ Ok p.0
+  part_typed earlier p h apart =
+      ap (type_among conf.types earlier p.1) (type_is conf p.0 c h.known)
+      ∙ ap (λ b. cond b (Err InvalidDnSyntax) (cond (not (has_equality conf.types p.0)) (Err NamingViolation) (cond (not (is_valid_at conf.types p.0 p.1)) (Err InvalidDnSyntax) (cond (has_type p.0 earlier) (Err NamingViolation) (type_ok p.0))))) h.no_name
+      ∙ ap (λ b. cond (not b) (Err NamingViolation) (cond (not (is_valid_at conf.types p.0 p.1)) (Err InvalidDnSyntax) (cond (has_type p.0 earlier) (Err NamingViolation) (type_ok p.0)))) h.comparable
+      ∙ ap (λ b. cond (not b) (Err InvalidDnSyntax) (cond (has_type p.0 earlier) (Err NamingViolation) (type_ok p.0))) h.valid
+      ∙ ap (λ b. cond b (Err NamingViolation) (type_ok p.0)) apart
+
+  parts_typed : (earlier ps : Rdn) → AllByRecursion (IsAva conf.types) ps → IsDistinct nat_eq (map type_in (earlier ++ ps)) → parts_from conf.types earlier (written_rdn conf.types ps) ≡ Ok (earlier ++ ps)
+  unfolding parts_from
+  parts_typed earlier [] h apart = ap rdn_ok (sym (append-nil earlier))
+  parts_typed earlier (p ∷ ps) h apart =
+      ap (λ (x : Result ℕ Code). x >>= λ t. parts_from conf.types (earlier ++ (t, p.1) ∷ []) (written_rdn conf.types ps)) (part_typed earlier p h.0 (apart_before earlier p ps apart))
+      ∙ parts_typed (earlier ++ p ∷ []) ps h.1 (subst (λ (r : Rdn). IsDistinct nat_eq (map type_in r)) (sym (append_assoc earlier (p ∷ []) ps)) apart)
+      ∙ ap rdn_ok (append_assoc earlier (p ∷ []) ps)
+
+  rdns_typed : (done rs : List Rdn) → AllByRecursion (IsRdn conf.types) rs → rdns_from conf.types done (map (written_rdn conf.types) rs) ≡ Ok (done ++ rs)
+  unfolding rdns_from
+  rdns_typed done [] h = ap rdns_ok (sym (append-nil done))
+  rdns_typed done (r ∷ rs) h =
+      ap (λ (x : Result Rdn Code). x >>= λ y. rdns_from conf.types (done ++ y ∷ []) (map (written_rdn conf.types) rs)) (parts_typed [] r h.0.parts h.0.types_apart)
+      ∙ rdns_typed (done ++ r ∷ []) rs h.1
+      ∙ ap rdns_ok (append_assoc done (r ∷ []) rs)
+
+  pub name_ascii : WritesAscii → (rs : List Rdn) → AllByRecursion (IsRdn conf.types) rs → list_all is_ascii (name_text conf rs) ≡ true
+  unfolding name_text
+  name_ascii ascii rs h = ascii (map (written_rdn conf.types) (all_of rs)) (name_is (all_of rs) (all_are rs h))
+
+  name_read : ReadsWritten → WritesAscii → (rs : List Rdn) → AllByRecursion (IsRdn conf.types) rs → name_in (name_text conf rs) ≡ Ok (map (written_rdn conf.types) (all_of rs))
+  unfolding name_in name_text
+  name_read read ascii rs h =
+      let n : names.Name = map (written_rdn conf.types) (all_of rs) in
+      let good = name_is (all_of rs) (all_are rs h) in
+      ap (λ b. cond b (or_invalid (reading.name_of (text_of n))) (Err InvalidDnSyntax)) (is_utf8-from_IsUtf8 (text_of n) (ascii_utf8 (text_of n) (ascii n good)))
+      ∙ ap or_invalid (read n good)
 
   -- the name of these RDNs stands where they say
-  pub located_is : (rs : List Rdn) → AllByRecursion (IsRdn conf.types) rs → located conf (name_text conf rs) ≡ Ok rs
-  unfolding located name_text
-  located_is rs h =
-      let all : List Rdn = reverse rs ++ conf.suffix in
-      let good : AllByRecursion (IsRdn conf.types) all = all_append (IsRdn conf.types) (reverse rs) conf.suffix (all_reverse (IsRdn conf.types) rs h) c.suffix in
-      ap (λ (x : Result Name Code). x >>= λ n. (typed conf.types n >>= λ ys. below conf.types (reverse conf.suffix) (reverse ys)))
-      (name_read (map (written_part conf.types) all) (all_mapped (IsRdn conf.types) IsNamePart (written_part conf.types) written_is_part all good))
-      ∙ ap (λ (x : Result (List Rdn) Code). x >>= λ ys. below conf.types (reverse conf.suffix) (reverse ys)) (rdns_typed all good)
+  pub located_is : ReadsWritten → WritesAscii → (rs : List Rdn) → AllByRecursion (IsRdn conf.types) rs → located conf (name_text conf rs) ≡ Ok rs
+  unfolding located place_of
+  located_is read ascii rs h =
+      ap (λ (x : Result names.Name Code). x >>= place_of conf) (name_read read ascii rs h)
+      ∙ ap (λ (x : Result (List Rdn) Code). x >>= λ ys. below conf.types (reverse conf.suffix) (reverse ys)) (rdns_typed [] (all_of rs) (all_are rs h))
       ∙ ap (below conf.types (reverse conf.suffix)) (reverse-append (reverse rs) conf.suffix ∙ ap (λ (x : List Rdn). reverse conf.suffix ++ x) (reverse-reverse rs))
       ∙ below_is conf.types (reverse conf.suffix) rs

@@ -19,14 +19,14 @@ use Rattle.schema.specs.declared.conf_fault.ConfFaultKind.TheVariants.{Keyword, 
 use Rattle.definitions.specs.declared.class_definition.ClassDefinition.{ClassDefinition}
 use Rattle.definitions.specs.ClassDefinitions.{class_definition_of}
 use Rattle.schema.specs.TypeRules.{type_with}
-use Rattle.schema.specs.Rdns.{Rdn, IsRdn}
-use Rattle.schema.specs.Names.{Name, name_of_text}
+use Rattle.schema.specs.Rdns.{Rdn, IsRdn, typed}
+use Rattle.schema.specs.Names.{name_in}
 use Rattle.schema.specs.Conf.{IsConf, IsType, share_name}
 use Rattle.base.proofs.Each.{passed_on}
 use Rattle.base.proofs.Bound.{bind_ok, same_ok}
 use Rattle.base.specs.Answers.{◌>>=◌, through, Fails}
-use Rattle.schema.specs.Configurations.{At, says_nothing, is_first, is_built_in, names_one, has_twin, is_taken, superior_of, up_of, flaw_of, unless, below, refused, placed, object_class, Defined, built_in, or_fault, class_refused, class_placed, with_types, types_in, definition_line, defined_by, some_rdns, typed_name, suffix_at, suffix_text, suffix_line, suffix_of}
-use Rattle.schema.proofs.Found.{name_plain, rdns_are}
+use Rattle.schema.specs.Configurations.{At, says_nothing, is_first, is_built_in, names_one, has_twin, is_taken, superior_of, up_of, flaw_of, unless, below, refused, placed, object_class, Defined, built_in, or_fault, class_refused, class_placed, with_types, types_in, definition_line, defined_by, some_rdns, suffix_at, suffix_text, suffix_line, suffix_of}
+use Rattle.schema.proofs.Found.{SpellsRead, name_has_parts, rdns_are}
 
 -- what the crate below says of each type that a text defines
 abbrev pub Defines : Type 0
@@ -217,16 +217,14 @@ some_is types line (Ok []) out good e = absurd cc
 some_is types line (Ok (r ∷ rs)) out good e = subst (IsSuffix types) (same_ok (Some (r ∷ rs)) out e) (good (r ∷ rs) refl, lt-ltb 0 (length (r ∷ rs)) (omega arith))
 some_is types line (Err c) out good e = absurd cc
 
-typed_good : (types : List AttributeType) (text : List ℕ) (rs : List Rdn) → typed_name types (name_of_text text) ≡ Ok rs → AllByRecursion (IsRdn types) rs
-typed_good types text rs e = by (name_of_text text) refl e
-  where
-    by : (r : Result Name Code) → name_of_text text ≡ r → typed_name types r ≡ Ok rs → AllByRecursion (IsRdn types) rs
-    by (Ok n) is said = rdns_are types n rs (name_plain text n is) said
-    by (Err c) is said = absurd cc
+typed_good : SpellsRead → (types : List AttributeType) (text : List ℕ) (rs : List Rdn) → (name_in text >>= typed types) ≡ Ok rs → AllByRecursion (IsRdn types) rs
+typed_good read types text rs e =
+    let k = bind_ok (name_in text) (typed types) rs e in
+    rdns_are types k.0 rs (name_has_parts read text k.0 k.1) k.2
 
-suffix_line_keeps : (types : List AttributeType) (found : Option (List Rdn)) (l : Line) (out : Option (List Rdn)) → IsSuffix types found → suffix_line types found l ≡ Ok out → IsSuffix types out
+suffix_line_keeps : SpellsRead → (types : List AttributeType) (found : Option (List Rdn)) (l : Line) (out : Option (List Rdn)) → IsSuffix types found → suffix_line types found l ≡ Ok out → IsSuffix types out
 unfolding suffix_line
-suffix_line_keeps types found l out h e =
+suffix_line_keeps read types found l out h e =
     let Keeps : Found → Type 0 = λ r. r ≡ Ok out → IsSuffix types out in
     let same : Keeps (found_ok found) = λ said. subst (IsSuffix types) (same_ok found out said) h in
     let new : Found = suffix_at types l.number (suffix_text l.text) in
@@ -237,11 +235,11 @@ suffix_line_keeps types found l out h e =
     (either Keeps (is_first (codes "index") l.text) (found_err l.number Form) words (λ said. absurd cc)
     (either Keeps (is_first (codes "suffix") l.text) one (found_ok found)
     (either Keeps (is_some found) (found_err l.number Suffix) new (λ said. absurd cc)
-    (λ said. some_is types l.number (typed_name types (name_of_text (suffix_text l.text))) out (typed_good types (suffix_text l.text)) said))
+    (λ said. some_is types l.number (name_in (suffix_text l.text) >>= typed types) out (typed_good read types (suffix_text l.text)) said))
     same)) e
 
-pub suffix_is : (types : List AttributeType) (ls : List Line) (out : Option (List Rdn)) → suffix_of types None ls ≡ Ok out → IsSuffix types out
-suffix_is types ls out e = through_keeps (IsSuffix types) (suffix_line types) (suffix_line_keeps types) ls None out tt e
+pub suffix_is : SpellsRead → (types : List AttributeType) (ls : List Line) (out : Option (List Rdn)) → suffix_of types None ls ≡ Ok out → IsSuffix types out
+suffix_is read types ls out e = through_keeps (IsSuffix types) (suffix_line types) (suffix_line_keeps read types) ls None out tt e
 
 pub rules_are : (types : List AttributeType) (suffix : List Rdn) → AreTypes types → IsSuffix types (Some suffix) → IsConf (record { types = types; suffix = suffix })
 rules_are types suffix h k = record { types = h.good; types_apart = h.apart; types_few = h.few; suffix = k.0; suffix_some = k.1 }

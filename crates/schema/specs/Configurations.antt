@@ -22,9 +22,9 @@ use Rattle.definitions.specs.declared.class_definition.ClassDefinition.{ClassDef
 use Rattle.definitions.specs.TypeDefinitions.{type_definition_of}
 use Rattle.definitions.specs.ClassDefinitions.{class_definition_of}
 use Rattle.schema.specs.TypeRules.{type_with, breaks_with, needs_another_syntax}
-use Rattle.schema.specs.Rdns.{Rdn}
-use Rattle.schema.specs.Names.{Name, name_of_text}
-use Rattle.schema.specs.Conf.{Conf, typed}
+use Rattle.schema.specs.Rdns.{Rdn, typed}
+use Rattle.schema.specs.Names.{name_in}
+use Rattle.schema.specs.Conf.{Conf}
 
 -- a line's number and its kind of fault
 abbrev pub At : Type 0
@@ -188,12 +188,12 @@ some_rdns line (Ok []) = Err (line, Suffix)
 some_rdns line (Ok (r ∷ rs)) = Ok (Some (r ∷ rs))
 some_rdns line (Err code) = Err (line, Suffix)
 
-abbrev pub typed_name : List AttributeType → Result Name Code → Result (List Rdn) Code
-typed_name types (Ok n) = typed types n
-typed_name types (Err code) = Err code
+-- the RDNs of the name that bytes spell
+abbrev pub typed_in : List AttributeType → List ℕ → Result (List Rdn) Code
+typed_in types text = name_in text >>= typed types
 
 abbrev pub suffix_at : List AttributeType → ℕ → List ℕ → Result (Option (List Rdn)) At
-suffix_at types line text = some_rdns line (typed_name types (name_of_text text))
+suffix_at types line text = some_rdns line (typed_in types text)
 
 -- a line of the second pass: one suffix, and no indexes in this profile
 unfoldable pub suffix_line : List AttributeType → Option (List Rdn) → Line → Result (Option (List Rdn)) At

@@ -1,12 +1,14 @@
 -- RDNs with their types known (RFC 4512, 2.3.2), and what they come to in a path.
-use Rattle.std.specs.Prelude.{◌≡◌, ℕ, Bool, true, false, not, ◌&&◌, ◌||◌, ◌==◌, nat_eq, nat_lt, if◌then◌else◌, List, [], ◌∷◌, map, length, slice_index, ◌-◌}
-use Rattle.std.specs.List.{list_all, AllByRecursion, IsDistinct}
-use Rattle.std.specs.Char.{is_ascii_alphanumeric}
-use Rattle.base.specs.Ascii.{space, hyphen, full_stop, underscore}
+use Rattle.std.specs.Prelude.{◌≡◌, ℕ, Bool, true, false, not, ◌==◌, nat_eq, nat_lt, if◌then◌else◌, List, [], ◌∷◌, ◌++◌, map, length, Option, Some, None, Result, Ok, Err}
+use Rattle.std.specs.List.{list_any, prefix_len, insert, AllByRecursion, IsDistinct}
 use Rattle.values.specs.declared.types.AttributeType.{AttributeType}
-use Rattle.values.specs.Types.{is_known, has_equality}
+use Rattle.values.specs.Types.{type_of, is_known, has_equality}
 use Rattle.values.specs.Values.{is_valid_at, norm_at}
+use Rattle.schema.specs.declared.code.Code.{Code}
+use Rattle.schema.specs.declared.code.Code.TheVariants.{InvalidDnSyntax, NamingViolation}
 use Rattle.schema.specs.TypeRules.{has_name_syntax}
+use Rattle.base.specs.Answers.{◌>>=◌}
+use Rattle.dn.specs.Names as names
 use Rattle.paths.specs.Paths.{Pair, RdnKey}
 
 -- a type's number and a value as written
@@ -17,26 +19,64 @@ Ava = ℕ × List ℕ
 abbrev pub Rdn : Type 0
 Rdn = List Ava
 
--- a pair among others, by type number
+-- ---- the types of a name's parts
+
+-- whether one of the parts is of this type
+abbrev pub has_type : ℕ → Rdn → Bool
+has_type t r = list_any (λ p. nat_eq p.0 t) r
+
+-- the type is known, its values aren't names, they can be compared, this one is valid, and no part before it is of this type:
+-- the first that fails answers
+abbrev pub type_among : List AttributeType → Rdn → List ℕ → Option ℕ → Result ℕ Code
+type_among types earlier v None = Err InvalidDnSyntax
+type_among types earlier v (Some t) =
+    if has_name_syntax types t then Err InvalidDnSyntax
+    else (if not (has_equality types t) then Err NamingViolation
+    else (if not (is_valid_at types t v) then Err InvalidDnSyntax
+    else (if has_type t earlier then Err NamingViolation else Ok t)))
+
+-- the type of a part behind others in its RDN
+abbrev pub part_type : List AttributeType → Rdn → names.Ava → Result ℕ Code
+part_type types earlier p = type_among types earlier p.1 (type_of types p.0)
+
+-- the parts of an RDN, behind earlier ones
+unfoldable pub parts_from : List AttributeType → Rdn → names.Rdn → Result Rdn Code
+parts_from types earlier [] = Ok earlier
+parts_from types earlier (p ∷ ps) = part_type types earlier p >>= λ t. parts_from types (earlier ++ (t, p.1) ∷ []) ps
+
+abbrev pub typed_rdn : List AttributeType → names.Rdn → Result Rdn Code
+typed_rdn types r = parts_from types [] r
+
+-- the RDNs of a name, behind others
+unfoldable pub rdns_from : List AttributeType → List Rdn → names.Name → Result (List Rdn) Code
+rdns_from types done [] = Ok done
+rdns_from types done (r ∷ rs) = typed_rdn types r >>= λ t. rdns_from types (done ++ t ∷ []) rs
+
+-- the entry's own RDN first
+abbrev pub typed : List AttributeType → names.Name → Result (List Rdn) Code
+typed types n = rdns_from types [] n
+
+-- ---- what they come to
+
+-- whether a pair stands before those of this type
+abbrev pub is_lower : ℕ → Pair → Bool
+is_lower t q = nat_lt q.0 t
+
+-- a pair behind those of lower types
 unfoldable pub put_pair : Pair → RdnKey → RdnKey
-put_pair p [] = p ∷ []
-put_pair p (q ∷ qs) = if nat_lt q.0 p.0 then q ∷ put_pair p qs else p ∷ q ∷ qs
+put_pair p key = insert key (prefix_len (is_lower p.0) key) p
 
--- the step of a path that an RDN gives
+abbrev pub pair_of : List AttributeType → Ava → Pair
+pair_of types p = (p.0, norm_at types p.0 p.1)
+
+-- the pairs of parts, among others
+unfoldable pub key_from : List AttributeType → RdnKey → Rdn → RdnKey
+key_from types key [] = key
+key_from types key (p ∷ ps) = key_from types (put_pair (pair_of types p) key) ps
+
+-- the step of a path that an RDN gives: its pairs of type and normal value, by type
 unfoldable pub rdn_key_of : List AttributeType → Rdn → RdnKey
-rdn_key_of types [] = []
-rdn_key_of types (p ∷ ps) = put_pair (p.0, norm_at types p.0 p.1) (rdn_key_of types ps)
-
--- ---- which values a name can have, in this profile: letters, digits, `-`, `_`, `.` and inner spaces, at least one byte
-
-abbrev pub is_plain_byte : ℕ → Bool
-is_plain_byte b = is_ascii_alphanumeric b || b == hyphen || b == underscore || b == full_stop
-
-abbrev pub is_inner_byte : ℕ → Bool
-is_inner_byte b = is_plain_byte b || b == space
-
-abbrev pub is_plain_value : List ℕ → Bool
-is_plain_value v = not (length v == 0) && list_all is_inner_byte v && is_plain_byte (slice_index v 0) && is_plain_byte (slice_index v (length v - 1))
+rdn_key_of types r = key_from types [] r
 
 -- ---- what holds of an RDN
 
@@ -48,10 +88,9 @@ pub record IsAva (types : List AttributeType) (p : Ava) : Type 0 where
   pub no_name : has_name_syntax types p.0 ≡ false
   pub comparable : has_equality types p.0 ≡ true
   pub valid : is_valid_at types p.0 p.1 ≡ true
-  pub plain : is_plain_value p.1 ≡ true
 
--- its parts are good, no two of one type; in this profile there is one
+-- it has parts, each of them is good, and no two are of one type
 pub record IsRdn (types : List AttributeType) (r : Rdn) : Type 0 where
   pub parts : AllByRecursion (IsAva types) r
   pub types_apart : IsDistinct nat_eq (map type_in r)
-  pub one : length r ≡ 1
+  pub some : (length r == 0) ≡ false

@@ -9,6 +9,7 @@ use crate::conf_lines::fault;
 use crate::defined::types_of;
 use crate::suffix_lines::suffix_of;
 use definitions::{defined_types_have_names, lines_of};
+use dn::spelled_names_are_read;
 use std::alloc::Global;
 
 /// Few texts have more names and OIDs than one in so many bytes.
@@ -21,6 +22,7 @@ pub fn read_conf(alloc: Global, text: &[u8]) -> Result<Conf, ConfFault>
     ensures { Reads (λ c. c) result (conf_of text.now) }
 {
     defined_types_have_names();
+    spelled_names_are_read();
     let lines = lines_of(alloc, text)?;
     let types = types_of(alloc, text.len() / BYTES_OF_A_NAME, &lines)?;
     match suffix_of(alloc, &types, &lines)? {

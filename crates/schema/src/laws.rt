@@ -5,14 +5,17 @@ ghost use Rattle.std.specs.List.{list_all, AllByRecursion};
 ghost use Rattle.values.specs.Types.{type_of, name_of, is_known};
 ghost use Rattle.definitions.specs.Naming.{is_reserved};
 ghost use Rattle.schema.specs.Rdns.{Rdn, IsRdn};
-ghost use Rattle.schema.specs.Names.{is_type_text};
+ghost use Rattle.dn.specs.Names.{is_type};
 ghost use Rattle.schema.specs.Conf.{Conf, IsConf, located, name_text, located_at};
+
+use dn::{spelled_names_are_read, written_names_are_read};
+use matching::valid_values_are_bytes;
 
 /// The name that a type is printed by names it, and no other type before it; it is made of letters, digits, `-`, `_` and
 /// `.`, and is no word that begins another kind of line.
 pub fn printed_names_name_their_types()
     ensures names { (conf : Conf) (t : ℕ) → IsConf conf → is_known conf.types t ≡ true → type_of conf.types (name_of conf.types t) ≡ Some t }
-    ensures texts { (conf : Conf) (t : ℕ) → IsConf conf → is_known conf.types t ≡ true → is_type_text (name_of conf.types t) ≡ true }
+    ensures texts { (conf : Conf) (t : ℕ) → IsConf conf → is_known conf.types t ≡ true → is_type (name_of conf.types t) ≡ true }
     ensures free { (conf : Conf) (t : ℕ) → IsConf conf → is_known conf.types t ≡ true → is_reserved (name_of conf.types t) ≡ false }
 {}
 
@@ -20,9 +23,14 @@ pub fn printed_names_name_their_types()
 pub fn written_names_are_located()
     ensures located { (conf : Conf) (rs : List Rdn) → IsConf conf → AllByRecursion (IsRdn conf.types) rs → located conf (name_text conf rs) ≡ located_at rs }
     ensures ascii { (conf : Conf) (rs : List Rdn) → IsConf conf → AllByRecursion (IsRdn conf.types) rs → list_all (λ b. nat_lt b 128) (name_text conf rs) ≡ true }
-{}
+{
+    written_names_are_read();
+    valid_values_are_bytes();
+}
 
 /// The RDNs at which a name is located are good ones.
 pub fn located_rdns_are_good()
     ensures { (conf : Conf) (text : List ℕ) (rs : List Rdn) → located conf text ≡ located_at rs → AllByRecursion (IsRdn conf.types) rs }
-{}
+{
+    spelled_names_are_read();
+}

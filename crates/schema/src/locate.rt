@@ -1,22 +1,22 @@
 //! Where a name stands under a configuration.
 
-ghost use Rattle.std.specs.Prelude.{◌≡◌, ◌<◌, ◌∷◌, ◌++◌, [], ◌≤◌, IfOk, IfSome, IsTrue, map, reverse, length};
+ghost use Rattle.std.specs.Prelude.{◌≡◌, IfOk, map, reverse};
 ghost use Rattle.std.specs.List.{AllByRecursion};
-ghost use Rattle.schema.specs.Rdns.{rdn_key_of};
-ghost use Rattle.schema.specs.inner.Keys.{IsOne, KeysFit};
-ghost use Rattle.schema.specs.Conf.{typed_rdn, typed, below, located, path_of};
+ghost use Rattle.schema.specs.Rdns.{rdn_key_of, typed, typed_rdn};
+ghost use Rattle.schema.specs.inner.Keys.{AreKnown, KeysFit};
+ghost use Rattle.schema.specs.Conf.{below, place_of, located, path_of, path_of_name};
 ghost use Rattle.schema.specs.Gives.{Gives};
 
 use crate::code::Code;
 use crate::conf::Conf;
 use crate::fault::PathFault;
-use crate::name::name_of_text;
-use crate::type_rules::is_syntax;
-use base::{Bytes, Sequence};
-use matching::{Syntax, is_valid};
+use crate::names::read_dn;
+use crate::rdns::{step_down, typed_rdn, typed_rdns};
+use base::Sequence;
+use dn::Name;
 use paths::{Path, PathDraft, Rdn};
 use std::alloc::{AllocError, Global};
-use values::{TypeId, TypeTable, norm_by};
+use values::TypeTable;
 
 /// Where a name stands: its path, and its RDNs below the suffix, from the suffix down.
 #[derive(Debug, Drop)]
@@ -32,58 +32,9 @@ pub(crate) struct TypedName {
     pub(crate) path: Path,
 }
 
-fn one_part(alloc: Global, t: TypeId, value: Bytes) -> Result<Rdn, AllocError>
-    ensures { IfOk result (λ r. r ≡ (t, value) ∷ []) }
-{
-    let mut parts = Vec::with_capacity(alloc, 1)?;
-    parts.push((t, value))?;
-    Ok(Rdn::new(Sequence::from_vec(parts)))
-}
-
-// an RDN of one part
-fn typed_rdn(alloc: Global, types: &TypeTable, name: &[u8], value: &[u8]) -> Result<Rdn, PathFault>
-    ensures gives { Gives (λ r. r) result (typed_rdn types.now (name.now, value.now)) }
-    ensures one { IfOk result (IsOne types.now) }
-{
-    let Some(t) = types.type_of(name) else {
-        return Err(PathFault::Code(Code::InvalidDnSyntax));
-    };
-    let kind = types.at(t);
-    if is_syntax(Syntax::Name, kind.syntax) {
-        return Err(PathFault::Code(Code::InvalidDnSyntax));
-    }
-    if kind.equality.is_none() {
-        return Err(PathFault::Code(Code::NamingViolation));
-    }
-    if !is_valid(kind.syntax, value) {
-        return Err(PathFault::Code(Code::InvalidDnSyntax));
-    }
-    Ok(one_part(alloc, t, Bytes::from_slice(alloc, value)?)?)
-}
-
-// goes down by what an RDN comes to
-#[tactic(auto, unfolding(crate::specs::Rdns::rdn_key_of, crate::specs::Rdns::put_pair))]
-fn step_down(
-    alloc: Global,
-    types: &TypeTable,
-    path: PathDraft,
-    rdn: &Rdn,
-) -> Result<PathDraft, AllocError>
-    requires { IsOne types.now rdn.now }
-    ensures { IfOk result (λ d. d ≡ path ++ rdn_key_of types.now rdn.now ∷ []) }
-{
-    match rdn.parts() {
-        [(t, value)] => {
-            let norm = norm_by(alloc, types.at(*t).equality, value.as_slice())?;
-            path.with(*t, norm.as_slice())
-        }
-        _ => unreachable!(),
-    }
-}
-
 // what RDNs come to, from the last on
 fn path_of(alloc: Global, types: &TypeTable, rdns: &[Rdn]) -> Result<Path, AllocError>
-    requires { AllByRecursion (IsOne types.now) rdns.now }
+    requires { AllByRecursion (AreKnown types.now) rdns.now }
     ensures { IfOk result (λ p. p ≡ map (rdn_key_of types.now) (reverse rdns.now)) }
 {
     let mut path = PathDraft::new(alloc)?;
@@ -93,28 +44,9 @@ fn path_of(alloc: Global, types: &TypeTable, rdns: &[Rdn]) -> Result<Path, Alloc
     Ok(path.into_path())
 }
 
-fn typed_rdns(
-    alloc: Global,
-    types: &TypeTable,
-    name: &[(&[u8], &[u8])],
-) -> Result<Vec<Rdn>, PathFault>
-    ensures rdns { Gives (λ v. v.items) result (typed types.now (map (λ p. (p.0.now, p.1.now)) name.now)) }
-    ensures one { IfOk result (λ v. AllByRecursion (IsOne types.now) v.items) }
-{
-    let mut rdns = Vec::with_capacity(alloc, name.len())?;
-    for (kind, value) in name {
-        rdns.push(typed_rdn(alloc, types, kind, value)?)?;
-    }
-    Ok(rdns)
-}
-
 /// The RDNs of a name, its own first, and what they come to.
-pub(crate) fn typed(
-    alloc: Global,
-    types: &TypeTable,
-    name: &[(&[u8], &[u8])],
-) -> Result<TypedName, PathFault>
-    ensures rdns { Gives (λ x. x.rdns.items) result (typed types.now (map (λ p. (p.0.now, p.1.now)) name.now)) }
+pub(crate) fn typed(alloc: Global, types: &TypeTable, name: &Name) -> Result<TypedName, PathFault>
+    ensures rdns { Gives (λ x. x.rdns.items) result (typed types.now name.now) }
     ensures keys { IfOk result (KeysFit types.now) }
 {
     let rdns = typed_rdns(alloc, types, name)?;
@@ -143,15 +75,39 @@ impl Conf {
         })
     }
 
-    /// Where the name that a text spells stands below the suffix. It is refused with `InvalidDnSyntax` where the text is
-    /// no name, a type isn't known or a value isn't valid, and with `NoSuchObject` where it doesn't end with the suffix.
+    /// Where a name stands below the suffix. Each part is checked in turn, the entry's own RDN first: `InvalidDnSyntax` where its type isn't
+    /// known or has DN syntax, `NamingViolation` where that has no equality rule, `InvalidDnSyntax` where the value isn't valid,
+    /// `NamingViolation` where its RDN has a part of that type before it. Then `NoSuchObject` where the name doesn't end with the suffix.
+    #[tactic(auto, unfolding(crate::specs::Conf::place_of))]
+    pub fn place_of(&self, alloc: Global, name: &Name) -> Result<Located, PathFault>
+        ensures rdns { Gives (λ l. l.rdns) result (place_of self.now name.now) }
+        ensures path { IfOk result (λ l. l.path ≡ path_of self.now l.rdns) }
+    {
+        let typed = typed(alloc, self.table(), name)?;
+        self.below_suffix(alloc, typed)
+    }
+
+    /// Where the name that bytes spell stands; `InvalidDnSyntax` where they spell none, else what `place_of` answers.
     #[tactic(auto, unfolding(crate::specs::Conf::located))]
     pub fn locate(&self, alloc: Global, text: &[u8]) -> Result<Located, PathFault>
         ensures rdns { Gives (λ l. l.rdns) result (located self.now text.now) }
         ensures path { IfOk result (λ l. l.path ≡ path_of self.now l.rdns) }
     {
-        let name = name_of_text(alloc, text)?;
-        let typed = typed(alloc, self.table(), &name)?;
-        self.below_suffix(alloc, typed)
+        let name = read_dn(alloc, text)?;
+        self.place_of(alloc, &name)
+    }
+
+    /// The path of the entry with this name, or the code that `place_of` answers.
+    pub fn path_of(&self, alloc: Global, name: &Name) -> Result<Path, PathFault>
+        ensures { Gives (λ p. p) result (path_of_name self.now name.now) }
+    {
+        Ok(self.place_of(alloc, name)?.path)
+    }
+
+    /// An RDN with its types, or the code of the first part that has a fault, as `place_of` answers it.
+    pub fn typed_rdn(&self, alloc: Global, rdn: &dn::Rdn) -> Result<Rdn, PathFault>
+        ensures { Gives (λ r. r) result (typed_rdn self.now.types rdn.now) }
+    {
+        typed_rdn(alloc, self.table(), rdn.parts())
     }
 }

@@ -1,8 +1,7 @@
 //! Reading the suffix of a configuration.
 
 ghost use Rattle.std.specs.Prelude.{◌≡◌, IfOk, Some, None, OnOk};
-ghost use Rattle.schema.specs.Configurations.{is_quoted, unquoted, suffix_text, typed_name, suffix_at, suffix_line, suffix_of};
-ghost use Rattle.schema.specs.Names.{name_of_text};
+ghost use Rattle.schema.specs.Configurations.{is_quoted, unquoted, suffix_text, typed_in, suffix_at, suffix_line, suffix_of};
 ghost use Rattle.schema.specs.Gives.{Gives};
 ghost use Rattle.schema.specs.Reads.{Reads};
 ghost use Rattle.schema.specs.inner.Keys.{KeysFit, rdns_found, FoundFits};
@@ -11,7 +10,7 @@ use crate::conf_fault::{ConfFault, ConfFaultKind};
 use crate::conf_lines::{fault, is_first, says_nothing};
 use crate::fault::PathFault;
 use crate::locate::{TypedName, typed};
-use crate::name::name_of_text;
+use crate::names::read_dn;
 use base::{begins_with, without_end};
 use definitions::{Line, skip, split_first_word};
 use std::alloc::Global;
@@ -43,10 +42,10 @@ fn suffix_text(line: &[u8]) -> &[u8]
 }
 
 fn typed_name(alloc: Global, types: &TypeTable, text: &[u8]) -> Result<TypedName, PathFault>
-    ensures rdns { Gives (λ x. x.rdns.items) result (typed_name types.now (name_of_text text.now)) }
+    ensures rdns { Gives (λ x. x.rdns.items) result (typed_in types.now text.now) }
     ensures keys { IfOk result (KeysFit types.now) }
 {
-    let name = name_of_text(alloc, text)?;
+    let name = read_dn(alloc, text)?;
     typed(alloc, types, &name)
 }
 

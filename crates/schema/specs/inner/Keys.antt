@@ -5,10 +5,9 @@ use Rattle.values.specs.declared.types.AttributeType.{AttributeType}
 use Rattle.schema.specs.declared.locate.TypedName.{TypedName}
 use Rattle.schema.specs.Rdns.{Rdn, rdn_key_of}
 
--- an RDN of one part, whose type is known
-pub record IsOne (types : List AttributeType) (r : Rdn) : Type 0 where
-  pub one : length r ≡ 1
-  pub known : AllByRecursion (λ p. p.0 < length types) r
+-- an RDN whose types are known
+abbrev pub AreKnown : List AttributeType → Rdn → Type 0
+AreKnown types r = AllByRecursion (λ p. p.0 < length types) r
 
 -- the path goes from the root of the tree down
 abbrev pub KeysFit : List AttributeType → TypedName → Type 0
