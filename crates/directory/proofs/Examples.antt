@@ -24,7 +24,8 @@ use Rattle.matching.specs.declared.syntax.Syntax.TheVariants as syntaxes
 use Rattle.values.specs.declared.types.AttributeType.{AttributeType}
 use Rattle.schema.specs.Configurations.{object_class}
 use Rattle.base.specs.Answers.{each}
-use Rattle.dn.specs.Reading.{octets_from, trimmed, value_of, part_at, part_of, cut_raw, rdn_of, name_of}
+use Rattle.dn.specs.Reading as names
+use Rattle.dn.specs.Reading.{octets_from, trimmed, part_at, part_of, cut_raw, rdn_of, name_of}
 use Rattle.dn.specs.Writing.{written, text_from, text_of}
 use Rattle.schema.specs.Names.{name_in}
 use Rattle.paths.specs.Paths.{Path, path_cmp}
@@ -51,7 +52,7 @@ on_texts = tt
 
 -- what a name and attribute lines come to
 unfoldable on_entries : ⊤
-unfolding is_utf8 chars encode each octets_from trimmed value_of part_at part_of cut_raw rdn_of name_of name_in parts_from rdns_from put_pair key_from rdn_key_of below place_of located type_of norm is_valid add push_value add_lines with_rdn
+unfolding is_utf8 chars encode each octets_from trimmed names.value_of part_at part_of cut_raw rdn_of name_of name_in parts_from rdns_from put_pair key_from rdn_key_of below place_of located type_of norm is_valid add push_value add_lines with_rdn
 on_entries = tt
 
 -- what an entry is written by
@@ -150,7 +151,7 @@ placed false true full next new parent room = cc
 placed false false true next new parent room = cc
 placed false false false next new parent room = refl
 
-root_placed : add conf finite.empty (codes "DC=ex") root_lines ≡ added with_root
+root_placed : add conf Content finite.empty (codes "DC=ex") root_lines ≡ added with_root
 unfolding on_texts on_entries add_at root_lines
 root_placed = placed _ _ _ with_root (ap is_some (finite.get-empty path_cmp [])) refl (ap (nat_le 4294967295) (finite.len-empty path_cmp EntryContent))
 
@@ -172,7 +173,7 @@ module _ (total : IsTotalOrder path_cmp) where
       ∙ ap (λ o. cond (is_some o) (finite.len (finite.empty {X = EntryContent} {R = path_cmp})) (finite.len (finite.empty {X = EntryContent} {R = path_cmp}) + 1)) (finite.get-empty path_cmp [])
       ∙ ap (λ n. n + 1) (finite.len-empty path_cmp EntryContent)
 
-  ann_placed : add conf with_root (codes "CN=Ann,dc=EX") ann_lines ≡ added with_both
+  ann_placed : add conf Content with_root (codes "CN=Ann,dc=EX") ann_lines ≡ added with_both
   unfolding on_texts on_entries add_at ann_lines
   ann_placed = placed _ _ _ with_both (ap is_some ann_new) (ap (λ o. not (is_some o)) root_found) (ap (nat_le 4294967295) one_there)
 

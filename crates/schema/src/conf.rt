@@ -128,6 +128,14 @@ impl Conf {
         self.at(t).single_value
     }
 
+    /// Whether users can't change a type's values (NO-USER-MODIFICATION).
+    pub fn is_fixed(&self, t: TypeId) -> bool
+        requires { t < length self.now.types }
+        ensures { result ≡ (type_at self.now.types t).is_fixed }
+    {
+        self.at(t).is_fixed
+    }
+
     /// The value of these bytes under a type.
     pub fn make_value(&self, alloc: Global, t: TypeId, raw: &[u8]) -> Result<Value, ValueFault>
         requires { t < length self.now.types }

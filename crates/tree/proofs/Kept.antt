@@ -18,6 +18,7 @@ use Rattle.schema.specs.Conf.{Conf, IsConf, root_rdn, first_rdn, located, locate
 use Rattle.base.specs.Answers.{◌>>=◌}
 use Rattle.tree.specs.Entries.{EntryContent, Attributes, IsGood, add_lines, has_class, are_single}
 use Rattle.tree.specs.Directories.{Entries, IsDirectory}
+use Rattle.ldif.specs.declared.record.Mode.{Mode}
 use Rattle.tree.specs.Adds.{own_rdn, with_entry, entry_of, add_at, add}
 use Rattle.tree.proofs.Order.{path_total, path_exact}
 use Rattle.base.proofs.Bound.{bind_ok, same_ok}
@@ -123,22 +124,22 @@ put_ok conf d out p e said =
     (not-false (has_class e.attrs) a.0, not-false (are_single conf.types e.attrs) b.0, f.0, same_ok (finite.insert d p e) out f.1)
 
 pub keeps : ((conf : Conf) (text : List ℕ) (rs : List Rdn) → located conf text ≡ located_at rs → AllByRecursion (IsRdn conf.types) rs)
-    → (conf : Conf) (d out : Entries) (dn : List ℕ) (lines : List Attr) → IsConf conf → IsDirectory conf d → add conf d dn lines ≡ Ok out → IsDirectory conf out
+    → (conf : Conf) (mode : Mode) (d out : Entries) (dn : List ℕ) (lines : List Attr) → IsConf conf → IsDirectory conf d → add conf mode d dn lines ≡ Ok out → IsDirectory conf out
 unfolding add add_at
-keeps reads conf d out dn lines ok h said =
-    let b = bind_ok (located conf dn) (λ rs. add_at conf d (path_of conf rs) (own_rdn conf rs) lines) out said in
+keeps reads conf mode d out dn lines ok h said =
+    let b = bind_ok (located conf dn) (λ rs. add_at conf mode d (path_of conf rs) (own_rdn conf rs) lines) out said in
     let rs : List Rdn = b.0 in
     let p : Path = path_of conf rs in
     let rdn : Rdn = own_rdn conf rs in
     let fine = reads conf dn rs b.1 in
     let put : Attributes → Result Entries Code = λ attrs. with_entry conf d p (entry_of conf rdn attrs) in
-    let g = guard_ok (finite.contains_key d p) EntryAlreadyExists (cond (not (is_root p) && not (finite.contains_key d (parent_of p))) (Err NoSuchObject) (add_lines conf.types [] lines >>= put)) out b.2 in
-    let k = guard_ok (not (is_root p) && not (finite.contains_key d (parent_of p))) NoSuchObject (add_lines conf.types [] lines >>= put) out g.1 in
-    let l = bind_ok (add_lines conf.types [] lines) put out k.1 in
+    let g = guard_ok (finite.contains_key d p) EntryAlreadyExists (cond (not (is_root p) && not (finite.contains_key d (parent_of p))) (Err NoSuchObject) (add_lines mode conf.types [] lines >>= put)) out b.2 in
+    let k = guard_ok (not (is_root p) && not (finite.contains_key d (parent_of p))) NoSuchObject (add_lines mode conf.types [] lines >>= put) out g.1 in
+    let l = bind_ok (add_lines mode conf.types [] lines) put out k.1 in
     let e : EntryContent = entry_of conf rdn l.0 in
     let tests = put_ok conf d out p e l.2 in
     let is_rdn : IsRdn conf.types rdn = own_good conf ok rs fine in
-    let attrs = rdn_good conf.types rdn l.0 is_rdn.parts (lines_good conf.types lines [] l.0 (none_good conf) l.1) in
+    let attrs = rdn_good conf.types rdn l.0 is_rdn.parts (lines_good mode conf.types lines [] l.0 (none_good conf) l.1) in
     subst (IsDirectory conf) tests.3 (put_kept conf d p e h (record {
       good = record { attrs = attrs.all; types_apart = attrs.types_apart; class = tests.0; single = tests.1; rdn = is_rdn; rdn_there = all_come conf.types rdn l.0 };
       parent = k.0;

@@ -4,6 +4,8 @@ ghost use Rattle.std.specs.Prelude.{◌≡◌, Some, Ok, List, ℕ};
 ghost use Rattle.std.specs.FinMap as finite;
 ghost use Rattle.ldif.specs.Attrs.{Attr};
 ghost use Rattle.ldif.specs.Contents.{IsWritableContent};
+ghost use Rattle.ldif.specs.declared.record.Mode.{Mode};
+ghost use Rattle.ldif.specs.declared.record.Mode.TheVariants as modes;
 ghost use Rattle.paths.specs.Paths.{Path};
 ghost use Rattle.schema.specs.Conf.{Conf, IsConf};
 ghost use Rattle.tree.specs.Entries.{EntryContent};
@@ -17,14 +19,14 @@ pub fn empty_is_a_directory()
 
 /// A directory stays one when an entry is added.
 pub fn adding_keeps_a_directory()
-    ensures { (conf : Conf) (d out : Entries) (dn : List ℕ) (lines : List Attr) → IsConf conf → IsDirectory conf d → add conf d dn lines ≡ added out → IsDirectory conf out }
+    ensures { (conf : Conf) (mode : Mode) (d out : Entries) (dn : List ℕ) (lines : List Attr) → IsConf conf → IsDirectory conf d → add conf mode d dn lines ≡ added out → IsDirectory conf out }
 {
     schema::located_rdns_are_good();
 }
 
-/// Adding what an entry is written as gives that entry again, wherever it may come.
+/// Loading what an entry is written as gives that entry again, wherever it may come.
 pub fn an_entry_adds_itself()
-    ensures { (conf : Conf) (d m : Entries) (p : Path) (e : EntryContent) → IsConf conf → IsDirectory conf d → finite.get d p ≡ Some e → MayCome m p → add conf m (record_at conf d p e).dn (record_at conf d p e).attrs ≡ added (finite.insert m p e) }
+    ensures { (conf : Conf) (d m : Entries) (p : Path) (e : EntryContent) → IsConf conf → IsDirectory conf d → finite.get d p ≡ Some e → MayCome m p → add conf modes.Content m (record_at conf d p e).dn (record_at conf d p e).attrs ≡ added (finite.insert m p e) }
 {
     schema::printed_names_name_their_types();
     schema::written_names_are_located();

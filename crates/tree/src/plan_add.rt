@@ -30,7 +30,7 @@ impl Planner<'_> {
     pub(crate) fn add_of(&self, dn: &[u8], lines: &[Attr<'_>]) -> Result<Change, Refusal>
         ensures change { IfOk result (λ c. IsChange self.now.tree.now c) }
         ensures path { IfOk result (λ c. path_of_change c ≡ path_in self.now.conf.now (located self.now.conf.now dn.now)) }
-        ensures gives { Gives (λ c. next_of self.now.tree.now.entries c) result (add self.now.conf.now self.now.tree.now.entries dn.now lines.now) }
+        ensures gives { Gives (λ c. next_of self.now.tree.now.entries c) result (add self.now.conf.now self.now.mode self.now.tree.now.entries dn.now lines.now) }
     {
         self.conf.holds();
         self.tree.is_directory();
@@ -46,7 +46,7 @@ impl Planner<'_> {
         requires { AllByRecursion (IsRdn self.now.conf.now.types) place.rdns }
         ensures fit { IfOk result (λ c. IsFit self.now.tree.now c) }
         ensures path { IfOk result (λ c. path_of_change c ≡ Some place.path) }
-        ensures gives { Gives (λ c. next_of self.now.tree.now.entries c) result (add_at self.now.conf.now self.now.tree.now.entries place.path (own_rdn self.now.conf.now place.rdns) lines.now) }
+        ensures gives { Gives (λ c. next_of self.now.tree.now.entries c) result (add_at self.now.conf.now self.now.mode self.now.tree.now.entries place.path (own_rdn self.now.conf.now place.rdns) lines.now) }
     {
         let Located { path, rdns } = place;
         if self.tree.contains(&path) {

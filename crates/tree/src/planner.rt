@@ -27,25 +27,31 @@ pub fn plan(
     ensures path { IfOk result (λ p. p.path ≡ record_path conf.now asked.now) }
     ensures gives { Gives (λ p. p.next) result (apply conf.now mode tree.now.entries asked.now) }
 {
-    let planner = Planner { alloc, tree, conf };
-    let change = planner.change_of(asked, mode)?;
+    let planner = Planner {
+        alloc,
+        tree,
+        conf,
+        mode,
+    };
+    let change = planner.change_of(asked)?;
     Ok(Plan::of(tree, change))
 }
 
-/// A tree, and the configuration that it was made with: what a plan is worked out from.
+/// A tree, the configuration that it was made with, and what the records are: what a plan is worked out from.
 #[derive(Drop)]
 pub(crate) struct Planner<'a> {
     pub(crate) alloc: Global,
     pub(crate) tree: &'a Tree,
     pub(crate) conf: &'a Conf,
+    pub(crate) mode: Mode,
     ghost same_conf: { tree.now.conf ≡ conf.now },
 }
 
 impl Planner<'_> {
-    fn change_of(&self, asked: &Record<'_>, mode: Mode) -> Result<Change, Refusal>
+    fn change_of(&self, asked: &Record<'_>) -> Result<Change, Refusal>
         ensures change { IfOk result (λ c. IsChange self.now.tree.now c) }
         ensures path { IfOk result (λ c. path_of_change c ≡ record_path self.now.conf.now asked.now) }
-        ensures gives { Gives (λ c. next_of self.now.tree.now.entries c) result (apply self.now.conf.now mode self.now.tree.now.entries asked.now) }
+        ensures gives { Gives (λ c. next_of self.now.tree.now.entries c) result (apply self.now.conf.now self.now.mode self.now.tree.now.entries asked.now) }
     {
         match asked {
             Record::Empty => self.nothing(),

@@ -17,7 +17,7 @@ returns-then-not-branch-clause-gives c =
     let there : contains pair_cmp c.args.norms.now (c.in_ok-t.t, c.in_ok-t.value.norm) ≡ true =
     ap (λ (n : List ℕ). contains pair_cmp c.args.norms.now (c.in_ok-t.t, n)) (sym (c.in_ok-from_slice.ensures ∙ c.norm.ensures)) ∙ not-false _ (sym c.in_ok-insert.ensures.added ∙ c.if-not-branch.true) in
     line_is c.args.self.now.conf.now.types c.args.attrs.now.entries c.requires.made c.in_ok-t.t c.in_ok-t.value c.in_ok-t.ensures.normal (contains pair_cmp c.args.norms.now (c.in_ok-t.t, c.in_ok-t.value.norm))
-    (c.requires.norms.each c.in_ok-t.t c.in_ok-t.value.norm) c.args.line.now c.in_ok-t.ensures.gives
+    (c.requires.norms.each c.in_ok-t.t c.in_ok-t.value.norm) c.args.self.now.mode c.args.line.now c.in_ok-t.ensures.gives
     ∙ ap (λ b. cond b (Err AttributeOrValueExists) (Ok (push_value (attributes_of c.args.attrs.now.entries) c.in_ok-t.t c.in_ok-t.value.raw))) there
 
 pub returns-clause-made : goal.returns-clause-made
@@ -34,6 +34,6 @@ returns-clause-gives c =
     let new : contains pair_cmp c.args.norms.now (c.in_ok-t.t, c.in_ok-t.value.norm) ≡ false =
     ap (λ (n : List ℕ). contains pair_cmp c.args.norms.now (c.in_ok-t.t, n)) (sym (c.in_ok-from_slice.ensures ∙ c.norm.ensures)) ∙ not-true _ (sym c.in_ok-insert.ensures.added ∙ c.if-not-branch.false) in
     line_is c.args.self.now.conf.now.types c.args.attrs.now.entries c.requires.made c.in_ok-t.t c.in_ok-t.value c.in_ok-t.ensures.normal (contains pair_cmp c.args.norms.now (c.in_ok-t.t, c.in_ok-t.value.norm))
-    (c.requires.norms.each c.in_ok-t.t c.in_ok-t.value.norm) c.args.line.now c.in_ok-t.ensures.gives
+    (c.requires.norms.each c.in_ok-t.t c.in_ok-t.value.norm) c.args.self.now.mode c.args.line.now c.in_ok-t.ensures.gives
     ∙ ap (λ b. cond b (Err AttributeOrValueExists) (Ok (push_value (attributes_of c.args.attrs.now.entries) c.in_ok-t.t c.in_ok-t.value.raw))) new
     ∙ ap (λ (x : Attributes). Ok x) (sym (raws_pushed c.args.attrs.now.entries c.in_ok-t.t c.in_ok-t.value) ∙ ap attributes_of (sym c.in_ok-push_value.ensures))

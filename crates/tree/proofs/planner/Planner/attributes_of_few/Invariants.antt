@@ -6,5 +6,5 @@ use Rattle.tree.proofs.planner.Planner.attributes_of_few.Given as goal
 abbrev pub invariant-loop-line : goal.invariant-loop-line
 invariant-loop-line l = record {
   made : IsMade l.self.conf.now.types l.attrs.entries;
-  rest : add_lines l.self.conf.now.types (attributes_of l.attrs.entries) (drop l.line-index l.lines) ≡ add_lines l.self.conf.now.types [] l.lines;
+  rest : add_lines l.self.mode l.self.conf.now.types (attributes_of l.attrs.entries) (drop l.line-index l.lines) ≡ add_lines l.self.mode l.self.conf.now.types [] l.lines;
 }
