@@ -22,7 +22,7 @@ use Rattle.schema.specs.declared.code.Code.TheVariants as result
 use Rattle.matching.specs.declared.family.Family.TheVariants as families
 use Rattle.matching.specs.declared.syntax.Syntax.TheVariants as syntaxes
 use Rattle.values.specs.declared.types.AttributeType.{AttributeType}
-use Rattle.schema.specs.Configurations.{object_class}
+use Rattle.schema.specs.TypeRules.{object_class}
 use Rattle.base.specs.Answers.{each}
 use Rattle.dn.specs.Reading as names
 use Rattle.dn.specs.Reading.{octets_from, trimmed, part_at, part_of, cut_raw, rdn_of, name_of}

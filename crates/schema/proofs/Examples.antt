@@ -16,7 +16,7 @@ use Rattle.base.specs.Answers.{each}
 use Rattle.dn.specs.Reading.{octets_from, trimmed, value_of, part_at, part_of, cut_raw, rdn_of, name_of}
 use Rattle.values.specs.declared.types.AttributeType.{AttributeType}
 use Rattle.values.specs.Types.{type_of}
-use Rattle.schema.specs.Configurations.{object_class}
+use Rattle.schema.specs.TypeRules.{object_class}
 use Rattle.paths.specs.Paths.{RdnKey, path_cmp}
 use Rattle.schema.specs.Names.{name_in}
 use Rattle.schema.specs.Rdns.{Rdn, parts_from, rdns_from, put_pair, key_from, rdn_key_of}

@@ -7,7 +7,7 @@ use Rattle.std.proofs.lemmas.Slice.Eq.{bytes_eq-Decides}
 use Rattle.std.proofs.lemmas.List.{drop_more}
 use Rattle.values.specs.declared.name_index.NameEntry.{NameEntry}
 use Rattle.values.specs.Tables.{number_of, or_if}
-use Rattle.schema.specs.Configurations.{has_twin}
+use Rattle.schema.specs.TypeRules.{has_twin}
 use Rattle.schema.proofs.Taken.{any_or, any_none, any_same, some_or_if}
 
 abbrev Buckets : Type 0

@@ -1,11 +1,17 @@
 -- The rules that a text says hold together.
-use Rattle.std.proofs.Common.{ap, ◌≡◌, ℕ, ◌<◌, ◌≤◌, Bool, true, false, cond, ◌||◌, List, [], ◌∷◌, ◌++◌, length, Option, Some, None, Result, Ok, Err, refl, subst, ◌∙◌, arith, lit≤, length-append}
+use Rattle.std.proofs.Common.{ap, ◌≡◌, ℕ, zero, suc, ◌+◌, ◌<◌, ◌≤◌, Bool, true, false, cond, ◌||◌, List, [], ◌∷◌, ◌++◌, length, take, Option, Some, None, Result, Ok, Err, refl, sym, subst, ◌∙◌, arith, lit≤, length-append}
 use Rattle.std.specs.Prelude.{nat_lt, nat_le, codes, is_some}
 use Rattle.std.specs.List.{list_any, list_all, AllByRecursion, IsDistinct}
-use Rattle.std.proofs.lemmas.Bool.{or_parts, lt-ltb}
+use Rattle.std.specs.Option.{option_map}
+use Rattle.std.proofs.lemmas.Bool.{or_parts, lt-ltb, ltb-true}
 use Rattle.std.proofs.lemmas.Bool.Decides.{nat_tests}
 use Rattle.values.specs.declared.types.AttributeType.{AttributeType}
-use Rattle.values.specs.Types.{is_named}
+use Rattle.values.specs.Types.{is_named, is_known, type_of, type_at, no_type}
+use Rattle.matching.specs.declared.family.Family.{Family}
+use Rattle.std.proofs.lemmas.List.{take-append-le}
+use Rattle.std.proofs.Math.Seq.{take-append_seam, get_or-append_seam}
+use Rattle.std.proofs.Math.ListN.{get_or-append}
+use Rattle.std.proofs.lemmas.List.Quantifiers.{position-Some}
 use Rattle.definitions.specs.declared.element.Element.{Element}
 use Rattle.definitions.specs.declared.lines.Line.{Line}
 use Rattle.definitions.specs.declared.type_definition.TypeDefinition.{TypeDefinition}
@@ -15,17 +21,17 @@ use Rattle.definitions.specs.Words.{after_word}
 use Rattle.definitions.specs.TypeDefinitions.{type_definition_of}
 use Rattle.schema.specs.declared.code.Code.{Code}
 use Rattle.schema.specs.declared.conf_fault.ConfFaultKind.{ConfFaultKind}
-use Rattle.schema.specs.declared.conf_fault.ConfFaultKind.TheVariants.{Keyword, Form, Twice, Suffix, Collective, TooManyTypes}
+use Rattle.schema.specs.declared.conf_fault.ConfFaultKind.TheVariants.{Keyword, Form, Twice, Subtype, RuleSyntax, Suffix, Collective, TooManyTypes}
 use Rattle.definitions.specs.declared.class_definition.ClassDefinition.{ClassDefinition}
 use Rattle.definitions.specs.ClassDefinitions.{class_definition_of}
-use Rattle.schema.specs.TypeRules.{type_with}
+use Rattle.schema.specs.TypeRules.{type_with, object_class, has_twin, up_of, is_family, goes_with, breaks_with, needs_another_syntax, IsAbove, FitsBehind}
 use Rattle.schema.specs.Rdns.{Rdn, IsRdn, typed}
 use Rattle.schema.specs.Names.{name_in}
 use Rattle.schema.specs.Conf.{IsConf, IsType, share_name}
 use Rattle.base.proofs.Each.{passed_on}
 use Rattle.base.proofs.Bound.{bind_ok, same_ok}
 use Rattle.base.specs.Answers.{◌>>=◌, through, Fails}
-use Rattle.schema.specs.Configurations.{At, says_nothing, is_first, is_built_in, names_one, has_twin, is_taken, superior_of, up_of, flaw_of, unless, below, refused, placed, object_class, Defined, built_in, or_fault, class_refused, class_placed, with_types, types_in, definition_line, defined_by, some_rdns, suffix_at, suffix_text, suffix_line, suffix_of}
+use Rattle.schema.specs.Configurations.{At, says_nothing, is_first, is_built_in, names_one, is_taken, superior_of, flaw_of, unless, below, refused, placed, Defined, built_in, or_fault, class_refused, class_placed, with_types, types_in, definition_line, defined_by, some_rdns, suffix_at, suffix_text, suffix_line, suffix_of}
 use Rattle.schema.proofs.Found.{SpellsRead, name_has_parts, rdns_are}
 
 -- what the crate below says of each type that a text defines
@@ -45,6 +51,8 @@ through_keeps P step keeps (l ∷ ls) s out h e =
 
 pub record AreTypes (types : List AttributeType) : Type 0 where
   pub good : AllByRecursion IsType types
+  pub first : (rest : List AttributeType) × (types ≡ object_class ∷ rest)
+  pub fits : (t : ℕ) → t < length types → FitsBehind (take t types) (type_at types t)
   pub apart : IsDistinct share_name types
   pub few : length types ≤ 65535
 
@@ -83,6 +91,7 @@ unrefused line (Some kind) answer out e = absurd cc
 record Passes (types : List AttributeType) (d : TypeDefinition) : Type 0 where
   room : nat_le 65535 (length types) ≡ false
   free : list_any (names_one d.element) types ≡ false
+  apart : has_twin d.element.names ≡ false
 
 passes : (types : List AttributeType) (d : TypeDefinition) → refused types d ≡ None → Passes types d
 passes types d e = by (nat_le 65535 (length types)) refl (is_taken types d.element) refl e
@@ -90,16 +99,83 @@ passes types d e = by (nat_le 65535 (length types)) refl (is_taken types d.eleme
     by : (a : Bool) → nat_le 65535 (length types) ≡ a → (b : Bool) → is_taken types d.element ≡ b → cond a (Some TooManyTypes) (cond b (Some Twice) (cond d.is_collective (Some Collective) None)) ≡ None → Passes types d
     by true room b taken said = absurd cc
     by false room true taken said = absurd cc
-    by false room false taken said = record { room = room; free = (or_parts (list_any (names_one d.element) types) (has_twin d.element.names) taken).0 }
+    by false room false taken said = record { room = room; free = (or_parts (list_any (names_one d.element) types) (has_twin d.element.names) taken).0; apart = (or_parts (list_any (names_one d.element) types) (has_twin d.element.names) taken).1 }
 
-added_keeps : (types : List AttributeType) (line : ℕ) (d : TypeDefinition) (number : Option (Option ℕ)) (out : List AttributeType) → AreTypes types → Passes types d → IsNamed d → below types line d number ≡ Ok out → AreTypes out
+-- ---- a type behind others
+
+same_some : {X : Type 0} (x y : X) → ◌≡◌ {A = Option X} (Some x) (Some y) → x ≡ y
+same_some x y e = cc
+
+not_below : (t n : ℕ) → nat_lt t n ≡ false → n ≤ t
+not_below t n h = grind (arith, nat_tests)
+
+goes_with_rule : (o e : Option Family) → goes_with o e ≡ true → is_some e ≡ true
+goes_with_rule None e h = absurd cc
+goes_with_rule (Some f) None h = absurd cc
+goes_with_rule (Some f) (Some g) h = refl
+
+known_type : (types : List AttributeType) (name : List ℕ) (t : ℕ) → type_of types name ≡ Some t → is_known types t ≡ true
+unfolding type_of
+known_type types name t e = lt-ltb t (length types) (position-Some (is_named name) types t no_type e).0
+
+above_is : (types : List AttributeType) (name : Option (List ℕ)) (number : Option ℕ) → superior_of types name ≡ Some number → IsAbove types number
+above_is types None number e = subst (IsAbove types) (same_some None number e) tt
+above_is types (Some name) number e = by (type_of types name) refl e
+  where
+    by : (o : Option ℕ) → type_of types name ≡ o → option_map (λ t. Some t) o ≡ Some number → IsAbove types number
+    by None is said = absurd cc
+    by (Some t) is said = subst (IsAbove types) (same_some (Some t) number said) (known_type types name t is)
+
+record HasNoFlaw (new : AttributeType) (up : Option AttributeType) : Type 0 where
+  agrees : breaks_with new up ≡ false
+  syntax : needs_another_syntax new ≡ false
+
+no_flaw : (new : AttributeType) (up : Option AttributeType) → flaw_of new up ≡ None → HasNoFlaw new up
+no_flaw new up e = by (breaks_with new up) refl (needs_another_syntax new) refl e
+  where
+    by : (a : Bool) → breaks_with new up ≡ a → (b : Bool) → needs_another_syntax new ≡ b → cond a (Some Subtype) (cond b (Some RuleSyntax) None) ≡ None → HasNoFlaw new up
+    by true agrees b syntax said = absurd cc
+    by false agrees true syntax said = absurd cc
+    by false agrees false syntax said = record { agrees = agrees; syntax = syntax }
+
+abbrev FitsAt : List AttributeType → ℕ → Type 0
+FitsAt types t = FitsBehind (take t types) (type_at types t)
+
+fits_more : (types : List AttributeType) (new : AttributeType) → ((t : ℕ) → t < length types → FitsAt types t) → FitsBehind types new → (t : ℕ) → t < length (types ++ new ∷ []) → FitsAt (types ++ new ∷ []) t
+fits_more types new h fit t lt = by (nat_lt t (length types)) refl
+  where
+    long : length (types ++ new ∷ []) ≡ length types + 1
+    long = length-append types (new ∷ [])
+
+    by : (b : Bool) → nat_lt t (length types) ≡ b → FitsAt (types ++ new ∷ []) t
+    by true is =
+        let below = ltb-true t (length types) is in
+        subst (λ (ts : List AttributeType). FitsBehind ts (type_at (types ++ new ∷ []) t)) (sym (take-append-le t types (new ∷ []) (omega (arith, below))))
+        (subst (λ (x : AttributeType). FitsBehind (take t types) x) (sym (get_or-append types (new ∷ []) no_type t below)) (h t below))
+    by false is =
+        let last : length types ≡ t = omega (arith, lt, long, not_below t (length types) is) in
+        subst (FitsAt (types ++ new ∷ [])) last
+        (subst (λ (ts : List AttributeType). FitsBehind ts (type_at (types ++ new ∷ []) (length types))) (sym (take-append_seam types (new ∷ [])))
+        (subst (λ (x : AttributeType). FitsBehind types x) (sym (get_or-append_seam types new [] no_type)) fit))
+
+added_keeps : (types : List AttributeType) (line : ℕ) (d : TypeDefinition) (number : Option (Option ℕ)) (out : List AttributeType) → AreTypes types → Passes types d → IsNamed d → superior_of types d.superior ≡ number → below types line d number ≡ Ok out → AreTypes out
 unfolding type_with
-added_keeps types line d None out h p is e = absurd cc
-added_keeps types line d (Some number) out h p is e =
+added_keeps types line d None out h p is named e = absurd cc
+added_keeps types line d (Some number) out h p is named e =
     let new = type_with d number (up_of types number) in
     let k = unrefused line (flaw_of new (up_of types number)) (Ok (types ++ new ∷ [])) out e in
+    let whole = no_flaw new (up_of types number) k.0 in
     subst AreTypes (same_ok (types ++ new ∷ []) out k.1) (record {
       good = all_put IsType types new h.good (record { oid = is.0; names = is.1 });
+      first = (h.first.0 ++ new ∷ [], ap (λ (ts : List AttributeType). ts ++ new ∷ []) h.first.1);
+      fits = fits_more types new h.fits (record {
+        superior = above_is types d.superior number named;
+        agrees = whole.agrees;
+        syntax = whole.syntax;
+        ordered = goes_with_rule _ new.equality;
+        substrings = goes_with_rule _ new.equality;
+        names_apart = p.apart;
+      });
       apart = distinct_put share_name types new h.apart (apart_from types d.element new refl refl p.free);
       few = (let l = length-append types (new ∷ []) in let r = room_left (length types) p.room in omega (arith, l, r));
     })
@@ -116,7 +192,7 @@ placed_keeps types line (Some d) out h is e =
       | true ↦ λ said. subst AreTypes (same_ok types out said) h
       | false ↦ λ said.
           let k = unrefused line (refused types d) (below types line d (superior_of types d.superior)) out said in
-          added_keeps types line d (superior_of types d.superior) out h (passes types d k.0) is k.1
+          added_keeps types line d (superior_of types d.superior) out h (passes types d k.0) is refl k.1
     ] e
 
 either : {R : Type 0} (Q : R → Type 0) (b : Bool) (x y : R) → Q x → Q y → Q (cond b x y)
@@ -186,9 +262,19 @@ line_keeps law s l out h e =
 pub types_fail : (e : Option At) (r : Outcome) → Fails e r → Fails e (types_in r)
 types_fail e r = passed_on e r (types_in r) λ fault is. ap types_in is
 
+fits_one : (t : ℕ) → t < length (object_class ∷ []) → FitsAt (object_class ∷ []) t
+fits_one zero lt = record { superior = tt; agrees = refl; syntax = refl; ordered = λ h. absurd cc; substrings = λ h. absurd cc; names_apart = refl }
+fits_one (suc t) lt = absurd (omega (arith, lt))
+
 object_class_is : AreTypes (object_class ∷ [])
 unfolding IsDistinct are_groups
-object_class_is = record { good = (record { oid = refl; names = refl }, tt); apart = (tt, tt); few = lit≤ tt }
+object_class_is = record {
+  good = (record { oid = refl; names = refl }, tt);
+  first = ([], refl);
+  fits = fits_one;
+  apart = (tt, tt);
+  few = lit≤ tt;
+}
 
 pub types_are : Defines → (ls : List Line) (out : List AttributeType) → types_in (defined_by built_in ls) ≡ Ok out → AreTypes out
 types_are law ls out e = by (defined_by built_in ls) refl e
@@ -242,4 +328,4 @@ pub suffix_is : SpellsRead → (types : List AttributeType) (ls : List Line) (ou
 suffix_is read types ls out e = through_keeps (IsSuffix types) (suffix_line types) (suffix_line_keeps read types) ls None out tt e
 
 pub rules_are : (types : List AttributeType) (suffix : List Rdn) → AreTypes types → IsSuffix types (Some suffix) → IsConf (record { types = types; suffix = suffix })
-rules_are types suffix h k = record { types = h.good; types_apart = h.apart; types_few = h.few; suffix = k.0; suffix_some = k.1 }
+rules_are types suffix h k = record { types = h.good; first = ap (λ (ts : List AttributeType). type_at ts 0) h.first.1; fits = h.fits; types_apart = h.apart; types_few = h.few; suffix = k.0; suffix_some = k.1 }

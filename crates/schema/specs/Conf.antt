@@ -1,13 +1,14 @@
 -- A configuration: its attribute types and its suffix; and where a name stands under it.
-use Rattle.std.specs.Prelude.{◌≡◌, ℕ, ◌≤◌, Bool, true, nat_lt, if◌then◌else◌, List, [], ◌∷◌, ◌++◌, map, length, reverse, Result, Ok, Err}
+use Rattle.std.specs.Prelude.{◌≡◌, ℕ, ◌<◌, ◌≤◌, Bool, true, nat_lt, if◌then◌else◌, List, [], ◌∷◌, ◌++◌, map, take, length, reverse, Result, Ok, Err}
 use Rattle.std.specs.List.{list_any, list_all, AllByRecursion, IsDistinct}
 use Rattle.std.specs.Ordering.{is_eq}
 use Rattle.values.specs.declared.types.AttributeType.{AttributeType}
 use Rattle.schema.specs.declared.code.Code.{Code}
 use Rattle.schema.specs.declared.code.Code.TheVariants.{NoSuchObject}
-use Rattle.values.specs.Types.{names_of, is_named}
+use Rattle.values.specs.Types.{names_of, is_named, type_at}
 use Rattle.definitions.specs.Naming.{is_oid, is_type_name}
 use Rattle.paths.specs.Paths.{RdnKey, Path, rdn_key_cmp}
+use Rattle.schema.specs.TypeRules.{object_class, FitsBehind}
 use Rattle.schema.specs.Rdns.{Rdn, typed, rdn_key_of, IsRdn}
 use Rattle.base.specs.Answers.{◌>>=◌}
 use Rattle.dn.specs.Names as names
@@ -69,6 +70,8 @@ first_rdn (r ∷ rs) = r
 
 pub record IsConf (conf : Conf) : Type 0 where
   pub types : AllByRecursion IsType conf.types
+  pub first : type_at conf.types 0 ≡ object_class
+  pub fits : (t : ℕ) → t < length conf.types → FitsBehind (take t conf.types) (type_at conf.types t)
   pub types_apart : IsDistinct share_name conf.types
   pub types_few : length conf.types ≤ 65535
   pub suffix : AllByRecursion (IsRdn conf.types) conf.suffix

@@ -21,7 +21,7 @@ use Rattle.definitions.specs.Lines.{begins_blank, lines_of}
 use Rattle.definitions.specs.declared.class_definition.ClassDefinition.{ClassDefinition}
 use Rattle.definitions.specs.TypeDefinitions.{type_definition_of}
 use Rattle.definitions.specs.ClassDefinitions.{class_definition_of}
-use Rattle.schema.specs.TypeRules.{type_with, breaks_with, needs_another_syntax}
+use Rattle.schema.specs.TypeRules.{type_with, object_class, has_twin, up_of, breaks_with, needs_another_syntax}
 use Rattle.schema.specs.Rdns.{Rdn, typed}
 use Rattle.schema.specs.Names.{name_in}
 use Rattle.schema.specs.Conf.{Conf}
@@ -43,17 +43,9 @@ built_in_oids = codes "2.5.4.0" ∷ codes "2.5.6.0" ∷ codes "1.3.6.1.4.1.1466.
 abbrev pub is_built_in : List ℕ → Bool
 is_built_in oid = list_any (λ o. bytes_eq o oid) built_in_oids
 
-abbrev pub object_class : AttributeType
-object_class = record { oid = codes "2.5.4.0"; names = codes "objectClass" ∷ []; superior = None; syntax = syntaxes.Oid; equality = Some families.Oid; is_ordered = false; has_substrings = false; single_value = false; is_fixed = false; is_operational = false }
-
 -- whether it names a type that is there
 abbrev pub names_one : Element → AttributeType → Bool
 names_one e t = list_any (λ n. is_named n t) (e.oid ∷ e.names)
-
--- whether a name stands twice
-abbrev pub has_twin : List (List ℕ) → Bool
-has_twin [] = false
-has_twin (n ∷ ns) = list_any (λ m. str_eq_ignore_ascii_case m n) ns || has_twin ns
 
 abbrev pub is_taken : List AttributeType → Element → Bool
 is_taken types e = list_any (names_one e) types || has_twin e.names
@@ -62,10 +54,6 @@ is_taken types e = list_any (names_one e) types || has_twin e.names
 abbrev pub superior_of : List AttributeType → Option (List ℕ) → Option (Option ℕ)
 superior_of types None = Some None
 superior_of types (Some name) = option_map (λ t. Some t) (type_of types name)
-
-abbrev pub up_of : List AttributeType → Option ℕ → Option AttributeType
-up_of types None = None
-up_of types (Some t) = Some (type_at types t)
 
 -- what is wrong with a type beside the one above it
 abbrev pub flaw_of : AttributeType → Option AttributeType → Option ConfFaultKind

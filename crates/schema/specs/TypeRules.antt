@@ -1,5 +1,7 @@
 -- What a definition of an attribute type comes to, with what it takes from the type above it (RFC 4512, 2.5.1 and 4.1.2).
-use Rattle.std.specs.Prelude.{ℕ, Bool, true, false, not, ◌&&◌, ◌||◌, nat_eq, is_some, if◌then◌else◌, List, Option, Some, None}
+use Rattle.std.specs.Prelude.{◌≡◌, ℕ, Bool, true, false, not, ◌&&◌, ◌||◌, nat_eq, is_some, if◌then◌else◌, List, [], ◌∷◌, Option, Some, None, codes}
+use Rattle.std.specs.List.{list_any}
+use Rattle.std.specs.Str.{str_eq_ignore_ascii_case}
 use Rattle.matching.specs.declared.family.Family.{Family}
 use Rattle.matching.specs.declared.family.Family.TheVariants as families
 use Rattle.matching.specs.declared.syntax.Syntax.{Syntax}
@@ -8,7 +10,7 @@ use Rattle.definitions.specs.declared.type_definition.TypeDefinition.{TypeDefini
 use Rattle.definitions.specs.declared.type_field.Usage.{Usage}
 use Rattle.definitions.specs.declared.type_field.Usage.TheVariants as usages
 use Rattle.values.specs.declared.types.AttributeType.{AttributeType}
-use Rattle.values.specs.Types.{type_at}
+use Rattle.values.specs.Types.{type_at, is_known}
 use Rattle.schema.specs.RuleNames.{syntax_of, or_else, equality_of, ordering_of, substrings_of}
 
 -- ---- families and syntaxes told apart
@@ -118,3 +120,32 @@ abbrev pub needs_another_syntax : AttributeType → Bool
 needs_another_syntax t =
     (is_family families.Integer t.equality && not (is_syntax syntaxes.Integer t.syntax))
     || (is_family families.Name t.equality && not (is_syntax syntaxes.Name t.syntax))
+
+-- ---- what holds of each type of a configuration
+
+-- the type of number 0, which every configuration has (RFC 4512, 3.3)
+abbrev pub object_class : AttributeType
+object_class = record { oid = codes "2.5.4.0"; names = codes "objectClass" ∷ []; superior = None; syntax = syntaxes.Oid; equality = Some families.Oid; is_ordered = false; has_substrings = false; single_value = false; is_fixed = false; is_operational = false }
+
+-- whether a name stands twice
+abbrev pub has_twin : List (List ℕ) → Bool
+has_twin [] = false
+has_twin (n ∷ ns) = list_any (λ m. str_eq_ignore_ascii_case m n) ns || has_twin ns
+
+abbrev pub up_of : List AttributeType → Option ℕ → Option AttributeType
+up_of types None = None
+up_of types (Some t) = Some (type_at types t)
+
+abbrev pub IsAbove : List AttributeType → Option ℕ → Type 0
+IsAbove before None = Unit {0}
+IsAbove before (Some s) = is_known before s ≡ true
+
+-- of those before it one may be above it, with the same syntax, and of its family where that has one; numbers and names are compared as such only
+-- where they are; rules of order and substrings stand beside one of equality; no name stands twice
+pub record FitsBehind (before : List AttributeType) (t : AttributeType) : Type 0 where
+  pub superior : IsAbove before t.superior
+  pub agrees : breaks_with t (up_of before t.superior) ≡ false
+  pub syntax : needs_another_syntax t ≡ false
+  pub ordered : t.is_ordered ≡ true → is_some t.equality ≡ true
+  pub substrings : t.has_substrings ≡ true → is_some t.equality ≡ true
+  pub names_apart : has_twin t.names ≡ false

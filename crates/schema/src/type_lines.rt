@@ -5,8 +5,8 @@ ghost use Rattle.std.specs.List.{list_any};
 ghost use Rattle.std.specs.Option.{option_map};
 ghost use Rattle.std.specs.Str.{str_eq_ignore_ascii_case};
 ghost use Rattle.definitions.specs.TypeDefinitions.{type_definition_of};
-ghost use Rattle.schema.specs.Configurations.{is_built_in, object_class, is_type, names_one, has_twin, is_taken, superior_of, up_of, flaw_of, below, refused, placed};
-ghost use Rattle.schema.specs.TypeRules.{type_with};
+ghost use Rattle.schema.specs.Configurations.{is_built_in, is_type, names_one, is_taken, superior_of, flaw_of, below, refused, placed};
+ghost use Rattle.schema.specs.TypeRules.{type_with, object_class, has_twin, up_of};
 ghost use Rattle.schema.specs.Reads.{Reads};
 
 use crate::conf_fault::{ConfFault, ConfFaultKind};

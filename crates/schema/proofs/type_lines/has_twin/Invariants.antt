@@ -1,5 +1,5 @@
 use Rattle.std.proofs.Common.{◌≡◌, drop}
-use Rattle.schema.specs.Configurations.{has_twin}
+use Rattle.schema.specs.TypeRules.{has_twin}
 use Rattle.schema.proofs.Twins.{twin_left}
 use Rattle.schema.proofs.type_lines.has_twin.Given as goal
 
