@@ -244,8 +244,9 @@ class Conf:
         return self.numbers.get(text.lower())
 
     def is_valid(self, number, value):
+        # a type of DN syntax has no values so far
         if self.types[number].kind == "name":
-            return self.parts_of(value) is not None
+            return False
         return values.is_valid(self.types[number].kind, value)
 
     def normal(self, number, value):
