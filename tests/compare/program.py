@@ -58,7 +58,18 @@ def slapcat(words):
     return status, b"", messages
 
 
+def is_utf_8(word):
+    try:
+        word.encode()
+    except UnicodeEncodeError:
+        return False
+    return True
+
+
 def main():
+    if not all(is_utf_8(word) for word in sys.argv[1:]):
+        sys.stderr.write("command line: not UTF-8\n")
+        return 2
     parser, parsers = parser_of_words()
     # argparse doesn't take two hyphens behind a command's options
     words = parser.parse_args(sys.argv[1:-1] if sys.argv[-1] == "--" else sys.argv[1:])

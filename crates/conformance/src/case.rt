@@ -3,11 +3,12 @@
 use crate::fault::CaseFault;
 use crate::files::{Change, Files};
 use crate::mark::Mark;
-use crate::pattern::{put_lines, text_of};
+use crate::pattern::{bytes_of, put_lines};
+use crate::trouble::Troubles;
 use std::alloc::{AllocError, Global};
 
 /// What a stream of a command is to hold.
-#[derive(Debug, Drop)]
+#[derive(Drop)]
 pub enum Wanted {
     /// These bytes.
     Bytes(Vec<u8>),
@@ -50,7 +51,9 @@ pub struct Step {
     alloc: Global,
     /// The command as the case spells it.
     pub command: String,
-    pub words: Vec<String>,
+    /// Its words, or `None` where one isn't UTF-8.
+    pub words: Option<Vec<String>>,
+    pub troubles: Troubles,
     pub input: Vec<u8>,
     /// The exit status, where the case says it.
     status: Option<u8>,
@@ -60,25 +63,29 @@ pub struct Step {
     pub files: Files,
 }
 
-fn words_of(alloc: Global, command: &str) -> Result<Vec<String>, CaseFault> {
+fn words_of(alloc: Global, command: &str) -> Result<Option<Vec<String>>, CaseFault> {
     let mut words = Vec::new(alloc);
     words.push(String::from_str(alloc, "slaptools")?)?;
     if command.is_empty() {
-        return Ok(words);
+        return Ok(Some(words));
     }
     for word in command.split(' ') {
-        words.push(text_of(alloc, word)?)?;
+        match String::from_utf8(bytes_of(alloc, word)?) {
+            Ok(word) => words.push(word)?,
+            Err(_) => return Ok(None),
+        }
     }
-    Ok(words)
+    Ok(Some(words))
 }
 
 impl Step {
-    /// A command of which nothing is said as yet: so it prints nothing and leaves the files as they were.
+    /// A command of which nothing is said as yet: so nothing fails, it prints nothing and leaves the files as they were.
     fn new(alloc: Global, command: &str, files: Files) -> Result<Step, CaseFault> {
         Ok(Step {
             alloc,
             command: String::from_str(alloc, command)?,
             words: words_of(alloc, command)?,
+            troubles: Troubles::none(alloc),
             input: Vec::new(alloc),
             status: None,
             output: Wanted::Bytes(Vec::new(alloc)),
@@ -111,6 +118,7 @@ impl Step {
             Mark::Output => self.output.add_lines(self.alloc, text),
             Mark::Message => self.messages.add_lines(self.alloc, text),
             Mark::Status => self.set_status(text),
+            Mark::Trouble => self.troubles.add(text),
             _ => Err(CaseFault::Place),
         }
     }

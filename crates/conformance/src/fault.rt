@@ -4,7 +4,7 @@ use std::alloc::{AllocError, AllocFailed};
 use std::fmt;
 
 /// What is wrong with a line.
-#[derive(Clone, Copy, Debug, PartialEq, Eq)]
+#[derive(Clone, Copy)]
 pub enum CaseFault {
     /// It begins with no mark.
     Mark,
@@ -45,7 +45,7 @@ impl<T: Drop> From<AllocFailed<T>> for CaseFault {
 }
 
 /// A fault, and the number of the line that has it.
-#[derive(Debug, Drop)]
+#[derive(Drop)]
 pub struct LineFault {
     pub line: usize,
     pub fault: CaseFault,

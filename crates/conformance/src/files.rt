@@ -1,13 +1,17 @@
-//! Files in memory.
+//! Files in memory, of which one may fail.
 
+use crate::trouble::{FileTrouble, Troubles};
 use commands::{FileText, Folder, FolderFault};
 use device::{OfRead, TrySink};
 use std::alloc::{AllocError, Global};
 use std::collections::BTreeMap;
-use std::io::Cursor;
+use std::io::{self, Cursor, ErrorKind, Read};
+
+/// How many bytes a stream gives or takes at a time, and a file takes: few, so that most texts come and go in several pieces.
+pub const PIECE: usize = 7;
 
 /// What becomes of a file.
-#[derive(Clone, Copy, Debug)]
+#[derive(Clone, Copy)]
 pub enum Change<'b> {
     /// It is there, and empty.
     Make,
@@ -80,20 +84,81 @@ impl Files {
     }
 }
 
-impl Folder for Files {
-    type In = OfRead<Cursor<Vec<u8>>>;
+/// The bytes of a file, which may break off.
+#[derive(Drop)]
+pub struct Contents {
+    cursor: Cursor<Vec<u8>>,
+    breaks: bool,
+}
 
-    fn open(&mut self, name: &str) -> Result<Option<OfRead<Cursor<Vec<u8>>>>, FolderFault> {
+impl Contents {
+    fn new(
+        alloc: Global,
+        bytes: &[u8],
+        trouble: Option<FileTrouble>,
+    ) -> Result<Contents, AllocError> {
+        let (given, breaks) = match trouble {
+            Some(FileTrouble::Read(limit)) if limit <= bytes.len() => (&bytes[..limit], true),
+            _ => (bytes, false),
+        };
+        Ok(Contents {
+            cursor: Cursor::new(Vec::from_slice(alloc, given)?),
+            breaks,
+        })
+    }
+}
+
+impl Read for Contents {
+    fn read(&mut self, buffer: &mut [u8]) -> io::Result<usize> {
+        match self.cursor.read(buffer) {
+            Ok(0) if self.breaks => Err(io::Error::from(ErrorKind::Other)),
+            given => given,
+        }
+    }
+}
+
+/// The files of a command, and what fails of them.
+#[derive(Drop)]
+pub struct FailingFiles<'a> {
+    files: &'a mut Files,
+    troubles: &'a Troubles,
+}
+
+impl<'a> FailingFiles<'a> {
+    pub fn new(files: &'a mut Files, troubles: &'a Troubles) -> FailingFiles<'a> {
+        FailingFiles { files, troubles }
+    }
+}
+
+impl<'a> Folder for FailingFiles<'a> {
+    type In = OfRead<Contents>;
+
+    fn open(&mut self, name: &str) -> Result<Option<OfRead<Contents>>, FolderFault> {
+        let trouble = self.troubles.of_file(name);
+        match trouble {
+            Some(FileTrouble::Open) => return Err(FolderFault::Device),
+            Some(FileTrouble::OpenMemory) => return Err(FolderFault::OutOfMemory),
+            _ => {}
+        }
+        let alloc = self.files.alloc;
         match self.files.get(name) {
-            Some(bytes) => Ok(Some(OfRead::new(Cursor::new(bytes.clone()?)))),
+            Some(bytes) => {
+                let contents = Contents::new(alloc, bytes, trouble)?;
+                Ok(Some(OfRead::new(contents)))
+            }
             None => Ok(None),
         }
     }
 
     fn store<T: FileText>(&mut self, name: &str, text: &T) -> Result<(), FolderFault> {
-        let mut sink = TrySink::new(self.alloc, 4096, None);
-        text.write(self.alloc, &mut sink)?;
-        self.put(name, sink.bytes())?;
+        let limit = match self.troubles.of_file(name) {
+            Some(FileTrouble::StoreMemory) => return Err(FolderFault::OutOfMemory),
+            Some(FileTrouble::Store(limit)) => Some(limit),
+            _ => None,
+        };
+        let mut sink = TrySink::new(self.files.alloc, PIECE, limit);
+        text.write(self.files.alloc, &mut sink)?;
+        self.files.put(name, sink.bytes())?;
         Ok(())
     }
 }

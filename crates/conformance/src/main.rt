@@ -11,6 +11,7 @@ mod pattern;
 mod reader;
 mod report;
 mod run;
+mod trouble;
 
 use case::Case;
 use reader::read;
@@ -19,7 +20,7 @@ use std::process::ExitCode;
 use std::{env, fs, io};
 
 /// How many cases did as they say, and how many cases and files did not.
-#[derive(Clone, Copy, Debug)]
+#[derive(Clone, Copy)]
 struct Tally {
     passed: u64,
     failed: u64,

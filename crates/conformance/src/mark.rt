@@ -1,7 +1,7 @@
 //! The marks of a case file.
 
 /// What a line of a case file says, by the mark that it begins with.
-#[derive(Clone, Copy, Debug, PartialEq, Eq)]
+#[derive(Clone, Copy, PartialEq, Eq)]
 pub enum Mark {
     /// `#`: it says nothing.
     Comment,
@@ -23,6 +23,8 @@ pub enum Mark {
     Message,
     /// `?`: its exit status.
     Status,
+    /// `*`: what fails while it runs.
+    Trouble,
 }
 
 impl Mark {
@@ -39,6 +41,7 @@ impl Mark {
             ">" => Some(Mark::Output),
             "!" => Some(Mark::Message),
             "?" => Some(Mark::Status),
+            "*" => Some(Mark::Trouble),
             _ => None,
         }
     }

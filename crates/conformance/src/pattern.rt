@@ -5,7 +5,7 @@ use crate::fault::CaseFault;
 use std::alloc::Global;
 
 /// Numbers from the first to the last, each so much more than the one before.
-#[derive(Clone, Copy, Debug)]
+#[derive(Clone, Copy)]
 struct Numbers {
     first: u32,
     last: u32,
@@ -14,7 +14,7 @@ struct Numbers {
 }
 
 /// A piece of a text.
-#[derive(Clone, Copy, Debug)]
+#[derive(Clone, Copy)]
 enum Piece<'t> {
     /// It stands for itself.
     Plain(&'t str),
@@ -151,12 +151,17 @@ fn numbers_in(pieces: &[Piece<'_>]) -> Result<Option<Numbers>, CaseFault> {
     Ok(found)
 }
 
-/// The text that a word or a name stands for.
-pub fn text_of(alloc: Global, text: &str) -> Result<String, CaseFault> {
+/// The bytes that a word stands for.
+pub fn bytes_of(alloc: Global, text: &str) -> Result<Vec<u8>, CaseFault> {
     let pieces = pieces_of(alloc, text)?;
     let mut bytes = Vec::new(alloc);
     put_pieces(alloc, pieces.as_slice(), None, &mut bytes)?;
-    match String::from_utf8(bytes) {
+    Ok(bytes)
+}
+
+/// The text that a name stands for.
+pub fn text_of(alloc: Global, text: &str) -> Result<String, CaseFault> {
+    match String::from_utf8(bytes_of(alloc, text)?) {
         Ok(text) => Ok(text),
         Err(_) => Err(CaseFault::Code),
     }

@@ -1,28 +1,30 @@
 //! Runs a case.
 
 use crate::case::{Case, Step};
-use crate::files::Files;
+use crate::files::{FailingFiles, Files, PIECE};
 use crate::report::{put_files, put_stream};
-use commands::command;
+use commands::{CommandFault, command, tell};
 use device::{TrySink, TrySource};
 use std::alloc::{AllocError, Global};
 
-/// How many bytes a stream gives or takes at a time.
-const PIECE: usize = 4096;
-
 /// Runs a command over files, and answers what is otherwise than the case says, or nothing.
 fn run_step(alloc: Global, step: &Step, files: &mut Files) -> Result<String, AllocError> {
-    let mut input = TrySource::new(step.input.as_slice(), PIECE, None);
-    let mut output = TrySink::new(alloc, PIECE, None);
-    let mut messages = TrySink::new(alloc, PIECE, None);
-    let status = command(
-        alloc,
-        step.words.as_slice(),
-        files,
-        &mut input,
-        &mut output,
-        &mut messages,
-    );
+    let troubles = &step.troubles;
+    let mut input = TrySource::new(step.input.as_slice(), PIECE, troubles.input);
+    let mut output = TrySink::new(alloc, PIECE, troubles.output);
+    let mut messages = TrySink::new(alloc, PIECE, troubles.messages);
+    let mut folder = FailingFiles::new(files, troubles);
+    let status = match &step.words {
+        Some(words) => command(
+            alloc,
+            words.as_slice(),
+            &mut folder,
+            &mut input,
+            &mut output,
+            &mut messages,
+        ),
+        None => tell(alloc, &mut messages, &CommandFault::Words).number(),
+    };
     let mut report = String::new(alloc);
     if status != step.status() {
         let line = format!(in alloc; "  status is {status} and not {}\n", step.status())?;

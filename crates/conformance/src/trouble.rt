@@ -1,0 +1,82 @@
+//! What fails while a command runs.
+
+use crate::fault::CaseFault;
+use crate::pattern::text_of;
+use std::alloc::Global;
+
+/// How a file fails.
+#[derive(Clone, Copy)]
+pub enum FileTrouble {
+    /// It can't be opened.
+    Open,
+    /// There is no memory to open it.
+    OpenMemory,
+    /// Reading it fails behind so many bytes.
+    Read(usize),
+    /// Storing it fails behind so many bytes.
+    Store(usize),
+    /// There is no memory to store it.
+    StoreMemory,
+}
+
+/// One file that fails, and after how many bytes each stream does, if they do.
+#[derive(Drop)]
+pub struct Troubles {
+    alloc: Global,
+    file: Option<(String, FileTrouble)>,
+    pub input: Option<usize>,
+    pub output: Option<usize>,
+    pub messages: Option<usize>,
+}
+
+fn count_of(text: &str) -> Result<usize, CaseFault> {
+    match text.parse::<usize>() {
+        Ok(count) => Ok(count),
+        Err(_) => Err(CaseFault::Code),
+    }
+}
+
+impl Troubles {
+    pub fn none(alloc: Global) -> Troubles {
+        Troubles {
+            alloc,
+            file: None,
+            input: None,
+            output: None,
+            messages: None,
+        }
+    }
+
+    /// How the file of this name fails, if it does.
+    pub fn of_file(&self, name: &str) -> Option<FileTrouble> {
+        match &self.file {
+            Some((troubled, trouble)) if troubled.as_str() == name => Some(*trouble),
+            _ => None,
+        }
+    }
+
+    fn set_file(&mut self, name: &str, trouble: FileTrouble) -> Result<(), CaseFault> {
+        if self.file.is_some() {
+            return Err(CaseFault::Place);
+        }
+        self.file = Some((text_of(self.alloc, name)?, trouble));
+        Ok(())
+    }
+
+    /// Adds what these words say.
+    pub fn add(&mut self, text: &str) -> Result<(), CaseFault> {
+        let words: Vec<&str> = text.split(' ').collect(self.alloc)?;
+        match words.as_slice() {
+            ["input", count] => self.input = Some(count_of(count)?),
+            ["output", count] => self.output = Some(count_of(count)?),
+            ["messages", count] => self.messages = Some(count_of(count)?),
+            ["open", name] => self.set_file(name, FileTrouble::Open)?,
+            ["open", name, "memory"] => self.set_file(name, FileTrouble::OpenMemory)?,
+            ["read", name, count] => self.set_file(name, FileTrouble::Read(count_of(count)?))?,
+            ["store", name, "memory"] => self.set_file(name, FileTrouble::StoreMemory)?,
+            ["store", name, count] => self.set_file(name, FileTrouble::Store(count_of(count)?))?,
+            _ => return Err(CaseFault::Code),
+        }
+        Ok(())
+    }
+}
