@@ -1,13 +1,11 @@
-//! Tests of public calls on what no command of the program shows: sources, sinks and memory that fail in the middle, and calls that no
-//! command makes yet. They stand in a crate of their own, since a crate with tests is proved once more for them.
+//! Tests of public calls on what no command of the program shows: sources, sinks and memory that fail in the middle of a call, and
+//! calls that no command makes yet. They stand in a crate of their own, since a crate with tests is proved once more for them.
 #![tactic(auto)]
 
 #[cfg(test)]
 mod adapters;
 #[cfg(test)]
 mod changes;
-#[cfg(test)]
-mod commands_in_trouble;
 #[cfg(test)]
 mod lines_in_little_memory;
 #[cfg(test)]
@@ -28,5 +26,3 @@ mod records_in_little_memory;
 mod runs;
 #[cfg(test)]
 mod runs_in_little_memory;
-#[cfg(test)]
-mod troubled_folder;

@@ -19,7 +19,7 @@ const ROWS: [(Mode, &str, &str); 3] = [
     (
         Mode::Content,
         "dn: cn=somebody,dc=example,dc=com\nobjectClass: person\ndescription:: Wm/DqyBhbmQgbW9yZSB0aGFuIGEgZmV3IGJ5dGVz",
-        "content cn=somebody,dc=example,dc=com [objectClass=person] [description=Zo~c3~ab and more than a few bytes]",
+        "content cn=somebody,dc=example,dc=com [objectClass=person] [description=Zoë and more than a few bytes]",
     ),
     (
         CHANGES,
