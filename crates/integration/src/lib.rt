@@ -17,6 +17,8 @@ mod names_in_little_memory;
 #[cfg(test)]
 mod pieces;
 #[cfg(test)]
+mod places;
+#[cfg(test)]
 mod readers;
 #[cfg(test)]
 mod record_text;
