@@ -20,6 +20,8 @@ use Rattle.ldif.specs.declared.record.Mode.TheVariants.{Content}
 use Rattle.schema.specs.declared.code.Code.{Code}
 use Rattle.schema.specs.declared.code.Code.TheVariants as result
 use Rattle.matching.specs.declared.family.Family.TheVariants as families
+use Rattle.values.specs.declared.types.TypeSyntax.TheVariants as type_syntaxes
+use Rattle.values.specs.declared.types.EqualityRule.TheVariants as rules
 use Rattle.matching.specs.declared.syntax.Syntax.TheVariants as syntaxes
 use Rattle.values.specs.declared.types.AttributeType.{AttributeType}
 use Rattle.schema.specs.TypeRules.{object_class}
@@ -30,6 +32,7 @@ use Rattle.dn.specs.Writing.{written, text_from, text_of}
 use Rattle.schema.specs.Names.{name_in}
 use Rattle.paths.specs.Paths.{Path, path_cmp}
 use Rattle.schema.specs.Rdns.{parts_from, rdns_from, put_pair, key_from, rdn_key_of}
+use Rattle.schema.specs.Values.{is_valid_at, norm_at}
 use Rattle.schema.specs.Conf.{Conf, below, place_of, located, name_text}
 use Rattle.values.specs.Types.{type_of}
 use Rattle.matching.specs.Forms.{norm}
@@ -52,7 +55,7 @@ on_texts = tt
 
 -- what a name and attribute lines come to
 unfoldable on_entries : ⊤
-unfolding is_utf8 chars encode each octets_from trimmed names.value_of part_at part_of cut_raw rdn_of name_of name_in parts_from rdns_from put_pair key_from rdn_key_of below place_of located type_of norm is_valid add push_value add_lines with_rdn
+unfolding is_utf8 chars encode each octets_from trimmed names.value_of part_at part_of cut_raw rdn_of name_of name_in parts_from rdns_from put_pair key_from rdn_key_of below place_of located type_of norm is_valid is_valid_at norm_at add push_value add_lines with_rdn
 on_entries = tt
 
 -- what an entry is written by
@@ -72,7 +75,7 @@ person = ended (codes "objectClass: person")
 
 -- a type of text
 abbrev text_type : List ℕ → List ℕ → AttributeType
-text_type oid name = record { oid = oid; names = name ∷ []; superior = None; syntax = syntaxes.Text; equality = Some families.Ignore; is_ordered = false; has_substrings = false; single_value = false; is_fixed = false; is_operational = false }
+text_type oid name = record { oid = oid; names = name ∷ []; superior = None; syntax = type_syntaxes.Plain syntaxes.Text; equality = Some (rules.Plain families.Ignore); is_ordered = false; has_substrings = false; single_value = false; is_fixed = false; is_operational = false }
 
 -- objectClass and the types dc and cn, below dc=ex
 abbrev conf : Conf

@@ -4,7 +4,7 @@ use Rattle.std.specs.Char.{to_ascii_lowercase}
 use Rattle.std.proofs.lemmas.Str.Ascii.{lowercase-lowercase}
 use Rattle.std.proofs.lemmas.Bool.{cases_lt, le-ltb, lt-ltb, ne_eqb}
 use Rattle.matching.specs.declared.family.Family.{Family}
-use Rattle.matching.specs.declared.family.Family.TheVariants.{Ignore, Exact, Numeric, Telephone, Integer, Boolean, Octet, Name, Oid}
+use Rattle.matching.specs.declared.family.Family.TheVariants.{Ignore, Exact, Numeric, Telephone, Integer, Boolean, Octet, Oid}
 use Rattle.base.specs.Ends.{is_space, without_front, without_end, onto_text}
 use Rattle.matching.specs.Forms.{begins_with_space, one_spaces, tidy, lower, is_no_space, is_no_filler, norm}
 use Rattle.matching.proofs.GapLoop.{kept}
@@ -135,6 +135,5 @@ norm_again Numeric bs = filter_again is_no_space bs
 norm_again Telephone bs = ap lower (filter_lower (filter is_no_filler bs) ∙ ap lower (filter_again is_no_filler bs)) ∙ lower_again (filter is_no_filler bs)
 norm_again Oid bs = lower_again bs
 norm_again Octet bs = refl
-norm_again Name bs = refl
 norm_again Integer bs = refl
 norm_again Boolean bs = refl

@@ -115,7 +115,6 @@ valid_bytes syntaxes.Boolean bs h = elim (one_of (bytes_eq bs (codes "TRUE")) (b
 valid_bytes syntaxes.Integer bs h = integer_bytes bs h
 valid_bytes syntaxes.Oid bs h = weaker is_oid_byte bs oid_byte (and_parts (not (length bs == 0)) (list_all is_oid_byte bs) h).1
 valid_bytes syntaxes.Octet bs h = h
-valid_bytes syntaxes.Name bs h = absurd cc
 
 -- what a contract sees of a slice of bytes
 pub are_bytes : (bs : List ℕ) → ((i : ℕ) → get_or bs i 0 < 256) → AreBytes bs

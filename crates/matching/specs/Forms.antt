@@ -37,5 +37,4 @@ norm families.Telephone bs = lower (filter is_no_filler bs)
 norm families.Integer bs = bs
 norm families.Boolean bs = bs
 norm families.Octet bs = bs
-norm families.Name bs = bs
 norm families.Oid bs = lower bs

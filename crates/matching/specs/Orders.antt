@@ -27,5 +27,4 @@ Before families.Numeric a b = BytesBefore a b
 Before families.Telephone a b = BytesBefore a b
 Before families.Boolean a b = BytesBefore a b
 Before families.Octet a b = BytesBefore a b
-Before families.Name a b = BytesBefore a b
 Before families.Oid a b = BytesBefore a b

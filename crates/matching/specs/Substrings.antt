@@ -28,7 +28,6 @@ piece_norm families.Telephone before after text = norm families.Telephone text
 piece_norm families.Integer before after text = norm families.Integer text
 piece_norm families.Boolean before after text = norm families.Boolean text
 piece_norm families.Octet before after text = norm families.Octet text
-piece_norm families.Name before after text = norm families.Name text
 piece_norm families.Oid before after text = norm families.Oid text
 
 -- whether something may stand after a piece: another one, or a star

@@ -33,6 +33,5 @@ is_valid syntaxes.Ascii bytes = list_all is_ascii bytes
 is_valid syntaxes.Numeric bytes = is_some_text bytes && list_all is_digit_or_space bytes
 is_valid syntaxes.Boolean bytes = is_boolean bytes
 is_valid syntaxes.Integer bytes = is_integer bytes
-is_valid syntaxes.Name bytes = false
 is_valid syntaxes.Oid bytes = is_some_text bytes && list_all is_oid_byte bytes
 is_valid syntaxes.Octet bytes = list_all is_byte bytes

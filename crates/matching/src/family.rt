@@ -18,8 +18,6 @@ pub enum Family {
     Boolean,
     /// octetStringMatch
     Octet,
-    /// distinguishedNameMatch. The normal form of a name is made where types are known; here it stays as it is.
-    Name,
     /// objectIdentifierMatch
     Oid,
 }

@@ -114,7 +114,7 @@ impl Form {
             Family::Ignore => Form::of_tidy_case(bytes),
             Family::Exact => Form::of_tidy(bytes),
             Family::Oid => Form::of_case(bytes),
-            Family::Integer | Family::Boolean | Family::Octet | Family::Name => Form::AsWritten,
+            Family::Integer | Family::Boolean | Family::Octet => Form::AsWritten,
             Family::Numeric | Family::Telephone => Form::Other,
         }
     }
@@ -178,9 +178,7 @@ pub fn normal_form(alloc: Global, family: Family, bytes: &[u8]) -> Result<Bytes,
         Family::Exact => tidy_bytes(alloc, bytes),
         Family::Numeric => without_spaces(alloc, bytes),
         Family::Telephone => telephone_number(alloc, bytes),
-        Family::Integer | Family::Boolean | Family::Octet | Family::Name => {
-            Bytes::from_slice(alloc, bytes)
-        }
+        Family::Integer | Family::Boolean | Family::Octet => { Bytes::from_slice(alloc, bytes) }
         Family::Oid => lower(alloc, bytes),
     }
 }

@@ -8,7 +8,7 @@ ghost use Rattle.matching.specs.Integers.{is_integer};
 
 use crate::integer::Integer;
 
-/// Which values an attribute type takes (RFC 4517, 3.3).
+/// Which values an attribute type takes (RFC 4517, 3.3), where that can be told without knowing types. So DN isn't among these.
 #[derive(Clone, Copy, Debug, PartialEq, Eq)]
 pub enum Syntax {
     /// Country String, Directory String, Printable String and Telephone Number: UTF-8, not empty.
@@ -21,8 +21,6 @@ pub enum Syntax {
     Boolean,
     /// Integer: in decimal, without a zero before it, within 128 signed bits.
     Integer,
-    /// DN: a name. Which names there are is told where types are known; by itself no value is one.
-    Name,
     /// OID: ASCII without spaces, not empty.
     Oid,
     /// Octet String, and each syntax that isn't among these: any bytes.
@@ -92,7 +90,6 @@ pub fn is_valid(syntax: Syntax, bytes: &[u8]) -> bool
         Syntax::Numeric => !bytes.is_empty() && are_digits_or_spaces(bytes),
         Syntax::Boolean => is_boolean(bytes),
         Syntax::Integer => is_integer(bytes),
-        Syntax::Name => false,
         Syntax::Oid => !bytes.is_empty() && are_oid_bytes(bytes),
         Syntax::Octet => are_bytes(bytes),
     }

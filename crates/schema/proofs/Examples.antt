@@ -6,9 +6,11 @@ use lib.Utf8.{encode}
 use Rattle.std.specs.declared.cmp.Ordering.TheVariants.{Less, Greater}
 use Rattle.schema.specs.declared.code.Code.{Code}
 use Rattle.schema.specs.declared.code.Code.TheVariants.{InvalidDnSyntax, NamingViolation, NoSuchObject}
-use Rattle.matching.specs.declared.family.Family.{Family}
+use Rattle.values.specs.declared.types.TypeSyntax.{TypeSyntax}
+use Rattle.values.specs.declared.types.TypeSyntax.TheVariants as type_syntaxes
+use Rattle.values.specs.declared.types.EqualityRule.{EqualityRule}
+use Rattle.values.specs.declared.types.EqualityRule.TheVariants as rules
 use Rattle.matching.specs.declared.family.Family.TheVariants as families
-use Rattle.matching.specs.declared.syntax.Syntax.{Syntax}
 use Rattle.matching.specs.declared.syntax.Syntax.TheVariants as syntaxes
 use Rattle.matching.specs.Forms.{norm}
 use Rattle.matching.specs.Syntaxes.{is_valid}
@@ -38,7 +40,7 @@ root_first = refl
 -- ---- names under a configuration
 
 -- a type with a syntax, and an equality rule or none
-abbrev type_with : List ℕ → List ℕ → Syntax → Option Family → AttributeType
+abbrev pub type_with : List ℕ → List ℕ → TypeSyntax → Option EqualityRule → AttributeType
 type_with oid name syntax equality =
     record { oid = oid; names = name ∷ []; superior = None; syntax = syntax; equality = equality; is_ordered = false; has_substrings = false; single_value = false; is_fixed = false; is_operational = false }
 
@@ -46,8 +48,8 @@ type_with oid name syntax equality =
 abbrev pub conf : Conf
 conf = record {
   types =
-      object_class ∷ type_with (codes "1.2") (codes "x") syntaxes.Text (Some families.Ignore) ∷ type_with (codes "1.3") (codes "y") syntaxes.Octet (Some families.Octet)
-      ∷ type_with (codes "1.4") (codes "d") syntaxes.Name None ∷ type_with (codes "1.5") (codes "n") syntaxes.Integer None ∷ type_with (codes "1.6") (codes "i") syntaxes.Integer (Some families.Integer) ∷ [];
+      object_class ∷ type_with (codes "1.2") (codes "x") (type_syntaxes.Plain syntaxes.Text) (Some (rules.Plain families.Ignore)) ∷ type_with (codes "1.3") (codes "y") (type_syntaxes.Plain syntaxes.Octet) (Some (rules.Plain families.Octet))
+      ∷ type_with (codes "1.4") (codes "d") type_syntaxes.Name None ∷ type_with (codes "1.5") (codes "n") (type_syntaxes.Plain syntaxes.Integer) None ∷ type_with (codes "1.6") (codes "i") (type_syntaxes.Plain syntaxes.Integer) (Some (rules.Plain families.Integer)) ∷ [];
   suffix = step 0 (codes "top") ∷ [];
 }
 

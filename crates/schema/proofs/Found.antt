@@ -1,24 +1,23 @@
 -- What is located are RDNs of the configuration.
-use Rattle.std.proofs.Common.{◌≡◌, ℕ, ◌+◌, ◌<◌, Bool, true, false, cond, not, List, [], ◌∷◌, ◌++◌, length, map, reverse, Option, Some, None, Result, Ok, Err, inl, inr, refl, sym, ap, subst, ◌∙◌, append_assoc, arith}
-use Rattle.std.specs.Prelude.{nat_eq, nat_lt, ◌==◌}
+use Rattle.std.proofs.Common.{◌≡◌, ℕ, ◌+◌, ◌<◌, Bool, true, false, cond, not, List, [], ◌∷◌, ◌++◌, length, map, reverse, Option, Some, None, Result, Ok, Err, refl, sym, ap, subst, ◌∙◌, arith}
+use Rattle.std.specs.Prelude.{nat_eq, ◌==◌}
 use Rattle.std.specs.List.{AllByRecursion, IsDistinct}
 use Rattle.std.specs.Str.{is_utf8}
 use Rattle.std.proofs.lemmas.Bool.{lt-ltb, ltb-true, ne_eqb, or_parts}
-use Rattle.std.proofs.lemmas.Bool.Decides.{nat_tests}
-use Rattle.std.proofs.lemmas.List.{length-append, map-append}
+use Rattle.std.proofs.lemmas.List.{length-append}
 use Rattle.std.proofs.lemmas.List.Quantifiers.{position-Some}
 use Rattle.values.specs.declared.types.AttributeType.{AttributeType}
 use Rattle.schema.specs.declared.code.Code.{Code}
 use Rattle.schema.specs.declared.code.Code.TheVariants.{InvalidDnSyntax, NamingViolation, NoSuchObject}
 use Rattle.base.proofs.Bound.{bind_ok, same_ok}
-use Rattle.base.specs.Answers.{◌>>=◌}
 use Rattle.dn.specs.Names as names
 use Rattle.dn.specs.Reading as reading
-use Rattle.dn.specs.Spelling.{Spells, SpellsRdn, SpellsPart, AreJoined}
+use Rattle.dn.specs.Spelling.{Spells, SpellsRdn, AreJoined}
 use Rattle.dn.specs.declared.faults.NameFaultKind.{NameFaultKind}
 use Rattle.values.specs.Types.{is_named, type_of, no_type, is_known, has_equality}
-use Rattle.values.specs.Values.{is_valid_at}
-use Rattle.schema.specs.Rdns.{Ava, Rdn, IsAva, IsRdn, type_in, has_type, part_type, type_among, parts_from, typed_rdn, rdns_from, typed, rdn_key_of}
+use Rattle.schema.proofs.Parts.{plain_is}
+use Rattle.schema.specs.Rdns.{Ava, Rdn, is_valid_part, has_type, part_type, type_among, parts_from, typed_rdn, rdns_from, typed, rdn_key_of}
+use Rattle.schema.specs.GoodRdns.{IsAva, IsRdn, type_in}
 use Rattle.schema.specs.Names.{or_invalid, name_in}
 use Rattle.schema.specs.TypeRules.{has_name_syntax}
 use Rattle.schema.specs.Conf.{Conf, same_rdn_key, below, place_of, located}
@@ -78,7 +77,7 @@ is_not false h = sym h
 part_is : (types : List AttributeType) (earlier : Rdn) (p : names.Ava) (t : ℕ) → part_type types earlier p ≡ Ok t → IsNext types earlier (t, p.1)
 part_is types earlier p t e = by (type_of types p.0) refl e
   where
-    checked : (s : ℕ) → type_of types p.0 ≡ Some s → (n q v d : Bool) → has_name_syntax types s ≡ n → not (has_equality types s) ≡ q → not (is_valid_at types s p.1) ≡ v → has_type s earlier ≡ d
+    checked : (s : ℕ) → type_of types p.0 ≡ Some s → (n q v d : Bool) → has_name_syntax types s ≡ n → not (has_equality types s) ≡ q → not (is_valid_part types s p.1) ≡ v → has_type s earlier ≡ d
         → ◌≡◌ {A = Result ℕ Code} (cond n (Err InvalidDnSyntax) (cond q (Err NamingViolation) (cond v (Err InvalidDnSyntax) (cond d (Err NamingViolation) (Ok s))))) (Ok t) → IsNext types earlier (t, p.1)
     checked s is true q v d n-is q-is v-is d-is said = absurd cc
     checked s is false true v d n-is q-is v-is d-is said = absurd cc
@@ -86,13 +85,13 @@ part_is types earlier p t e = by (type_of types p.0) refl e
     checked s is false false false true n-is q-is v-is d-is said = absurd cc
     checked s is false false false false n-is q-is v-is d-is said =
         subst (λ (x : ℕ). IsNext types earlier (x, p.1)) (same_ok s t said) (record {
-          good = record { known = found_is_known types p.0 s is; no_name = n-is; comparable = is_not (has_equality types s) q-is; valid = is_not (is_valid_at types s p.1) v-is };
+          good = record { known = found_is_known types p.0 s is; no_name = n-is; comparable = is_not (has_equality types s) q-is; valid = plain_is types s p.1 n-is ∙ is_not (is_valid_part types s p.1) v-is };
           apart = d-is;
         })
 
     by : (o : Option ℕ) → type_of types p.0 ≡ o → type_among types earlier p.1 o ≡ Ok t → IsNext types earlier (t, p.1)
     by None is said = absurd cc
-    by (Some s) is said = checked s is (has_name_syntax types s) (not (has_equality types s)) (not (is_valid_at types s p.1)) (has_type s earlier) refl refl refl refl said
+    by (Some s) is said = checked s is (has_name_syntax types s) (not (has_equality types s)) (not (is_valid_part types s p.1)) (has_type s earlier) refl refl refl refl said
 
 -- one more type, which none before it is
 distinct_more : (r : Rdn) (p : Ava) → IsDistinct nat_eq (map type_in r) → has_type p.0 r ≡ false → IsDistinct nat_eq (map type_in (r ++ p ∷ []))

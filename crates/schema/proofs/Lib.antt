@@ -1,4 +1,5 @@
 pub mod Below
+pub mod Parts
 pub mod Named
 pub mod Locating
 pub mod Steps
@@ -7,4 +8,5 @@ pub mod Whole
 pub mod Taken
 pub mod Twins
 pub mod Examples
+pub mod ValueExamples
 pub mod RulePrefix

@@ -15,15 +15,14 @@ use Rattle.schema.specs.declared.code.Code.TheVariants.{InvalidDnSyntax, NamingV
 use Rattle.base.specs.Answers.{◌>>=◌}
 use Rattle.values.specs.Types.{printed_name, name_of, type_at, is_known, has_equality, first_or}
 use Rattle.definitions.specs.Naming.{is_oid, are_groups, is_name, is_name_byte, is_type_name, is_reserved}
-use Rattle.schema.specs.Rdns.{Ava, Rdn, IsAva, IsRdn, type_in, has_type, part_type, type_among, parts_from, typed_rdn, rdns_from, typed, rdn_key_of}
+use Rattle.schema.specs.Rdns.{Ava, Rdn, is_valid_part, has_type, part_type, type_among, parts_from, rdns_from, rdn_key_of}
+use Rattle.schema.specs.GoodRdns.{IsAva, IsRdn, type_in}
 use Rattle.dn.specs.Names as names
 use Rattle.dn.specs.Names.{is_type_byte, is_type, is_byte, is_ava, is_rdn, is_ascii}
 use Rattle.dn.specs.Reading as reading
 use Rattle.dn.specs.Writing.{text_of}
 use Rattle.schema.specs.Names.{or_invalid, name_in, written_part, written_rdn}
-use Rattle.values.specs.Values.{is_valid_at}
-use Rattle.matching.specs.declared.syntax.Syntax.{Syntax}
-use Rattle.matching.specs.Syntaxes.{is_valid}
+use Rattle.schema.proofs.Parts.{HaveBytes, plain_is, valid_are_bytes}
 use Rattle.schema.specs.Conf.{Conf, IsConf, IsType, below, place_of, located, name_text}
 use Rattle.schema.proofs.Named.{type_is, is_type_at}
 use Rattle.paths.specs.PathLaws.{rdn_key_total}
@@ -174,14 +173,10 @@ ReadsWritten = (n : names.Name) → names.is_name n ≡ true → reading.name_of
 abbrev pub WritesAscii : Type 0
 WritesAscii = (n : names.Name) → names.is_name n ≡ true → list_all is_ascii (text_of n) ≡ true
 
--- and one of values: valid ones are bytes
-abbrev pub HaveBytes : Type 0
-HaveBytes = (syntax : Syntax) (value : List ℕ) → is_valid syntax value ≡ true → list_all is_byte value ≡ true
-
 module _ (bytes : HaveBytes) (conf : Conf) (c : IsConf conf) where
   -- an RDN of the configuration can be written
   part_is : (p : Ava) → IsAva conf.types p → is_ava (written_part conf.types p) ≡ true
-  part_is p h = both (is_type (name_of conf.types p.0)) (list_all is_byte p.1) (printed_is_text conf p.0 c h.known) (bytes (type_at conf.types p.0).syntax p.1 h.valid)
+  part_is p h = both (is_type (name_of conf.types p.0)) (list_all is_byte p.1) (printed_is_text conf p.0 c h.known) (valid_are_bytes bytes conf.types p.0 p.1 h.valid)
 
   parts_are : (ps : Rdn) → AllByRecursion (IsAva conf.types) ps → list_all is_ava (written_rdn conf.types ps) ≡ true
   parts_are [] h = refl
@@ -206,9 +201,9 @@ module _ (bytes : HaveBytes) (conf : Conf) (c : IsConf conf) where
   part_typed : (earlier : Rdn) (p : Ava) → IsAva conf.types p → has_type p.0 earlier ≡ false → part_type conf.types earlier (written_part conf.types p) ≡ Ok p.0
   part_typed earlier p h apart =
       ap (type_among conf.types earlier p.1) (type_is conf p.0 c h.known)
-      ∙ ap (λ b. cond b (Err InvalidDnSyntax) (cond (not (has_equality conf.types p.0)) (Err NamingViolation) (cond (not (is_valid_at conf.types p.0 p.1)) (Err InvalidDnSyntax) (cond (has_type p.0 earlier) (Err NamingViolation) (type_ok p.0))))) h.no_name
-      ∙ ap (λ b. cond (not b) (Err NamingViolation) (cond (not (is_valid_at conf.types p.0 p.1)) (Err InvalidDnSyntax) (cond (has_type p.0 earlier) (Err NamingViolation) (type_ok p.0)))) h.comparable
-      ∙ ap (λ b. cond (not b) (Err InvalidDnSyntax) (cond (has_type p.0 earlier) (Err NamingViolation) (type_ok p.0))) h.valid
+      ∙ ap (λ b. cond b (Err InvalidDnSyntax) (cond (not (has_equality conf.types p.0)) (Err NamingViolation) (cond (not (is_valid_part conf.types p.0 p.1)) (Err InvalidDnSyntax) (cond (has_type p.0 earlier) (Err NamingViolation) (type_ok p.0))))) h.no_name
+      ∙ ap (λ b. cond (not b) (Err NamingViolation) (cond (not (is_valid_part conf.types p.0 p.1)) (Err InvalidDnSyntax) (cond (has_type p.0 earlier) (Err NamingViolation) (type_ok p.0)))) h.comparable
+      ∙ ap (λ b. cond (not b) (Err InvalidDnSyntax) (cond (has_type p.0 earlier) (Err NamingViolation) (type_ok p.0))) (sym (plain_is conf.types p.0 p.1 h.no_name) ∙ h.valid)
       ∙ ap (λ b. cond b (Err NamingViolation) (type_ok p.0)) apart
 
   parts_typed : (earlier ps : Rdn) → AllByRecursion (IsAva conf.types) ps → IsDistinct nat_eq (map type_in (earlier ++ ps)) → parts_from conf.types earlier (written_rdn conf.types ps) ≡ Ok (earlier ++ ps)

@@ -8,6 +8,7 @@ use Rattle.std.proofs.lemmas.Bool.Decides.{nat_tests}
 use Rattle.values.specs.declared.types.AttributeType.{AttributeType}
 use Rattle.values.specs.Types.{is_named, is_known, type_of, type_at, no_type}
 use Rattle.matching.specs.declared.family.Family.{Family}
+use Rattle.values.specs.declared.types.EqualityRule.{EqualityRule}
 use Rattle.std.proofs.lemmas.List.{take-append-le}
 use Rattle.std.proofs.Math.Seq.{take-append_seam, get_or-append_seam}
 use Rattle.std.proofs.Math.ListN.{get_or-append}
@@ -24,13 +25,15 @@ use Rattle.schema.specs.declared.conf_fault.ConfFaultKind.{ConfFaultKind}
 use Rattle.schema.specs.declared.conf_fault.ConfFaultKind.TheVariants.{Keyword, Form, Twice, Subtype, RuleSyntax, Suffix, Collective, TooManyTypes}
 use Rattle.definitions.specs.declared.class_definition.ClassDefinition.{ClassDefinition}
 use Rattle.definitions.specs.ClassDefinitions.{class_definition_of}
-use Rattle.schema.specs.TypeRules.{type_with, object_class, has_twin, up_of, is_family, goes_with, breaks_with, needs_another_syntax, IsAbove, FitsBehind}
-use Rattle.schema.specs.Rdns.{Rdn, IsRdn, typed}
+use Rattle.schema.specs.TypeRules.{type_with, object_class, has_twin, up_of, goes_with, breaks_with, needs_another_syntax, IsAbove, FitsBehind}
+use Rattle.schema.specs.Rdns.{Rdn, typed}
+use Rattle.schema.specs.GoodRdns.{IsRdn}
 use Rattle.schema.specs.Names.{name_in}
+use Rattle.schema.specs.Values.{rdns_in}
 use Rattle.schema.specs.Conf.{IsConf, IsType, share_name}
 use Rattle.base.proofs.Each.{passed_on}
 use Rattle.base.proofs.Bound.{bind_ok, same_ok}
-use Rattle.base.specs.Answers.{◌>>=◌, through, Fails}
+use Rattle.base.specs.Answers.{through, Fails}
 use Rattle.schema.specs.Configurations.{At, says_nothing, is_first, is_built_in, names_one, is_taken, superior_of, flaw_of, unless, below, refused, placed, Defined, built_in, or_fault, class_refused, class_placed, with_types, types_in, definition_line, defined_by, some_rdns, suffix_at, suffix_text, suffix_line, suffix_of}
 use Rattle.schema.proofs.Found.{SpellsRead, name_has_parts, rdns_are}
 
@@ -109,7 +112,7 @@ same_some x y e = cc
 not_below : (t n : ℕ) → nat_lt t n ≡ false → n ≤ t
 not_below t n h = grind (arith, nat_tests)
 
-goes_with_rule : (o e : Option Family) → goes_with o e ≡ true → is_some e ≡ true
+goes_with_rule : (o : Option Family) (e : Option EqualityRule) → goes_with o e ≡ true → is_some e ≡ true
 goes_with_rule None e h = absurd cc
 goes_with_rule (Some f) None h = absurd cc
 goes_with_rule (Some f) (Some g) h = refl
@@ -303,7 +306,8 @@ some_is types line (Ok []) out good e = absurd cc
 some_is types line (Ok (r ∷ rs)) out good e = subst (IsSuffix types) (same_ok (Some (r ∷ rs)) out e) (good (r ∷ rs) refl, lt-ltb 0 (length (r ∷ rs)) (omega arith))
 some_is types line (Err c) out good e = absurd cc
 
-typed_good : SpellsRead → (types : List AttributeType) (text : List ℕ) (rs : List Rdn) → (name_in text >>= typed types) ≡ Ok rs → AllByRecursion (IsRdn types) rs
+typed_good : SpellsRead → (types : List AttributeType) (text : List ℕ) (rs : List Rdn) → rdns_in types text ≡ Ok rs → AllByRecursion (IsRdn types) rs
+unfolding rdns_in
 typed_good read types text rs e =
     let k = bind_ok (name_in text) (typed types) rs e in
     rdns_are types k.0 rs (name_has_parts read text k.0 k.1) k.2
@@ -321,7 +325,7 @@ suffix_line_keeps read types found l out h e =
     (either Keeps (is_first (codes "index") l.text) (found_err l.number Form) words (λ said. absurd cc)
     (either Keeps (is_first (codes "suffix") l.text) one (found_ok found)
     (either Keeps (is_some found) (found_err l.number Suffix) new (λ said. absurd cc)
-    (λ said. some_is types l.number (name_in (suffix_text l.text) >>= typed types) out (typed_good read types (suffix_text l.text)) said))
+    (λ said. some_is types l.number (rdns_in types (suffix_text l.text)) out (typed_good read types (suffix_text l.text)) said))
     same)) e
 
 pub suffix_is : SpellsRead → (types : List AttributeType) (ls : List Line) (out : Option (List Rdn)) → suffix_of types None ls ≡ Ok out → IsSuffix types out

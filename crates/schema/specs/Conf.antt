@@ -9,7 +9,8 @@ use Rattle.values.specs.Types.{names_of, is_named, type_at}
 use Rattle.definitions.specs.Naming.{is_oid, is_type_name}
 use Rattle.paths.specs.Paths.{RdnKey, Path, rdn_key_cmp}
 use Rattle.schema.specs.TypeRules.{object_class, FitsBehind}
-use Rattle.schema.specs.Rdns.{Rdn, typed, rdn_key_of, IsRdn}
+use Rattle.schema.specs.Rdns.{Rdn, typed, rdn_key_of}
+use Rattle.schema.specs.GoodRdns.{IsRdn}
 use Rattle.base.specs.Answers.{◌>>=◌}
 use Rattle.dn.specs.Names as names
 use Rattle.dn.specs.Writing.{text_of}

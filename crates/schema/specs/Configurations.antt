@@ -8,10 +8,8 @@ use Rattle.schema.specs.declared.conf_fault.ConfFaultKind.{ConfFaultKind}
 use Rattle.schema.specs.declared.conf_fault.ConfFaultKind.TheVariants.{Keyword, Form, Twice, UnknownName, Subtype, RuleSyntax, Suffix, Collective, TooManyTypes}
 use Rattle.schema.specs.declared.code.Code.{Code}
 use Rattle.values.specs.declared.types.AttributeType.{AttributeType}
-use Rattle.values.specs.Types.{is_named, type_of, type_at}
+use Rattle.values.specs.Types.{is_named, type_of}
 use Rattle.base.specs.Answers.{◌>>=◌, through}
-use Rattle.matching.specs.declared.syntax.Syntax.TheVariants as syntaxes
-use Rattle.matching.specs.declared.family.Family.TheVariants as families
 use Rattle.base.specs.Ends.{without_end, begins_with}
 use Rattle.definitions.specs.declared.lines.Line.{Line}
 use Rattle.definitions.specs.declared.element.Element.{Element}
@@ -22,8 +20,8 @@ use Rattle.definitions.specs.declared.class_definition.ClassDefinition.{ClassDef
 use Rattle.definitions.specs.TypeDefinitions.{type_definition_of}
 use Rattle.definitions.specs.ClassDefinitions.{class_definition_of}
 use Rattle.schema.specs.TypeRules.{type_with, object_class, has_twin, up_of, breaks_with, needs_another_syntax}
-use Rattle.schema.specs.Rdns.{Rdn, typed}
-use Rattle.schema.specs.Names.{name_in}
+use Rattle.schema.specs.Rdns.{Rdn}
+use Rattle.schema.specs.Values.{rdns_in}
 use Rattle.schema.specs.Conf.{Conf}
 
 -- a line's number and its kind of fault
@@ -176,12 +174,8 @@ some_rdns line (Ok []) = Err (line, Suffix)
 some_rdns line (Ok (r ∷ rs)) = Ok (Some (r ∷ rs))
 some_rdns line (Err code) = Err (line, Suffix)
 
--- the RDNs of the name that bytes spell
-abbrev pub typed_in : List AttributeType → List ℕ → Result (List Rdn) Code
-typed_in types text = name_in text >>= typed types
-
 abbrev pub suffix_at : List AttributeType → ℕ → List ℕ → Result (Option (List Rdn)) At
-suffix_at types line text = some_rdns line (typed_in types text)
+suffix_at types line text = some_rdns line (rdns_in types text)
 
 -- a line of the second pass: one suffix, and no indexes in this profile
 unfoldable pub suffix_line : List AttributeType → Option (List Rdn) → Line → Result (Option (List Rdn)) At

@@ -1,6 +1,8 @@
 pub mod Codes
 pub mod Rdns
 pub mod Names
+pub mod Values
+pub mod GoodRdns
 pub mod Conf
 pub mod RuleNames
 pub mod TypeRules

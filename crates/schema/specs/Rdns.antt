@@ -1,9 +1,12 @@
 -- RDNs with their types known (RFC 4512, 2.3.2), and what they come to in a path.
-use Rattle.std.specs.Prelude.{◌≡◌, ℕ, Bool, true, false, not, ◌==◌, nat_eq, nat_lt, if◌then◌else◌, List, [], ◌∷◌, ◌++◌, map, length, Option, Some, None, Result, Ok, Err}
-use Rattle.std.specs.List.{list_any, prefix_len, insert, AllByRecursion, IsDistinct}
+use Rattle.std.specs.Prelude.{ℕ, Bool, false, not, nat_eq, nat_lt, if◌then◌else◌, List, [], ◌∷◌, ◌++◌, Option, Some, None, Result, Ok, Err}
+use Rattle.std.specs.List.{list_any, prefix_len, insert}
 use Rattle.values.specs.declared.types.AttributeType.{AttributeType}
-use Rattle.values.specs.Types.{type_of, is_known, has_equality}
-use Rattle.values.specs.Values.{is_valid_at, norm_at}
+use Rattle.values.specs.declared.types.TypeSyntax.{TypeSyntax}
+use Rattle.values.specs.declared.types.TypeSyntax.TheVariants as type_syntaxes
+use Rattle.values.specs.Types.{type_of, type_at, has_equality, plain_family}
+use Rattle.values.specs.Values.{norm_by}
+use Rattle.matching.specs.Syntaxes.{is_valid}
 use Rattle.schema.specs.declared.code.Code.{Code}
 use Rattle.schema.specs.declared.code.Code.TheVariants.{InvalidDnSyntax, NamingViolation}
 use Rattle.schema.specs.TypeRules.{has_name_syntax}
@@ -21,6 +24,18 @@ Rdn = List Ava
 
 -- ---- the types of a name's parts
 
+-- whether a part has this value; names don't stand in names
+abbrev pub is_plain : TypeSyntax → List ℕ → Bool
+is_plain type_syntaxes.Name v = false
+is_plain (type_syntaxes.Plain syntax) v = is_valid syntax v
+
+abbrev pub is_valid_part : List AttributeType → ℕ → List ℕ → Bool
+is_valid_part types t v = is_plain (type_at types t).syntax v
+
+-- the normal form of a part's value
+abbrev pub norm_part : List AttributeType → ℕ → List ℕ → List ℕ
+norm_part types t v = norm_by (plain_family (type_at types t).equality) v
+
 -- whether one of the parts is of this type
 abbrev pub has_type : ℕ → Rdn → Bool
 has_type t r = list_any (λ p. nat_eq p.0 t) r
@@ -32,7 +47,7 @@ type_among types earlier v None = Err InvalidDnSyntax
 type_among types earlier v (Some t) =
     if has_name_syntax types t then Err InvalidDnSyntax
     else (if not (has_equality types t) then Err NamingViolation
-    else (if not (is_valid_at types t v) then Err InvalidDnSyntax
+    else (if not (is_valid_part types t v) then Err InvalidDnSyntax
     else (if has_type t earlier then Err NamingViolation else Ok t)))
 
 -- the type of a part behind others in its RDN
@@ -67,7 +82,7 @@ unfoldable pub put_pair : Pair → RdnKey → RdnKey
 put_pair p key = insert key (prefix_len (is_lower p.0) key) p
 
 abbrev pub pair_of : List AttributeType → Ava → Pair
-pair_of types p = (p.0, norm_at types p.0 p.1)
+pair_of types p = (p.0, norm_part types p.0 p.1)
 
 -- the pairs of parts, among others
 unfoldable pub key_from : List AttributeType → RdnKey → Rdn → RdnKey
@@ -77,20 +92,3 @@ key_from types key (p ∷ ps) = key_from types (put_pair (pair_of types p) key) 
 -- the step of a path that an RDN gives: its pairs of type and normal value, by type
 unfoldable pub rdn_key_of : List AttributeType → Rdn → RdnKey
 rdn_key_of types r = key_from types [] r
-
--- ---- what holds of an RDN
-
-abbrev pub type_in : Ava → ℕ
-type_in p = p.0
-
-pub record IsAva (types : List AttributeType) (p : Ava) : Type 0 where
-  pub known : is_known types p.0 ≡ true
-  pub no_name : has_name_syntax types p.0 ≡ false
-  pub comparable : has_equality types p.0 ≡ true
-  pub valid : is_valid_at types p.0 p.1 ≡ true
-
--- it has parts, each of them is good, and no two are of one type
-pub record IsRdn (types : List AttributeType) (r : Rdn) : Type 0 where
-  pub parts : AllByRecursion (IsAva types) r
-  pub types_apart : IsDistinct nat_eq (map type_in r)
-  pub some : (length r == 0) ≡ false

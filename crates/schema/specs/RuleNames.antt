@@ -3,7 +3,10 @@ use Rattle.std.specs.Prelude.{ℕ, Bool, ◌||◌, if◌then◌else◌, List, �
 use Rattle.std.specs.Str.{bytes_eq, str_eq_ignore_ascii_case}
 use Rattle.matching.specs.declared.family.Family.{Family}
 use Rattle.matching.specs.declared.family.Family.TheVariants as families
-use Rattle.matching.specs.declared.syntax.Syntax.{Syntax}
+use Rattle.values.specs.declared.types.TypeSyntax.{TypeSyntax}
+use Rattle.values.specs.declared.types.TypeSyntax.TheVariants as type_syntaxes
+use Rattle.values.specs.declared.types.EqualityRule.{EqualityRule}
+use Rattle.values.specs.declared.types.EqualityRule.TheVariants as rules
 use Rattle.matching.specs.declared.syntax.Syntax.TheVariants as syntaxes
 
 -- below 1.3.6.1.4.1.1466.115.121.1
@@ -17,15 +20,15 @@ abbrev pub is_text_syntax : List ℕ → Bool
 is_text_syntax oid = is_number (codes "11") oid || (is_number (codes "15") oid || (is_number (codes "44") oid || is_number (codes "50") oid))
 
 -- any other syntax takes any bytes
-unfoldable pub syntax_of : List ℕ → Syntax
+unfoldable pub syntax_of : List ℕ → TypeSyntax
 syntax_of oid =
-    if is_text_syntax oid then syntaxes.Text
-    else (if is_number (codes "26") oid then syntaxes.Ascii
-    else (if is_number (codes "36") oid then syntaxes.Numeric
-    else (if is_number (codes "7") oid then syntaxes.Boolean
-    else (if is_number (codes "27") oid then syntaxes.Integer
-    else (if is_number (codes "12") oid then syntaxes.Name
-    else (if is_number (codes "38") oid then syntaxes.Oid else syntaxes.Octet))))))
+    if is_text_syntax oid then type_syntaxes.Plain syntaxes.Text
+    else (if is_number (codes "26") oid then type_syntaxes.Plain syntaxes.Ascii
+    else (if is_number (codes "36") oid then type_syntaxes.Plain syntaxes.Numeric
+    else (if is_number (codes "7") oid then type_syntaxes.Plain syntaxes.Boolean
+    else (if is_number (codes "27") oid then type_syntaxes.Plain syntaxes.Integer
+    else (if is_number (codes "12") oid then type_syntaxes.Name
+    else (if is_number (codes "38") oid then type_syntaxes.Plain syntaxes.Oid else type_syntaxes.Plain syntaxes.Octet))))))
 
 -- ---- rules, in any case
 
@@ -44,16 +47,21 @@ other_equality_of name =
     if is_rule (codes "integerMatch") name then Some families.Integer
     else (if is_rule (codes "booleanMatch") name then Some families.Boolean
     else (if is_rule (codes "octetStringMatch") name then Some families.Octet
-    else (if is_rule (codes "distinguishedNameMatch") name then Some families.Name
-    else (if is_rule (codes "objectIdentifierMatch") name then Some families.Oid else None))))
+    else (if is_rule (codes "objectIdentifierMatch") name then Some families.Oid else None)))
 
-abbrev pub or_else : Option Family → Option Family → Option Family
+abbrev pub or_else : {X : Type 0} → Option X → Option X → Option X
 or_else None other = other
-or_else (Some family) other = Some family
+or_else (Some x) other = Some x
 
--- the family of an equality rule; a rule that isn't known counts as none
-abbrev pub equality_of : List ℕ → Option Family
-equality_of name = or_else (text_equality_of name) (other_equality_of name)
+abbrev pub plain_rule : Option Family → Option EqualityRule
+plain_rule None = None
+plain_rule (Some family) = Some (rules.Plain family)
+
+-- an equality rule; one that isn't known counts as none
+unfoldable pub equality_of : List ℕ → Option EqualityRule
+equality_of name =
+    if is_rule (codes "distinguishedNameMatch") name then Some rules.Name
+    else plain_rule (or_else (text_equality_of name) (other_equality_of name))
 
 unfoldable pub ordering_of : List ℕ → Option Family
 ordering_of name =

@@ -4,82 +4,85 @@ use Rattle.std.specs.List.{list_any}
 use Rattle.std.specs.Str.{str_eq_ignore_ascii_case}
 use Rattle.matching.specs.declared.family.Family.{Family}
 use Rattle.matching.specs.declared.family.Family.TheVariants as families
-use Rattle.matching.specs.declared.syntax.Syntax.{Syntax}
+use Rattle.values.specs.declared.types.TypeSyntax.{TypeSyntax}
+use Rattle.values.specs.declared.types.TypeSyntax.TheVariants as type_syntaxes
+use Rattle.values.specs.declared.types.EqualityRule.{EqualityRule}
+use Rattle.values.specs.declared.types.EqualityRule.TheVariants as rules
 use Rattle.matching.specs.declared.syntax.Syntax.TheVariants as syntaxes
 use Rattle.definitions.specs.declared.type_definition.TypeDefinition.{TypeDefinition}
 use Rattle.definitions.specs.declared.type_field.Usage.{Usage}
 use Rattle.definitions.specs.declared.type_field.Usage.TheVariants as usages
 use Rattle.values.specs.declared.types.AttributeType.{AttributeType}
-use Rattle.values.specs.Types.{type_at, is_known}
+use Rattle.values.specs.Types.{type_at, is_known, plain_family}
 use Rattle.schema.specs.RuleNames.{syntax_of, or_else, equality_of, ordering_of, substrings_of}
 
--- ---- families and syntaxes told apart
+-- ---- rules and syntaxes told apart
 
-abbrev pub family_number : Family → ℕ
-family_number families.Ignore = 0
-family_number families.Exact = 1
-family_number families.Numeric = 2
-family_number families.Telephone = 3
-family_number families.Integer = 4
-family_number families.Boolean = 5
-family_number families.Octet = 6
-family_number families.Name = 7
-family_number families.Oid = 8
+abbrev pub rule_number : EqualityRule → ℕ
+rule_number (rules.Plain families.Ignore) = 0
+rule_number (rules.Plain families.Exact) = 1
+rule_number (rules.Plain families.Numeric) = 2
+rule_number (rules.Plain families.Telephone) = 3
+rule_number (rules.Plain families.Integer) = 4
+rule_number (rules.Plain families.Boolean) = 5
+rule_number (rules.Plain families.Octet) = 6
+rule_number (rules.Plain families.Oid) = 7
+rule_number rules.Name = 8
 
-abbrev pub is_family : Family → Option Family → Bool
-is_family family None = false
-is_family family (Some other) = nat_eq (family_number family) (family_number other)
+abbrev pub is_equality : EqualityRule → Option EqualityRule → Bool
+is_equality rule None = false
+is_equality rule (Some other) = nat_eq (rule_number rule) (rule_number other)
 
-abbrev pub syntax_number : Syntax → ℕ
-syntax_number syntaxes.Text = 0
-syntax_number syntaxes.Ascii = 1
-syntax_number syntaxes.Numeric = 2
-syntax_number syntaxes.Boolean = 3
-syntax_number syntaxes.Integer = 4
-syntax_number syntaxes.Name = 5
-syntax_number syntaxes.Oid = 6
-syntax_number syntaxes.Octet = 7
+abbrev pub syntax_number : TypeSyntax → ℕ
+syntax_number (type_syntaxes.Plain syntaxes.Text) = 0
+syntax_number (type_syntaxes.Plain syntaxes.Ascii) = 1
+syntax_number (type_syntaxes.Plain syntaxes.Numeric) = 2
+syntax_number (type_syntaxes.Plain syntaxes.Boolean) = 3
+syntax_number (type_syntaxes.Plain syntaxes.Integer) = 4
+syntax_number (type_syntaxes.Plain syntaxes.Oid) = 5
+syntax_number (type_syntaxes.Plain syntaxes.Octet) = 6
+syntax_number type_syntaxes.Name = 7
 
-abbrev pub is_syntax : Syntax → Syntax → Bool
+abbrev pub is_syntax : TypeSyntax → TypeSyntax → Bool
 is_syntax a b = nat_eq (syntax_number a) (syntax_number b)
 
 -- a type of DN syntax, whose values are names themselves
 abbrev pub has_name_syntax : List AttributeType → ℕ → Bool
-has_name_syntax types t = is_syntax syntaxes.Name (type_at types t).syntax
+has_name_syntax types t = is_syntax type_syntaxes.Name (type_at types t).syntax
 
 -- ---- what is stated, and what is taken from above
 
--- the family of a rule that is stated and known
-abbrev pub stated : (List ℕ → Option Family) → Option (List ℕ) → Option Family
-stated family_of None = None
-stated family_of (Some name) = family_of name
+-- a rule that is stated and known
+abbrev pub stated : {X : Type 0} → (List ℕ → Option X) → Option (List ℕ) → Option X
+stated rule_of None = None
+stated rule_of (Some name) = rule_of name
 
-abbrev pub equality_above : Option AttributeType → Option Family
+abbrev pub equality_above : Option AttributeType → Option EqualityRule
 equality_above None = None
 equality_above (Some up) = up.equality
 
 abbrev pub ordering_above : Option AttributeType → Option Family
 ordering_above None = None
-ordering_above (Some up) = if up.is_ordered then up.equality else None
+ordering_above (Some up) = if up.is_ordered then plain_family up.equality else None
 
 abbrev pub substrings_above : Option AttributeType → Option Family
 substrings_above None = None
-substrings_above (Some up) = if up.has_substrings then up.equality else None
+substrings_above (Some up) = if up.has_substrings then plain_family up.equality else None
 
-abbrev pub syntax_above : Option AttributeType → Syntax
-syntax_above None = syntaxes.Octet
+abbrev pub syntax_above : Option AttributeType → TypeSyntax
+syntax_above None = type_syntaxes.Plain syntaxes.Octet
 syntax_above (Some up) = up.syntax
 
-abbrev pub syntax_with : Option (List ℕ) → Option AttributeType → Syntax
+abbrev pub syntax_with : Option (List ℕ) → Option AttributeType → TypeSyntax
 syntax_with None up = syntax_above up
 syntax_with (Some oid) up = syntax_of oid
 
 -- a rule counts where it is of the family by which values are equal
-abbrev pub goes_with : Option Family → Option Family → Bool
+abbrev pub goes_with : Option Family → Option EqualityRule → Bool
 goes_with None equality = false
-goes_with (Some family) equality = is_family family equality
+goes_with (Some family) equality = is_equality (rules.Plain family) equality
 
-abbrev pub equality_with : TypeDefinition → Option AttributeType → Option Family
+abbrev pub equality_with : TypeDefinition → Option AttributeType → Option EqualityRule
 equality_with d up = or_else (stated equality_of d.equality) (equality_above up)
 
 -- whether a type is there for the operation of servers
@@ -108,8 +111,12 @@ type_with d number up =
 -- ---- what a type must not be
 
 -- of another family than the type above it, where that has one, or with another syntax
+abbrev pub leaves_rule : Option EqualityRule → AttributeType → Bool
+leaves_rule None t = false
+leaves_rule (Some rule) t = not (is_equality rule t.equality)
+
 abbrev pub leaves_family : AttributeType → AttributeType → Bool
-leaves_family t up = is_some up.equality && not (goes_with up.equality t.equality)
+leaves_family t up = leaves_rule up.equality t
 
 abbrev pub breaks_with : AttributeType → Option AttributeType → Bool
 breaks_with t None = false
@@ -118,14 +125,14 @@ breaks_with t (Some up) = leaves_family t up || not (is_syntax t.syntax up.synta
 -- numbers and names are compared as such only where they are
 abbrev pub needs_another_syntax : AttributeType → Bool
 needs_another_syntax t =
-    (is_family families.Integer t.equality && not (is_syntax syntaxes.Integer t.syntax))
-    || (is_family families.Name t.equality && not (is_syntax syntaxes.Name t.syntax))
+    (is_equality (rules.Plain families.Integer) t.equality && not (is_syntax (type_syntaxes.Plain syntaxes.Integer) t.syntax))
+    || (is_equality rules.Name t.equality && not (is_syntax type_syntaxes.Name t.syntax))
 
 -- ---- what holds of each type of a configuration
 
 -- the type of number 0, which every configuration has (RFC 4512, 3.3)
 abbrev pub object_class : AttributeType
-object_class = record { oid = codes "2.5.4.0"; names = codes "objectClass" ∷ []; superior = None; syntax = syntaxes.Oid; equality = Some families.Oid; is_ordered = false; has_substrings = false; single_value = false; is_fixed = false; is_operational = false }
+object_class = record { oid = codes "2.5.4.0"; names = codes "objectClass" ∷ []; superior = None; syntax = type_syntaxes.Plain syntaxes.Oid; equality = Some (rules.Plain families.Oid); is_ordered = false; has_substrings = false; single_value = false; is_fixed = false; is_operational = false }
 
 -- whether a name stands twice
 abbrev pub has_twin : List (List ℕ) → Bool

@@ -3,16 +3,12 @@
 ghost use Rattle.std.specs.Prelude.{◌≡◌, ◌<◌, ◌≤◌, IfSome, length, map, reverse};
 ghost use Rattle.schema.specs.Rdns.{rdn_key_of};
 ghost use Rattle.values.specs.Types.{type_of, name_of, type_at};
-ghost use Rattle.values.specs.Values.{is_valid_at, norm_at};
-ghost use Rattle.schema.specs.Gives.{Makes};
 
 use crate::locate::TypedName;
 use base::Sequence;
-use matching::is_valid;
 use paths::{Path, Rdn};
-use std::alloc::Global;
 use std::marker::Model;
-use values::{AttributeType, TypeId, TypeTable, Value, ValueFault};
+use values::{AttributeType, TypeId, TypeTable};
 
 /// The configuration of a directory. A contract sees its attribute types and its suffix.
 #[derive(Debug, Drop)]
@@ -81,7 +77,7 @@ impl Conf {
         self.types.type_of(name)
     }
 
-    fn at(&self, t: TypeId) -> &AttributeType
+    pub(crate) fn at(&self, t: TypeId) -> &AttributeType
         requires { t < length self.now.types }
         ensures { result.now ≡ type_at self.now.types t }
     {
@@ -134,17 +130,5 @@ impl Conf {
         ensures { result ≡ (type_at self.now.types t).is_fixed }
     {
         self.at(t).is_fixed
-    }
-
-    /// The value of these bytes under a type.
-    pub fn make_value(&self, alloc: Global, t: TypeId, raw: &[u8]) -> Result<Value, ValueFault>
-        requires { t < length self.now.types }
-        ensures { Makes result (is_valid_at self.now.types t raw.now) (λ v. v ≡ record { raw = raw.now; norm = norm_at self.now.types t raw.now }) }
-    {
-        let kind = self.at(t);
-        if !is_valid(kind.syntax, raw) {
-            return Err(ValueFault::Invalid);
-        }
-        Ok(Value::new(alloc, kind.equality, raw)?)
     }
 }

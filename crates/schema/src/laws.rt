@@ -4,12 +4,14 @@ ghost use Rattle.std.specs.Prelude.{◌≡◌, ℕ, true, false, Ok, Some, nat_l
 ghost use Rattle.std.specs.List.{list_all, AllByRecursion};
 ghost use Rattle.values.specs.Types.{type_of, name_of, is_known};
 ghost use Rattle.definitions.specs.Naming.{is_reserved};
-ghost use Rattle.schema.specs.Rdns.{Rdn, IsRdn};
+ghost use Rattle.values.specs.declared.types.AttributeType.{AttributeType};
+ghost use Rattle.schema.specs.Rdns.{Rdn};
+ghost use Rattle.schema.specs.GoodRdns.{IsRdn};
+ghost use Rattle.schema.specs.Values.{is_valid_at};
 ghost use Rattle.dn.specs.Names.{is_type};
 ghost use Rattle.schema.specs.Conf.{Conf, IsConf, located, name_text, located_at};
 
 use dn::{spelled_names_are_read, written_names_are_read};
-use matching::valid_values_are_bytes;
 
 /// The name that a type is printed by names it, and no other type before it; it is made of letters, digits, `-`, `_` and
 /// `.`, and is no word that begins another kind of line.
@@ -19,13 +21,20 @@ pub fn printed_names_name_their_types()
     ensures free { (conf : Conf) (t : ℕ) → IsConf conf → is_known conf.types t ≡ true → is_reserved (name_of conf.types t) ≡ false }
 {}
 
+/// Valid values are bytes.
+pub fn valid_values_are_bytes()
+    ensures { (types : List AttributeType) (t : ℕ) (v : List ℕ) → is_valid_at types t v ≡ true → list_all (λ b. nat_lt b 256) v ≡ true }
+{
+    matching::valid_values_are_bytes();
+}
+
 /// The name that is written for RDNs stands where they say, and is ASCII.
 pub fn written_names_are_located()
     ensures located { (conf : Conf) (rs : List Rdn) → IsConf conf → AllByRecursion (IsRdn conf.types) rs → located conf (name_text conf rs) ≡ located_at rs }
     ensures ascii { (conf : Conf) (rs : List Rdn) → IsConf conf → AllByRecursion (IsRdn conf.types) rs → list_all (λ b. nat_lt b 128) (name_text conf rs) ≡ true }
 {
     written_names_are_read();
-    valid_values_are_bytes();
+    matching::valid_values_are_bytes();
 }
 
 /// The RDNs at which a name is located are good ones.

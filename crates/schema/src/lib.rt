@@ -10,6 +10,7 @@ mod conf_fault;
 mod conf_lines;
 mod configuration;
 mod defined;
+mod dn_values;
 mod fault;
 mod laws;
 mod locate;
@@ -19,6 +20,7 @@ mod rule_names;
 mod suffix_lines;
 mod type_lines;
 mod type_rules;
+mod typed_values;
 
 pub use code::Code;
 pub use conf::Conf;
@@ -26,9 +28,12 @@ pub use conf_fault::{ConfFault, ConfFaultKind};
 pub use configuration::read_conf;
 pub use dn::Name;
 pub use fault::PathFault;
-pub use laws::{located_rdns_are_good, printed_names_name_their_types, written_names_are_located};
+pub use laws::{
+    located_rdns_are_good, printed_names_name_their_types, valid_values_are_bytes,
+    written_names_are_located,
+};
 pub use locate::Located;
-pub use matching::{Family, Syntax, valid_values_are_bytes};
+pub use matching::{Family, Syntax};
 pub use names::read_dn;
 pub use paths::{Path, Rdn, RdnKey, order_of_paths};
-pub use values::{AttributeType, TypeId, Value, ValueFault};
+pub use values::{AttributeType, EqualityRule, TypeId, TypeSyntax, Value, ValueFault};

@@ -4,7 +4,7 @@ ghost use Rattle.std.specs.Prelude.{◌≡◌, ◌<◌, ◌∷◌, ◌++◌, OnO
 ghost use Rattle.std.specs.List.{flat_map, AllByRecursion};
 ghost use Rattle.dn.specs.Reading.{name_of};
 ghost use Rattle.dn.specs.Writing.{part_text, rdn_text};
-ghost use Rattle.schema.specs.Rdns.{IsRdn};
+ghost use Rattle.schema.specs.GoodRdns.{IsRdn};
 ghost use Rattle.schema.specs.Names.{or_invalid, name_in, written_part, written_rdn};
 ghost use Rattle.schema.specs.inner.Keys.{AreKnown};
 ghost use Rattle.schema.specs.Gives.{Gives};

@@ -2,7 +2,7 @@
 
 ghost use Rattle.std.specs.Prelude.{◌≡◌, ◌<◌, ◌≤◌, ◌∷◌, ◌++◌, [], IfOk, OnOk, length};
 ghost use Rattle.std.specs.List.{AllByRecursion, prefix_len};
-ghost use Rattle.schema.specs.Rdns.{has_type, part_type, typed_rdn, typed, is_lower, put_pair, rdn_key_of};
+ghost use Rattle.schema.specs.Rdns.{is_plain, has_type, part_type, typed_rdn, typed, is_lower, put_pair, rdn_key_of};
 ghost use Rattle.schema.specs.inner.Keys.{AreKnown};
 ghost use Rattle.schema.specs.Gives.{Gives};
 
@@ -11,10 +11,20 @@ use crate::fault::PathFault;
 use crate::type_rules::is_syntax;
 use base::{Bytes, Sequence};
 use dn::{Ava, Name};
-use matching::{Syntax, is_valid};
+use matching::is_valid;
 use paths::{PathDraft, Rdn, RdnKey};
 use std::alloc::{AllocError, Global};
-use values::{TypeId, TypeTable, norm_by};
+use values::{TypeId, TypeSyntax, TypeTable, norm_by};
+
+// whether a part of this syntax has a value
+fn is_plain(syntax: TypeSyntax, value: &[u8]) -> bool
+    ensures { result ≡ is_plain syntax value.now }
+{
+    match syntax {
+        TypeSyntax::Name => false,
+        TypeSyntax::Plain(syntax) => is_valid(syntax, value),
+    }
+}
 
 // whether one of the parts is of this type
 fn has_type(parts: &[(TypeId, Bytes)], t: TypeId) -> bool
@@ -32,13 +42,13 @@ fn part_type(types: &TypeTable, earlier: &[(TypeId, Bytes)], part: &Ava) -> Resu
         return Err(Code::InvalidDnSyntax);
     };
     let kind = types.at(t);
-    if is_syntax(Syntax::Name, kind.syntax) {
+    if is_syntax(TypeSyntax::Name, kind.syntax) {
         return Err(Code::InvalidDnSyntax);
     }
     if kind.equality.is_none() {
         return Err(Code::NamingViolation);
     }
-    if !is_valid(kind.syntax, part.value()) {
+    if !is_plain(kind.syntax, part.value()) {
         return Err(Code::InvalidDnSyntax);
     }
     if has_type(earlier, t) {
@@ -99,13 +109,13 @@ fn put_pair(pairs: &mut Vec<(TypeId, Bytes)>, t: TypeId, norm: Bytes) -> Result<
 }
 
 #[tactic(auto, unfolding(crate::specs::Rdns::rdn_key_of, crate::specs::Rdns::key_from))]
-fn rdn_key_of(alloc: Global, types: &TypeTable, rdn: &Rdn) -> Result<RdnKey, AllocError>
+pub(crate) fn rdn_key_of(alloc: Global, types: &TypeTable, rdn: &Rdn) -> Result<RdnKey, AllocError>
     requires { AreKnown types.now rdn.now }
     ensures { IfOk result (λ k. k ≡ rdn_key_of types.now rdn.now) }
 {
     let mut pairs = Vec::with_capacity(alloc, rdn.parts().len())?;
     for (t, value) in rdn.parts() {
-        let norm = norm_by(alloc, types.at(*t).equality, value.as_slice())?;
+        let norm = norm_by(alloc, types.at(*t).plain_family(), value.as_slice())?;
         put_pair(&mut pairs, *t, norm)?;
     }
     Ok(RdnKey::new(Sequence::from_vec(pairs)))
@@ -124,7 +134,7 @@ pub(crate) fn step_down(
 {
     match rdn.parts() {
         [(t, value)] => {
-            let norm = norm_by(alloc, types.at(*t).equality, value.as_slice())?;
+            let norm = norm_by(alloc, types.at(*t).plain_family(), value.as_slice())?;
             path.with(*t, norm.as_slice())
         }
         _ => path.with_key(&rdn_key_of(alloc, types, rdn)?),

@@ -1,9 +1,10 @@
 //! The syntaxes and matching rules that are known (RFC 4517, 3.3 and 4.2).
 
 ghost use Rattle.std.specs.Prelude.{◌≡◌, ◌||◌};
-ghost use Rattle.schema.specs.RuleNames.{is_number, is_text_syntax, syntax_of, is_rule, text_equality_of, other_equality_of, equality_of, ordering_of, substrings_of};
+ghost use Rattle.schema.specs.RuleNames.{is_number, is_text_syntax, syntax_of, is_rule, plain_rule, or_else, text_equality_of, other_equality_of, equality_of, ordering_of, substrings_of};
 
 use matching::{Family, Syntax};
+use values::{EqualityRule, TypeSyntax};
 
 const NUMBERED: &[u8] = b"1.3.6.1.4.1.1466.115.121.1.";
 
@@ -25,25 +26,25 @@ fn is_text_syntax(oid: &[u8]) -> bool
 
 /// The syntax with this OID; one that isn't known takes any bytes.
 #[tactic(auto, unfolding(crate::specs::RuleNames::syntax_of))]
-pub(crate) fn syntax_of(oid: &[u8]) -> Syntax
+pub(crate) fn syntax_of(oid: &[u8]) -> TypeSyntax
     ensures { result ≡ syntax_of oid.now }
 {
     if is_text_syntax(oid) {
-        Syntax::Text
+        TypeSyntax::Plain(Syntax::Text)
     } else if is_number(b"26", oid) {
-        Syntax::Ascii
+        TypeSyntax::Plain(Syntax::Ascii)
     } else if is_number(b"36", oid) {
-        Syntax::Numeric
+        TypeSyntax::Plain(Syntax::Numeric)
     } else if is_number(b"7", oid) {
-        Syntax::Boolean
+        TypeSyntax::Plain(Syntax::Boolean)
     } else if is_number(b"27", oid) {
-        Syntax::Integer
+        TypeSyntax::Plain(Syntax::Integer)
     } else if is_number(b"12", oid) {
-        Syntax::Name
+        TypeSyntax::Name
     } else if is_number(b"38", oid) {
-        Syntax::Oid
+        TypeSyntax::Plain(Syntax::Oid)
     } else {
-        Syntax::Octet
+        TypeSyntax::Plain(Syntax::Octet)
     }
 }
 
@@ -80,8 +81,6 @@ fn other_equality_of(name: &[u8]) -> Option<Family>
         Some(Family::Boolean)
     } else if name.eq_ignore_ascii_case(b"octetStringMatch") {
         Some(Family::Octet)
-    } else if name.eq_ignore_ascii_case(b"distinguishedNameMatch") {
-        Some(Family::Name)
     } else if name.eq_ignore_ascii_case(b"objectIdentifierMatch") {
         Some(Family::Oid)
     } else {
@@ -89,13 +88,27 @@ fn other_equality_of(name: &[u8]) -> Option<Family>
     }
 }
 
-/// The family of an equality rule; none for a rule that isn't known.
-pub(crate) fn equality_of(name: &[u8]) -> Option<Family>
+fn plain_equality_of(name: &[u8]) -> Option<EqualityRule>
+    ensures { result ≡ plain_rule (or_else (text_equality_of name.now) (other_equality_of name.now)) }
+{
+    if let Some(family) = text_equality_of(name) {
+        return Some(EqualityRule::Plain(family));
+    }
+    match other_equality_of(name) {
+        Some(family) => Some(EqualityRule::Plain(family)),
+        None => None,
+    }
+}
+
+/// The equality rule of this name; none where it isn't known.
+#[tactic(auto, unfolding(crate::specs::RuleNames::equality_of))]
+pub(crate) fn equality_of(name: &[u8]) -> Option<EqualityRule>
     ensures { result ≡ equality_of name.now }
 {
-    match text_equality_of(name) {
-        Some(family) => Some(family),
-        None => other_equality_of(name),
+    if name.eq_ignore_ascii_case(b"distinguishedNameMatch") {
+        Some(EqualityRule::Name)
+    } else {
+        plain_equality_of(name)
     }
 }
 

@@ -1,7 +1,8 @@
 //! Reading the suffix of a configuration.
 
 ghost use Rattle.std.specs.Prelude.{◌≡◌, IfOk, Some, None, OnOk};
-ghost use Rattle.schema.specs.Configurations.{is_quoted, unquoted, suffix_text, typed_in, suffix_at, suffix_line, suffix_of};
+ghost use Rattle.schema.specs.Configurations.{is_quoted, unquoted, suffix_text, suffix_at, suffix_line, suffix_of};
+ghost use Rattle.schema.specs.Values.{rdns_in};
 ghost use Rattle.schema.specs.Gives.{Gives};
 ghost use Rattle.schema.specs.Reads.{Reads};
 ghost use Rattle.schema.specs.inner.Keys.{KeysFit, rdns_found, FoundFits};
@@ -41,8 +42,9 @@ fn suffix_text(line: &[u8]) -> &[u8]
     unquoted(without_end(skip(split_first_word(line).1)))
 }
 
+#[tactic(auto, unfolding(crate::specs::Values::rdns_in))]
 fn typed_name(alloc: Global, types: &TypeTable, text: &[u8]) -> Result<TypedName, PathFault>
-    ensures rdns { Gives (λ x. x.rdns.items) result (typed_in types.now text.now) }
+    ensures rdns { Gives (λ x. x.rdns.items) result (rdns_in types.now text.now) }
     ensures keys { IfOk result (KeysFit types.now) }
 {
     let name = read_dn(alloc, text)?;

@@ -16,7 +16,7 @@ use base::{Bytes, Sequence};
 use definitions::{DefinitionFault, Element, TypeDefinition, read_type_definition};
 use matching::{Family, Syntax};
 use std::alloc::{AllocError, Global};
-use values::{AttributeType, NameIndex, TypeId, TypeTable};
+use values::{AttributeType, EqualityRule, NameIndex, TypeId, TypeSyntax, TypeTable};
 
 pub(crate) fn object_class(alloc: Global) -> Result<AttributeType, AllocError>
     ensures { IfOk result (λ t. t ≡ object_class) }
@@ -27,8 +27,8 @@ pub(crate) fn object_class(alloc: Global) -> Result<AttributeType, AllocError>
         oid: Bytes::from_slice(alloc, b"2.5.4.0")?,
         names,
         superior: None,
-        syntax: Syntax::Oid,
-        equality: Some(Family::Oid),
+        syntax: TypeSyntax::Plain(Syntax::Oid),
+        equality: Some(EqualityRule::Plain(Family::Oid)),
         is_ordered: false,
         has_substrings: false,
         single_value: false,

@@ -2,7 +2,7 @@
 
 ghost use Rattle.std.specs.Prelude.{◌≡◌, ◌<◌, ℕ, IfOk, IfSome, Option, length};
 ghost use Rattle.std.specs.Option.{option_map};
-ghost use Rattle.schema.specs.TypeRules.{family_number, is_family, syntax_number, is_syntax, stated, equality_above, ordering_above, substrings_above, syntax_above, syntax_with, goes_with, equality_with, is_operational, type_with, leaves_family, breaks_with, needs_another_syntax};
+ghost use Rattle.schema.specs.TypeRules.{rule_number, is_equality, syntax_number, is_syntax, stated, equality_above, ordering_above, substrings_above, syntax_above, syntax_with, goes_with, equality_with, is_operational, type_with, leaves_family, breaks_with, needs_another_syntax};
 ghost use Rattle.schema.specs.RuleNames.{or_else, equality_of, ordering_of, substrings_of};
 
 use crate::rule_names::{equality_of, ordering_of, substrings_of, syntax_of};
@@ -10,49 +10,49 @@ use base::{Bytes, Sequence};
 use definitions::{TypeDefinition, Usage};
 use matching::{Family, Syntax};
 use std::alloc::{AllocError, Global};
-use values::{AttributeType, TypeId};
+use values::{AttributeType, EqualityRule, TypeId, TypeSyntax};
 
-fn family_number(family: Family) -> u8
-    ensures { result ≡ family_number family }
+fn rule_number(rule: EqualityRule) -> u8
+    ensures { result ≡ rule_number rule }
 {
-    match family {
-        Family::Ignore => 0,
-        Family::Exact => 1,
-        Family::Numeric => 2,
-        Family::Telephone => 3,
-        Family::Integer => 4,
-        Family::Boolean => 5,
-        Family::Octet => 6,
-        Family::Name => 7,
-        Family::Oid => 8,
+    match rule {
+        EqualityRule::Plain(Family::Ignore) => 0,
+        EqualityRule::Plain(Family::Exact) => 1,
+        EqualityRule::Plain(Family::Numeric) => 2,
+        EqualityRule::Plain(Family::Telephone) => 3,
+        EqualityRule::Plain(Family::Integer) => 4,
+        EqualityRule::Plain(Family::Boolean) => 5,
+        EqualityRule::Plain(Family::Octet) => 6,
+        EqualityRule::Plain(Family::Oid) => 7,
+        EqualityRule::Name => 8,
     }
 }
 
-fn is_family(family: Family, other: Option<Family>) -> bool
-    ensures { result ≡ is_family family other }
+fn is_equality(rule: EqualityRule, other: Option<EqualityRule>) -> bool
+    ensures { result ≡ is_equality rule other }
 {
     match other {
-        Some(other) => family_number(family) == family_number(other),
+        Some(other) => rule_number(rule) == rule_number(other),
         None => false,
     }
 }
 
-fn syntax_number(syntax: Syntax) -> u8
+fn syntax_number(syntax: TypeSyntax) -> u8
     ensures { result ≡ syntax_number syntax }
 {
     match syntax {
-        Syntax::Text => 0,
-        Syntax::Ascii => 1,
-        Syntax::Numeric => 2,
-        Syntax::Boolean => 3,
-        Syntax::Integer => 4,
-        Syntax::Name => 5,
-        Syntax::Oid => 6,
-        Syntax::Octet => 7,
+        TypeSyntax::Plain(Syntax::Text) => 0,
+        TypeSyntax::Plain(Syntax::Ascii) => 1,
+        TypeSyntax::Plain(Syntax::Numeric) => 2,
+        TypeSyntax::Plain(Syntax::Boolean) => 3,
+        TypeSyntax::Plain(Syntax::Integer) => 4,
+        TypeSyntax::Plain(Syntax::Oid) => 5,
+        TypeSyntax::Plain(Syntax::Octet) => 6,
+        TypeSyntax::Name => 7,
     }
 }
 
-pub(crate) fn is_syntax(a: Syntax, b: Syntax) -> bool
+pub(crate) fn is_syntax(a: TypeSyntax, b: TypeSyntax) -> bool
     ensures { result ≡ is_syntax a b }
 {
     syntax_number(a) == syntax_number(b)
@@ -67,7 +67,7 @@ fn or_else(family: Option<Family>, other: Option<Family>) -> Option<Family>
     }
 }
 
-fn stated_equality(name: &Option<Bytes>) -> Option<Family>
+fn stated_equality(name: &Option<Bytes>) -> Option<EqualityRule>
     ensures { result ≡ stated equality_of name.now }
 {
     match name {
@@ -94,7 +94,7 @@ fn stated_substrings(name: &Option<Bytes>) -> Option<Family>
     }
 }
 
-fn equality_above(up: Option<&AttributeType>) -> Option<Family>
+fn equality_above(up: Option<&AttributeType>) -> Option<EqualityRule>
     ensures { result ≡ equality_above (option_map (λ t. t.now) up.entry) }
 {
     match up {
@@ -107,7 +107,7 @@ fn ordering_above(up: Option<&AttributeType>) -> Option<Family>
     ensures { result ≡ ordering_above (option_map (λ t. t.now) up.entry) }
 {
     match up {
-        Some(up) if up.is_ordered => up.equality,
+        Some(up) if up.is_ordered => up.plain_family(),
         _ => None,
     }
 }
@@ -116,34 +116,37 @@ fn substrings_above(up: Option<&AttributeType>) -> Option<Family>
     ensures { result ≡ substrings_above (option_map (λ t. t.now) up.entry) }
 {
     match up {
-        Some(up) if up.has_substrings => up.equality,
+        Some(up) if up.has_substrings => up.plain_family(),
         _ => None,
     }
 }
 
-fn syntax_with(oid: &Option<Bytes>, up: Option<&AttributeType>) -> Syntax
+fn syntax_with(oid: &Option<Bytes>, up: Option<&AttributeType>) -> TypeSyntax
     ensures { result ≡ syntax_with oid.now (option_map (λ t. t.now) up.entry) }
 {
     match (oid, up) {
         (Some(oid), _) => syntax_of(oid.as_slice()),
         (None, Some(up)) => up.syntax,
-        (None, None) => Syntax::Octet,
+        (None, None) => TypeSyntax::Plain(Syntax::Octet),
     }
 }
 
-fn goes_with(family: Option<Family>, equality: Option<Family>) -> bool
+fn goes_with(family: Option<Family>, equality: Option<EqualityRule>) -> bool
     ensures { result ≡ goes_with family equality }
 {
     match family {
-        Some(family) => is_family(family, equality),
+        Some(family) => is_equality(EqualityRule::Plain(family), equality),
         None => false,
     }
 }
 
-fn equality_with(definition: &TypeDefinition, up: Option<&AttributeType>) -> Option<Family>
+fn equality_with(definition: &TypeDefinition, up: Option<&AttributeType>) -> Option<EqualityRule>
     ensures { result ≡ equality_with definition.now (option_map (λ t. t.now) up.entry) }
 {
-    or_else(stated_equality(&definition.equality), equality_above(up))
+    match stated_equality(&definition.equality) {
+        Some(rule) => Some(rule),
+        None => equality_above(up),
+    }
 }
 
 fn is_operational(usage: Option<Usage>) -> bool
@@ -198,7 +201,10 @@ pub(crate) fn type_with(
 fn leaves_family(t: &AttributeType, up: &AttributeType) -> bool
     ensures { result ≡ leaves_family t.now up.now }
 {
-    up.equality.is_some() && !goes_with(up.equality, t.equality)
+    match up.equality {
+        Some(rule) => !is_equality(rule, t.equality),
+        None => false,
+    }
 }
 
 /// Whether a type is of another family than the type above it, or has another syntax.
@@ -215,6 +221,7 @@ pub(crate) fn breaks_with(t: &AttributeType, up: Option<&AttributeType>) -> bool
 pub(crate) fn needs_another_syntax(t: &AttributeType) -> bool
     ensures { result ≡ needs_another_syntax t.now }
 {
-    (is_family(Family::Integer, t.equality) && !is_syntax(Syntax::Integer, t.syntax))
-        || (is_family(Family::Name, t.equality) && !is_syntax(Syntax::Name, t.syntax))
+    (is_equality(EqualityRule::Plain(Family::Integer), t.equality)
+        && !is_syntax(TypeSyntax::Plain(Syntax::Integer), t.syntax))
+        || (is_equality(EqualityRule::Name, t.equality) && !is_syntax(TypeSyntax::Name, t.syntax))
 }

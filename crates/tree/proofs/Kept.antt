@@ -13,7 +13,8 @@ use Rattle.ldif.specs.Attrs.{Attr}
 use Rattle.schema.specs.declared.code.Code.{Code}
 use Rattle.schema.specs.declared.code.Code.TheVariants.{EntryAlreadyExists, NoSuchObject, ObjectClassViolation, ConstraintViolation, AdminLimitExceeded}
 use Rattle.paths.specs.Paths.{RdnKey, Path, path_cmp, parent_of, is_root}
-use Rattle.schema.specs.Rdns.{Rdn, IsRdn, rdn_key_of}
+use Rattle.schema.specs.Rdns.{Rdn, rdn_key_of}
+use Rattle.schema.specs.GoodRdns.{IsRdn}
 use Rattle.schema.specs.Conf.{Conf, IsConf, root_rdn, first_rdn, located, located_at, path_of}
 use Rattle.base.specs.Answers.{◌>>=◌}
 use Rattle.tree.specs.Entries.{EntryContent, Attributes, IsGood, add_lines, has_class, are_single}

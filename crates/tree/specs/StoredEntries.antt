@@ -3,7 +3,8 @@ use Rattle.std.specs.Prelude.{◌≡◌, ℕ, ◌<◌, List, map, length, refl}
 use Rattle.std.specs.Coded.{Coded, code_by, coded×, coded_ℕ, coded_list}
 use Rattle.std.specs.List.{AllByRecursion}
 use Rattle.values.specs.declared.types.AttributeType.{AttributeType}
-use Rattle.values.specs.Values.{Value, norm_at, value_code}
+use Rattle.values.specs.Values.{Value, value_code}
+use Rattle.schema.specs.Values.{norm_at}
 use Rattle.schema.specs.Rdns.{Rdn}
 use Rattle.tree.specs.Entries.{Attributes, EntryContent}
 

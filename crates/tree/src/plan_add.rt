@@ -4,7 +4,7 @@ ghost use Rattle.std.specs.Prelude.{◌≡◌, IfOk, Some, false};
 ghost use Rattle.std.specs.FinMap as finite;
 ghost use Rattle.std.specs.List.{AllByRecursion};
 ghost use Rattle.paths.specs.Paths.{parent_of};
-ghost use Rattle.schema.specs.Rdns.{IsRdn};
+ghost use Rattle.schema.specs.GoodRdns.{IsRdn};
 ghost use Rattle.schema.specs.Conf.{located};
 ghost use Rattle.tree.specs.Adds.{own_rdn, with_entry, add_at, add, path_in};
 ghost use Rattle.tree.specs.StoredEntries.{attributes_of, IsMade};

@@ -46,5 +46,4 @@ nothing families.Telephone = refl
 nothing families.Integer = refl
 nothing families.Boolean = refl
 nothing families.Octet = refl
-nothing families.Name = refl
 nothing families.Oid = refl

@@ -1,8 +1,12 @@
 -- Attribute types (RFC 4512, 4.1.2): what names one, and what one is printed by.
-use Rattle.std.specs.Prelude.{ℕ, is_some, Bool, false, List, [], ◌∷◌, length, Option, None, position, nat_lt, slice_index_or}
+use Rattle.std.specs.Prelude.{ℕ, is_some, Bool, false, List, [], ◌∷◌, length, Option, None, Some, position, nat_lt, slice_index_or}
 use Rattle.std.specs.List.{list_any}
 use Rattle.std.specs.Str.{str_eq_ignore_ascii_case}
 use Rattle.values.specs.declared.types.AttributeType.{AttributeType}
+use Rattle.values.specs.declared.types.TypeSyntax.TheVariants as type_syntaxes
+use Rattle.values.specs.declared.types.EqualityRule.{EqualityRule}
+use Rattle.values.specs.declared.types.EqualityRule.TheVariants as rules
+use Rattle.matching.specs.declared.family.Family.{Family}
 use Rattle.matching.specs.declared.syntax.Syntax.TheVariants as syntaxes
 
 -- its names and its OID, none of which another type has; compared without ASCII case
@@ -31,7 +35,7 @@ no_type =
       oid = [];
       names = [];
       superior = None;
-      syntax = syntaxes.Octet;
+      syntax = type_syntaxes.Plain syntaxes.Octet;
       equality = None;
       is_ordered = false;
       has_substrings = false;
@@ -42,6 +46,12 @@ no_type =
 
 abbrev pub type_at : List AttributeType → ℕ → AttributeType
 type_at types t = slice_index_or types t no_type
+
+-- the family of a rule that compares values without knowing types
+abbrev pub plain_family : Option EqualityRule → Option Family
+plain_family None = None
+plain_family (Some rules.Name) = None
+plain_family (Some (rules.Plain family)) = Some family
 
 -- whether its values can be compared
 abbrev pub has_equality : List AttributeType → ℕ → Bool

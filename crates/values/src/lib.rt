@@ -9,5 +9,5 @@ mod value;
 pub use name_index::NameIndex;
 pub use paths::TypeId;
 pub use table::TypeTable;
-pub use types::AttributeType;
+pub use types::{AttributeType, EqualityRule, TypeSyntax};
 pub use value::{Value, ValueFault, norm_by};

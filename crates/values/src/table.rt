@@ -4,7 +4,7 @@ ghost use Rattle.std.specs.Prelude.{◌≡◌, ◌<◌, ◌≤◌, ◌++◌, ◌
 ghost use Rattle.std.specs.List.{list_any};
 ghost use Rattle.std.specs.Str.{str_eq_ignore_ascii_case};
 ghost use Rattle.values.specs.Tables.{FindsTypes, number_of, or_if};
-ghost use Rattle.values.specs.Types.{is_named, type_of, type_at};
+ghost use Rattle.values.specs.Types.{is_named, name_of, type_of, type_at};
 
 use crate::name_index::NameIndex;
 use crate::types::{AttributeType, type_at};
@@ -116,5 +116,15 @@ impl TypeTable {
         ensures { result.now ≡ type_at self.now t }
     {
         type_at(self.as_slice(), t)
+    }
+
+    /// The name that the type of a number is printed by; nothing where there is no such type.
+    pub fn printed_name(&self, t: TypeId) -> &[u8]
+        ensures { result.now ≡ name_of self.now t }
+    {
+        match self.as_slice().get(t.number() as usize) {
+            Some(kind) => kind.printed_name(),
+            None => b"",
+        }
     }
 }

@@ -3,11 +3,29 @@
 ghost use Rattle.std.specs.Prelude.{◌≡◌, ◌<◌, length};
 ghost use Rattle.std.specs.List.{list_any};
 ghost use Rattle.std.specs.Str.{str_eq_ignore_ascii_case};
-ghost use Rattle.values.specs.Types.{is_named, printed_name, type_at};
+ghost use Rattle.values.specs.Types.{is_named, plain_family, printed_name, type_at};
 
 use base::{Bytes, Sequence};
 use matching::{Family, Syntax};
 use paths::TypeId;
+
+/// Which values an attribute type takes (RFC 4517, 3.3).
+#[derive(Clone, Copy, Debug, PartialEq, Eq)]
+pub enum TypeSyntax {
+    /// DN: names. Which ones, attribute types tell.
+    Name,
+    /// A syntax whose values can be told without knowing types.
+    Plain(Syntax),
+}
+
+/// How two values of an attribute type are equal (RFC 4517, 4.2).
+#[derive(Clone, Copy, Debug, PartialEq, Eq)]
+pub enum EqualityRule {
+    /// distinguishedNameMatch: as names.
+    Name,
+    /// A rule that compares values without knowing types.
+    Plain(Family),
+}
 
 /// An attribute type (RFC 4512, 4.1.2).
 #[derive(Debug, Drop)]
@@ -19,9 +37,9 @@ pub struct AttributeType {
     /// The type above it, whose values its own are too (RFC 4512, 2.5.1).
     pub superior: Option<TypeId>,
     /// Which values it takes.
-    pub syntax: Syntax,
+    pub syntax: TypeSyntax,
     /// How two of its values are equal; without a rule, where their bytes are.
-    pub equality: Option<Family>,
+    pub equality: Option<EqualityRule>,
     /// Whether its values are in the order of that family.
     pub is_ordered: bool,
     /// Whether its values can be searched for pieces by that family.
@@ -48,6 +66,16 @@ impl AttributeType {
         ensures { result ≡ is_named text.now self.now }
     {
         self.oid.as_slice().eq_ignore_ascii_case(text) || has_name(self.names.as_slice(), text)
+    }
+
+    /// The family of its equality rule, where that compares values without knowing types.
+    pub fn plain_family(&self) -> Option<Family>
+        ensures { result ≡ plain_family self.now.equality }
+    {
+        match self.equality {
+            Some(EqualityRule::Plain(family)) => Some(family),
+            Some(EqualityRule::Name) | None => None,
+        }
     }
 
     /// Its first name, or its OID where it has none.

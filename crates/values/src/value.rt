@@ -62,7 +62,7 @@ fn lower_and_raw(alloc: Global, raw: &[u8]) -> Result<Bytes, AllocError>
     Ok(Bytes::from_vec(many))
 }
 
-/// The normal form of a value under an equality rule, or its bytes without one.
+/// The normal form of a value under an equality rule of this family, or its bytes without one.
 pub fn norm_by(alloc: Global, equality: Option<Family>, raw: &[u8]) -> Result<Bytes, AllocError>
     ensures { IfOk result (λ v. v ≡ norm_by equality raw.now) }
 {
@@ -73,8 +73,8 @@ pub fn norm_by(alloc: Global, equality: Option<Family>, raw: &[u8]) -> Result<By
 }
 
 impl Value {
-    // The value that is written so and has this normal form.
-    fn joined(norm: Bytes, raw: &[u8]) -> Result<Value, AllocError>
+    /// The value that is written so and has this normal form, which is empty where nothing is written.
+    pub fn joined(norm: Bytes, raw: &[u8]) -> Result<Value, AllocError>
         requires { raw.now ≡ [] → norm ≡ [] }
         ensures { IfOk result (λ v. v ≡ record { raw = raw.now; norm = norm }) }
     {
@@ -111,7 +111,7 @@ impl Value {
         })
     }
 
-    /// The value that is written so, where its type has this equality rule.
+    /// The value that is written so, where its type has an equality rule of this family, or none.
     pub fn new(alloc: Global, equality: Option<Family>, raw: &[u8]) -> Result<Value, AllocError>
         ensures { IfOk result (λ v. v ≡ record { raw = raw.now; norm = norm_by equality raw.now }) }
     {

@@ -1,6 +1,7 @@
 use Rattle.std.proofs.Common.{◌-◌, length, subst, take, drop, List, arith}
 use Rattle.std.specs.List.{AllByRecursion}
-use Rattle.schema.specs.Rdns.{IsRdn, Rdn}
+use Rattle.schema.specs.Rdns.{Rdn}
+use Rattle.schema.specs.GoodRdns.{IsRdn}
 use Rattle.schema.specs.Names.{written_rdn}
 use Rattle.tree.proofs.PushedNames.{parted, first_done, nothing}
 use Rattle.tree.proofs.naming.push_rdns.Goals as goal

@@ -1,7 +1,7 @@
 use Rattle.std.proofs.Common.{◌≡◌, ◌++◌, map, drop}
 use Rattle.std.specs.List.{AllByRecursion}
 use Rattle.dn.specs.Writing.{text_of}
-use Rattle.schema.specs.Rdns.{IsRdn}
+use Rattle.schema.specs.GoodRdns.{IsRdn}
 use Rattle.schema.specs.Names.{written_rdn}
 use Rattle.tree.proofs.PushedNames.{after_commas}
 use Rattle.tree.proofs.naming.push_rdns.Given as goal

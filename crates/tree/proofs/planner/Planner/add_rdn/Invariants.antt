@@ -1,6 +1,6 @@
 use Rattle.std.proofs.Common.{◌≡◌, drop}
 use Rattle.std.specs.List.{AllByRecursion}
-use Rattle.schema.specs.Rdns.{IsAva}
+use Rattle.schema.specs.GoodRdns.{IsAva}
 use Rattle.tree.specs.Entries.{with_rdn}
 use Rattle.tree.specs.StoredEntries.{attributes_of, IsMade}
 use Rattle.tree.proofs.planner.Planner.add_rdn.Given as goal

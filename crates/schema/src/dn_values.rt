@@ -1,0 +1,152 @@
+//! Names as values: their normal form (RFC 4517, 3.3.9 and 4.2.15).
+
+ghost use Rattle.std.specs.Prelude.{◌≡◌, ◌∷◌, ◌++◌, IfOk, OnOk, map};
+ghost use Rattle.std.specs.List.{flat_map, join_with_byte, AllByRecursion};
+ghost use Rattle.dn.specs.Writing.{part_text, rdn_text};
+ghost use Rattle.matching.specs.Forms.{lower};
+ghost use Rattle.schema.specs.inner.Keys.{AreKnown};
+ghost use Rattle.schema.specs.Gives.{Gives};
+ghost use Rattle.schema.specs.Values.{rdns_in, normal_part, normal_parts, normal_rdn, normal_text, normal_name};
+
+use crate::fault::PathFault;
+use crate::names::read_dn;
+use crate::rdns::{rdn_key_of, typed_rdns};
+use base::Bytes;
+use dn::put_value;
+use paths::Rdn;
+use std::alloc::{AllocError, Global};
+use values::{TypeId, TypeTable};
+
+fn put_lower(out: &mut Vec<u8>, name: &[u8]) -> Result<(), AllocError>
+    ensures { OnOk result (out.new.items ≡ out.old.items ++ lower name.now) }
+{
+    for b in name {
+        out.push(b.to_ascii_lowercase())?;
+    }
+    Ok(())
+}
+
+fn put_part(types: &TypeTable, out: &mut Vec<u8>, pair: &(TypeId, Bytes)) -> Result<(), AllocError>
+    ensures { OnOk result (out.new.items ≡ out.old.items ++ part_text (normal_part types.now pair.now)) }
+{
+    let (t, norm) = pair;
+    put_lower(out, types.printed_name(*t))?;
+    out.extend_from_slice(b"=")?;
+    put_value(out, norm.as_slice())
+}
+
+// each part with a plus sign before it
+fn put_more_parts(
+    types: &TypeTable,
+    out: &mut Vec<u8>,
+    pairs: &[(TypeId, Bytes)],
+) -> Result<(), AllocError>
+    ensures { OnOk result (out.new.items ≡ out.old.items ++ flat_map (λ p. 43 ∷ part_text (normal_part types.now p)) pairs.now) }
+{
+    for pair in pairs {
+        out.extend_from_slice(b"+")?;
+        put_part(types, out, pair)?;
+    }
+    Ok(())
+}
+
+fn put_parts(
+    types: &TypeTable,
+    out: &mut Vec<u8>,
+    pairs: &[(TypeId, Bytes)],
+) -> Result<(), AllocError>
+    ensures { OnOk result (out.new.items ≡ out.old.items ++ rdn_text (normal_parts types.now pairs.now)) }
+{
+    match pairs {
+        [] => Ok(()),
+        [first, others @ ..] => {
+            put_part(types, out, first)?;
+            put_more_parts(types, out, others)?;
+            Ok(())
+        }
+    }
+}
+
+fn put_rdn(alloc: Global, types: &TypeTable, out: &mut Vec<u8>, rdn: &Rdn) -> Result<(), AllocError>
+    requires { AreKnown types.now rdn.now }
+    ensures { OnOk result (out.new.items ≡ out.old.items ++ rdn_text (normal_rdn types.now rdn.now)) }
+{
+    let key = rdn_key_of(alloc, types, rdn)?;
+    put_parts(types, out, key.pairs())
+}
+
+// each RDN with a comma before it
+fn put_more_rdns(
+    alloc: Global,
+    types: &TypeTable,
+    out: &mut Vec<u8>,
+    rdns: &[Rdn],
+) -> Result<(), AllocError>
+    requires { AllByRecursion (AreKnown types.now) rdns.now }
+    ensures { OnOk result (out.new.items ≡ out.old.items ++ flat_map (λ r. 44 ∷ rdn_text (normal_rdn types.now r)) rdns.now) }
+{
+    for rdn in rdns {
+        out.extend_from_slice(b",")?;
+        put_rdn(alloc, types, out, rdn)?;
+    }
+    Ok(())
+}
+
+fn put_rdns(
+    alloc: Global,
+    types: &TypeTable,
+    out: &mut Vec<u8>,
+    rdns: &[Rdn],
+) -> Result<(), AllocError>
+    requires { AllByRecursion (AreKnown types.now) rdns.now }
+    ensures { OnOk result (out.new.items ≡ out.old.items ++ join_with_byte 44 (map (λ r. rdn_text (normal_rdn types.now r)) rdns.now)) }
+{
+    match rdns {
+        [] => Ok(()),
+        [first, others @ ..] => {
+            put_rdn(alloc, types, out, first)?;
+            put_more_rdns(alloc, types, out, others)?;
+            Ok(())
+        }
+    }
+}
+
+#[tactic(auto, unfolding(crate::specs::Values::normal_text))]
+fn normal_text(
+    alloc: Global,
+    types: &TypeTable,
+    rdns: &[Rdn],
+    room: usize,
+) -> Result<Bytes, AllocError>
+    requires { AllByRecursion (AreKnown types.now) rdns.now }
+    ensures { IfOk result (λ b. b ≡ normal_text types.now rdns.now) }
+{
+    let mut out = Vec::with_capacity(alloc, room)?;
+    put_rdns(alloc, types, &mut out, rdns)?;
+    Ok(Bytes::from_vec(out))
+}
+
+#[tactic(auto, unfolding(crate::specs::Values::rdns_in))]
+fn rdns_in(alloc: Global, types: &TypeTable, text: &[u8]) -> Result<Vec<Rdn>, PathFault>
+    ensures gives { Gives (λ v. v.items) result (rdns_in types.now text.now) }
+    ensures known { IfOk result (λ v. AllByRecursion (AreKnown types.now) v.items) }
+{
+    let name = read_dn(alloc, text)?;
+    typed_rdns(alloc, types, &name)
+}
+
+/// The normal form of the name that bytes spell, or `None` where they are no value of DN syntax.
+#[tactic(auto, unfolding(crate::specs::Values::normal_name))]
+pub(crate) fn normal_name(
+    alloc: Global,
+    types: &TypeTable,
+    text: &[u8],
+) -> Result<Option<Bytes>, AllocError>
+    ensures { IfOk result (λ o. o ≡ normal_name types.now text.now) }
+{
+    match rdns_in(alloc, types, text) {
+        Ok(rdns) => Ok(Some(normal_text(alloc, types, &rdns, text.len())?)),
+        Err(PathFault::Code(_)) => Ok(None),
+        Err(PathFault::OutOfMemory) => Err(AllocError),
+    }
+}

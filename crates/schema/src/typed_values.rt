@@ -1,0 +1,75 @@
+//! Values of attribute types under a configuration.
+
+ghost use Rattle.std.specs.Prelude.{◌≡◌, ◌<◌, IfOk, is_some, length, unwrap_or};
+ghost use Rattle.schema.specs.Gives.{Makes};
+ghost use Rattle.schema.specs.Values.{normal_name, norm_with, is_valid_by, is_valid_at, norm_at};
+
+use crate::conf::Conf;
+use crate::dn_values::normal_name;
+use matching::is_valid;
+use std::alloc::{AllocError, Global};
+use values::{EqualityRule, TypeId, TypeSyntax, TypeTable, Value, ValueFault};
+
+fn is_valid_by(
+    alloc: Global,
+    types: &TypeTable,
+    syntax: TypeSyntax,
+    raw: &[u8],
+) -> Result<bool, AllocError>
+    ensures { IfOk result (λ b. b ≡ is_valid_by types.now syntax raw.now) }
+{
+    match syntax {
+        TypeSyntax::Plain(syntax) => Ok(is_valid(syntax, raw)),
+        TypeSyntax::Name => Ok(normal_name(alloc, types, raw)?.is_some()),
+    }
+}
+
+// the value of a type that compares names, which takes names alone
+fn name_value(alloc: Global, types: &TypeTable, raw: &[u8]) -> Result<Value, ValueFault>
+    ensures { Makes result (is_some (normal_name types.now raw.now)) (λ v. v ≡ record { raw = raw.now; norm = unwrap_or (normal_name types.now raw.now) raw.now }) }
+{
+    match normal_name(alloc, types, raw)? {
+        Some(norm) => Ok(Value::joined(norm, raw)?),
+        None => Err(ValueFault::Invalid),
+    }
+}
+
+// the value under an equality rule
+fn value_with(
+    alloc: Global,
+    types: &TypeTable,
+    equality: Option<EqualityRule>,
+    raw: &[u8],
+) -> Result<Value, AllocError>
+    ensures { IfOk result (λ v. v ≡ record { raw = raw.now; norm = norm_with types.now equality raw.now }) }
+{
+    match equality {
+        Some(EqualityRule::Plain(family)) => Value::new(alloc, Some(family), raw),
+        Some(EqualityRule::Name) => match normal_name(alloc, types, raw)? {
+            Some(norm) => Value::joined(norm, raw),
+            None => Value::new(alloc, None, raw),
+        },
+        None => Value::new(alloc, None, raw),
+    }
+}
+
+impl Conf {
+    /// The value of these bytes under a type; `Invalid` where the type's syntax has no such value.
+    #[tactic(auto, unfolding(crate::specs::Values::is_valid_at, crate::specs::Values::norm_at))]
+    pub fn make_value(&self, alloc: Global, t: TypeId, raw: &[u8]) -> Result<Value, ValueFault>
+        requires { t < length self.now.types }
+        ensures { Makes result (is_valid_at self.now.types t raw.now) (λ v. v ≡ record { raw = raw.now; norm = norm_at self.now.types t raw.now }) }
+    {
+        let kind = self.at(t);
+        match (kind.syntax, kind.equality) {
+            // read once for both
+            (TypeSyntax::Name, Some(EqualityRule::Name)) => name_value(alloc, self.table(), raw),
+            (syntax, equality) => {
+                if !is_valid_by(alloc, self.table(), syntax, raw)? {
+                    return Err(ValueFault::Invalid);
+                }
+                Ok(value_with(alloc, self.table(), equality, raw)?)
+            }
+        }
+    }
+}
