@@ -45,7 +45,7 @@ fn put_attributes(
     ensures { OnOk result (out.new.items ≡ out.old.items ++ attributes_text conf.now.types entry.now.attrs) }
 {
     for (t, values) in entry.attrs() {
-        put_values(alloc, out, conf.name_of(*t), values.as_slice())?;
+        put_values(alloc, out, conf.name(*t), values.as_slice())?;
     }
     out.push(b'\n')?;
     Ok(())

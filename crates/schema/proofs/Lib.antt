@@ -1,5 +1,6 @@
 pub mod Below
 pub mod Parts
+pub mod Subtypes
 pub mod Named
 pub mod Locating
 pub mod Steps

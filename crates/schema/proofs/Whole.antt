@@ -6,9 +6,11 @@ use Rattle.std.specs.Option.{option_map}
 use Rattle.std.proofs.lemmas.Bool.{or_parts, lt-ltb, ltb-true}
 use Rattle.std.proofs.lemmas.Bool.Decides.{nat_tests}
 use Rattle.values.specs.declared.types.AttributeType.{AttributeType}
-use Rattle.values.specs.Types.{is_named, is_known, type_of, type_at, no_type}
+use Rattle.values.specs.Types.{is_named, is_known, type_of, type_at, no_type, plain_family}
 use Rattle.matching.specs.declared.family.Family.{Family}
 use Rattle.values.specs.declared.types.EqualityRule.{EqualityRule}
+use Rattle.values.specs.declared.types.EqualityRule.TheVariants as rules
+use Rattle.matching.specs.declared.family.Family.TheVariants as families
 use Rattle.std.proofs.lemmas.List.{take-append-le}
 use Rattle.std.proofs.Math.Seq.{take-append_seam, get_or-append_seam}
 use Rattle.std.proofs.Math.ListN.{get_or-append}
@@ -25,7 +27,7 @@ use Rattle.schema.specs.declared.conf_fault.ConfFaultKind.{ConfFaultKind}
 use Rattle.schema.specs.declared.conf_fault.ConfFaultKind.TheVariants.{Keyword, Form, Twice, Subtype, RuleSyntax, Suffix, Collective, TooManyTypes}
 use Rattle.definitions.specs.declared.class_definition.ClassDefinition.{ClassDefinition}
 use Rattle.definitions.specs.ClassDefinitions.{class_definition_of}
-use Rattle.schema.specs.TypeRules.{type_with, object_class, has_twin, up_of, goes_with, breaks_with, needs_another_syntax, IsAbove, FitsBehind}
+use Rattle.schema.specs.TypeRules.{type_with, object_class, has_twin, up_of, is_equality, goes_with, breaks_with, needs_another_syntax, IsAbove, FitsBehind}
 use Rattle.schema.specs.Rdns.{Rdn, typed}
 use Rattle.schema.specs.GoodRdns.{IsRdn}
 use Rattle.schema.specs.Names.{name_in}
@@ -112,10 +114,21 @@ same_some x y e = cc
 not_below : (t n : ℕ) → nat_lt t n ≡ false → n ≤ t
 not_below t n h = grind (arith, nat_tests)
 
-goes_with_rule : (o : Option Family) (e : Option EqualityRule) → goes_with o e ≡ true → is_some e ≡ true
+no_name_rule : (f : Family) → is_equality (rules.Plain f) (Some rules.Name) ≡ false
+no_name_rule families.Ignore = refl
+no_name_rule families.Exact = refl
+no_name_rule families.Numeric = refl
+no_name_rule families.Telephone = refl
+no_name_rule families.Integer = refl
+no_name_rule families.Boolean = refl
+no_name_rule families.Octet = refl
+no_name_rule families.Oid = refl
+
+goes_with_rule : (o : Option Family) (e : Option EqualityRule) → goes_with o e ≡ true → is_some (plain_family e) ≡ true
 goes_with_rule None e h = absurd cc
 goes_with_rule (Some f) None h = absurd cc
-goes_with_rule (Some f) (Some g) h = refl
+goes_with_rule (Some f) (Some rules.Name) h = absurd (let no = sym (no_name_rule f) ∙ h in cc)
+goes_with_rule (Some f) (Some (rules.Plain g)) h = refl
 
 known_type : (types : List AttributeType) (name : List ℕ) (t : ℕ) → type_of types name ≡ Some t → is_known types t ≡ true
 unfolding type_of

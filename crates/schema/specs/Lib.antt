@@ -4,6 +4,7 @@ pub mod Names
 pub mod Values
 pub mod GoodRdns
 pub mod Conf
+pub mod Subtypes
 pub mod RuleNames
 pub mod TypeRules
 pub mod Gives

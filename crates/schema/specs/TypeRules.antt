@@ -148,11 +148,11 @@ IsAbove before None = Unit {0}
 IsAbove before (Some s) = is_known before s ≡ true
 
 -- of those before it one may be above it, with the same syntax, and of its family where that has one; numbers and names are compared as such only
--- where they are; rules of order and substrings stand beside one of equality; no name stands twice
+-- where they are; rules of order and substrings stand beside an equality rule of a family; no name stands twice
 pub record FitsBehind (before : List AttributeType) (t : AttributeType) : Type 0 where
   pub superior : IsAbove before t.superior
   pub agrees : breaks_with t (up_of before t.superior) ≡ false
   pub syntax : needs_another_syntax t ≡ false
-  pub ordered : t.is_ordered ≡ true → is_some t.equality ≡ true
-  pub substrings : t.has_substrings ≡ true → is_some t.equality ≡ true
+  pub ordered : t.is_ordered ≡ true → is_some (plain_family t.equality) ≡ true
+  pub substrings : t.has_substrings ≡ true → is_some (plain_family t.equality) ≡ true
   pub names_apart : has_twin t.names ≡ false

@@ -107,28 +107,4 @@ impl Conf {
             [] => unreachable!(),
         }
     }
-
-    /// The name that a type is printed by.
-    pub fn name_of(&self, t: TypeId) -> &[u8]
-        requires { t < length self.now.types }
-        ensures { result.now ≡ name_of self.now.types t }
-    {
-        self.at(t).printed_name()
-    }
-
-    /// Whether an entry has at most one value of a type.
-    pub fn is_single_value(&self, t: TypeId) -> bool
-        requires { t < length self.now.types }
-        ensures { result ≡ (type_at self.now.types t).single_value }
-    {
-        self.at(t).single_value
-    }
-
-    /// Whether users can't change a type's values (NO-USER-MODIFICATION).
-    pub fn is_fixed(&self, t: TypeId) -> bool
-        requires { t < length self.now.types }
-        ensures { result ≡ (type_at self.now.types t).is_fixed }
-    {
-        self.at(t).is_fixed
-    }
 }

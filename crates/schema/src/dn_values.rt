@@ -15,7 +15,7 @@ use base::Bytes;
 use dn::put_value;
 use paths::Rdn;
 use std::alloc::{AllocError, Global};
-use values::{TypeId, TypeTable};
+use values::{TypeId, TypeTable, norm_by};
 
 fn put_lower(out: &mut Vec<u8>, name: &[u8]) -> Result<(), AllocError>
     ensures { OnOk result (out.new.items ≡ out.old.items ++ lower name.now) }
@@ -26,13 +26,18 @@ fn put_lower(out: &mut Vec<u8>, name: &[u8]) -> Result<(), AllocError>
     Ok(())
 }
 
-fn put_part(types: &TypeTable, out: &mut Vec<u8>, pair: &(TypeId, Bytes)) -> Result<(), AllocError>
+fn put_part(types: &TypeTable, out: &mut Vec<u8>, t: TypeId, norm: &[u8]) -> Result<(), AllocError>
+    ensures { OnOk result (out.new.items ≡ out.old.items ++ part_text (normal_part types.now (t, norm.now))) }
+{
+    put_lower(out, types.printed_name(t))?;
+    out.extend_from_slice(b"=")?;
+    put_value(out, norm)
+}
+
+fn put_pair(types: &TypeTable, out: &mut Vec<u8>, pair: &(TypeId, Bytes)) -> Result<(), AllocError>
     ensures { OnOk result (out.new.items ≡ out.old.items ++ part_text (normal_part types.now pair.now)) }
 {
-    let (t, norm) = pair;
-    put_lower(out, types.printed_name(*t))?;
-    out.extend_from_slice(b"=")?;
-    put_value(out, norm.as_slice())
+    put_part(types, out, pair.0, pair.1.as_slice())
 }
 
 // each part with a plus sign before it
@@ -45,7 +50,7 @@ fn put_more_parts(
 {
     for pair in pairs {
         out.extend_from_slice(b"+")?;
-        put_part(types, out, pair)?;
+        put_pair(types, out, pair)?;
     }
     Ok(())
 }
@@ -60,19 +65,25 @@ fn put_parts(
     match pairs {
         [] => Ok(()),
         [first, others @ ..] => {
-            put_part(types, out, first)?;
+            put_pair(types, out, first)?;
             put_more_parts(types, out, others)?;
             Ok(())
         }
     }
 }
 
+#[tactic(auto, unfolding(crate::specs::Rdns::rdn_key_of, crate::specs::Rdns::key_from, crate::specs::Rdns::put_pair))]
 fn put_rdn(alloc: Global, types: &TypeTable, out: &mut Vec<u8>, rdn: &Rdn) -> Result<(), AllocError>
     requires { AreKnown types.now rdn.now }
     ensures { OnOk result (out.new.items ≡ out.old.items ++ rdn_text (normal_rdn types.now rdn.now)) }
 {
-    let key = rdn_key_of(alloc, types, rdn)?;
-    put_parts(types, out, key.pairs())
+    match rdn.parts() {
+        [(t, value)] => {
+            let norm = norm_by(alloc, types.at(*t).plain_family(), value.as_slice())?;
+            put_part(types, out, *t, norm.as_slice())
+        }
+        _ => put_parts(types, out, rdn_key_of(alloc, types, rdn)?.pairs()),
+    }
 }
 
 // each RDN with a comma before it

@@ -19,6 +19,7 @@ mod rdns;
 mod rule_names;
 mod suffix_lines;
 mod type_lines;
+mod type_readers;
 mod type_rules;
 mod typed_values;
 

@@ -45,7 +45,7 @@ impl Conf {
         ensures { OnOk result (out.new.items ≡ out.old.items ++ part_text (written_part self.now.types part.now)) }
     {
         let (t, value) = part;
-        out.extend_from_slice(self.name_of(*t))?;
+        out.extend_from_slice(self.name(*t))?;
         out.extend_from_slice(b"=")?;
         put_value(out, value.as_slice())
     }

@@ -62,12 +62,31 @@ fn lower_and_raw(alloc: Global, raw: &[u8]) -> Result<Bytes, AllocError>
     Ok(Bytes::from_vec(many))
 }
 
+fn lower(alloc: Global, raw: &[u8]) -> Result<Bytes, AllocError>
+    ensures { IfOk result (λ b. b ≡ lower raw.now) }
+{
+    let mut bytes = Bytes::from_slice(alloc, raw)?;
+    bytes.make_ascii_lowercase();
+    Ok(bytes)
+}
+
+// the normal form of a value; most values need no room of their own for it
+fn norm(alloc: Global, family: Family, raw: &[u8]) -> Result<Bytes, AllocError>
+    ensures { IfOk result (λ b. b ≡ norm family raw.now) }
+{
+    match Form::of(family, raw) {
+        Form::AsWritten => Bytes::from_slice(alloc, raw),
+        Form::LowerCase => lower(alloc, raw),
+        Form::Other => normal_form(alloc, family, raw),
+    }
+}
+
 /// The normal form of a value under an equality rule of this family, or its bytes without one.
 pub fn norm_by(alloc: Global, equality: Option<Family>, raw: &[u8]) -> Result<Bytes, AllocError>
     ensures { IfOk result (λ v. v ≡ norm_by equality raw.now) }
 {
     match equality {
-        Some(family) => normal_form(alloc, family, raw),
+        Some(family) => norm(alloc, family, raw),
         None => Bytes::from_slice(alloc, raw),
     }
 }

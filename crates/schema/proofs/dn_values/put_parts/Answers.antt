@@ -8,5 +8,5 @@ use Rattle.schema.proofs.dn_values.put_parts.Goals as goal
 
 pub returns-in_ok-put_more_parts-in-len1-up : goal.returns-in_ok-put_more_parts-in-len1-up
 returns-in_ok-put_more_parts-in-len1-up c =
-    joined_rest 43 (λ p. part_text (normal_part c.args.types.now p)) c.args.pairs.now c.first-item.result c.args.out.now.items c.put_part.new.out.items c.put_more_parts.new.out.items (omega arith) c.first-item.is c.in_ok-put_part-in-len1-up.ensures c.in_ok-put_more_parts-in-len1-up.ensures
+    joined_rest 43 (λ p. part_text (normal_part c.args.types.now p)) c.args.pairs.now c.first-item.result c.args.out.now.items c.put_pair.new.out.items c.put_more_parts.new.out.items (omega arith) c.first-item.is c.in_ok-put_pair-in-len1-up.ensures c.in_ok-put_more_parts-in-len1-up.ensures
     ∙ ap (λ ts. c.args.out.now.items ++ join_with_byte 43 ts) (sym (map-map part_text (normal_part c.args.types.now) c.args.pairs.now))
