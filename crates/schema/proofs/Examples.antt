@@ -51,6 +51,7 @@ conf = record {
       object_class ∷ type_with (codes "1.2") (codes "x") (type_syntaxes.Plain syntaxes.Text) (Some (rules.Plain families.Ignore)) ∷ type_with (codes "1.3") (codes "y") (type_syntaxes.Plain syntaxes.Octet) (Some (rules.Plain families.Octet))
       ∷ type_with (codes "1.4") (codes "d") type_syntaxes.Name None ∷ type_with (codes "1.5") (codes "n") (type_syntaxes.Plain syntaxes.Integer) None ∷ type_with (codes "1.6") (codes "i") (type_syntaxes.Plain syntaxes.Integer) (Some (rules.Plain families.Integer)) ∷ [];
   suffix = step 0 (codes "top") ∷ [];
+  slots = [];
 }
 
 -- what a name's text is read by

@@ -62,7 +62,7 @@ name_has_parts read text n e =
 
 -- ---- the parts of an RDN
 
-found_is_known : (types : List AttributeType) (text : List ℕ) (t : ℕ) → type_of types text ≡ Some t → is_known types t ≡ true
+pub found_is_known : (types : List AttributeType) (text : List ℕ) (t : ℕ) → type_of types text ≡ Some t → is_known types t ≡ true
 unfolding type_of
 found_is_known types text t e = lt-ltb t (length types) (position-Some (is_named text) types t no_type e).0
 

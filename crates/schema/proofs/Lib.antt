@@ -5,9 +5,12 @@ pub mod Named
 pub mod Locating
 pub mod Steps
 pub mod Found
+pub mod SlotOrder
+pub mod SlotLines
 pub mod Whole
 pub mod Taken
 pub mod Twins
 pub mod Examples
 pub mod ValueExamples
+pub mod SlotExamples
 pub mod RulePrefix

@@ -18,7 +18,7 @@ use Rattle.std.proofs.lemmas.List.Quantifiers.{position-Some}
 use Rattle.definitions.specs.declared.element.Element.{Element}
 use Rattle.definitions.specs.declared.lines.Line.{Line}
 use Rattle.definitions.specs.declared.type_definition.TypeDefinition.{TypeDefinition}
-use Rattle.definitions.specs.Lines.{begins_blank}
+use Rattle.definitions.specs.Lines.{begins_blank, lines_of}
 use Rattle.definitions.specs.Naming.{is_oid, is_type_name, are_groups}
 use Rattle.definitions.specs.Words.{after_word}
 use Rattle.definitions.specs.TypeDefinitions.{type_definition_of}
@@ -35,9 +35,14 @@ use Rattle.schema.specs.Values.{rdns_in}
 use Rattle.schema.specs.Conf.{IsConf, IsType, share_name}
 use Rattle.base.proofs.Each.{passed_on}
 use Rattle.base.proofs.Bound.{bind_ok, same_ok}
-use Rattle.base.specs.Answers.{through, Fails}
-use Rattle.schema.specs.Configurations.{At, says_nothing, is_first, is_built_in, names_one, is_taken, superior_of, flaw_of, unless, below, refused, placed, Defined, built_in, or_fault, class_refused, class_placed, with_types, types_in, definition_line, defined_by, some_rdns, suffix_at, suffix_text, suffix_line, suffix_of}
+use Rattle.base.specs.Answers.{◌>>=◌, through, Fails}
+use Rattle.schema.specs.Configurations.{At, says_nothing, is_first, is_built_in, names_one, is_taken, superior_of, flaw_of, unless, below, refused, placed, Defined, built_in, or_fault, class_refused, class_placed, with_types, types_in, definition_line, defined_by, some_rdns, suffix_at, suffix_text, Found, none_found, with_suffix, with_slots, later_line, found_in, rules_of, conf_of}
+use Rattle.paths.proofs.Unpacked.{all_append}
+use Rattle.schema.specs.declared.slots.Slot.{Slot}
+use Rattle.schema.specs.Slots.{IsSlot, slots_in, in_order}
 use Rattle.schema.proofs.Found.{SpellsRead, name_has_parts, rdns_are}
+use Rattle.schema.proofs.SlotLines.{slots_are}
+use Rattle.schema.proofs.SlotOrder.{in_order_keeps, in_order_rises}
 
 -- what the crate below says of each type that a text defines
 abbrev pub Defines : Type 0
@@ -305,15 +310,6 @@ abbrev pub IsSuffix : List AttributeType → Option (List Rdn) → Type 0
 IsSuffix types None = Unit {0}
 IsSuffix types (Some rs) = AllByRecursion (IsRdn types) rs × (nat_lt 0 (length rs) ≡ true)
 
-abbrev Found : Type 0
-Found = Result (Option (List Rdn)) At
-
-abbrev found_ok : Option (List Rdn) → Found
-found_ok o = Ok o
-
-abbrev found_err : ℕ → ConfFaultKind → Found
-found_err line kind = Err (line, kind)
-
 some_is : (types : List AttributeType) (line : ℕ) (r : Result (List Rdn) Code) (out : Option (List Rdn)) → ((rs : List Rdn) → r ≡ Ok rs → AllByRecursion (IsRdn types) rs) → some_rdns line r ≡ Ok out → IsSuffix types out
 some_is types line (Ok []) out good e = absurd cc
 some_is types line (Ok (r ∷ rs)) out good e = subst (IsSuffix types) (same_ok (Some (r ∷ rs)) out e) (good (r ∷ rs) refl, lt-ltb 0 (length (r ∷ rs)) (omega arith))
@@ -325,24 +321,71 @@ typed_good read types text rs e =
     let k = bind_ok (name_in text) (typed types) rs e in
     rdns_are types k.0 rs (name_has_parts read text k.0 k.1) k.2
 
-suffix_line_keeps : SpellsRead → (types : List AttributeType) (found : Option (List Rdn)) (l : Line) (out : Option (List Rdn)) → IsSuffix types found → suffix_line types found l ≡ Ok out → IsSuffix types out
-unfolding suffix_line
-suffix_line_keeps read types found l out h e =
-    let Keeps : Found → Type 0 = λ r. r ≡ Ok out → IsSuffix types out in
-    let same : Keeps (found_ok found) = λ said. subst (IsSuffix types) (same_ok found out said) h in
-    let new : Found = suffix_at types l.number (suffix_text l.text) in
-    let one : Found = cond (is_some found) (found_err l.number Suffix) new in
-    let words : Found = cond (is_first (codes "suffix") l.text) one (found_ok found) in
-    let indexes : Found = cond (is_first (codes "index") l.text) (found_err l.number Form) words in
-    either Keeps (says_nothing l.text) (found_ok found) indexes same
-    (either Keeps (is_first (codes "index") l.text) (found_err l.number Form) words (λ said. absurd cc)
-    (either Keeps (is_first (codes "suffix") l.text) one (found_ok found)
-    (either Keeps (is_some found) (found_err l.number Suffix) new (λ said. absurd cc)
-    (λ said. some_is types l.number (rdns_in types (suffix_text l.text)) out (typed_good read types (suffix_text l.text)) said))
+-- ---- the suffix and the slots
+
+pub record IsFound (types : List AttributeType) (f : Found) : Type 0 where
+  pub suffix : IsSuffix types f.suffix
+  pub slots : AllByRecursion (IsSlot types) f.slots
+
+abbrev Later : Type 0
+Later = Result Found At
+
+abbrev found_ok : Found → Later
+found_ok f = Ok f
+
+abbrev found_err : ℕ → ConfFaultKind → Later
+found_err line kind = Err (line, kind)
+
+suffix_put : (types : List AttributeType) (f : Found) (r : Result (Option (List Rdn)) At) (out : Found) → IsFound types f → ((o : Option (List Rdn)) → r ≡ Ok o → IsSuffix types o) → with_suffix f r ≡ Ok out → IsFound types out
+suffix_put types f r out h good e =
+    let k = bind_ok r (λ o. found_ok (record f { suffix = o })) out e in
+    subst (IsFound types) (same_ok (record f { suffix = k.0 }) out k.2) (record { suffix = good k.0 k.1; slots = h.slots })
+
+slots_put : (types : List AttributeType) (f : Found) (r : Result (List Slot) At) (out : Found) → IsFound types f → ((ss : List Slot) → r ≡ Ok ss → AllByRecursion (IsSlot types) ss) → with_slots f r ≡ Ok out → IsFound types out
+slots_put types f r out h good e =
+    let k = bind_ok r (λ ss. found_ok (record f { slots = f.slots ++ ss })) out e in
+    subst (IsFound types) (same_ok (record f { slots = f.slots ++ k.0 }) out k.2) (record { suffix = h.suffix; slots = all_append (IsSlot types) f.slots k.0 h.slots (good k.0 k.1) })
+
+later_line_keeps : SpellsRead → (types : List AttributeType) (f : Found) (l : Line) (out : Found) → IsFound types f → later_line types f l ≡ Ok out → IsFound types out
+unfolding later_line
+later_line_keeps read types f l out h e =
+    let Keeps : Later → Type 0 = λ r. r ≡ Ok out → IsFound types out in
+    let same : Keeps (found_ok f) = λ said. subst (IsFound types) (same_ok f out said) h in
+    let new : Later = with_suffix f (suffix_at types l.number (suffix_text l.text)) in
+    let one : Later = cond (is_some f.suffix) (found_err l.number Suffix) new in
+    let words : Later = cond (is_first (codes "suffix") l.text) one (found_ok f) in
+    let slots : Later = with_slots f (slots_in types l.number (after_word l.text)) in
+    let indexes : Later = cond (is_first (codes "index") l.text) slots words in
+    either Keeps (says_nothing l.text) (found_ok f) indexes same
+    (either Keeps (is_first (codes "index") l.text) slots words
+    (slots_put types f (slots_in types l.number (after_word l.text)) out h (slots_are types l.number (after_word l.text)))
+    (either Keeps (is_first (codes "suffix") l.text) one (found_ok f)
+    (either Keeps (is_some f.suffix) (found_err l.number Suffix) new (λ said. absurd cc)
+    (suffix_put types f (suffix_at types l.number (suffix_text l.text)) out h
+    (λ o is. some_is types l.number (rdns_in types (suffix_text l.text)) o (typed_good read types (suffix_text l.text)) is)))
     same)) e
 
-pub suffix_is : SpellsRead → (types : List AttributeType) (ls : List Line) (out : Option (List Rdn)) → suffix_of types None ls ≡ Ok out → IsSuffix types out
-suffix_is read types ls out e = through_keeps (IsSuffix types) (suffix_line types) (suffix_line_keeps read types) ls None out tt e
+pub found_is : SpellsRead → (types : List AttributeType) (ls : List Line) (out : Found) → found_in types none_found ls ≡ Ok out → IsFound types out
+found_is read types ls out e = through_keeps (IsFound types) (later_line types) (later_line_keeps read types) ls none_found out (record { suffix = tt; slots = tt }) e
 
-pub rules_are : (types : List AttributeType) (suffix : List Rdn) → AreTypes types → IsSuffix types (Some suffix) → IsConf (record { types = types; suffix = suffix })
-rules_are types suffix h k = record { types = h.good; first = ap (λ (ts : List AttributeType). type_at ts 0) h.first.1; fits = h.fits; types_apart = h.apart; types_few = h.few; suffix = k.0; suffix_some = k.1 }
+pub rules_are : (types : List AttributeType) (suffix : List Rdn) (said : List Slot) → AreTypes types → IsSuffix types (Some suffix) → AllByRecursion (IsSlot types) said → IsConf (record { types = types; suffix = suffix; slots = in_order (length types) said })
+rules_are types suffix said h k slots =
+    record {
+      types = h.good;
+      first = ap (λ (ts : List AttributeType). type_at ts 0) h.first.1;
+      fits = h.fits;
+      types_apart = h.apart;
+      types_few = h.few;
+      suffix = k.0;
+      suffix_some = k.1;
+      slots = in_order_keeps (IsSlot types) (length types) said slots;
+      slots_rise = in_order_rises (length types) said;
+    }
+
+pub conf_is : (text : List ℕ) (first second : List Line) (types : List AttributeType) (f : Found) (suffix : List Rdn) → first ≡ lines_of text → second ≡ lines_of text → types_in (defined_by built_in first) ≡ Ok types → found_in types none_found second ≡ Ok f
+    → f.suffix ≡ Some suffix → conf_of text ≡ Ok (record { types = types; suffix = suffix; slots = in_order (length types) f.slots })
+unfolding conf_of
+conf_is text first second types f suffix one two defined found some =
+    ap (λ (r : Types). r >>= λ ts. (found_in ts none_found (lines_of text) >>= λ g. rules_of ts g.slots g.suffix)) (ap (λ (ls : List Line). types_in (defined_by built_in ls)) (sym one) ∙ defined)
+    ∙ ap (λ (r : Later). r >>= λ g. rules_of types g.slots g.suffix) (ap (λ (ls : List Line). found_in types none_found ls) (sym two) ∙ found)
+    ∙ ap (λ (o : Option (List Rdn)). rules_of types f.slots o) some

@@ -1,6 +1,7 @@
--- A configuration: its attribute types and its suffix; and where a name stands under it.
+-- A configuration: its attribute types, its suffix and its slots; and where a name stands under it.
 use Rattle.std.specs.Prelude.{◌≡◌, ℕ, ◌<◌, ◌≤◌, Bool, true, nat_lt, if◌then◌else◌, List, [], ◌∷◌, ◌++◌, map, take, length, reverse, Result, Ok, Err}
 use Rattle.std.specs.List.{list_any, list_all, AllByRecursion, IsDistinct}
+use Rattle.std.specs.List.Sorted.{IsStrictlySortedBy}
 use Rattle.std.specs.Ordering.{is_eq}
 use Rattle.values.specs.declared.types.AttributeType.{AttributeType}
 use Rattle.schema.specs.declared.code.Code.{Code}
@@ -15,11 +16,15 @@ use Rattle.base.specs.Answers.{◌>>=◌}
 use Rattle.dn.specs.Names as names
 use Rattle.dn.specs.Writing.{text_of}
 use Rattle.schema.specs.Names.{name_in, written_rdn}
+use Rattle.schema.specs.declared.slots.Slot.{Slot}
+use Rattle.schema.specs.Slots.{slot_cmp, IsSlot}
 
 pub record Conf : Type 0 where
   pub types : List AttributeType
   -- the suffix's RDNs, the first one its own entry's
   pub suffix : List Rdn
+  -- what is indexed, by the numbers of the types and then by kind
+  pub slots : List Slot
 
 -- ---- where a name stands
 
@@ -77,6 +82,8 @@ pub record IsConf (conf : Conf) : Type 0 where
   pub types_few : length conf.types ≤ 65535
   pub suffix : AllByRecursion (IsRdn conf.types) conf.suffix
   pub suffix_some : nat_lt 0 (length conf.suffix) ≡ true
+  pub slots : AllByRecursion (IsSlot conf.types) conf.slots
+  pub slots_rise : IsStrictlySortedBy slot_cmp conf.slots
 
 -- the RDN of the suffix's own entry
 abbrev pub root_rdn : Conf → Rdn

@@ -3,6 +3,10 @@ use Rattle.std.specs.Prelude.{ℕ, List, codes}
 use Rattle.schema.specs.declared.conf_fault.ConfFaultKind.{ConfFaultKind}
 use Rattle.schema.specs.declared.conf_fault.ConfFaultKind.TheVariants.{Keyword, Form, Twice, UnknownName, Subtype, RuleSyntax, Suffix, Index, Collective, TooManyTypes}
 
+-- a line's number and its kind of fault
+abbrev pub At : Type 0
+At = ℕ × ConfFaultKind
+
 abbrev pub kind_number : ConfFaultKind → ℕ
 kind_number Keyword = 1
 kind_number Form = 2

@@ -1,4 +1,4 @@
--- The configuration that the text of a dir.conf says, or its first fault. In this profile there are no indexes.
+-- The configuration that the text of a dir.conf says, or its first fault.
 use Rattle.std.specs.Prelude.{ℕ, Bool, false, ◌&&◌, ◌||◌, ◌==◌, nat_le, is_some, ◌-◌, if◌then◌else◌, List, [], ◌∷◌, ◌++◌, take, drop, length, Option, Some, None, Result, Ok, Err, codes}
 use Rattle.std.specs.List.{list_any, list_all}
 use Rattle.std.specs.Option.{option_map}
@@ -23,10 +23,9 @@ use Rattle.schema.specs.TypeRules.{type_with, object_class, has_twin, up_of, bre
 use Rattle.schema.specs.Rdns.{Rdn}
 use Rattle.schema.specs.Values.{rdns_in}
 use Rattle.schema.specs.Conf.{Conf}
-
--- a line's number and its kind of fault
-abbrev pub At : Type 0
-At = ℕ × ConfFaultKind
+use Rattle.schema.specs.declared.slots.Slot.{Slot}
+use Rattle.schema.specs.Slots.{slots_in, in_order}
+pub use Rattle.schema.specs.ConfFaults.{At}
 
 -- an empty line or a comment
 abbrev pub says_nothing : List ℕ → Bool
@@ -177,24 +176,40 @@ some_rdns line (Err code) = Err (line, Suffix)
 abbrev pub suffix_at : List AttributeType → ℕ → List ℕ → Result (Option (List Rdn)) At
 suffix_at types line text = some_rdns line (rdns_in types text)
 
--- a line of the second pass: one suffix, and no indexes in this profile
-unfoldable pub suffix_line : List AttributeType → Option (List Rdn) → Line → Result (Option (List Rdn)) At
-suffix_line types found l =
-    if says_nothing l.text then Ok found
-    else (if is_first (codes "index") l.text then Err (l.number, Form)
-    else (if is_first (codes "suffix") l.text then (if is_some found then Err (l.number, Suffix) else suffix_at types l.number (suffix_text l.text))
-    else Ok found))
+-- ---- the lines that are looked at after all others
 
-abbrev pub suffix_of : List AttributeType → Option (List Rdn) → List Line → Result (Option (List Rdn)) At
-suffix_of types found ls = through (suffix_line types) found ls
+-- the suffix that was found, and the slots that were said so far
+pub record Found : Type 0 where
+  pub suffix : Option (List Rdn)
+  pub slots : List Slot
+
+abbrev pub none_found : Found
+none_found = record { suffix = None; slots = [] }
+
+abbrev pub with_suffix : Found → Result (Option (List Rdn)) At → Result Found At
+with_suffix f r = r >>= λ suffix. Ok (record f { suffix = suffix })
+
+abbrev pub with_slots : Found → Result (List Slot) At → Result Found At
+with_slots f r = r >>= λ slots. Ok (record f { slots = f.slots ++ slots })
+
+-- a line of the second pass: one suffix, and any indexes
+unfoldable pub later_line : List AttributeType → Found → Line → Result Found At
+later_line types f l =
+    if says_nothing l.text then Ok f
+    else (if is_first (codes "index") l.text then with_slots f (slots_in types l.number (after_word l.text))
+    else (if is_first (codes "suffix") l.text then (if is_some f.suffix then Err (l.number, Suffix) else with_suffix f (suffix_at types l.number (suffix_text l.text)))
+    else Ok f))
+
+abbrev pub found_in : List AttributeType → Found → List Line → Result Found At
+found_in types f ls = through (later_line types) f ls
 
 -- ---- the whole text
 
-abbrev pub rules_of : List AttributeType → Option (List Rdn) → Result Conf At
-rules_of types None = Err (0, Suffix)
-rules_of types (Some suffix) = Ok (record { types = types; suffix = suffix })
+abbrev pub rules_of : List AttributeType → List Slot → Option (List Rdn) → Result Conf At
+rules_of types slots None = Err (0, Suffix)
+rules_of types slots (Some suffix) = Ok (record { types = types; suffix = suffix; slots = in_order (length types) slots })
 
 unfoldable pub conf_of : List ℕ → Result Conf At
 conf_of text =
     types_in (defined_by built_in (lines_of text)) >>= λ types.
-    (suffix_of types None (lines_of text) >>= λ suffix. rules_of types suffix)
+    (found_in types none_found (lines_of text) >>= λ found. rules_of types found.slots found.suffix)

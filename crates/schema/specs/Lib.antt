@@ -9,6 +9,7 @@ pub mod RuleNames
 pub mod TypeRules
 pub mod Gives
 pub mod ConfFaults
+pub mod Slots
 pub mod Configurations
 pub mod Reads
 pub mod inner

@@ -5,16 +5,18 @@ ghost use Rattle.schema.specs.Rdns.{rdn_key_of};
 ghost use Rattle.values.specs.Types.{type_of, name_of, type_at};
 
 use crate::locate::TypedName;
+use crate::slots::Slot;
 use base::Sequence;
 use paths::{Path, Rdn};
 use std::marker::Model;
 use values::{AttributeType, TypeId, TypeTable};
 
-/// The configuration of a directory. A contract sees its attribute types and its suffix.
+/// The configuration of a directory. A contract sees its attribute types, its suffix and its slots.
 #[derive(Debug, Drop)]
 pub struct Conf {
     types: TypeTable,
     suffix: Sequence<Rdn>,
+    slots: Sequence<Slot>,
     // what the suffix's RDNs come to, from the root of the tree down
     root: Path,
 }
@@ -26,24 +28,25 @@ impl Model for Conf {
 
     ghost Value = { Conf };
 
-    ghost view = { λ c. record { types = c.types; suffix = c.suffix } };
+    ghost view = { λ c. record { types = c.types; suffix = c.suffix; slots = c.slots } };
 
-    ghost invariant = { λ c. (IsConf (record { types = c.types; suffix = c.suffix })) × (c.root ≡ map (rdn_key_of c.types) (reverse c.suffix)) };
+    ghost invariant = { λ c. (IsConf (record { types = c.types; suffix = c.suffix; slots = c.slots })) × (c.root ≡ map (rdn_key_of c.types) (reverse c.suffix)) };
 }
 
 impl Conf {
     ghost use Rattle.schema.specs.Conf.{IsConf, root_rdn};
     ghost use Rattle.schema.specs.inner.Keys.{KeysFit};
 
-    pub(crate) fn new(types: TypeTable, suffix: TypedName) -> Conf
-        requires same_conf { IsConf (record { types = types; suffix = suffix.rdns.items }) }
+    pub(crate) fn new(types: TypeTable, suffix: TypedName, slots: Sequence<Slot>) -> Conf
+        requires same_conf { IsConf (record { types = types; suffix = suffix.rdns.items; slots = slots }) }
         requires keys { KeysFit types suffix }
-        ensures { result ≡ record { types = types; suffix = suffix.rdns.items } }
+        ensures { result ≡ record { types = types; suffix = suffix.rdns.items; slots = slots } }
     {
         let TypedName { rdns, path } = suffix;
         Conf {
             types,
             suffix: Sequence::from_vec(rdns),
+            slots,
             root: path,
         }
     }
@@ -89,6 +92,13 @@ impl Conf {
         ensures { result.now ≡ self.now.suffix }
     {
         self.suffix.as_slice()
+    }
+
+    /// What is indexed: each slot once, by the number of its type, and then by its kind: equality, presence, substrings.
+    pub fn slots(&self) -> &[Slot]
+        ensures { result.now ≡ self.now.slots }
+    {
+        self.slots.as_slice()
     }
 
     /// What the suffix's RDNs come to, from the root of the tree down.

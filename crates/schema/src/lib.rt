@@ -1,4 +1,4 @@
-//! The configuration of a directory: its attribute types and suffix, and where names stand.
+//! The configuration of a directory: its attribute types, suffix and indexes, and where names stand.
 //!
 //! The functions of `laws` do nothing, and neither does `Conf::holds`: a call of one is made for what it states alone.
 #![tactic(auto)]
@@ -12,11 +12,14 @@ mod configuration;
 mod defined;
 mod dn_values;
 mod fault;
+mod index_lines;
+mod later_lines;
 mod laws;
 mod locate;
 mod names;
 mod rdns;
 mod rule_names;
+mod slots;
 mod suffix_lines;
 mod type_lines;
 mod type_readers;
@@ -37,4 +40,5 @@ pub use locate::Located;
 pub use matching::{Family, Syntax};
 pub use names::read_dn;
 pub use paths::{Path, Rdn, RdnKey, order_of_paths};
+pub use slots::{IndexKind, Slot};
 pub use values::{AttributeType, EqualityRule, TypeId, TypeSyntax, Value, ValueFault};

@@ -1,19 +1,19 @@
 //! Reading the suffix of a configuration.
 
-ghost use Rattle.std.specs.Prelude.{◌≡◌, IfOk, Some, None, OnOk};
-ghost use Rattle.schema.specs.Configurations.{is_quoted, unquoted, suffix_text, suffix_at, suffix_line, suffix_of};
+ghost use Rattle.std.specs.Prelude.{◌≡◌, IfOk, Some};
+ghost use Rattle.schema.specs.Configurations.{is_quoted, unquoted, suffix_text, suffix_at};
 ghost use Rattle.schema.specs.Values.{rdns_in};
 ghost use Rattle.schema.specs.Gives.{Gives};
 ghost use Rattle.schema.specs.Reads.{Reads};
-ghost use Rattle.schema.specs.inner.Keys.{KeysFit, rdns_found, FoundFits};
+ghost use Rattle.schema.specs.inner.Keys.{KeysFit};
 
 use crate::conf_fault::{ConfFault, ConfFaultKind};
-use crate::conf_lines::{fault, is_first, says_nothing};
+use crate::conf_lines::fault;
 use crate::fault::PathFault;
 use crate::locate::{TypedName, typed};
 use crate::names::read_dn;
 use base::{begins_with, without_end};
-use definitions::{Line, skip, split_first_word};
+use definitions::{skip, split_first_word};
 use std::alloc::Global;
 use values::TypeTable;
 
@@ -36,7 +36,8 @@ fn unquoted(text: &[u8]) -> &[u8]
     }
 }
 
-fn suffix_text(line: &[u8]) -> &[u8]
+/// What a suffix line says behind its first word.
+pub(crate) fn suffix_text(line: &[u8]) -> &[u8]
     ensures { result.now ≡ suffix_text line.now }
 {
     unquoted(without_end(skip(split_first_word(line).1)))
@@ -51,7 +52,8 @@ fn typed_name(alloc: Global, types: &TypeTable, text: &[u8]) -> Result<TypedName
     typed(alloc, types, &name)
 }
 
-fn suffix_at(
+/// The suffix that a text spells.
+pub(crate) fn suffix_at(
     alloc: Global,
     types: &TypeTable,
     line: u64,
@@ -71,49 +73,4 @@ fn suffix_at(
         Err(PathFault::OutOfMemory) => Err(ConfFault::OutOfMemory),
         Err(PathFault::Code(_)) => Err(fault(line, ConfFaultKind::Suffix)),
     }
-}
-
-// a line of the second pass
-#[tactic(auto, unfolding(crate::specs::Configurations::suffix_line))]
-fn read_suffix_line(
-    alloc: Global,
-    types: &TypeTable,
-    found: &mut Option<TypedName>,
-    line: &Line,
-) -> Result<(), ConfFault>
-    requires { FoundFits types.now found.old }
-    ensures rdns { Reads (λ _. rdns_found found.new) result (suffix_line types.now (rdns_found found.old) line.now) }
-    ensures keys { OnOk result (FoundFits types.now found.new) }
-{
-    let text = line.text.as_slice();
-    if says_nothing(text) {
-        return Ok(());
-    }
-    if is_first(b"index", text) {
-        return Err(fault(line.number, ConfFaultKind::Form));
-    }
-    if !is_first(b"suffix", text) {
-        return Ok(());
-    }
-    if found.is_some() {
-        return Err(fault(line.number, ConfFaultKind::Suffix));
-    }
-    *found = Some(suffix_at(alloc, types, line.number, suffix_text(text))?);
-    Ok(())
-}
-
-/// The suffix that the lines say, if there is one.
-pub(crate) fn suffix_of(
-    alloc: Global,
-    types: &TypeTable,
-    lines: &[Line],
-) -> Result<Option<TypedName>, ConfFault>
-    ensures rdns { Reads rdns_found result (suffix_of types.now None lines.now) }
-    ensures keys { IfOk result (FoundFits types.now) }
-{
-    let mut found = None;
-    for line in lines {
-        read_suffix_line(alloc, types, &mut found, line)?;
-    }
-    Ok(found)
 }
