@@ -83,6 +83,7 @@ conf = record {
   types = object_class ∷ text_type (codes "0.9.2342.19200300.100.1.25") (codes "dc") ∷ text_type (codes "2.5.4.3") (codes "cn") ∷ [];
   suffix = ((1, codes "ex") ∷ []) ∷ [];
   slots = [];
+  classes = [];
 }
 
 -- ---- reports

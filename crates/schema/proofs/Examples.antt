@@ -52,6 +52,7 @@ conf = record {
       ∷ type_with (codes "1.4") (codes "d") type_syntaxes.Name None ∷ type_with (codes "1.5") (codes "n") (type_syntaxes.Plain syntaxes.Integer) None ∷ type_with (codes "1.6") (codes "i") (type_syntaxes.Plain syntaxes.Integer) (Some (rules.Plain families.Integer)) ∷ [];
   suffix = step 0 (codes "top") ∷ [];
   slots = [];
+  classes = [];
 }
 
 -- what a name's text is read by

@@ -9,6 +9,9 @@ pub mod SlotOrder
 pub mod SlotLines
 pub mod Whole
 pub mod Taken
+pub mod OneMore
+pub mod ClassesFound
+pub mod ClassesKept
 pub mod Twins
 pub mod Examples
 pub mod ValueExamples

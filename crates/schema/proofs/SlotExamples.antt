@@ -1,7 +1,9 @@
 -- Worked examples of index lines, by computation.
 use Rattle.std.proofs.Common.{◌≡◌, ℕ, Bool, true, false, List, [], ◌∷◌, ◌++◌, Result, refl}
 use Rattle.std.specs.Prelude.{⊤, codes, Option, Some, None, Ok, Err}
-use Rattle.matching.specs.declared.family.Family.{Family}
+use Rattle.values.specs.declared.types.TypeSyntax.TheVariants as type_syntaxes
+use Rattle.values.specs.declared.types.EqualityRule.{EqualityRule}
+use Rattle.values.specs.declared.types.EqualityRule.TheVariants as rules
 use Rattle.matching.specs.declared.family.Family.TheVariants as families
 use Rattle.matching.specs.declared.syntax.Syntax.TheVariants as syntaxes
 use Rattle.base.specs.Answers.{each, through}
@@ -20,13 +22,13 @@ use Rattle.schema.specs.Configurations.{Found, none_found, later_line, found_in}
 use Rattle.schema.specs.Slots.{in_order, slots_in}
 
 -- a type with both rules or none
-abbrev type_with : List ℕ → List ℕ → Option Family → Bool → AttributeType
+abbrev type_with : List ℕ → List ℕ → Option EqualityRule → Bool → AttributeType
 type_with oid name equality substrings =
-    record { oid = oid; names = name ∷ []; superior = None; syntax = syntaxes.Text; equality = equality; is_ordered = false; has_substrings = substrings; single_value = false; is_fixed = false; is_operational = false }
+    record { oid = oid; names = name ∷ []; superior = None; syntax = type_syntaxes.Plain syntaxes.Text; equality = equality; is_ordered = false; has_substrings = substrings; single_value = false; is_fixed = false; is_operational = false }
 
 -- objectClass, cn with rules of equality and substrings, and one type without rules
 abbrev types : List AttributeType
-types = object_class ∷ type_with (codes "2.5.4.3") (codes "cn") (Some families.Ignore) true ∷ type_with (codes "1.9") (codes "note") None false ∷ []
+types = object_class ∷ type_with (codes "2.5.4.3") (codes "cn") (Some (rules.Plain families.Ignore)) true ∷ type_with (codes "1.9") (codes "note") None false ∷ []
 
 abbrev slot : ℕ → IndexKind → Slot
 slot t kind = record { type_id = t; kind = kind }

@@ -1,13 +1,17 @@
 -- Whether one of a definition's names is there already: each is looked up by itself.
-use Rattle.std.proofs.Common.{◌≡◌, ℕ, ◌+◌, Bool, true, false, cond, ◌||◌, List, [], ◌∷◌, map, Option, Some, None, refl, sym, ap, ◌∙◌}
+use Rattle.std.proofs.Common.{◌≡◌, ℕ, ◌+◌, Bool, true, false, cond, ◌||◌, List, [], ◌∷◌, length, map, Option, Some, None, refl, sym, ap, ◌∙◌}
 use Rattle.std.specs.Prelude.{is_some}
 use Rattle.std.specs.List.{list_any, position_from}
+use Rattle.std.proofs.lemmas.Bool.{lt-ltb}
+use Rattle.std.proofs.lemmas.List.Quantifiers.{position-Some}
 use Rattle.std.proofs.lemmas.Iterator.Adapters.{position_from-zero}
 use Rattle.values.specs.declared.types.AttributeType.{AttributeType}
 use Rattle.values.specs.Tables.{or_if}
-use Rattle.values.specs.Types.{is_named, type_of}
+use Rattle.values.specs.Types.{is_named, is_known, type_of, no_type}
 use Rattle.definitions.specs.declared.element.Element.{Element}
-use Rattle.schema.specs.Configurations.{is_type, names_one, is_class, is_class_named, shares_class_name}
+use Rattle.schema.specs.declared.object_class.ObjectClass.{ObjectClass}
+use Rattle.schema.specs.Classes.{is_class, is_class_named}
+use Rattle.schema.specs.Configurations.{is_type, names_one, shares_class_name}
 
 or_swap : (a b c d : Bool) → ((a || b) || (c || d)) ≡ ((a || c) || (b || d))
 or_swap true b c d = refl
@@ -36,7 +40,7 @@ any_swap : {X Y : Type 0} (p : X → Y → Bool) (xs : List X) (ys : List Y) →
 any_swap p [] ys = any_none ys
 any_swap p (x ∷ xs) ys = any_or (p x) (λ y. list_any (λ z. p z y) xs) ys ∙ ap (λ (b : Bool). list_any (p x) ys || b) (any_swap p xs ys)
 
-from_is_any : {X : Type 0} (p : X → Bool) (i : ℕ) (xs : List X) → is_some (position_from p i xs) ≡ list_any p xs
+pub from_is_any : {X : Type 0} (p : X → Bool) (i : ℕ) (xs : List X) → is_some (position_from p i xs) ≡ list_any p xs
 from_is_any p i [] = refl
 from_is_any p i (x ∷ xs) =
     elim (p x) as (λ b. is_some (cond b (Some i) (position_from p (i + 1) xs)) ≡ (b || list_any p xs)) [ true ↦ refl | false ↦ from_is_any p (i + 1) xs ]
@@ -45,10 +49,14 @@ pub type_is_there : (types : List AttributeType) (name : List ℕ) → is_some (
 unfolding type_of
 type_is_there types name = ap (λ (o : Option ℕ). is_some o) (position_from-zero (is_named name) types) ∙ from_is_any (is_named name) 0 types
 
+pub known_type : (types : List AttributeType) (name : List ℕ) (t : ℕ) → type_of types name ≡ Some t → is_known types t ≡ true
+unfolding type_of
+known_type types name t e = lt-ltb t (length types) (position-Some (is_named name) types t no_type e).0
+
 pub types_share : (types : List AttributeType) (e : Element) → list_any (names_one e) types ≡ (is_type types e.oid || list_any (is_type types) e.names)
 types_share types e = any_swap is_named (e.oid ∷ e.names) types
 
-pub classes_share : (classes : List Element) (e : Element) → list_any (shares_class_name e) classes ≡ (is_class classes e.oid || list_any (is_class classes) e.names)
+pub classes_share : (classes : List ObjectClass) (e : Element) → list_any (shares_class_name e) classes ≡ (is_class classes e.oid || list_any (is_class classes) e.names)
 classes_share classes e = any_swap is_class_named (e.oid ∷ e.names) classes
 
 pub some_or_if : (o : Option ℕ) (b : Bool) (n : ℕ) → is_some (or_if o b n) ≡ (is_some o || b)

@@ -6,7 +6,7 @@ use Rattle.std.specs.Option.{option_map}
 use Rattle.std.proofs.lemmas.Bool.{or_parts, lt-ltb, ltb-true}
 use Rattle.std.proofs.lemmas.Bool.Decides.{nat_tests}
 use Rattle.values.specs.declared.types.AttributeType.{AttributeType}
-use Rattle.values.specs.Types.{is_named, is_known, type_of, type_at, no_type, plain_family}
+use Rattle.values.specs.Types.{is_named, type_of, type_at, no_type, plain_family}
 use Rattle.matching.specs.declared.family.Family.{Family}
 use Rattle.values.specs.declared.types.EqualityRule.{EqualityRule}
 use Rattle.values.specs.declared.types.EqualityRule.TheVariants as rules
@@ -14,7 +14,6 @@ use Rattle.matching.specs.declared.family.Family.TheVariants as families
 use Rattle.std.proofs.lemmas.List.{take-append-le}
 use Rattle.std.proofs.Math.Seq.{take-append_seam, get_or-append_seam}
 use Rattle.std.proofs.Math.ListN.{get_or-append}
-use Rattle.std.proofs.lemmas.List.Quantifiers.{position-Some}
 use Rattle.definitions.specs.declared.element.Element.{Element}
 use Rattle.definitions.specs.declared.lines.Line.{Line}
 use Rattle.definitions.specs.declared.type_definition.TypeDefinition.{TypeDefinition}
@@ -33,13 +32,17 @@ use Rattle.schema.specs.GoodRdns.{IsRdn}
 use Rattle.schema.specs.Names.{name_in}
 use Rattle.schema.specs.Values.{rdns_in}
 use Rattle.schema.specs.Conf.{IsConf, IsType, share_name}
-use Rattle.base.proofs.Each.{passed_on}
 use Rattle.base.proofs.Bound.{bind_ok, same_ok}
-use Rattle.base.specs.Answers.{◌>>=◌, through, Fails}
-use Rattle.schema.specs.Configurations.{At, says_nothing, is_first, is_built_in, names_one, is_taken, superior_of, flaw_of, unless, below, refused, placed, Defined, built_in, or_fault, class_refused, class_placed, with_types, types_in, definition_line, defined_by, some_rdns, suffix_at, suffix_text, Found, none_found, with_suffix, with_slots, later_line, found_in, rules_of, conf_of}
+use Rattle.base.specs.Answers.{◌>>=◌, through}
 use Rattle.paths.proofs.Unpacked.{all_append}
+use Rattle.schema.specs.declared.object_class.ObjectClass.{ObjectClass}
+use Rattle.schema.specs.Classes.{class_at, top, extensible_object}
 use Rattle.schema.specs.declared.slots.Slot.{Slot}
 use Rattle.schema.specs.Slots.{IsSlot, slots_in, in_order}
+use Rattle.schema.specs.Configurations.{At, says_nothing, is_first, is_built_in, names_one, is_taken, superior_of, flaw_of, unless, below, refused, placed, Defined, built_in, class_placed, with_types, definition_line, defined_by, some_rdns, suffix_at, suffix_text, Found, none_found, with_suffix, with_slots, later_line, found_in, rules_of, conf_of}
+use Rattle.schema.proofs.OneMore.{all_put, distinct_put, not_below}
+use Rattle.schema.proofs.Taken.{known_type}
+use Rattle.schema.proofs.ClassesKept.{AreClasses, class_keeps, with_more_types, built_in_are}
 use Rattle.schema.proofs.Found.{SpellsRead, name_has_parts, rdns_are}
 use Rattle.schema.proofs.SlotLines.{slots_are}
 use Rattle.schema.proofs.SlotOrder.{in_order_keeps, in_order_rises}
@@ -65,17 +68,6 @@ pub record AreTypes (types : List AttributeType) : Type 0 where
   pub fits : (t : ℕ) → t < length types → FitsBehind (take t types) (type_at types t)
   pub apart : IsDistinct share_name types
   pub few : length types ≤ 65535
-
-all_put : {X : Type 0} (P : X → Type 0) (xs : List X) (x : X) → AllByRecursion P xs → P x → AllByRecursion P (xs ++ x ∷ [])
-all_put P [] x h k = (k, tt)
-all_put P (y ∷ ys) x h k = (h.0, all_put P ys x h.1 k)
-
-distinct_put : {X : Type 0} (E : X → X → Bool) (xs : List X) (x : X) → IsDistinct E xs → list_any (λ y. E y x) xs ≡ false → IsDistinct E (xs ++ x ∷ [])
-unfolding IsDistinct
-distinct_put E [] x h k = (tt, tt)
-distinct_put E (y ∷ ys) x h k =
-    let o = or_parts (E y x) (list_any (λ z. E z x) ys) k in
-    (all_put (λ z. E y z ≡ false) ys x h.0 o.0, distinct_put E ys x h.1 o.1)
 
 -- no type that is there has a name of another: of an element's names
 apart_from : (types : List AttributeType) (e : Element) (new : AttributeType) → new.oid ≡ e.oid → new.names ≡ e.names → list_any (names_one e) types ≡ false → list_any (λ t. share_name t new) types ≡ false
@@ -116,9 +108,6 @@ passes types d e = by (nat_le 65535 (length types)) refl (is_taken types d.eleme
 same_some : {X : Type 0} (x y : X) → ◌≡◌ {A = Option X} (Some x) (Some y) → x ≡ y
 same_some x y e = cc
 
-not_below : (t n : ℕ) → nat_lt t n ≡ false → n ≤ t
-not_below t n h = grind (arith, nat_tests)
-
 no_name_rule : (f : Family) → is_equality (rules.Plain f) (Some rules.Name) ≡ false
 no_name_rule families.Ignore = refl
 no_name_rule families.Exact = refl
@@ -134,10 +123,6 @@ goes_with_rule None e h = absurd cc
 goes_with_rule (Some f) None h = absurd cc
 goes_with_rule (Some f) (Some rules.Name) h = absurd (let no = sym (no_name_rule f) ∙ h in cc)
 goes_with_rule (Some f) (Some (rules.Plain g)) h = refl
-
-known_type : (types : List AttributeType) (name : List ℕ) (t : ℕ) → type_of types name ≡ Some t → is_known types t ≡ true
-unfolding type_of
-known_type types name t e = lt-ltb t (length types) (position-Some (is_named name) types t no_type e).0
 
 above_is : (types : List AttributeType) (name : Option (List ℕ)) (number : Option ℕ) → superior_of types name ≡ Some number → IsAbove types number
 above_is types None number e = subst (IsAbove types) (same_some None number e) tt
@@ -216,6 +201,26 @@ placed_keeps types line (Some d) out h is e =
           added_keeps types line d (superior_of types d.superior) out h (passes types d k.0) is refl k.1
     ] e
 
+below_grows : (types : List AttributeType) (line : ℕ) (d : TypeDefinition) (number : Option (Option ℕ)) (out : List AttributeType) → below types line d number ≡ Ok out → length types ≤ length out
+below_grows types line d None out e = absurd cc
+below_grows types line d (Some number) out e =
+    let new = type_with d number (up_of types number) in
+    let k = unrefused line (flaw_of new (up_of types number)) (Ok (types ++ new ∷ [])) out e in
+    let long = length-append types (new ∷ []) in
+    subst (λ (ts : List AttributeType). length types ≤ length ts) (same_ok (types ++ new ∷ []) out k.1) (omega (arith, long))
+
+-- no type is taken away
+placed_grows : (types : List AttributeType) (line : ℕ) (d : Option TypeDefinition) (out : List AttributeType) → placed types line d ≡ Ok out → length types ≤ length out
+unfolding placed
+placed_grows types line None out e = absurd cc
+placed_grows types line (Some d) out e =
+    elim (is_built_in d.element.oid) as (λ a. cond {A = Types} a (Ok types) (unless line (refused types d) (below types line d (superior_of types d.superior))) ≡ Ok out → length types ≤ length out) [
+      | true ↦ λ said. subst (λ (ts : List AttributeType). length types ≤ length ts) (same_ok types out said) (omega arith)
+      | false ↦ λ said.
+          let k = unrefused line (refused types d) (below types line d (superior_of types d.superior)) out said in
+          below_grows types line d (superior_of types d.superior) out k.1
+    ] e
+
 either : {R : Type 0} (Q : R → Type 0) (b : Bool) (x y : R) → Q x → Q y → Q (cond b x y)
 either Q true x y h k = h
 either Q false x y h k = k
@@ -236,35 +241,24 @@ outcome_ok s = Ok s
 abbrev outcome_err : ℕ → ConfFaultKind → Outcome
 outcome_err line kind = Err (line, kind)
 
-same_defined : (x y : Defined) → ◌≡◌ {A = Outcome} (Ok x) (Ok y) → x ≡ y
-same_defined x y e = cc
+pub record Holds (s : Defined) : Type 0 where
+  pub types : AreTypes s.types
+  pub classes : AreClasses s.types s.classes
 
-abbrev DefinesTypes : Defined → Type 0
-DefinesTypes s = AreTypes s.types
-
--- types that are put keep, and classes that are put change none
-types_put : (s : Defined) (r : Types) (out : Defined) → ((ts : List AttributeType) → r ≡ Ok ts → AreTypes ts) → with_types s r ≡ Ok out → DefinesTypes out
-types_put s (Ok ts) out keeps e = subst DefinesTypes (same_defined (record s { types = ts }) out e) (keeps ts refl)
+types_put : (s : Defined) (r : Types) (out : Defined) → ((ts : List AttributeType) → r ≡ Ok ts → Holds (record s { types = ts })) → with_types s r ≡ Ok out → Holds out
+types_put s (Ok ts) out keeps e = subst Holds (same_ok (record s { types = ts }) out e) (keeps ts refl)
 types_put s (Err f) out keeps e = absurd cc
 
-fault_kept : (s : Defined) (line : ℕ) (o : Option ConfFaultKind) (out : Defined) → DefinesTypes s → or_fault line o s ≡ Ok out → DefinesTypes out
-fault_kept s line None out h e = subst DefinesTypes (same_defined s out e) h
-fault_kept s line (Some kind) out h e = absurd cc
+class_put : (s : Defined) (line : ℕ) (d : Option ClassDefinition) (out : Defined) → Holds s → class_placed s line d ≡ Ok out → Holds out
+class_put s line d out h e =
+    let k = class_keeps s line d out h.classes e in
+    subst Holds k.2 (record { types = h.types; classes = k.1 })
 
-class_keeps : (s : Defined) (line : ℕ) (d : Option ClassDefinition) (out : Defined) → DefinesTypes s → class_placed s line d ≡ Ok out → DefinesTypes out
-unfolding class_placed
-class_keeps s line None out h e = absurd cc
-class_keeps s line (Some d) out h e =
-    elim (is_built_in d.element.oid) as (λ a. cond {A = Outcome} a (Ok s) (or_fault line (class_refused s d) (record s { classes = s.classes ++ d.element ∷ [] })) ≡ Ok out → DefinesTypes out) [
-      | true ↦ λ said. subst DefinesTypes (same_defined s out said) h
-      | false ↦ λ said. fault_kept (record s { classes = s.classes ++ d.element ∷ [] }) line (class_refused s d) out h said
-    ] e
-
-line_keeps : Defines → (s : Defined) (l : Line) (out : Defined) → DefinesTypes s → definition_line s l ≡ Ok out → DefinesTypes out
+line_keeps : Defines → (s : Defined) (l : Line) (out : Defined) → Holds s → definition_line s l ≡ Ok out → Holds out
 unfolding definition_line
 line_keeps law s l out h e =
-    let Keeps : Outcome → Type 0 = λ r. r ≡ Ok out → DefinesTypes out in
-    let same : Keeps (outcome_ok s) = λ said. subst DefinesTypes (same_defined s out said) h in
+    let Keeps : Outcome → Type 0 = λ r. r ≡ Ok out → Holds out in
+    let same : Keeps (outcome_ok s) = λ said. subst Holds (same_ok s out said) h in
     let classes : Outcome = class_placed s l.number (class_definition_of (after_word l.text)) in
     let types : Outcome = with_types s (placed s.types l.number (type_definition_of (after_word l.text))) in
     let last : Outcome = cond (is_first (codes "objectclass") l.text) classes (outcome_err l.number Keyword) in
@@ -275,13 +269,13 @@ line_keeps law s l out h e =
     (either Keeps (begins_blank l.text) (outcome_err l.number Form) words (λ said. absurd cc)
     (either Keeps (is_first (codes "suffix") l.text || is_first (codes "index") l.text) (outcome_ok s) defs same
     (either Keeps (is_first (codes "attributetype") l.text) types last
-    (types_put s (placed s.types l.number (type_definition_of (after_word l.text))) out (λ ts said. placed_keeps s.types l.number (type_definition_of (after_word l.text)) ts h (defined law (after_word l.text)) said))
+    (types_put s (placed s.types l.number (type_definition_of (after_word l.text))) out (λ ts said. record {
+      types = placed_keeps s.types l.number (type_definition_of (after_word l.text)) ts h.types (defined law (after_word l.text)) said;
+      classes = with_more_types s.types ts s.classes (placed_grows s.types l.number (type_definition_of (after_word l.text)) ts said) h.classes;
+    }))
     (either Keeps (is_first (codes "objectclass") l.text) classes (outcome_err l.number Keyword)
-    (class_keeps s l.number (class_definition_of (after_word l.text)) out h)
+    (class_put s l.number (class_definition_of (after_word l.text)) out h)
     (λ said. absurd cc))))) e
-
-pub types_fail : (e : Option At) (r : Outcome) → Fails e r → Fails e (types_in r)
-types_fail e r = passed_on e r (types_in r) λ fault is. ap types_in is
 
 fits_one : (t : ℕ) → t < length (object_class ∷ []) → FitsAt (object_class ∷ []) t
 fits_one zero lt = record { superior = tt; agrees = refl; syntax = refl; ordered = λ h. absurd cc; substrings = λ h. absurd cc; names_apart = refl }
@@ -297,12 +291,8 @@ object_class_is = record {
   few = lit≤ tt;
 }
 
-pub types_are : Defines → (ls : List Line) (out : List AttributeType) → types_in (defined_by built_in ls) ≡ Ok out → AreTypes out
-types_are law ls out e = by (defined_by built_in ls) refl e
-  where
-    by : (r : Outcome) → defined_by built_in ls ≡ r → types_in r ≡ Ok out → AreTypes out
-    by (Ok s) is said = subst AreTypes (same_ok s.types out said) (through_keeps DefinesTypes definition_line (line_keeps law) ls built_in s object_class_is is)
-    by (Err f) is said = absurd cc
+pub all_hold : Defines → (ls : List Line) (out : Defined) → defined_by built_in ls ≡ Ok out → Holds out
+all_hold law ls out e = through_keeps Holds definition_line (line_keeps law) ls built_in out (record { types = object_class_is; classes = built_in_are }) e
 
 -- ---- the suffix
 
@@ -368,24 +358,31 @@ later_line_keeps read types f l out h e =
 pub found_is : SpellsRead → (types : List AttributeType) (ls : List Line) (out : Found) → found_in types none_found ls ≡ Ok out → IsFound types out
 found_is read types ls out e = through_keeps (IsFound types) (later_line types) (later_line_keeps read types) ls none_found out (record { suffix = tt; slots = tt }) e
 
-pub rules_are : (types : List AttributeType) (suffix : List Rdn) (said : List Slot) → AreTypes types → IsSuffix types (Some suffix) → AllByRecursion (IsSlot types) said → IsConf (record { types = types; suffix = suffix; slots = in_order (length types) said })
-rules_are types suffix said h k slots =
-    record {
-      types = h.good;
-      first = ap (λ (ts : List AttributeType). type_at ts 0) h.first.1;
-      fits = h.fits;
-      types_apart = h.apart;
-      types_few = h.few;
-      suffix = k.0;
-      suffix_some = k.1;
-      slots = in_order_keeps (IsSlot types) (length types) said slots;
-      slots_rise = in_order_rises (length types) said;
-    }
+classes_some : (classes rest : List ObjectClass) → classes ≡ top ∷ extensible_object ∷ rest → nat_lt 1 (length classes) ≡ true
+classes_some classes rest e = ap (λ (cs : List ObjectClass). nat_lt 1 (length cs)) e ∙ lt-ltb 1 (length (top ∷ extensible_object ∷ rest)) (omega arith)
 
-pub conf_is : (text : List ℕ) (first second : List Line) (types : List AttributeType) (f : Found) (suffix : List Rdn) → first ≡ lines_of text → second ≡ lines_of text → types_in (defined_by built_in first) ≡ Ok types → found_in types none_found second ≡ Ok f
-    → f.suffix ≡ Some suffix → conf_of text ≡ Ok (record { types = types; suffix = suffix; slots = in_order (length types) f.slots })
+pub rules_are : (s : Defined) (suffix : List Rdn) (said : List Slot) → Holds s → IsSuffix s.types (Some suffix) → AllByRecursion (IsSlot s.types) said → IsConf (record { types = s.types; suffix = suffix; slots = in_order (length s.types) said; classes = s.classes })
+rules_are s suffix said h k slots = record {
+  types = h.types.good;
+  first = ap (λ (ts : List AttributeType). type_at ts 0) h.types.first.1;
+  fits = h.types.fits;
+  types_apart = h.types.apart;
+  types_few = h.types.few;
+  suffix = k.0;
+  suffix_some = k.1;
+  slots = in_order_keeps (IsSlot s.types) (length s.types) said slots;
+  slots_rise = in_order_rises (length s.types) said;
+  class_first = ap (λ (cs : List ObjectClass). class_at cs 0) h.classes.first.1;
+  class_second = ap (λ (cs : List ObjectClass). class_at cs 1) h.classes.first.1;
+  classes_some = classes_some s.classes h.classes.first.0 h.classes.first.1;
+  classes = h.classes.fits;
+  classes_apart = h.classes.apart;
+}
+
+pub conf_is : (text : List ℕ) (first second : List Line) (s : Defined) (f : Found) (suffix : List Rdn) → first ≡ lines_of text → second ≡ lines_of text → defined_by built_in first ≡ Ok s → found_in s.types none_found second ≡ Ok f
+    → f.suffix ≡ Some suffix → conf_of text ≡ Ok (record { types = s.types; suffix = suffix; slots = in_order (length s.types) f.slots; classes = s.classes })
 unfolding conf_of
-conf_is text first second types f suffix one two defined found some =
-    ap (λ (r : Types). r >>= λ ts. (found_in ts none_found (lines_of text) >>= λ g. rules_of ts g.slots g.suffix)) (ap (λ (ls : List Line). types_in (defined_by built_in ls)) (sym one) ∙ defined)
-    ∙ ap (λ (r : Later). r >>= λ g. rules_of types g.slots g.suffix) (ap (λ (ls : List Line). found_in types none_found ls) (sym two) ∙ found)
-    ∙ ap (λ (o : Option (List Rdn)). rules_of types f.slots o) some
+conf_is text first second s f suffix one two defined found some =
+    ap (λ (r : Outcome). r >>= λ d. (found_in d.types none_found (lines_of text) >>= λ g. rules_of d g.slots g.suffix)) (ap (λ (ls : List Line). defined_by built_in ls) (sym one) ∙ defined)
+    ∙ ap (λ (r : Later). r >>= λ g. rules_of s g.slots g.suffix) (ap (λ (ls : List Line). found_in s.types none_found ls) (sym two) ∙ found)
+    ∙ ap (λ (o : Option (List Rdn)). rules_of s f.slots o) some

@@ -1,4 +1,4 @@
--- A configuration: its attribute types, its suffix and its slots; and where a name stands under it.
+-- A configuration: its attribute types, its suffix, its slots and its object classes; and where a name stands under it.
 use Rattle.std.specs.Prelude.{◌≡◌, ℕ, ◌<◌, ◌≤◌, Bool, true, nat_lt, if◌then◌else◌, List, [], ◌∷◌, ◌++◌, map, take, length, reverse, Result, Ok, Err}
 use Rattle.std.specs.List.{list_any, list_all, AllByRecursion, IsDistinct}
 use Rattle.std.specs.List.Sorted.{IsStrictlySortedBy}
@@ -10,6 +10,8 @@ use Rattle.values.specs.Types.{names_of, is_named, type_at}
 use Rattle.definitions.specs.Naming.{is_oid, is_type_name}
 use Rattle.paths.specs.Paths.{RdnKey, Path, rdn_key_cmp}
 use Rattle.schema.specs.TypeRules.{object_class, FitsBehind}
+use Rattle.schema.specs.declared.object_class.ObjectClass.{ObjectClass}
+use Rattle.schema.specs.Classes.{class_at, top, extensible_object, share_class_name, IsClass}
 use Rattle.schema.specs.Rdns.{Rdn, typed, rdn_key_of}
 use Rattle.schema.specs.GoodRdns.{IsRdn}
 use Rattle.base.specs.Answers.{◌>>=◌}
@@ -25,6 +27,7 @@ pub record Conf : Type 0 where
   pub suffix : List Rdn
   -- what is indexed, by the numbers of the types and then by kind
   pub slots : List Slot
+  pub classes : List ObjectClass
 
 -- ---- where a name stands
 
@@ -84,6 +87,11 @@ pub record IsConf (conf : Conf) : Type 0 where
   pub suffix_some : nat_lt 0 (length conf.suffix) ≡ true
   pub slots : AllByRecursion (IsSlot conf.types) conf.slots
   pub slots_rise : IsStrictlySortedBy slot_cmp conf.slots
+  pub class_first : class_at conf.classes 0 ≡ top
+  pub class_second : class_at conf.classes 1 ≡ extensible_object
+  pub classes_some : nat_lt 1 (length conf.classes) ≡ true
+  pub classes : (c : ℕ) → c < length conf.classes → IsClass conf.types c (class_at conf.classes c)
+  pub classes_apart : IsDistinct share_class_name conf.classes
 
 -- the RDN of the suffix's own entry
 abbrev pub root_rdn : Conf → Rdn

@@ -1,6 +1,6 @@
 -- The configuration that the text of a dir.conf says, or its first fault.
-use Rattle.std.specs.Prelude.{ℕ, Bool, false, ◌&&◌, ◌||◌, ◌==◌, nat_le, is_some, ◌-◌, if◌then◌else◌, List, [], ◌∷◌, ◌++◌, take, drop, length, Option, Some, None, Result, Ok, Err, codes}
-use Rattle.std.specs.List.{list_any, list_all}
+use Rattle.std.specs.Prelude.{ℕ, Bool, ◌&&◌, ◌||◌, ◌==◌, nat_le, is_some, unwrap_or, ◌-◌, if◌then◌else◌, List, [], ◌∷◌, ◌++◌, take, drop, length, Option, Some, None, Result, Ok, Err, codes}
+use Rattle.std.specs.List.{list_any}
 use Rattle.std.specs.Option.{option_map}
 use Rattle.std.specs.Str.{str_eq_ignore_ascii_case, bytes_eq}
 use Rattle.base.specs.Ascii.{quotation_mark, number_sign}
@@ -9,7 +9,7 @@ use Rattle.schema.specs.declared.conf_fault.ConfFaultKind.TheVariants.{Keyword, 
 use Rattle.schema.specs.declared.code.Code.{Code}
 use Rattle.values.specs.declared.types.AttributeType.{AttributeType}
 use Rattle.values.specs.Types.{is_named, type_of}
-use Rattle.base.specs.Answers.{◌>>=◌, through}
+use Rattle.base.specs.Answers.{◌>>=◌, each, through}
 use Rattle.base.specs.Ends.{without_end, begins_with}
 use Rattle.definitions.specs.declared.lines.Line.{Line}
 use Rattle.definitions.specs.declared.element.Element.{Element}
@@ -17,9 +17,13 @@ use Rattle.definitions.specs.declared.type_definition.TypeDefinition.{TypeDefini
 use Rattle.definitions.specs.Words.{skip, first_word, after_word}
 use Rattle.definitions.specs.Lines.{begins_blank, lines_of}
 use Rattle.definitions.specs.declared.class_definition.ClassDefinition.{ClassDefinition}
+use Rattle.definitions.specs.declared.class_definition.ClassKind.{ClassKind}
+use Rattle.definitions.specs.declared.class_definition.ClassKind.TheVariants as kinds
 use Rattle.definitions.specs.TypeDefinitions.{type_definition_of}
 use Rattle.definitions.specs.ClassDefinitions.{class_definition_of}
 use Rattle.schema.specs.TypeRules.{type_with, object_class, has_twin, up_of, breaks_with, needs_another_syntax}
+use Rattle.schema.specs.declared.object_class.ObjectClass.{ObjectClass}
+use Rattle.schema.specs.Classes.{is_class_named, class_of, top, extensible_object}
 use Rattle.schema.specs.Rdns.{Rdn}
 use Rattle.schema.specs.Values.{rdns_in}
 use Rattle.schema.specs.Conf.{Conf}
@@ -84,56 +88,60 @@ placed types line (Some d) =
 abbrev pub is_first : List ℕ → List ℕ → Bool
 is_first word line = str_eq_ignore_ascii_case (first_word line) word
 
--- ---- what is defined: types, and the OIDs and names of classes
+-- ---- what is defined: types and classes
 
 pub record Defined : Type 0 where
   pub types : List AttributeType
-  pub classes : List Element
-
--- an OID with one name
-abbrev pub built_in_class : List ℕ → List ℕ → Element
-built_in_class oid name = record { oid = oid; names = name ∷ []; is_described = false; is_obsolete = false; extensions = [] }
+  pub classes : List ObjectClass
 
 abbrev pub built_in : Defined
-built_in =
-    record {
-      types = object_class ∷ [];
-      classes = built_in_class (codes "2.5.6.0") (codes "top") ∷ built_in_class (codes "1.3.6.1.4.1.1466.101.120.111") (codes "extensibleObject") ∷ [];
-    }
-
-abbrev pub is_class_named : List ℕ → Element → Bool
-is_class_named name e = str_eq_ignore_ascii_case e.oid name || list_any (λ n. str_eq_ignore_ascii_case n name) e.names
-
-abbrev pub is_class : List Element → List ℕ → Bool
-is_class classes name = list_any (is_class_named name) classes
+built_in = record { types = object_class ∷ []; classes = top ∷ extensible_object ∷ [] }
 
 abbrev pub is_type : List AttributeType → List ℕ → Bool
 is_type types name = list_any (is_named name) types
 
-abbrev pub shares_class_name : Element → Element → Bool
-shares_class_name e known = is_class_named e.oid known || list_any (λ n. is_class_named n known) e.names
+abbrev pub shares_class_name : Element → ObjectClass → Bool
+shares_class_name e known = list_any (λ n. is_class_named n known) (e.oid ∷ e.names)
 
-abbrev pub is_class_taken : List Element → Element → Bool
+abbrev pub is_class_taken : List ObjectClass → Element → Bool
 is_class_taken classes e = list_any (shares_class_name e) classes || has_twin e.names
 
--- whether all that a class names is defined
-abbrev pub is_founded : Defined → ClassDefinition → Bool
-is_founded s d = list_all (is_class s.classes) d.superiors && (list_all (is_type s.types) d.must && list_all (is_type s.types) d.may)
+-- what a name stands for, of what is defined so far
+abbrev pub or_unknown : ℕ → Option ℕ → Result ℕ At
+or_unknown line None = Err (line, UnknownName)
+or_unknown line (Some number) = Ok number
 
-abbrev pub class_refused : Defined → ClassDefinition → Option ConfFaultKind
-class_refused s d =
-    if is_class_taken s.classes d.element then Some Twice
-    else (if is_founded s d then None else Some UnknownName)
+abbrev pub class_named : List ObjectClass → ℕ → List ℕ → Result ℕ At
+class_named classes line name = or_unknown line (class_of classes name)
 
-abbrev pub or_fault : ℕ → Option ConfFaultKind → Defined → Result Defined At
-or_fault line None next = Ok next
-or_fault line (Some kind) next = Err (line, kind)
+abbrev pub type_named : List AttributeType → ℕ → List ℕ → Result ℕ At
+type_named types line name = or_unknown line (type_of types name)
+
+-- a class is structural where its definition doesn't say (RFC 4512, 4.1.1)
+abbrev pub kind_with : Option ClassKind → ClassKind
+kind_with stated = unwrap_or stated kinds.Structural
+
+-- with the numbers of the classes and types that it names
+abbrev pub class_from : ClassDefinition → List ℕ → List ℕ → List ℕ → ObjectClass
+class_from d superiors must may = record { oid = d.element.oid; names = d.element.names; kind = kind_with d.kind; superiors = superiors; must = must; may = may }
+
+-- the class that a definition defines
+unfoldable pub class_with : Defined → ℕ → ClassDefinition → Result ObjectClass At
+class_with s line d = do
+  superiors ← each (class_named s.classes line) d.superiors
+  must ← each (type_named s.types line) d.must
+  may ← each (type_named s.types line) d.may
+  Ok (class_from d superiors must may)
+
+abbrev pub with_class : Defined → ObjectClass → Result Defined At
+with_class s c = Ok (record s { classes = s.classes ++ c ∷ [] })
 
 unfoldable pub class_placed : Defined → ℕ → Option ClassDefinition → Result Defined At
 class_placed s line None = Err (line, Form)
 class_placed s line (Some d) =
     if is_built_in d.element.oid then Ok s
-    else or_fault line (class_refused s d) (record s { classes = s.classes ++ d.element ∷ [] })
+    else (if is_class_taken s.classes d.element then Err (line, Twice)
+    else class_with s line d >>= with_class s)
 
 abbrev pub with_types : Defined → Result (List AttributeType) At → Result Defined At
 with_types s (Ok types) = Ok (record s { types = types })
@@ -151,9 +159,6 @@ definition_line s l =
 
 abbrev pub defined_by : Defined → List Line → Result Defined At
 defined_by s ls = through definition_line s ls
-
-abbrev pub types_in : Result Defined At → Result (List AttributeType) At
-types_in r = r >>= λ s. Ok s.types
 
 -- ---- the suffix
 
@@ -205,11 +210,11 @@ found_in types f ls = through (later_line types) f ls
 
 -- ---- the whole text
 
-abbrev pub rules_of : List AttributeType → List Slot → Option (List Rdn) → Result Conf At
-rules_of types slots None = Err (0, Suffix)
-rules_of types slots (Some suffix) = Ok (record { types = types; suffix = suffix; slots = in_order (length types) slots })
+abbrev pub rules_of : Defined → List Slot → Option (List Rdn) → Result Conf At
+rules_of s slots None = Err (0, Suffix)
+rules_of s slots (Some suffix) = Ok (record { types = s.types; suffix = suffix; slots = in_order (length s.types) slots; classes = s.classes })
 
 unfoldable pub conf_of : List ℕ → Result Conf At
 conf_of text =
-    types_in (defined_by built_in (lines_of text)) >>= λ types.
-    (found_in types none_found (lines_of text) >>= λ found. rules_of types found.slots found.suffix)
+    defined_by built_in (lines_of text) >>= λ s.
+    (found_in s.types none_found (lines_of text) >>= λ found. rules_of s found.slots found.suffix)

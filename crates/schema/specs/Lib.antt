@@ -7,6 +7,7 @@ pub mod Conf
 pub mod Subtypes
 pub mod RuleNames
 pub mod TypeRules
+pub mod Classes
 pub mod Gives
 pub mod ConfFaults
 pub mod Slots

@@ -1,35 +1,35 @@
 //! Object classes that are found by their names.
 
-ghost use Rattle.std.specs.Prelude.{◌≡◌, ◌||◌, ◌++◌, ◌∷◌, [], ℕ, List, IfOk, OnOk, is_some};
+ghost use Rattle.std.specs.Prelude.{◌≡◌, ◌<◌, ◌++◌, ◌∷◌, [], ℕ, List, IfOk, IfSome, OnOk, length};
 ghost use Rattle.std.specs.List.{list_any};
 ghost use Rattle.std.specs.Str.{str_eq_ignore_ascii_case};
-ghost use Rattle.values.specs.Tables.{number_of};
-ghost use Rattle.schema.specs.Configurations.{is_class_named, is_class};
+ghost use Rattle.values.specs.Tables.{number_of, or_if};
+ghost use Rattle.schema.specs.Classes.{is_class_named, class_of};
 
+use crate::object_class::ObjectClass;
 use base::{Bytes, Sequence};
-use definitions::Element;
 use std::alloc::{AllocError, Global};
 use std::marker::Model;
 use values::NameIndex;
 
-/// Object classes that are found by their names. A contract sees them as a list.
-#[derive(Drop)]
+/// Object classes, each at its number. A contract sees them as a list.
+#[derive(Debug, Drop)]
 pub(crate) struct ClassTable {
-    classes: Sequence<Element>,
-    // has a number for each name and OID
+    classes: Sequence<ObjectClass>,
+    // the number of the first class with a name or OID
     numbers: NameIndex,
 }
 
 impl Model for ClassTable {
     ghost use Rattle.std.specs.Prelude.{List};
-    ghost use Rattle.definitions.specs.declared.element.Element.{Element};
-    ghost use Rattle.schema.specs.inner.Classes.{KnowsClasses};
+    ghost use Rattle.schema.specs.declared.object_class.ObjectClass.{ObjectClass};
+    ghost use Rattle.schema.specs.inner.Classes.{FindsClasses};
 
-    ghost Value = { List Element };
+    ghost Value = { List ObjectClass };
 
     ghost view = { λ t. t.classes };
 
-    ghost invariant = { λ t. KnowsClasses t.numbers t.classes };
+    ghost invariant = { λ t. FindsClasses t.numbers t.classes };
 }
 
 fn add_names(
@@ -38,7 +38,7 @@ fn add_names(
     names: &[Bytes],
     number: usize,
 ) -> Result<(), AllocError>
-    ensures { OnOk result ((text : List ℕ) → is_some (number_of numbers.new text) ≡ (is_some (number_of numbers.old text) || list_any (λ n. str_eq_ignore_ascii_case n text) names.now)) }
+    ensures { OnOk result ((text : List ℕ) → number_of numbers.new text ≡ or_if (number_of numbers.old text) (list_any (λ n. str_eq_ignore_ascii_case n text) names.now) number) }
 {
     for name in names {
         numbers.add(alloc, name.as_slice(), number)?;
@@ -46,13 +46,14 @@ fn add_names(
     Ok(())
 }
 
+// puts a class's number at its OID and names, where none is there
 fn add_class(
     alloc: Global,
     numbers: &mut NameIndex,
-    class: &Element,
+    class: &ObjectClass,
     number: usize,
 ) -> Result<(), AllocError>
-    ensures { OnOk result ((text : List ℕ) → is_some (number_of numbers.new text) ≡ (is_some (number_of numbers.old text) || is_class_named text class.now)) }
+    ensures { OnOk result ((text : List ℕ) → number_of numbers.new text ≡ or_if (number_of numbers.old text) (is_class_named text class.now) number) }
 {
     numbers.add(alloc, class.oid.as_slice(), number)?;
     add_names(alloc, numbers, class.names.as_slice(), number)
@@ -70,7 +71,7 @@ impl ClassTable {
     }
 
     /// These classes and one more, at the end.
-    pub(crate) fn with(self, alloc: Global, class: Element) -> Result<ClassTable, AllocError>
+    pub(crate) fn with(self, alloc: Global, class: ObjectClass) -> Result<ClassTable, AllocError>
         ensures { IfOk result (λ t. t ≡ self ++ class ∷ []) }
     {
         let ClassTable {
@@ -82,10 +83,18 @@ impl ClassTable {
         Ok(ClassTable { classes, numbers })
     }
 
-    /// Whether a class has this name or OID, without ASCII case.
-    pub(crate) fn has(&self, name: &[u8]) -> bool
-        ensures { result ≡ is_class self.now name.now }
+    /// The classes, each at its number.
+    pub(crate) fn as_slice(&self) -> &[ObjectClass]
+        ensures { result.now ≡ self.now }
     {
-        self.numbers.get(name).is_some()
+        self.classes.as_slice()
+    }
+
+    /// The number of the first class with this name or OID, without ASCII case.
+    pub(crate) fn class_of(&self, name: &[u8]) -> Option<usize>
+        ensures place { result ≡ class_of self.now name.now }
+        ensures known { IfSome result (λ c. c < length self.now) }
+    {
+        self.numbers.get(name)
     }
 }

@@ -2,16 +2,19 @@
 
 ghost use Rattle.std.specs.Prelude.{◌≡◌, ◌<◌, ◌≤◌, IfSome, length, map, reverse};
 ghost use Rattle.schema.specs.Rdns.{rdn_key_of};
+ghost use Rattle.schema.specs.Classes.{class_of};
 ghost use Rattle.values.specs.Types.{type_of, name_of, type_at};
 
+use crate::class_table::ClassTable;
 use crate::locate::TypedName;
+use crate::object_class::ObjectClass;
 use crate::slots::Slot;
 use base::Sequence;
 use paths::{Path, Rdn};
 use std::marker::Model;
 use values::{AttributeType, TypeId, TypeTable};
 
-/// The configuration of a directory. A contract sees its attribute types, its suffix and its slots.
+/// The configuration of a directory. A contract sees its attribute types, its suffix, its slots and its object classes.
 #[derive(Debug, Drop)]
 pub struct Conf {
     types: TypeTable,
@@ -19,6 +22,7 @@ pub struct Conf {
     slots: Sequence<Slot>,
     // what the suffix's RDNs come to, from the root of the tree down
     root: Path,
+    classes: ClassTable,
 }
 
 impl Model for Conf {
@@ -28,19 +32,24 @@ impl Model for Conf {
 
     ghost Value = { Conf };
 
-    ghost view = { λ c. record { types = c.types; suffix = c.suffix; slots = c.slots } };
+    ghost view = { λ c. record { types = c.types; suffix = c.suffix; slots = c.slots; classes = c.classes } };
 
-    ghost invariant = { λ c. (IsConf (record { types = c.types; suffix = c.suffix; slots = c.slots })) × (c.root ≡ map (rdn_key_of c.types) (reverse c.suffix)) };
+    ghost invariant = { λ c. (IsConf (record { types = c.types; suffix = c.suffix; slots = c.slots; classes = c.classes })) × (c.root ≡ map (rdn_key_of c.types) (reverse c.suffix)) };
 }
 
 impl Conf {
     ghost use Rattle.schema.specs.Conf.{IsConf, root_rdn};
     ghost use Rattle.schema.specs.inner.Keys.{KeysFit};
 
-    pub(crate) fn new(types: TypeTable, suffix: TypedName, slots: Sequence<Slot>) -> Conf
-        requires same_conf { IsConf (record { types = types; suffix = suffix.rdns.items; slots = slots }) }
+    pub(crate) fn new(
+        types: TypeTable,
+        suffix: TypedName,
+        slots: Sequence<Slot>,
+        classes: ClassTable,
+    ) -> Conf
+        requires same_conf { IsConf (record { types = types; suffix = suffix.rdns.items; slots = slots; classes = classes }) }
         requires keys { KeysFit types suffix }
-        ensures { result ≡ record { types = types; suffix = suffix.rdns.items; slots = slots } }
+        ensures { result ≡ record { types = types; suffix = suffix.rdns.items; slots = slots; classes = classes } }
     {
         let TypedName { rdns, path } = suffix;
         Conf {
@@ -48,6 +57,7 @@ impl Conf {
             suffix: Sequence::from_vec(rdns),
             slots,
             root: path,
+            classes,
         }
     }
 
@@ -85,6 +95,21 @@ impl Conf {
         ensures { result.now ≡ type_at self.now.types t }
     {
         self.types.at(t)
+    }
+
+    /// Its object classes, each at its number.
+    pub fn classes(&self) -> &[ObjectClass]
+        ensures { result.now ≡ self.now.classes }
+    {
+        self.classes.as_slice()
+    }
+
+    /// The number of the object class with this name or OID, without ASCII case.
+    pub fn class_of(&self, name: &[u8]) -> Option<usize>
+        ensures place { result ≡ class_of self.now.classes name.now }
+        ensures known { IfSome result (λ c. c < length self.now.classes) }
+    {
+        self.classes.class_of(name)
     }
 
     /// The suffix's RDNs, its own entry's first.

@@ -6,7 +6,7 @@ ghost use Rattle.schema.specs.Reads.{Reads};
 use crate::conf::Conf;
 use crate::conf_fault::{ConfFault, ConfFaultKind};
 use crate::conf_lines::fault;
-use crate::defined::types_of;
+use crate::defined::{Defined, defined_by};
 use crate::later_lines::{Found, found_in};
 use crate::slots::in_order;
 use definitions::{defined_types_have_names, lines_of};
@@ -30,10 +30,10 @@ pub fn read_conf(alloc: Global, text: &[u8]) -> Result<Conf, ConfFault>
     defined_types_have_names();
     spelled_names_are_read();
     let lines = lines_of(alloc, text)?;
-    let types = types_of(alloc, text.len() / BYTES_OF_A_NAME, &lines)?;
+    let Defined { types, classes } = defined_by(alloc, text.len() / BYTES_OF_A_NAME, &lines)?;
     let Found { suffix, slots } = found_in(alloc, &types, &lines)?;
     match suffix {
-        Some(suffix) => Ok(Conf::new(types, suffix, in_order(alloc, slots)?)),
+        Some(suffix) => Ok(Conf::new(types, suffix, in_order(alloc, slots)?, classes)),
         None => Err(fault(0, ConfFaultKind::Suffix)),
     }
 }

@@ -1,8 +1,9 @@
-//! The configuration of a directory: its attribute types, suffix and indexes, and where names stand.
+//! The configuration of a directory: its attribute types, object classes, suffix and indexes, and where names stand.
 //!
 //! The functions of `laws` do nothing, and neither does `Conf::holds`: a call of one is made for what it states alone.
 #![tactic(auto)]
 
+mod class_lines;
 mod class_table;
 mod code;
 mod conf;
@@ -17,6 +18,7 @@ mod later_lines;
 mod laws;
 mod locate;
 mod names;
+mod object_class;
 mod rdns;
 mod rule_names;
 mod slots;
@@ -30,6 +32,7 @@ pub use code::Code;
 pub use conf::Conf;
 pub use conf_fault::{ConfFault, ConfFaultKind};
 pub use configuration::read_conf;
+pub use definitions::ClassKind;
 pub use dn::Name;
 pub use fault::PathFault;
 pub use laws::{
@@ -39,6 +42,7 @@ pub use laws::{
 pub use locate::Located;
 pub use matching::{Family, Syntax};
 pub use names::read_dn;
+pub use object_class::ObjectClass;
 pub use paths::{Path, Rdn, RdnKey, order_of_paths};
 pub use slots::{IndexKind, Slot};
 pub use values::{AttributeType, EqualityRule, TypeId, TypeSyntax, Value, ValueFault};

@@ -1,10 +1,10 @@
 -- Object classes by their names.
-use Rattle.std.specs.Prelude.{◌≡◌, ℕ, List, is_some}
+use Rattle.std.specs.Prelude.{◌≡◌, ℕ, List}
 use Rattle.values.specs.declared.name_index.NameEntry.{NameEntry}
 use Rattle.values.specs.Tables.{number_of}
-use Rattle.definitions.specs.declared.element.Element.{Element}
-use Rattle.schema.specs.Configurations.{is_class}
+use Rattle.schema.specs.declared.object_class.ObjectClass.{ObjectClass}
+use Rattle.schema.specs.Classes.{class_of}
 
--- a name has a number exactly where a class has it
-abbrev pub KnowsClasses : List (List NameEntry) → List Element → Type 0
-KnowsClasses buckets classes = (name : List ℕ) → is_some (number_of buckets name) ≡ is_class classes name
+-- the number of a name is that of the first class with this name or OID
+abbrev pub FindsClasses : List (List NameEntry) → List ObjectClass → Type 0
+FindsClasses buckets classes = (name : List ℕ) → number_of buckets name ≡ class_of classes name

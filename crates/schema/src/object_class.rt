@@ -1,0 +1,22 @@
+//! Object classes.
+
+use base::{Bytes, Sequence};
+use definitions::ClassKind;
+use values::TypeId;
+
+/// An object class (RFC 4512, 4.1.1), with what its definition names.
+#[derive(Debug, Drop)]
+pub struct ObjectClass {
+    /// Its numeric OID.
+    pub oid: Bytes,
+    /// Its names.
+    pub names: Sequence<Bytes>,
+    /// What it is for; structural where its definition doesn't say.
+    pub kind: ClassKind,
+    /// The numbers of the classes that it is derived from (SUP), in the order written.
+    pub superiors: Sequence<usize>,
+    /// The types that an entry of it has (MUST), in the order written.
+    pub must: Sequence<TypeId>,
+    /// The types that an entry of it may have (MAY), in the order written.
+    pub may: Sequence<TypeId>,
+}
