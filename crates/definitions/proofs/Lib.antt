@@ -4,3 +4,8 @@ pub mod FieldLoop
 pub mod LastLine
 pub mod Glued
 pub mod Defined
+pub mod There
+pub mod Ends
+pub mod Tokenized
+pub mod Oids
+pub mod Listed

@@ -7,4 +7,7 @@ pub mod Elements
 pub mod TypeFields
 pub mod TypeDefinitions
 pub mod ClassDefinitions
+pub mod Tokens
+pub mod Grammar
+pub mod TypeGrammar
 pub mod inner
