@@ -9,3 +9,5 @@ pub mod Ends
 pub mod Tokenized
 pub mod Oids
 pub mod Listed
+pub mod Keywords
+pub mod ElementFields
