@@ -11,3 +11,5 @@ pub mod Oids
 pub mod Listed
 pub mod Keywords
 pub mod ElementFields
+pub mod SyntaxOids
+pub mod TypeFieldsRead
