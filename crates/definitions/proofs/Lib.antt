@@ -13,3 +13,6 @@ pub mod Keywords
 pub mod ElementFields
 pub mod SyntaxOids
 pub mod TypeFieldsRead
+pub mod FieldsRead
+pub mod Said
+pub mod ElementSaid
