@@ -1,15 +1,15 @@
 -- A field of a type or class as such is read exactly where it stands.
-use Rattle.std.proofs.Common.{◌≡◌, ℕ, ◌<◌, Bool, true, false, cond, List, [], ◌∷◌, ◌++◌, length, Option, Some, None, ◌⊎◌, inl, inr, refl, sym, ap, subst, ◌∙◌, arith}
+use Rattle.std.proofs.Common.{◌≡◌, ℕ, Bool, true, false, cond, List, [], ◌∷◌, ◌++◌, Option, Some, None, inl, inr, refl, ap, subst, ◌∙◌, arith}
 use Rattle.std.specs.Prelude.{codes}
 use Rattle.std.specs.List.{list_all}
 use Rattle.definitions.specs.declared.element.Sort.{Sort}
 use Rattle.definitions.specs.declared.element.ElementField.{ElementField}
 use Rattle.definitions.specs.declared.element.ElementField.TheVariants as fields
-use Rattle.definitions.specs.Words.{◌>>>◌, Cut, quoted_at, word_at}
+use Rattle.definitions.specs.Words.{◌>>>◌, Cut, quoted_at}
 use Rattle.definitions.specs.Texts.{Cuts, quoted_texts_at}
 use Rattle.definitions.specs.Elements.{Read, is_word, is_extension, is_allowed, names_field, description_field, extension_field, element_field, is_end, ends_there}
 use Rattle.definitions.specs.Tokens.{Token, Quoted, Word, Begins, AreTokens}
-use Rattle.definitions.specs.Grammar.{Headed, IsNothing, IsText, AreTexts, AreNames, AreSomeTexts, IsExtension, IsElementField}
+use Rattle.definitions.specs.Grammar.{Headed, IsNothing, IsText, AreNames, IsExtension, IsElementField}
 use Rattle.definitions.proofs.There.{IfThere, chosen, bound, there}
 use Rattle.definitions.proofs.Tokenized.{shorter, word_no_sign, quoted_found, quoted_only}
 use Rattle.definitions.proofs.Listed.{Reads, texts_found, TextsStand, texts_only}
@@ -92,8 +92,8 @@ names_found sort names tokens text h =
       begins = h.begins;
       which = inl (inl h.same);
       reads = let inner = texts_found names h.front tokens h.rest h.form.0 h.left in
-      something_more (quoted_texts_at h.rest) names (element_field sort h.word h.rest) (fields.Names names) text h.word h.rest tokens h.begins inner (λ e.
-      names_read sort h.word h.rest h.same ∙ ap (λ (o : Option Cuts). o >>> names_field sort) e ∙ ap (λ (t : Bool). cond t (some_read (fields.Names names, inner.rest)) None) h.form.1);
+          something_more (quoted_texts_at h.rest) names (element_field sort h.word h.rest) (fields.Names names) text h.word h.rest tokens h.begins inner (λ e.
+          names_read sort h.word h.rest h.same ∙ ap (λ (o : Option Cuts). o >>> names_field sort) e ∙ ap (λ (t : Bool). cond t (some_read (fields.Names names, inner.rest)) None) h.form.1);
     }
 
 description_found : (sort : Sort) (tokens : List Token) (text : List ℕ) → Headline (codes "DESC") IsText tokens text → ElementReads sort fields.Description text tokens
@@ -131,7 +131,7 @@ extension_found sort name front tokens text is h =
       begins = k.1;
       which = inr (inr is.name_is);
       reads = something_more (quoted_texts_at k.0) is.texts.0 (element_field sort name k.0) (fields.Extension name) text name k.0 tokens k.1 (texts_found is.texts.0 is.rest tokens k.0 is.texts.1 k.2) (λ e.
-      extension_read sort name k.0 is.name_is ∙ ap (λ (o : Option Cuts). o >>> extension_field name) e);
+          extension_read sort name k.0 is.name_is ∙ ap (λ (o : Option Cuts). o >>> extension_field name) e);
     }
 
 pub element_found : (sort : Sort) (field : ElementField) (front tokens : List Token) (text : List ℕ) → IsElementField sort field front → AreTokens (front ++ tokens) text → ElementReads sort field text tokens

@@ -1,5 +1,5 @@
 -- The fields up to the end are read exactly where they stand.
-use Rattle.std.proofs.Common.{◌≡◌, ℕ, ◌<◌, ◌≤◌, Bool, true, false, cond, eqb, List, [], ◌∷◌, ◌++◌, length, Option, Some, None, refl, sym, ap, subst, ◌∙◌, append_assoc, eqb-true, arith}
+use Rattle.std.proofs.Common.{◌≡◌, ℕ, ◌≤◌, Bool, true, cond, eqb, List, [], ◌∷◌, ◌++◌, length, Option, Some, None, refl, sym, ap, subst, ◌∙◌, append_assoc, eqb-true, arith}
 use Rattle.definitions.specs.Words.{◌>>>◌, skip, sign_at}
 use Rattle.definitions.specs.Elements.{is_end, ends_there, fields_to_end}
 use Rattle.definitions.specs.Tokens.{Token, Closing, AreTokens}

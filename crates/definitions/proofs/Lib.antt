@@ -16,3 +16,6 @@ pub mod TypeFieldsRead
 pub mod FieldsRead
 pub mod Said
 pub mod ElementSaid
+pub mod TypeSaid
+pub mod Heads
+pub mod TypesRead

@@ -1,11 +1,11 @@
 -- Texts in parentheses are read exactly where they stand.
-use Rattle.std.proofs.Common.{◌≡◌, ℕ, ◌<◌, ◌≤◌, Bool, true, false, cond, List, [], ◌∷◌, ◌++◌, map, length, Option, Some, None, inl, inr, refl, sym, ap, subst, ◌∙◌, append_assoc, arith}
+use Rattle.std.proofs.Common.{◌≡◌, ℕ, ◌<◌, ◌≤◌, List, [], ◌∷◌, ◌++◌, map, length, Option, Some, None, inl, inr, refl, sym, ap, subst, ◌∙◌, append_assoc, arith}
 use Rattle.definitions.specs.Words.{◌>>>◌, Cut, sign_at, quoted_at}
 use Rattle.definitions.specs.Texts.{Cuts, onto, closed_by, to_close, not_none, alone, in_parentheses, quoted_texts_at}
-use Rattle.definitions.specs.Tokens.{Token, Opening, Closing, Dollar, Quoted, Word, Begins, AreTokens}
+use Rattle.definitions.specs.Tokens.{Token, Opening, Closing, Quoted, Begins, AreTokens}
 use Rattle.definitions.specs.Grammar.{quoted, AreTexts}
-use Rattle.definitions.proofs.There.{IfThere, chosen, bound, there}
-use Rattle.definitions.proofs.Tokenized.{sign_is, shorter, quoted_found, quoted_only, no_quoted, opening_only, closing_only}
+use Rattle.definitions.proofs.There.{IfThere, bound, there}
+use Rattle.definitions.proofs.Tokenized.{sign_is, shorter, quoted_found, quoted_only, opening_only, closing_only}
 
 -- x is read of a text, and these tokens are left
 pub record Reads {A : Type 0} (read : Option (A × List ℕ)) (x : A) (text : List ℕ) (tokens : List Token) : Type 0 where

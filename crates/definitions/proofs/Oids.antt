@@ -3,7 +3,6 @@ use Rattle.std.proofs.Common.{◌≡◌, ℕ, ◌<◌, Bool, true, false, cond, 
 use Rattle.std.specs.List.{list_all, join_with_byte}
 use Rattle.std.specs.Char.{is_ascii_digit}
 use Rattle.std.proofs.lemmas.Bool.{and_parts, eqb-true}
-use Rattle.std.proofs.lemmas.Bool.Decides.{nat_tests}
 use Rattle.definitions.specs.Naming.{are_groups, is_oid}
 use Rattle.definitions.specs.Grammar.{is_number, IsOid}
 
@@ -68,6 +67,7 @@ begun : (b : ℕ) (bs : List ℕ) → is_ascii_digit b ≡ true → GoesOn bs �
 begun b bs h goes = by goes.rest where
   some : list_all is_ascii_digit (b ∷ goes.digits) ≡ true
   some = (λ i. h i && goes.are_digits i)
+
   by : (bs ≡ goes.digits) ⊎ ((behind : List ℕ) × (bs ≡ goes.digits ++ 46 ∷ behind) × IsOid behind) → IsOid (b ∷ bs)
   by (inl e) = subst IsOid (ap (λ (r : List ℕ). b ∷ r) (sym e)) (one_number (b ∷ goes.digits) some)
   by (inr e) = more_numbers (b ∷ goes.digits) e.0 (b ∷ bs) some (ap (λ (r : List ℕ). b ∷ r) e.1) e.2

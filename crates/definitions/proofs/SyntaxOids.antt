@@ -1,5 +1,5 @@
 -- The OID of a syntax, with a length behind it or none.
-use Rattle.std.proofs.Common.{◌≡◌, ℕ, suc, ◌+◌, ◌-◌, ◌<◌, ◌≤◌, Bool, true, false, cond, not, ◌&&◌, eqb, ltb, List, [], ◌∷◌, ◌++◌, take, drop, length, Option, Some, None, ◌⊎◌, inl, inr, refl, sym, ap, ◌∙◌, arith}
+use Rattle.std.proofs.Common.{◌≡◌, ℕ, ◌+◌, ◌-◌, ◌<◌, Bool, true, false, cond, not, ◌&&◌, eqb, ltb, List, [], ◌∷◌, ◌++◌, take, drop, length, Option, Some, None, inl, inr, refl, sym, ap, ◌∙◌, arith}
 use Rattle.std.specs.List.{list_all}
 use Rattle.std.specs.Char.{is_ascii_digit}
 use Rattle.std.proofs.lemmas.Bool.{and_parts, eqb-true, ltb-true, lt-ltb}
@@ -9,7 +9,6 @@ use Rattle.std.proofs.Math.Seq.{drop-append_seam, take-append_seam}
 use Rattle.base.specs.Ends.{begins_with}
 use Rattle.definitions.specs.Naming.{are_groups, is_oid}
 use Rattle.definitions.specs.Words.{end_of}
-use Rattle.definitions.specs.Elements.{is_some_list}
 use Rattle.definitions.specs.TypeFields.{is_brace, is_closed, is_length, syntax_oid}
 use Rattle.definitions.specs.Grammar.{is_number, IsOid}
 use Rattle.definitions.specs.TypeGrammar.{IsLength}
@@ -82,7 +81,7 @@ length_only (b ∷ bs) stops h =
       take (length bs - 1) bs,
       a_number (take (length bs - 1) bs) (omega (arith, front, long)) m.1,
       ap (λ (c : ℕ). c ∷ bs) (eqb-true b 123 stops)
-      ∙ ap (λ (r : List ℕ). 123 ∷ r) (sym parts ∙ ap (λ (r : List ℕ). take (length bs - 1) bs ++ r) (one_brace (drop (length bs - 1) bs) left k.1)),
+          ∙ ap (λ (r : List ℕ). 123 ∷ r) (sym parts ∙ ap (λ (r : List ℕ). take (length bs - 1) bs ++ r) (one_brace (drop (length bs - 1) bs) left k.1)),
     )
 
 -- ---- the OID

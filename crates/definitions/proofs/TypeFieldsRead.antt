@@ -1,5 +1,5 @@
 -- A field of an attribute type is read exactly where it stands.
-use Rattle.std.proofs.Common.{◌≡◌, ℕ, ◌<◌, Bool, true, false, cond, List, [], ◌∷◌, ◌++◌, length, Option, Some, None, inl, inr, refl, sym, ap, subst, ◌∙◌, arith}
+use Rattle.std.proofs.Common.{◌≡◌, ℕ, Bool, true, false, cond, List, [], ◌∷◌, ◌++◌, Option, Some, None, refl, ap, subst, ◌∙◌, arith}
 use Rattle.std.specs.Prelude.{codes}
 use Rattle.definitions.specs.declared.element.Sort.TheVariants as sorts
 use Rattle.definitions.specs.declared.element.ElementField.{ElementField}
@@ -14,9 +14,9 @@ use Rattle.definitions.specs.declared.type_field.TypeField.TheVariants as fields
 use Rattle.definitions.specs.Words.{◌>>>◌, Cut, word_at, plain_or_quoted_at}
 use Rattle.definitions.specs.Elements as elements
 use Rattle.definitions.specs.Elements.{is_word, element_field, ends_there}
-use Rattle.definitions.specs.TypeFields.{Read, reference_of, flag_of, usage_of, referred, reference_field, refer, usage_field, of_element, other_field, or_flag, or_reference, field_of, field_at}
+use Rattle.definitions.specs.TypeFields.{Read, reference_of, flag_of, usage_of, referred, refer, usage_field, of_element, other_field, or_flag, or_reference, field_of, field_at}
 use Rattle.definitions.specs.Tokens.{Token, Word, Begins, AreTokens}
-use Rattle.definitions.specs.Grammar.{Headed, IsNothing, IsName, IsElementField}
+use Rattle.definitions.specs.Grammar.{Headed, IsNothing, IsElementField}
 use Rattle.definitions.specs.TypeGrammar.{reference_word, flag_word, usage_word, IsReferred, IsReference, IsTypeField}
 use Rattle.definitions.proofs.There.{IfThere, chosen, bound, there}
 use Rattle.definitions.proofs.Tokenized.{NameStands, shorter, word_found, word_only, name_found, either_only}

@@ -1,7 +1,5 @@
 -- The definition of an attribute type (RFC 4512, 4.1.2): which texts are one, and what each of them says.
-use Rattle.std.specs.Prelude.{◌≡◌, ℕ, true, ◌||◌, ◌<◌, ◌⊎◌, is_some, List, [], ◌∷◌, ◌++◌, length, Option, Some, None, codes}
-use Rattle.std.specs.List.{list_all}
-use Rattle.std.specs.Char.{is_ascii_digit}
+use Rattle.std.specs.Prelude.{◌≡◌, ℕ, true, ◌||◌, ◌⊎◌, is_some, List, [], ◌∷◌, ◌++◌, Option, Some, None, codes}
 use Rattle.base.specs.Ascii.{left_brace, right_brace}
 use Rattle.definitions.specs.declared.element.Sort.TheVariants as sorts
 use Rattle.definitions.specs.declared.element.ElementField.{ElementField}

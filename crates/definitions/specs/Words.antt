@@ -1,5 +1,5 @@
 -- Words, signs and quoted texts of a definition (RFC 4512, 4.1).
-use Rattle.std.specs.Prelude.{ℕ, ◌+◌, Bool, false, not, ◌||◌, ◌==◌, nat_lt, if◌then◌else◌, List, [], ◌∷◌, take, drop, length, position, unwrap_or, Option, Some, None}
+use Rattle.std.specs.Prelude.{ℕ, ◌+◌, Bool, not, ◌||◌, ◌==◌, nat_lt, if◌then◌else◌, List, take, drop, length, position, unwrap_or, Option, Some, None}
 use Rattle.base.specs.Ascii.{tab, space, dollar_sign, apostrophe, left_parenthesis, right_parenthesis}
 use Rattle.base.specs.Ends.{begins_with}
 

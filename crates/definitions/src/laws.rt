@@ -5,9 +5,16 @@ ghost use Rattle.std.specs.List.{list_all};
 ghost use Rattle.definitions.specs.declared.type_definition.TypeDefinition.{TypeDefinition};
 ghost use Rattle.definitions.specs.Naming.{is_oid, is_type_name};
 ghost use Rattle.definitions.specs.TypeDefinitions.{type_definition_of};
+ghost use Rattle.definitions.specs.TypeGrammar.{SpellsType};
 
 /// A type that a text defines has a numeric OID, and names that types may have.
 pub fn defined_types_have_names()
     ensures oid { (text : List ℕ) (d : TypeDefinition) → type_definition_of text ≡ Some d → is_oid d.element.oid ≡ true }
     ensures names { (text : List ℕ) (d : TypeDefinition) → type_definition_of text ≡ Some d → list_all is_type_name d.element.names ≡ true }
+{}
+
+/// An attribute type is read from the texts that spell it, as they spell it, and from no others.
+pub fn spelled_types_are_read()
+    ensures only { (text : List ℕ) (d : TypeDefinition) → type_definition_of text ≡ Some d → SpellsType text d }
+    ensures found { (text : List ℕ) (d : TypeDefinition) → SpellsType text d → type_definition_of text ≡ Some d }
 {}

@@ -1,5 +1,5 @@
 -- Lines of a configuration, with those that they go on on.
-use Rattle.std.specs.Prelude.{ℕ, ◌+◌, Bool, false, List, [], ◌∷◌, ◌++◌, if◌then◌else◌}
+use Rattle.std.specs.Prelude.{ℕ, Bool, false, List, [], ◌∷◌, ◌++◌, if◌then◌else◌}
 use Rattle.definitions.specs.declared.lines.Line.{Line}
 use Rattle.definitions.specs.Lines.{goes_on_with, joined}
 
