@@ -49,6 +49,11 @@ something_more inner x read y text word rest tokens begins reads f =
 
 -- ---- what stands there is read
 
+-- a field is read, and no definition ends there
+pub record FieldReads {F : Type 0} (field_at : List ℕ → Option (F × List ℕ)) (field : F) (text : List ℕ) (tokens : List Token) : Type 0 where
+  pub reads : Reads (field_at text) field text tokens
+  pub on : ends_there text ≡ false
+
 module _ (sort : Sort) (word rest : List ℕ) where
   abbrev by_tests : Bool → Bool → Bool → Bool → Option Read
   by_tests name description obsolete extension =

@@ -48,6 +48,13 @@ two_alike a b = by (is_word a b) refl (is_word b a) refl where
 pub keyword_apart : (name : List ℕ) → is_extension name ≡ true → (keyword : List ℕ) → begins_other keyword ≡ true → is_word name keyword ≡ false
 keyword_apart name h keyword e = two_alike name keyword ∙ no_keyword name h keyword e
 
+-- a field's word is no keyword of another field
+pub other_word : (field : ElementField) → IsGoodElement field → (keyword : List ℕ) → is_word (codes "NAME") keyword ≡ false → is_word (codes "DESC") keyword ≡ false → is_word (codes "OBSOLETE") keyword ≡ false → begins_other keyword ≡ true → is_word (element_word field) keyword ≡ false
+other_word (fields.Names names) good keyword a b c d = a
+other_word fields.Description good keyword a b c d = b
+other_word fields.Obsolete good keyword a b c d = c
+other_word (fields.Extension name) good keyword a b c d = keyword_apart name good keyword d
+
 -- ---- one more
 
 module _ (oid : List ℕ) (front : List ElementField) where
@@ -104,7 +111,7 @@ first_some (fields.Description ∷ front) h = first_some front h.1
 first_some (fields.Obsolete ∷ front) h = first_some front h.1
 first_some (fields.Extension name ∷ front) h = first_some front h.1
 
-put_names : {D : Type 0} (with : List (List ℕ) → D) (xs : List (List (List ℕ))) (x : List (List ℕ)) → is_some_list (first_list xs) ≡ is_some_list xs
+pub put_names : {D : Type 0} (with : List (List ℕ) → D) (xs : List (List (List ℕ))) (x : List (List ℕ)) → is_some_list (first_list xs) ≡ is_some_list xs
     → unless (is_some_list (first_list xs)) (with x) ≡ unless (is_some_list xs) (with (first_list (xs ++ x ∷ [])))
 put_names with [] x e = refl
 put_names with (y ∷ ys) x e = (λ i. unless (e i) (with x))

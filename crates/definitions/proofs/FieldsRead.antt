@@ -6,8 +6,7 @@ use Rattle.definitions.specs.Tokens.{Token, Closing, AreTokens}
 use Rattle.definitions.specs.Grammar.{AreFields}
 use Rattle.definitions.proofs.There.{IfThere, chosen, bound}
 use Rattle.definitions.proofs.Tokenized.{sign_is, shorter, nothing_left, only_blanks, closing_only}
-use Rattle.definitions.proofs.ElementFields.{Stands}
-use Rattle.definitions.proofs.TypeFieldsRead.{FieldReads}
+use Rattle.definitions.proofs.ElementFields.{FieldReads, Stands}
 
 -- ---- the end
 

@@ -19,3 +19,7 @@ pub mod ElementSaid
 pub mod TypeSaid
 pub mod Heads
 pub mod TypesRead
+pub mod NameLists
+pub mod ClassFieldsRead
+pub mod ClassSaid
+pub mod ClassesRead

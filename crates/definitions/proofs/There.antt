@@ -16,3 +16,7 @@ bound P (Some a) f h = h a refl
 
 pub there : {A : Type 0} (P : A → Type 0) (o : Option A) (x : A) → o ≡ Some x → IfThere P o → P x
 there P o x e h = subst (IfThere P) e h
+
+pub weaker : {A : Type 0} (P Q : A → Type 0) (o : Option A) → ((a : A) → P a → Q a) → IfThere P o → IfThere Q o
+weaker P Q None f h = tt
+weaker P Q (Some a) f h = f a h

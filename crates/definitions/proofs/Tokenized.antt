@@ -10,7 +10,7 @@ use Rattle.definitions.specs.Words.{◌>>>◌, Cut, is_blank, is_no_blank, end_o
 use Rattle.definitions.specs.Texts.{name_at}
 use Rattle.definitions.specs.Tokens.{Token, Opening, Closing, Dollar, Quoted, Word, written, is_in_word, is_in_quotes, ends_here, CanStand, Begins}
 use Rattle.definitions.specs.Grammar.{IsName}
-use Rattle.definitions.proofs.There.{IfThere, chosen, bound, there}
+use Rattle.definitions.proofs.There.{IfThere, chosen, bound, there, weaker}
 use Rattle.definitions.proofs.Ends.{Stops, front_passes, rest_stops, end_len, run_end, run_front, run_rest}
 
 -- ---- blanks
@@ -213,10 +213,6 @@ as_word quotes text w begins = record { token = Word w.0; is = inl refl; begins 
 
 as_quoted : (text : List ℕ) (w : Cut) → Begins text (Quoted w.0) w.1 → NameStands true text w
 as_quoted text w begins = record { token = Quoted w.0; is = inr (refl, refl); begins = begins }
-
-weaker : {A : Type 0} (P Q : A → Type 0) (o : Option A) → ((a : A) → P a → Q a) → IfThere P o → IfThere Q o
-weaker P Q None f h = tt
-weaker P Q (Some a) f h = f a h
 
 pub either_only : (text : List ℕ) → IfThere (NameStands true text) (plain_or_quoted_at text)
 unfolding plain_or_quoted_at

@@ -13,16 +13,15 @@ use Rattle.definitions.specs.declared.type_field.TypeField.{TypeField}
 use Rattle.definitions.specs.declared.type_field.TypeField.TheVariants as fields
 use Rattle.definitions.specs.Words.{◌>>>◌, Cut, word_at, plain_or_quoted_at}
 use Rattle.definitions.specs.Elements as elements
-use Rattle.definitions.specs.Elements.{is_word, element_field, ends_there}
+use Rattle.definitions.specs.Elements.{is_word, element_field}
 use Rattle.definitions.specs.TypeFields.{Read, reference_of, flag_of, usage_of, referred, refer, usage_field, of_element, other_field, or_flag, or_reference, field_of, field_at}
 use Rattle.definitions.specs.Tokens.{Token, Word, Begins, AreTokens}
 use Rattle.definitions.specs.Grammar.{Headed, IsNothing, IsElementField}
 use Rattle.definitions.specs.TypeGrammar.{reference_word, flag_word, usage_word, IsReferred, IsReference, IsTypeField}
 use Rattle.definitions.proofs.There.{IfThere, chosen, bound, there}
 use Rattle.definitions.proofs.Tokenized.{NameStands, shorter, word_found, word_only, name_found, either_only}
-use Rattle.definitions.proofs.Listed.{Reads}
 use Rattle.definitions.proofs.Keywords.{lowered, ElementWord, element_word_apart}
-use Rattle.definitions.proofs.ElementFields.{Headline, headline, no_end, nothing_more, ElementReads, element_found, Stands, element_only}
+use Rattle.definitions.proofs.ElementFields.{FieldReads, Headline, headline, no_end, nothing_more, ElementReads, element_found, Stands, element_only}
 use Rattle.definitions.proofs.SyntaxOids.{syntax_found, syntax_only}
 
 -- ---- words
@@ -91,11 +90,6 @@ element_no_flag word which =
     (cond (element_word_apart word which (codes "NO-USER-MODIFICATION") refl refl refl refl i) (Some flags.NoUserModification) None)))
 
 -- ---- what stands there is read
-
--- a field is read, and no definition ends there
-pub record FieldReads {F : Type 0} (field_at : List ℕ → Option (F × List ℕ)) (field : F) (text : List ℕ) (tokens : List Token) : Type 0 where
-  pub reads : Reads (field_at text) field text tokens
-  pub on : ends_there text ≡ false
 
 module _ (text word rest : List ℕ) (begins : Begins text (Word word) rest) where
   at_word : field_at text ≡ field_of (word, rest)

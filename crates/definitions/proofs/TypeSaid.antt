@@ -17,9 +17,9 @@ use Rattle.definitions.specs.TypeDefinitions.{with_flag, with_reference, with_el
 use Rattle.definitions.specs.Tokens.{Token}
 use Rattle.definitions.specs.Grammar.{element_word, first, element_said}
 use Rattle.definitions.specs.TypeGrammar.{IsTypeField, type_word, element_in, superior_in, equality_in, ordering_in, substrings_in, syntax_in, single_in, collective_in, fixed_in, usage_in, type_said}
-use Rattle.definitions.proofs.Keywords.{begins_other, no_keyword}
+use Rattle.definitions.proofs.Keywords.{no_keyword}
 use Rattle.definitions.proofs.Said.{Each, with_more, pushed, passes, any_said, all_pass, put_first, put_flag}
-use Rattle.definitions.proofs.ElementSaid.{IsGoodElement, element_good, keyword_apart, element_puts}
+use Rattle.definitions.proofs.ElementSaid.{IsGoodElement, element_good, other_word, element_puts}
 
 abbrev pub IsGood : TypeField → Type 0
 IsGood (fields.Element field) = IsGoodElement field
@@ -86,12 +86,6 @@ fixed_like = each_kind (IsLike (codes "NO-USER-MODIFICATION") fixed_in) (λ name
 
 usage_like : (field : TypeField) → IsLike (codes "USAGE") usage_in field
 usage_like = each_kind (IsLike (codes "USAGE") usage_in) (λ names h. refl) (λ h. refl) (λ h. refl) (λ name h. no_keyword name h (codes "USAGE") refl) (λ h. refl) (λ h. refl) (λ h. refl) (λ name h. refl) (λ name h. refl) (λ name h. refl) (λ name h. refl) (λ name h. refl) (λ usage h. refl)
-
-other_word : (field : ElementField) → IsGoodElement field → (keyword : List ℕ) → is_word (codes "NAME") keyword ≡ false → is_word (codes "DESC") keyword ≡ false → is_word (codes "OBSOLETE") keyword ≡ false → begins_other keyword ≡ true → is_word (element_word field) keyword ≡ false
-other_word (element_fields.Names names) good keyword a b c d = a
-other_word element_fields.Description good keyword a b c d = b
-other_word element_fields.Obsolete good keyword a b c d = c
-other_word (element_fields.Extension name) good keyword a b c d = keyword_apart name good keyword d
 
 elements_like : (field : ElementField) → IsGoodElement field → (other : TypeField) → IsGood other → is_word (element_word field) (type_word other) ≡ passes (λ o. is_word (element_word field) (element_word o)) (element_in other)
 elements_like field good (fields.Element other) h = refl

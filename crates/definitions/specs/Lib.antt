@@ -10,4 +10,5 @@ pub mod ClassDefinitions
 pub mod Tokens
 pub mod Grammar
 pub mod TypeGrammar
+pub mod ClassGrammar
 pub mod inner

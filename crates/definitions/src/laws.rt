@@ -2,10 +2,13 @@
 
 ghost use Rattle.std.specs.Prelude.{◌≡◌, ℕ, true, Some, List};
 ghost use Rattle.std.specs.List.{list_all};
+ghost use Rattle.definitions.specs.declared.class_definition.ClassDefinition.{ClassDefinition};
 ghost use Rattle.definitions.specs.declared.type_definition.TypeDefinition.{TypeDefinition};
 ghost use Rattle.definitions.specs.Naming.{is_oid, is_type_name};
 ghost use Rattle.definitions.specs.TypeDefinitions.{type_definition_of};
 ghost use Rattle.definitions.specs.TypeGrammar.{SpellsType};
+ghost use Rattle.definitions.specs.ClassDefinitions.{class_definition_of};
+ghost use Rattle.definitions.specs.ClassGrammar.{SpellsClass};
 
 /// A type that a text defines has a numeric OID, and names that types may have.
 pub fn defined_types_have_names()
@@ -17,4 +20,10 @@ pub fn defined_types_have_names()
 pub fn spelled_types_are_read()
     ensures only { (text : List ℕ) (d : TypeDefinition) → type_definition_of text ≡ Some d → SpellsType text d }
     ensures found { (text : List ℕ) (d : TypeDefinition) → SpellsType text d → type_definition_of text ≡ Some d }
+{}
+
+/// An object class is read from the texts that spell it, as they spell it, and from no others.
+pub fn spelled_classes_are_read()
+    ensures only { (text : List ℕ) (d : ClassDefinition) → class_definition_of text ≡ Some d → SpellsClass text d }
+    ensures found { (text : List ℕ) (d : ClassDefinition) → SpellsClass text d → class_definition_of text ≡ Some d }
 {}
