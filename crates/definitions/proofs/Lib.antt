@@ -23,3 +23,4 @@ pub mod NameLists
 pub mod ClassFieldsRead
 pub mod ClassSaid
 pub mod ClassesRead
+pub mod Examples
