@@ -1,7 +1,7 @@
 -- One more field of an object class: it is put where none before has its word.
 use Rattle.std.proofs.Common.{◌≡◌, ℕ, Bool, true, false, List, [], ◌∷◌, ◌++◌, Option, inl, inr, filter_map, refl, sym, ap, ◌∙◌}
 use Rattle.std.specs.Prelude.{codes}
-use Rattle.std.specs.List.{list_any}
+use Rattle.std.specs.List.{AllByRecursion, list_any}
 use Rattle.definitions.specs.declared.element.Sort.TheVariants as sorts
 use Rattle.definitions.specs.declared.element.Element.{Element}
 use Rattle.definitions.specs.declared.element.ElementField.{ElementField}
@@ -17,7 +17,7 @@ use Rattle.definitions.specs.Tokens.{Token}
 use Rattle.definitions.specs.Grammar.{element_word, first, first_list, element_said}
 use Rattle.definitions.specs.ClassGrammar.{AreJoined, AreListed, IsClassField, class_word, element_in, superiors_in, must_in, may_in, kind_in, class_said}
 use Rattle.definitions.proofs.Keywords.{no_keyword}
-use Rattle.definitions.proofs.Said.{Each, with_more, pushed, passes, any_said, all_pass, put_first}
+use Rattle.definitions.proofs.Said.{with_more, pushed, passes, any_said, all_pass, put_first}
 use Rattle.definitions.proofs.ElementSaid.{IsGoodElement, element_good, other_word, put_names, element_puts}
 
 abbrev pub IsGood : ClassField → Type 0
@@ -77,13 +77,13 @@ elements_like field good (fields.List lists.Must names) h = other_word field goo
 elements_like field good (fields.List lists.May names) h = other_word field good (codes "MAY") refl refl refl refl
 elements_like field good (fields.Kind kind) h = other_word field good (codes "KIND") refl refl refl refl
 
-elements_good : (front : List ClassField) → Each IsGood front → Each IsGoodElement (filter_map element_in front)
+elements_good : (front : List ClassField) → AllByRecursion IsGood front → AllByRecursion IsGoodElement (filter_map element_in front)
 elements_good [] h = tt
 elements_good (fields.Element field ∷ front) h = (h.0, elements_good front h.1)
 elements_good (fields.List which names ∷ front) h = elements_good front h.1
 elements_good (fields.Kind kind ∷ front) h = elements_good front h.1
 
-superiors_some : (front : List ClassField) → Each IsGood front → is_some_list (first_list (filter_map superiors_in front)) ≡ is_some_list (filter_map superiors_in front)
+superiors_some : (front : List ClassField) → AllByRecursion IsGood front → is_some_list (first_list (filter_map superiors_in front)) ≡ is_some_list (filter_map superiors_in front)
 superiors_some [] h = refl
 superiors_some (fields.Element field ∷ front) h = superiors_some front h.1
 superiors_some (fields.List lists.Superiors names ∷ front) h = h.0
@@ -91,7 +91,7 @@ superiors_some (fields.List lists.Must names ∷ front) h = superiors_some front
 superiors_some (fields.List lists.May names ∷ front) h = superiors_some front h.1
 superiors_some (fields.Kind kind ∷ front) h = superiors_some front h.1
 
-must_some : (front : List ClassField) → Each IsGood front → is_some_list (first_list (filter_map must_in front)) ≡ is_some_list (filter_map must_in front)
+must_some : (front : List ClassField) → AllByRecursion IsGood front → is_some_list (first_list (filter_map must_in front)) ≡ is_some_list (filter_map must_in front)
 must_some [] h = refl
 must_some (fields.Element field ∷ front) h = must_some front h.1
 must_some (fields.List lists.Superiors names ∷ front) h = must_some front h.1
@@ -99,7 +99,7 @@ must_some (fields.List lists.Must names ∷ front) h = h.0
 must_some (fields.List lists.May names ∷ front) h = must_some front h.1
 must_some (fields.Kind kind ∷ front) h = must_some front h.1
 
-may_some : (front : List ClassField) → Each IsGood front → is_some_list (first_list (filter_map may_in front)) ≡ is_some_list (filter_map may_in front)
+may_some : (front : List ClassField) → AllByRecursion IsGood front → is_some_list (first_list (filter_map may_in front)) ≡ is_some_list (filter_map may_in front)
 may_some [] h = refl
 may_some (fields.Element field ∷ front) h = may_some front h.1
 may_some (fields.List lists.Superiors names ∷ front) h = may_some front h.1
@@ -136,7 +136,7 @@ module _ (oid : List ℕ) (front : List ClassField) where
         may = first_list (pushed may_in front field i);
       })
 
-  module _ (good : Each IsGood front) where
+  module _ (good : AllByRecursion IsGood front) where
     -- some field has this word exactly where something is said of this
     like : {A : Type 0} (word : List ℕ) (says : ClassField → Option A) → ((field : ClassField) → IsLike word says field) → is_some_list (filter_map says front) ≡ list_any (λ g. is_word word (class_word g)) front
     like word says same = sym (any_said IsGood (λ g. is_word word (class_word g)) says (λ x. true) same front good ∙ all_pass (filter_map says front))
@@ -177,7 +177,7 @@ module _ (oid : List ℕ) (front : List ClassField) where
         put_first (λ (s : Option ClassKind). record d { kind = s }) (filter_map kind_in front) kind
         ∙ (λ i. unless (like (codes "KIND") kind_in kind_like i) (sym (grows (fields.Kind kind)) i))
 
-pub class_puts : (oid : List ℕ) (front : List ClassField) (field : ClassField) → Each IsGood front → IsGood field
+pub class_puts : (oid : List ℕ) (front : List ClassField) (field : ClassField) → AllByRecursion IsGood front → IsGood field
     → with_field (class_said oid front) field ≡ unless (list_any (λ g. is_word (class_word field) (class_word g)) front) (class_said oid (front ++ field ∷ []))
 class_puts oid front (fields.Element field) h good = element_put oid front h field good
 class_puts oid front (fields.List lists.Superiors names) h good = superiors_put oid front h names

@@ -1,5 +1,6 @@
 -- The definition of an object class is read exactly from the texts that spell it.
 use Rattle.std.proofs.Common.{◌≡◌, ℕ, List, [], ◌∷◌, ◌++◌, Option, Some, sym, ap, ◌∙◌, arith}
+use Rattle.std.specs.List.{AllByRecursion}
 use Rattle.definitions.specs.declared.class_definition.ClassField.{ClassField}
 use Rattle.definitions.specs.declared.class_definition.ClassDefinition.{ClassDefinition}
 use Rattle.definitions.specs.Words.{◌>>>◌, Cut}
@@ -12,10 +13,10 @@ use Rattle.definitions.proofs.There.{IfThere, bound, there, weaker}
 use Rattle.definitions.proofs.Heads.{head_found, HeadStands, head_only}
 use Rattle.definitions.proofs.FieldsRead.{fields_found, FieldsStand, fields_only}
 use Rattle.definitions.proofs.ClassFieldsRead.{class_field_found, class_field_only}
-use Rattle.definitions.proofs.Said.{Each, all_put, put_only}
+use Rattle.definitions.proofs.Said.{all_put, put_only}
 use Rattle.definitions.proofs.ClassSaid.{IsGood, class_good, class_puts}
 
-fields_good : (fields : List ClassField) (tokens : List Token) → AreFields IsClassField fields tokens → Each IsGood fields
+fields_good : (fields : List ClassField) (tokens : List Token) → AreFields IsClassField fields tokens → AllByRecursion IsGood fields
 fields_good [] tokens are = tt
 fields_good (field ∷ fields) tokens are = (class_good field are.0 are.2, fields_good fields are.1 are.4)
 
@@ -25,11 +26,11 @@ none_apart word = omega arith
 pub class_found : (text : List ℕ) (d : ClassDefinition) → SpellsClass text d → class_definition_of text ≡ Some d
 unfolding class_definition_of
 class_found text d s =
-    let h = s.text_is in
+    let h = s.form.text_is in
     let rest = h.2.0 in
-    ap (λ (o : Option Cut). o >>> class_with) (head_found text s.oid (s.tokens ++ Closing ∷ []) s.oid_is h)
-    ∙ fields_found field_at with_field IsClassField class_field_found s.fields s.tokens (empty_definition s.oid) rest rest s.fields_are h.2.2 (omega arith)
-    ∙ all_put with_field class_word IsGood (class_said s.oid) (class_puts s.oid) [] s.fields tt (fields_good s.fields s.tokens s.fields_are) s.apart
+    ap (λ (o : Option Cut). o >>> class_with) (head_found text s.oid (s.form.tokens ++ Closing ∷ []) s.form.oid_is h)
+    ∙ fields_found field_at with_field IsClassField class_field_found s.fields s.form.tokens (empty_definition s.oid) rest rest s.form.fields_are h.2.2 (omega arith)
+    ∙ all_put with_field class_word IsGood (class_said s.oid) (class_puts s.oid) [] s.fields tt (fields_good s.fields s.form.tokens s.form.fields_are) s.apart
     ∙ ap some (sym s.definition_is) where
       some : ClassDefinition → Option ClassDefinition
       some d = Some d
@@ -40,10 +41,7 @@ spelled text head stands made h =
     record {
       oid = head.0;
       fields = h.fields;
-      tokens = h.tokens;
-      text_is = stands.behind (h.tokens ++ Closing ∷ []) h.text_is;
-      oid_is = stands.oid_is;
-      fields_are = h.are;
+      form = record { tokens = h.tokens; text_is = stands.behind (h.tokens ++ Closing ∷ []) h.text_is; oid_is = stands.oid_is; fields_are = h.are };
       apart = said.0;
       definition_is = said.1;
     }

@@ -1,7 +1,7 @@
 -- One more field of a type or class as such: it is put where none before has its word.
 use Rattle.std.proofs.Common.{◌≡◌, ℕ, ◌<◌, Bool, true, false, List, [], ◌∷◌, ◌++◌, length, inl, inr, filter_map, refl, sym, ap, ◌∙◌, arith}
 use Rattle.std.specs.Prelude.{codes}
-use Rattle.std.specs.List.{list_any}
+use Rattle.std.specs.List.{AllByRecursion, list_any}
 use Rattle.std.specs.Str.{str_eq_ignore_ascii_case}
 use Rattle.definitions.specs.declared.element.Sort.{Sort}
 use Rattle.definitions.specs.declared.element.Element.{Element}
@@ -11,7 +11,7 @@ use Rattle.definitions.specs.Elements.{is_word, is_extension, unless, is_some_li
 use Rattle.definitions.specs.Tokens.{Token}
 use Rattle.definitions.specs.Grammar.{AreTexts, IsElementField, element_word, first_list, names_in, description_in, obsolete_in, extension_in, element_said}
 use Rattle.definitions.proofs.Keywords.{begins_other, no_keyword, lowered, alike}
-use Rattle.definitions.proofs.Said.{Each, with_more, pushed, passes, any_said, all_pass, put_flag}
+use Rattle.definitions.proofs.Said.{with_more, pushed, passes, any_said, all_pass, put_flag}
 
 -- names aren't none, and the name of an extension is one
 abbrev pub IsGoodElement : ElementField → Type 0
@@ -104,7 +104,7 @@ extension_like name e fields.Description h = keyword_apart name e (codes "DESC")
 extension_like name e fields.Obsolete h = keyword_apart name e (codes "OBSOLETE") refl
 extension_like name e (fields.Extension other) h = refl
 
-first_some : (front : List ElementField) → Each IsGoodElement front → is_some_list (first_list (filter_map names_in front)) ≡ is_some_list (filter_map names_in front)
+first_some : (front : List ElementField) → AllByRecursion IsGoodElement front → is_some_list (first_list (filter_map names_in front)) ≡ is_some_list (filter_map names_in front)
 first_some [] h = refl
 first_some (fields.Names names ∷ front) h = h.0
 first_some (fields.Description ∷ front) h = first_some front h.1
@@ -116,7 +116,7 @@ pub put_names : {D : Type 0} (with : List (List ℕ) → D) (xs : List (List (Li
 put_names with [] x e = refl
 put_names with (y ∷ ys) x e = (λ i. unless (e i) (with x))
 
-pub element_puts : (oid : List ℕ) (front : List ElementField) (field : ElementField) → Each IsGoodElement front → IsGoodElement field
+pub element_puts : (oid : List ℕ) (front : List ElementField) (field : ElementField) → AllByRecursion IsGoodElement front → IsGoodElement field
     → with_element_field (element_said oid front) field ≡ unless (list_any (λ g. is_word (element_word field) (element_word g)) front) (element_said oid (front ++ field ∷ []))
 unfolding with_element_field grown
 element_puts oid front (fields.Names names) h good =

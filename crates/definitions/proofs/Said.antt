@@ -1,6 +1,6 @@
 -- Fields that are put one after the other say together what each says, and no two have the same word.
 use Rattle.std.proofs.Common.{◌≡◌, ℕ, ◌+◌, ◌≤◌, Bool, true, false, cond, ◌||◌, List, [], ◌∷◌, ◌++◌, Option, Some, None, is_some, count_by, filter_map, refl, sym, ap, subst, ◌∙◌, append_assoc, append-nil, arith}
-use Rattle.std.specs.List.{list_any, cons_option}
+use Rattle.std.specs.List.{AllByRecursion, list_any, cons_option}
 use Rattle.std.specs.Str.{bytes_eq, str_to_ascii_lowercase}
 use Rattle.std.proofs.lemmas.List.Sums.{sum_by-append}
 use Rattle.std.proofs.lemmas.List.Elements.{filter_map-append}
@@ -12,11 +12,7 @@ use Rattle.definitions.proofs.Keywords.{lowered, alike}
 
 -- ---- lists
 
-abbrev pub Each : {F : Type 0} → (F → Type 0) → List F → Type 0
-Each IsGood [] = Unit {0}
-Each IsGood (f ∷ fs) = IsGood f × Each IsGood fs
-
-pub each_push : {F : Type 0} (IsGood : F → Type 0) (fs : List F) (f : F) → Each IsGood fs → IsGood f → Each IsGood (fs ++ f ∷ [])
+pub each_push : {F : Type 0} (IsGood : F → Type 0) (fs : List F) (f : F) → AllByRecursion IsGood fs → IsGood f → AllByRecursion IsGood (fs ++ f ∷ [])
 each_push IsGood [] f h g = (g, tt)
 each_push IsGood (x ∷ xs) f h g = (h.0, each_push IsGood xs f h.1 g)
 
@@ -41,7 +37,7 @@ said_by_cases inner (Some x) xs = refl
 
 -- some field passes exactly where something that is said does
 pub any_said : {F A : Type 0} (IsGood : F → Type 0) (test : F → Bool) (says : F → Option A) (inner : A → Bool) → ((f : F) → IsGood f → test f ≡ passes inner (says f))
-    → (fs : List F) → Each IsGood fs → list_any test fs ≡ list_any inner (filter_map says fs)
+    → (fs : List F) → AllByRecursion IsGood fs → list_any test fs ≡ list_any inner (filter_map says fs)
 any_said IsGood test says inner same [] h = refl
 any_said IsGood test says inner same (f ∷ fs) h = (λ i. same f h.0 i || any_said IsGood test says inner same fs h.1 i) ∙ said_by_cases inner (says f) (filter_map says fs)
 
@@ -92,7 +88,7 @@ module _ {D F : Type 0} (put : D → F → Option D) (word_of : F → List ℕ) 
   is_like f g = is_word (word_of f) (word_of g)
 
   abbrev pub PutsOne : Type 0
-  PutsOne = (fs : List F) (f : F) → Each IsGood fs → IsGood f → put (said_by fs) f ≡ unless (list_any (is_like f) fs) (said_by (fs ++ f ∷ []))
+  PutsOne = (fs : List F) (f : F) → AllByRecursion IsGood fs → IsGood f → put (said_by fs) f ≡ unless (list_any (is_like f) fs) (said_by (fs ++ f ∷ []))
 
   alone : (fs : List F) (f : F) (gs : List F) → AreApart word_of (fs ++ f ∷ gs) → list_any (is_like f) fs ≡ false
   alone fs f gs apart =
@@ -115,7 +111,7 @@ module _ {D F : Type 0} (put : D → F → Option D) (word_of : F → List ℕ) 
         omega (arith, apart word, last, counted (λ g. is_word word (word_of g)) fs (f ∷ []), counts_first (λ g. is_word word (word_of g)) f [])
 
   module _ (puts : PutsOne) where
-    pub all_put : (fs gs : List F) → Each IsGood fs → Each IsGood gs → AreApart word_of (fs ++ gs) → put_all put (said_by fs) gs ≡ Some (said_by (fs ++ gs))
+    pub all_put : (fs gs : List F) → AllByRecursion IsGood fs → AllByRecursion IsGood gs → AreApart word_of (fs ++ gs) → put_all put (said_by fs) gs ≡ Some (said_by (fs ++ gs))
     all_put fs [] h k apart = ap (λ (xs : List F). some (said_by xs)) (sym (append-nil fs)) where
       some : D → Option D
       some d = Some d
@@ -127,7 +123,7 @@ module _ {D F : Type 0} (put : D → F → Option D) (word_of : F → List ℕ) 
           some : D → Option D
           some d = Some d
 
-    one_put : (fs : List F) (g : F) (gs : List F) (d : D) → Each IsGood fs → IsGood g → AreApart word_of fs → put_all put (said_by fs) (g ∷ gs) ≡ Some d → (t : Bool) → list_any (is_like g) fs ≡ t
+    one_put : (fs : List F) (g : F) (gs : List F) (d : D) → AllByRecursion IsGood fs → IsGood g → AreApart word_of fs → put_all put (said_by fs) (g ∷ gs) ≡ Some d → (t : Bool) → list_any (is_like g) fs ≡ t
         → (AreApart word_of (fs ++ g ∷ []) → put_all put (said_by (fs ++ g ∷ [])) gs ≡ Some d → AreApart word_of ((fs ++ g ∷ []) ++ gs) × (d ≡ said_by ((fs ++ g ∷ []) ++ gs)))
         → AreApart word_of (fs ++ g ∷ gs) × (d ≡ said_by (fs ++ g ∷ gs))
     one_put fs g gs d h good apart e true is on =
@@ -139,7 +135,7 @@ module _ {D F : Type 0} (put : D → F → Option D) (word_of : F → List ℕ) 
         let seam = append_assoc fs (g ∷ []) gs in
         (subst (AreApart word_of) seam rest.0, rest.1 ∙ ap said_by seam)
 
-    pub put_only : (fs gs : List F) (d : D) → Each IsGood fs → Each IsGood gs → AreApart word_of fs → put_all put (said_by fs) gs ≡ Some d → AreApart word_of (fs ++ gs) × (d ≡ said_by (fs ++ gs))
+    pub put_only : (fs gs : List F) (d : D) → AllByRecursion IsGood fs → AllByRecursion IsGood gs → AreApart word_of fs → put_all put (said_by fs) gs ≡ Some d → AreApart word_of (fs ++ gs) × (d ≡ said_by (fs ++ gs))
     put_only fs [] d h k apart e =
         let same : said_by fs ≡ d = cc in
         (subst (AreApart word_of) (sym (append-nil fs)) apart, sym same ∙ ap said_by (sym (append-nil fs)))

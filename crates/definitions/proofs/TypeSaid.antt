@@ -1,7 +1,7 @@
 -- One more field of an attribute type: it is put where none before has its word.
 use Rattle.std.proofs.Common.{◌≡◌, ℕ, Bool, true, false, List, [], ◌∷◌, ◌++◌, Option, filter_map, refl, sym, ap, ◌∙◌}
 use Rattle.std.specs.Prelude.{codes}
-use Rattle.std.specs.List.{list_any}
+use Rattle.std.specs.List.{AllByRecursion, list_any}
 use Rattle.definitions.specs.declared.element.Sort.TheVariants as sorts
 use Rattle.definitions.specs.declared.element.Element.{Element}
 use Rattle.definitions.specs.declared.element.ElementField.{ElementField}
@@ -18,7 +18,7 @@ use Rattle.definitions.specs.Tokens.{Token}
 use Rattle.definitions.specs.Grammar.{element_word, first, element_said}
 use Rattle.definitions.specs.TypeGrammar.{IsTypeField, type_word, element_in, superior_in, equality_in, ordering_in, substrings_in, syntax_in, single_in, collective_in, fixed_in, usage_in, type_said}
 use Rattle.definitions.proofs.Keywords.{no_keyword}
-use Rattle.definitions.proofs.Said.{Each, with_more, pushed, passes, any_said, all_pass, put_first, put_flag}
+use Rattle.definitions.proofs.Said.{with_more, pushed, passes, any_said, all_pass, put_first, put_flag}
 use Rattle.definitions.proofs.ElementSaid.{IsGoodElement, element_good, other_word, element_puts}
 
 abbrev pub IsGood : TypeField → Type 0
@@ -99,7 +99,7 @@ elements_like field good (fields.Reference references.Substrings name) h = other
 elements_like field good (fields.Reference references.Syntax name) h = other_word field good (codes "SYNTAX") refl refl refl refl
 elements_like field good (fields.Usage usage) h = other_word field good (codes "USAGE") refl refl refl refl
 
-pub elements_good : (front : List TypeField) → Each IsGood front → Each IsGoodElement (filter_map element_in front)
+pub elements_good : (front : List TypeField) → AllByRecursion IsGood front → AllByRecursion IsGoodElement (filter_map element_in front)
 elements_good [] h = tt
 elements_good (fields.Element field ∷ front) h = (h.0, elements_good front h.1)
 elements_good (fields.Flag flag ∷ front) h = elements_good front h.1
@@ -145,7 +145,7 @@ module _ (oid : List ℕ) (front : List TypeField) where
         usage = first (pushed usage_in front field i);
       })
 
-  module _ (good : Each IsGood front) where
+  module _ (good : AllByRecursion IsGood front) where
     -- some field has this word exactly where something is said of this
     like : {A : Type 0} (word : List ℕ) (says : TypeField → Option A) → ((field : TypeField) → IsLike word says field) → is_some_list (filter_map says front) ≡ list_any (λ g. is_word word (type_word g)) front
     like word says same = sym (any_said IsGood (λ g. is_word word (type_word g)) says (λ x. true) same front good ∙ all_pass (filter_map says front))
@@ -216,7 +216,7 @@ module _ (oid : List ℕ) (front : List TypeField) where
         put_first (λ (s : Option Usage). record d { usage = s }) (filter_map usage_in front) usage
         ∙ (λ i. unless (like (codes "USAGE") usage_in usage_like i) (sym (grows (fields.Usage usage)) i))
 
-pub type_puts : (oid : List ℕ) (front : List TypeField) (field : TypeField) → Each IsGood front → IsGood field
+pub type_puts : (oid : List ℕ) (front : List TypeField) (field : TypeField) → AllByRecursion IsGood front → IsGood field
     → with_field (type_said oid front) field ≡ unless (list_any (λ g. is_word (type_word field) (type_word g)) front) (type_said oid (front ++ field ∷ []))
 type_puts oid front (fields.Element field) h good = element_put oid front h field good
 type_puts oid front (fields.Flag flags.SingleValue) h good = single_put oid front h

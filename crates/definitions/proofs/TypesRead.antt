@@ -1,5 +1,6 @@
 -- The definition of an attribute type is read exactly from the texts that spell it.
 use Rattle.std.proofs.Common.{◌≡◌, ℕ, Bool, true, cond, ◌||◌, is_some, List, [], ◌∷◌, ◌++◌, Option, Some, None, sym, ap, subst, ◌∙◌, arith}
+use Rattle.std.specs.List.{AllByRecursion}
 use Rattle.definitions.specs.declared.type_field.TypeField.{TypeField}
 use Rattle.definitions.specs.declared.type_definition.TypeDefinition.{TypeDefinition}
 use Rattle.definitions.specs.Words.{◌>>>◌, Cut}
@@ -13,10 +14,10 @@ use Rattle.definitions.proofs.There.{IfThere, chosen, bound, there}
 use Rattle.definitions.proofs.Heads.{head_found, HeadStands, head_only}
 use Rattle.definitions.proofs.FieldsRead.{fields_found, FieldsStand, fields_only}
 use Rattle.definitions.proofs.TypeFieldsRead.{type_field_found, type_field_only}
-use Rattle.definitions.proofs.Said.{Each, all_put, put_only}
+use Rattle.definitions.proofs.Said.{all_put, put_only}
 use Rattle.definitions.proofs.TypeSaid.{IsGood, type_good, type_puts}
 
-fields_good : (fields : List TypeField) (tokens : List Token) → AreFields IsTypeField fields tokens → Each IsGood fields
+fields_good : (fields : List TypeField) (tokens : List Token) → AreFields IsTypeField fields tokens → AllByRecursion IsGood fields
 fields_good [] tokens are = tt
 fields_good (field ∷ fields) tokens are = (type_good field are.0 are.2, fields_good fields are.1 are.4)
 
@@ -26,15 +27,15 @@ none_apart word = omega arith
 pub type_found : (text : List ℕ) (d : TypeDefinition) → SpellsType text d → type_definition_of text ≡ Some d
 unfolding type_definition_of
 type_found text d s =
-    let h = s.text_is in
+    let h = s.form.text_is in
     let rest = h.2.0 in
     let states : (is_some (type_said s.oid s.fields).syntax || is_some (type_said s.oid s.fields).superior) ≡ true =
     subst (λ (e : TypeDefinition). (is_some e.syntax || is_some e.superior) ≡ true) s.definition_is s.states
     in
-    ap (λ (o : Option Cut). o >>> type_with) (head_found text s.oid (s.tokens ++ Closing ∷ []) s.oid_is h)
+    ap (λ (o : Option Cut). o >>> type_with) (head_found text s.oid (s.form.tokens ++ Closing ∷ []) s.form.oid_is h)
     ∙ ap (λ (o : Option TypeDefinition). o >>> with_syntax)
-    (fields_found field_at with_field IsTypeField type_field_found s.fields s.tokens (empty_definition s.oid) rest rest s.fields_are h.2.2 (omega arith)
-    ∙ all_put with_field type_word IsGood (type_said s.oid) (type_puts s.oid) [] s.fields tt (fields_good s.fields s.tokens s.fields_are) s.apart)
+    (fields_found field_at with_field IsTypeField type_field_found s.fields s.form.tokens (empty_definition s.oid) rest rest s.form.fields_are h.2.2 (omega arith)
+    ∙ all_put with_field type_word IsGood (type_said s.oid) (type_puts s.oid) [] s.fields tt (fields_good s.fields s.form.tokens s.form.fields_are) s.apart)
     ∙ ap (λ (t : Bool). cond t (some (type_said s.oid s.fields)) None) states
     ∙ ap some (sym s.definition_is) where
       some : TypeDefinition → Option TypeDefinition
@@ -47,10 +48,7 @@ spelled text head stands made h =
     record {
       oid = head.0;
       fields = h.fields;
-      tokens = h.tokens;
-      text_is = stands.behind (h.tokens ++ Closing ∷ []) h.text_is;
-      oid_is = stands.oid_is;
-      fields_are = h.are;
+      form = record { tokens = h.tokens; text_is = stands.behind (h.tokens ++ Closing ∷ []) h.text_is; oid_is = stands.oid_is; fields_are = h.are };
       apart = said.0;
       definition_is = said.1;
       states = e;

@@ -11,7 +11,7 @@ use Rattle.definitions.specs.declared.class_definition.ClassField.TheVariants as
 use Rattle.definitions.specs.declared.class_definition.ClassDefinition.{ClassDefinition}
 use Rattle.definitions.specs.ClassDefinitions.{may_be_quoted}
 use Rattle.definitions.specs.Tokens.{Token, Opening, Closing, Dollar, Word, AreTokens}
-use Rattle.definitions.specs.Grammar.{IsOid, Headed, IsNothing, IsName, element_word, IsElementField, AreFields, AreApart, first, first_list, said, element_said}
+use Rattle.definitions.specs.Grammar.{IsOid, Headed, IsNothing, IsName, element_word, IsElementField, IsDefinition, AreApart, first, first_list, said, element_said}
 
 -- ---- lists of names
 
@@ -92,9 +92,6 @@ class_said oid fields =
 pub record SpellsClass (text : List ℕ) (definition : ClassDefinition) : Type 0 where
   pub oid : List ℕ
   pub fields : List ClassField
-  pub tokens : List Token
-  pub text_is : AreTokens (Opening ∷ Word oid ∷ (tokens ++ Closing ∷ [])) text
-  pub oid_is : IsOid oid
-  pub fields_are : AreFields IsClassField fields tokens
+  pub form : IsDefinition IsClassField text oid fields
   pub apart : AreApart class_word fields
   pub definition_is : definition ≡ class_said oid fields

@@ -8,7 +8,7 @@ use Rattle.definitions.specs.declared.element.Element.{Element}
 use Rattle.definitions.specs.declared.element.ElementField.{ElementField}
 use Rattle.definitions.specs.declared.element.ElementField.TheVariants as fields
 use Rattle.definitions.specs.Elements.{is_word, is_extension, is_allowed, is_some_list}
-use Rattle.definitions.specs.Tokens.{Token, Opening, Closing, Quoted, Word}
+use Rattle.definitions.specs.Tokens.{Token, Opening, Closing, Quoted, Word, AreTokens}
 
 -- ---- parts of fields
 
@@ -82,6 +82,13 @@ abbrev pub AreFields : {F : Type 0} → (F → List Token → Type 0) → List F
 AreFields IsField [] tokens = tokens ≡ []
 AreFields IsField (field ∷ fields) tokens = (front : List Token) × (rest : List Token) × IsField field front × (tokens ≡ front ++ rest) × AreFields IsField fields rest
 
+-- `(`, the OID, these fields and `)`
+pub record IsDefinition {F : Type 0} (IsField : F → List Token → Type 0) (text oid : List ℕ) (fields : List F) : Type 0 where
+  pub tokens : List Token
+  pub text_is : AreTokens (Opening ∷ Word oid ∷ (tokens ++ Closing ∷ [])) text
+  pub oid_is : IsOid oid
+  pub fields_are : AreFields IsField fields tokens
+
 -- no two fields have the same word, in any case
 abbrev pub AreApart : {F : Type 0} → (F → List ℕ) → List F → Type 0
 AreApart word_of fields = (word : List ℕ) → count_by (λ field. is_word word (word_of field)) fields ≤ 1
@@ -124,7 +131,10 @@ extension_in fields.Description = None
 extension_in fields.Obsolete = None
 extension_in (fields.Extension name) = Some name
 
--- the extensions stay in their order
+-- the names of extensions, in their order
+abbrev pub extensions_in : List ElementField → List (List ℕ)
+extensions_in fields = said extension_in fields
+
 abbrev pub element_said : List ℕ → List ElementField → Element
 element_said oid fields =
     record {
@@ -132,5 +142,5 @@ element_said oid fields =
       names = first_list (said names_in fields);
       is_described = is_some_list (said description_in fields);
       is_obsolete = is_some_list (said obsolete_in fields);
-      extensions = said extension_in fields;
+      extensions = extensions_in fields;
     }

@@ -14,7 +14,7 @@ use Rattle.definitions.specs.declared.type_field.TypeField.TheVariants as fields
 use Rattle.definitions.specs.declared.type_definition.TypeDefinition.{TypeDefinition}
 use Rattle.definitions.specs.Elements.{is_some_list}
 use Rattle.definitions.specs.Tokens.{Token, Opening, Closing, Word, AreTokens}
-use Rattle.definitions.specs.Grammar.{is_number, IsOid, Headed, IsNothing, IsName, element_word, IsElementField, AreFields, AreApart, first, said, element_said}
+use Rattle.definitions.specs.Grammar.{is_number, IsOid, Headed, IsNothing, IsName, element_word, IsElementField, IsDefinition, AreApart, first, said, element_said}
 
 -- ---- fields
 
@@ -127,10 +127,7 @@ type_said oid fields =
 pub record SpellsType (text : List ℕ) (definition : TypeDefinition) : Type 0 where
   pub oid : List ℕ
   pub fields : List TypeField
-  pub tokens : List Token
-  pub text_is : AreTokens (Opening ∷ Word oid ∷ (tokens ++ Closing ∷ [])) text
-  pub oid_is : IsOid oid
-  pub fields_are : AreFields IsTypeField fields tokens
+  pub form : IsDefinition IsTypeField text oid fields
   pub apart : AreApart type_word fields
   pub definition_is : definition ≡ type_said oid fields
   pub states : (is_some definition.syntax || is_some definition.superior) ≡ true
