@@ -41,7 +41,7 @@ class_good (fields.Kind kind) tokens is = tt
 -- ---- words
 
 -- for each kind of field
-each_kind : (P : ClassField → Type 0)
+pub each_kind : (P : ClassField → Type 0)
     → ((names : List (List ℕ)) → P (fields.Element (element_fields.Names names))) → P (fields.Element element_fields.Description) → P (fields.Element element_fields.Obsolete) → ((name : List ℕ) → P (fields.Element (element_fields.Extension name)))
     → ((names : List (List ℕ)) → P (fields.List lists.Superiors names)) → ((names : List (List ℕ)) → P (fields.List lists.Must names)) → ((names : List (List ℕ)) → P (fields.List lists.May names)) → ((kind : ClassKind) → P (fields.Kind kind))
     → (field : ClassField) → P field
@@ -55,19 +55,19 @@ each_kind P a b c d e f g h (fields.List lists.May names) = g names
 each_kind P a b c d e f g h (fields.Kind kind) = h kind
 
 -- a field has this word exactly where it says something of this
-abbrev IsLike : {A : Type 0} → List ℕ → (ClassField → Option A) → ClassField → Type 0
+abbrev pub IsLike : {A : Type 0} → List ℕ → (ClassField → Option A) → ClassField → Type 0
 IsLike word says field = IsGood field → is_word word (class_word field) ≡ passes (λ x. true) (says field)
 
-superiors_like : (field : ClassField) → IsLike (codes "SUP") superiors_in field
+pub superiors_like : (field : ClassField) → IsLike (codes "SUP") superiors_in field
 superiors_like = each_kind (IsLike (codes "SUP") superiors_in) (λ names h. refl) (λ h. refl) (λ h. refl) (λ name h. no_keyword name h (codes "SUP") refl) (λ names h. refl) (λ names h. refl) (λ names h. refl) (λ kind h. refl)
 
-must_like : (field : ClassField) → IsLike (codes "MUST") must_in field
+pub must_like : (field : ClassField) → IsLike (codes "MUST") must_in field
 must_like = each_kind (IsLike (codes "MUST") must_in) (λ names h. refl) (λ h. refl) (λ h. refl) (λ name h. no_keyword name h (codes "MUST") refl) (λ names h. refl) (λ names h. refl) (λ names h. refl) (λ kind h. refl)
 
-may_like : (field : ClassField) → IsLike (codes "MAY") may_in field
+pub may_like : (field : ClassField) → IsLike (codes "MAY") may_in field
 may_like = each_kind (IsLike (codes "MAY") may_in) (λ names h. refl) (λ h. refl) (λ h. refl) (λ name h. no_keyword name h (codes "MAY") refl) (λ names h. refl) (λ names h. refl) (λ names h. refl) (λ kind h. refl)
 
-kind_like : (field : ClassField) → IsLike (codes "KIND") kind_in field
+pub kind_like : (field : ClassField) → IsLike (codes "KIND") kind_in field
 kind_like = each_kind (IsLike (codes "KIND") kind_in) (λ names h. refl) (λ h. refl) (λ h. refl) (λ name h. no_keyword name h (codes "KIND") refl) (λ names h. refl) (λ names h. refl) (λ names h. refl) (λ kind h. refl)
 
 elements_like : (field : ElementField) → IsGoodElement field → (other : ClassField) → IsGood other → is_word (element_word field) (class_word other) ≡ passes (λ o. is_word (element_word field) (element_word o)) (element_in other)

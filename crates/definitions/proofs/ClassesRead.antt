@@ -7,29 +7,34 @@ use Rattle.definitions.specs.Words.{◌>>>◌, Cut}
 use Rattle.definitions.specs.Elements.{head_at, fields_to_end}
 use Rattle.definitions.specs.ClassDefinitions.{field_at, with_field, empty_definition, class_with, class_definition_of}
 use Rattle.definitions.specs.Tokens.{Token, Closing}
-use Rattle.definitions.specs.Grammar.{AreFields, AreApart}
+use Rattle.definitions.specs.Grammar.{AreFields, IsDefinition, AreApart}
 use Rattle.definitions.specs.ClassGrammar.{IsClassField, class_word, class_said, SpellsClass}
 use Rattle.definitions.proofs.There.{IfThere, bound, there, weaker}
 use Rattle.definitions.proofs.Heads.{head_found, HeadStands, head_only}
-use Rattle.definitions.proofs.FieldsRead.{fields_found, FieldsStand, fields_only}
+use Rattle.definitions.proofs.FieldsRead.{put_all, fields_found, FieldsStand, fields_only}
 use Rattle.definitions.proofs.ClassFieldsRead.{class_field_found, class_field_only}
 use Rattle.definitions.proofs.Said.{all_put, put_only}
 use Rattle.definitions.proofs.ClassSaid.{IsGood, class_good, class_puts}
 
-fields_good : (fields : List ClassField) (tokens : List Token) → AreFields IsClassField fields tokens → AllByRecursion IsGood fields
+pub fields_good : (fields : List ClassField) (tokens : List Token) → AreFields IsClassField fields tokens → AllByRecursion IsGood fields
 fields_good [] tokens are = tt
 fields_good (field ∷ fields) tokens are = (class_good field are.0 are.2, fields_good fields are.1 are.4)
 
 none_apart : AreApart class_word []
 none_apart word = omega arith
 
-pub class_found : (text : List ℕ) (d : ClassDefinition) → SpellsClass text d → class_definition_of text ≡ Some d
+-- a text of this form is read as its fields put one after the other
+pub class_form : (text oid : List ℕ) (fields : List ClassField) → IsDefinition IsClassField text oid fields → class_definition_of text ≡ put_all with_field (empty_definition oid) fields
 unfolding class_definition_of
-class_found text d s =
-    let h = s.form.text_is in
+class_form text oid fields s =
+    let h = s.text_is in
     let rest = h.2.0 in
-    ap (λ (o : Option Cut). o >>> class_with) (head_found text s.oid (s.form.tokens ++ Closing ∷ []) s.form.oid_is h)
-    ∙ fields_found field_at with_field IsClassField class_field_found s.fields s.form.tokens (empty_definition s.oid) rest rest s.form.fields_are h.2.2 (omega arith)
+    ap (λ (o : Option Cut). o >>> class_with) (head_found text oid (s.tokens ++ Closing ∷ []) s.oid_is h)
+    ∙ fields_found field_at with_field IsClassField class_field_found fields s.tokens (empty_definition oid) rest rest s.fields_are h.2.2 (omega arith)
+
+pub class_found : (text : List ℕ) (d : ClassDefinition) → SpellsClass text d → class_definition_of text ≡ Some d
+class_found text d s =
+    class_form text s.oid s.fields s.form
     ∙ all_put with_field class_word IsGood (class_said s.oid) (class_puts s.oid) [] s.fields tt (fields_good s.fields s.form.tokens s.form.fields_are) s.apart
     ∙ ap some (sym s.definition_is) where
       some : ClassDefinition → Option ClassDefinition

@@ -24,3 +24,6 @@ pub mod ClassFieldsRead
 pub mod ClassSaid
 pub mod ClassesRead
 pub mod Examples
+pub mod Reordered
+pub mod TypesReordered
+pub mod ClassesReordered

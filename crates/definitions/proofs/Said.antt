@@ -56,7 +56,7 @@ put_flag with (y ∷ ys) x = refl
 
 -- ---- each at most once
 
-abbrev one_if : Bool → ℕ
+abbrev pub one_if : Bool → ℕ
 one_if t = cond t 1 0
 
 pub counted : {F : Type 0} (test : F → Bool) (xs ys : List F) → count_by test (xs ++ ys) ≡ count_by test xs + count_by test ys

@@ -36,7 +36,7 @@ type_good (fields.Usage usage) tokens is = tt
 -- ---- words
 
 -- for each kind of field
-each_kind : (P : TypeField → Type 0)
+pub each_kind : (P : TypeField → Type 0)
     → ((names : List (List ℕ)) → P (fields.Element (element_fields.Names names))) → P (fields.Element element_fields.Description) → P (fields.Element element_fields.Obsolete) → ((name : List ℕ) → P (fields.Element (element_fields.Extension name)))
     → P (fields.Flag flags.SingleValue) → P (fields.Flag flags.Collective) → P (fields.Flag flags.NoUserModification)
     → ((name : List ℕ) → P (fields.Reference references.Superior name)) → ((name : List ℕ) → P (fields.Reference references.Equality name)) → ((name : List ℕ) → P (fields.Reference references.Ordering name))
@@ -57,34 +57,34 @@ each_kind P a b c d e f g h i j k l m (fields.Reference references.Syntax name) 
 each_kind P a b c d e f g h i j k l m (fields.Usage usage) = m usage
 
 -- a field has this word exactly where it says something of this
-abbrev IsLike : {A : Type 0} → List ℕ → (TypeField → Option A) → TypeField → Type 0
+abbrev pub IsLike : {A : Type 0} → List ℕ → (TypeField → Option A) → TypeField → Type 0
 IsLike word says field = IsGood field → is_word word (type_word field) ≡ passes (λ x. true) (says field)
 
-superior_like : (field : TypeField) → IsLike (codes "SUP") superior_in field
+pub superior_like : (field : TypeField) → IsLike (codes "SUP") superior_in field
 superior_like = each_kind (IsLike (codes "SUP") superior_in) (λ names h. refl) (λ h. refl) (λ h. refl) (λ name h. no_keyword name h (codes "SUP") refl) (λ h. refl) (λ h. refl) (λ h. refl) (λ name h. refl) (λ name h. refl) (λ name h. refl) (λ name h. refl) (λ name h. refl) (λ usage h. refl)
 
-equality_like : (field : TypeField) → IsLike (codes "EQUALITY") equality_in field
+pub equality_like : (field : TypeField) → IsLike (codes "EQUALITY") equality_in field
 equality_like = each_kind (IsLike (codes "EQUALITY") equality_in) (λ names h. refl) (λ h. refl) (λ h. refl) (λ name h. no_keyword name h (codes "EQUALITY") refl) (λ h. refl) (λ h. refl) (λ h. refl) (λ name h. refl) (λ name h. refl) (λ name h. refl) (λ name h. refl) (λ name h. refl) (λ usage h. refl)
 
-ordering_like : (field : TypeField) → IsLike (codes "ORDERING") ordering_in field
+pub ordering_like : (field : TypeField) → IsLike (codes "ORDERING") ordering_in field
 ordering_like = each_kind (IsLike (codes "ORDERING") ordering_in) (λ names h. refl) (λ h. refl) (λ h. refl) (λ name h. no_keyword name h (codes "ORDERING") refl) (λ h. refl) (λ h. refl) (λ h. refl) (λ name h. refl) (λ name h. refl) (λ name h. refl) (λ name h. refl) (λ name h. refl) (λ usage h. refl)
 
-substrings_like : (field : TypeField) → IsLike (codes "SUBSTR") substrings_in field
+pub substrings_like : (field : TypeField) → IsLike (codes "SUBSTR") substrings_in field
 substrings_like = each_kind (IsLike (codes "SUBSTR") substrings_in) (λ names h. refl) (λ h. refl) (λ h. refl) (λ name h. no_keyword name h (codes "SUBSTR") refl) (λ h. refl) (λ h. refl) (λ h. refl) (λ name h. refl) (λ name h. refl) (λ name h. refl) (λ name h. refl) (λ name h. refl) (λ usage h. refl)
 
-syntax_like : (field : TypeField) → IsLike (codes "SYNTAX") syntax_in field
+pub syntax_like : (field : TypeField) → IsLike (codes "SYNTAX") syntax_in field
 syntax_like = each_kind (IsLike (codes "SYNTAX") syntax_in) (λ names h. refl) (λ h. refl) (λ h. refl) (λ name h. no_keyword name h (codes "SYNTAX") refl) (λ h. refl) (λ h. refl) (λ h. refl) (λ name h. refl) (λ name h. refl) (λ name h. refl) (λ name h. refl) (λ name h. refl) (λ usage h. refl)
 
-single_like : (field : TypeField) → IsLike (codes "SINGLE-VALUE") single_in field
+pub single_like : (field : TypeField) → IsLike (codes "SINGLE-VALUE") single_in field
 single_like = each_kind (IsLike (codes "SINGLE-VALUE") single_in) (λ names h. refl) (λ h. refl) (λ h. refl) (λ name h. no_keyword name h (codes "SINGLE-VALUE") refl) (λ h. refl) (λ h. refl) (λ h. refl) (λ name h. refl) (λ name h. refl) (λ name h. refl) (λ name h. refl) (λ name h. refl) (λ usage h. refl)
 
-collective_like : (field : TypeField) → IsLike (codes "COLLECTIVE") collective_in field
+pub collective_like : (field : TypeField) → IsLike (codes "COLLECTIVE") collective_in field
 collective_like = each_kind (IsLike (codes "COLLECTIVE") collective_in) (λ names h. refl) (λ h. refl) (λ h. refl) (λ name h. no_keyword name h (codes "COLLECTIVE") refl) (λ h. refl) (λ h. refl) (λ h. refl) (λ name h. refl) (λ name h. refl) (λ name h. refl) (λ name h. refl) (λ name h. refl) (λ usage h. refl)
 
-fixed_like : (field : TypeField) → IsLike (codes "NO-USER-MODIFICATION") fixed_in field
+pub fixed_like : (field : TypeField) → IsLike (codes "NO-USER-MODIFICATION") fixed_in field
 fixed_like = each_kind (IsLike (codes "NO-USER-MODIFICATION") fixed_in) (λ names h. refl) (λ h. refl) (λ h. refl) (λ name h. no_keyword name h (codes "NO-USER-MODIFICATION") refl) (λ h. refl) (λ h. refl) (λ h. refl) (λ name h. refl) (λ name h. refl) (λ name h. refl) (λ name h. refl) (λ name h. refl) (λ usage h. refl)
 
-usage_like : (field : TypeField) → IsLike (codes "USAGE") usage_in field
+pub usage_like : (field : TypeField) → IsLike (codes "USAGE") usage_in field
 usage_like = each_kind (IsLike (codes "USAGE") usage_in) (λ names h. refl) (λ h. refl) (λ h. refl) (λ name h. no_keyword name h (codes "USAGE") refl) (λ h. refl) (λ h. refl) (λ h. refl) (λ name h. refl) (λ name h. refl) (λ name h. refl) (λ name h. refl) (λ name h. refl) (λ usage h. refl)
 
 elements_like : (field : ElementField) → IsGoodElement field → (other : TypeField) → IsGood other → is_word (element_word field) (type_word other) ≡ passes (λ o. is_word (element_word field) (element_word o)) (element_in other)

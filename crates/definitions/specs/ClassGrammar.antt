@@ -1,5 +1,5 @@
 -- The definition of an object class (RFC 4512, 4.1.1): which texts are one, and what each of them says.
-use Rattle.std.specs.Prelude.{◌≡◌, ℕ, Bool, ◌⊎◌, List, [], ◌∷◌, ◌++◌, Option, Some, None, codes}
+use Rattle.std.specs.Prelude.{◌≡◌, IsPermutation, ℕ, Bool, ◌⊎◌, List, [], ◌∷◌, ◌++◌, Option, Some, None, codes}
 use Rattle.definitions.specs.declared.element.Sort.TheVariants as sorts
 use Rattle.definitions.specs.declared.element.ElementField.{ElementField}
 use Rattle.definitions.specs.declared.class_definition.ClassList.{ClassList}
@@ -10,8 +10,8 @@ use Rattle.definitions.specs.declared.class_definition.ClassField.{ClassField}
 use Rattle.definitions.specs.declared.class_definition.ClassField.TheVariants as fields
 use Rattle.definitions.specs.declared.class_definition.ClassDefinition.{ClassDefinition}
 use Rattle.definitions.specs.ClassDefinitions.{may_be_quoted}
-use Rattle.definitions.specs.Tokens.{Token, Opening, Closing, Dollar, Word, AreTokens}
-use Rattle.definitions.specs.Grammar.{IsOid, Headed, IsNothing, IsName, element_word, IsElementField, IsDefinition, AreApart, first, first_list, said, element_said}
+use Rattle.definitions.specs.Tokens.{Token, Opening, Closing, Dollar}
+use Rattle.definitions.specs.Grammar.{Headed, IsNothing, IsName, element_word, IsElementField, IsDefinition, AreApart, first, first_list, said, extensions_in, element_said}
 
 -- ---- lists of names
 
@@ -95,3 +95,8 @@ pub record SpellsClass (text : List ℕ) (definition : ClassDefinition) : Type 0
   pub form : IsDefinition IsClassField text oid fields
   pub apart : AreApart class_word fields
   pub definition_is : definition ≡ class_said oid fields
+
+-- the same fields in two orders; extensions stay in theirs, in which they are listed
+pub record AreClassFieldsMoved (fields others : List ClassField) : Type 0 where
+  pub moved : IsPermutation fields others
+  pub extensions : extensions_in (said element_in fields) ≡ extensions_in (said element_in others)

@@ -1,5 +1,5 @@
 -- The definition of an attribute type (RFC 4512, 4.1.2): which texts are one, and what each of them says.
-use Rattle.std.specs.Prelude.{◌≡◌, ℕ, true, ◌||◌, ◌⊎◌, is_some, List, [], ◌∷◌, ◌++◌, Option, Some, None, codes}
+use Rattle.std.specs.Prelude.{◌≡◌, IsPermutation, ℕ, true, ◌||◌, ◌⊎◌, is_some, List, [], ◌∷◌, ◌++◌, Option, Some, None, codes}
 use Rattle.base.specs.Ascii.{left_brace, right_brace}
 use Rattle.definitions.specs.declared.element.Sort.TheVariants as sorts
 use Rattle.definitions.specs.declared.element.ElementField.{ElementField}
@@ -13,8 +13,8 @@ use Rattle.definitions.specs.declared.type_field.TypeField.{TypeField}
 use Rattle.definitions.specs.declared.type_field.TypeField.TheVariants as fields
 use Rattle.definitions.specs.declared.type_definition.TypeDefinition.{TypeDefinition}
 use Rattle.definitions.specs.Elements.{is_some_list}
-use Rattle.definitions.specs.Tokens.{Token, Opening, Closing, Word, AreTokens}
-use Rattle.definitions.specs.Grammar.{is_number, IsOid, Headed, IsNothing, IsName, element_word, IsElementField, IsDefinition, AreApart, first, said, element_said}
+use Rattle.definitions.specs.Tokens.{Token}
+use Rattle.definitions.specs.Grammar.{is_number, IsOid, Headed, IsNothing, IsName, element_word, IsElementField, IsDefinition, AreApart, first, said, extensions_in, element_said}
 
 -- ---- fields
 
@@ -131,3 +131,8 @@ pub record SpellsType (text : List ℕ) (definition : TypeDefinition) : Type 0 w
   pub apart : AreApart type_word fields
   pub definition_is : definition ≡ type_said oid fields
   pub states : (is_some definition.syntax || is_some definition.superior) ≡ true
+
+-- the same fields in two orders; extensions stay in theirs, in which they are listed
+pub record AreTypeFieldsMoved (fields others : List TypeField) : Type 0 where
+  pub moved : IsPermutation fields others
+  pub extensions : extensions_in (said element_in fields) ≡ extensions_in (said element_in others)

@@ -6,9 +6,12 @@ ghost use Rattle.definitions.specs.declared.class_definition.ClassDefinition.{Cl
 ghost use Rattle.definitions.specs.declared.type_definition.TypeDefinition.{TypeDefinition};
 ghost use Rattle.definitions.specs.Naming.{is_oid, is_type_name};
 ghost use Rattle.definitions.specs.TypeDefinitions.{type_definition_of};
-ghost use Rattle.definitions.specs.TypeGrammar.{SpellsType};
+ghost use Rattle.definitions.specs.TypeGrammar.{IsTypeField, SpellsType, AreTypeFieldsMoved};
 ghost use Rattle.definitions.specs.ClassDefinitions.{class_definition_of};
-ghost use Rattle.definitions.specs.ClassGrammar.{SpellsClass};
+ghost use Rattle.definitions.specs.ClassGrammar.{IsClassField, SpellsClass, AreClassFieldsMoved};
+ghost use Rattle.definitions.specs.Grammar.{IsDefinition};
+ghost use Rattle.definitions.specs.declared.type_field.TypeField.{TypeField};
+ghost use Rattle.definitions.specs.declared.class_definition.ClassField.{ClassField};
 
 /// A type that a text defines has a numeric OID, and names that types may have.
 pub fn defined_types_have_names()
@@ -26,4 +29,10 @@ pub fn spelled_types_are_read()
 pub fn spelled_classes_are_read()
     ensures only { (text : List ℕ) (d : ClassDefinition) → class_definition_of text ≡ Some d → SpellsClass text d }
     ensures found { (text : List ℕ) (d : ClassDefinition) → SpellsClass text d → class_definition_of text ≡ Some d }
+{}
+
+/// Fields may stand in any order: where two texts have the same OID and the same fields, they are read alike.
+pub fn fields_stand_in_any_order()
+    ensures types { (text other oid : List ℕ) (fields others : List TypeField) → IsDefinition IsTypeField text oid fields → IsDefinition IsTypeField other oid others → AreTypeFieldsMoved fields others → type_definition_of text ≡ type_definition_of other }
+    ensures classes { (text other oid : List ℕ) (fields others : List ClassField) → IsDefinition IsClassField text oid fields → IsDefinition IsClassField other oid others → AreClassFieldsMoved fields others → class_definition_of text ≡ class_definition_of other }
 {}
