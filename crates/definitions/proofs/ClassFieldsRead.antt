@@ -1,5 +1,5 @@
 -- A field of an object class is read exactly where it stands.
-use Rattle.std.proofs.Common.{◌≡◌, ℕ, true, cond, List, [], ◌∷◌, ◌++◌, Option, Some, None, refl, ap, ◌∙◌}
+use Rattle.std.proofs.Common.{◌≡◌, sym, Bool, subst, ℕ, true, cond, List, [], ◌∷◌, ◌++◌, Option, Some, None, refl, ap, ◌∙◌}
 use Rattle.std.specs.Prelude.{codes}
 use Rattle.definitions.specs.declared.element.Sort.TheVariants as sorts
 use Rattle.definitions.specs.declared.element.ElementField.{ElementField}
@@ -16,7 +16,7 @@ use Rattle.definitions.specs.Elements.{is_word, element_field}
 use Rattle.definitions.specs.ClassDefinitions.{Read, list_of, kind_of, may_be_quoted, list_field, of_element, or_kind, or_list, field_of, field_at}
 use Rattle.definitions.specs.Tokens.{Token, Word, Begins, AreTokens}
 use Rattle.definitions.specs.Grammar.{IsNothing, IsElementField}
-use Rattle.definitions.specs.ClassGrammar.{AreListed, list_word, kind_word, IsClassField}
+use Rattle.definitions.specs.ClassGrammar.{AreListed, list_word, stands_quoted, kind_word, IsClassField}
 use Rattle.definitions.proofs.There.{IfThere, chosen, bound, there}
 use Rattle.definitions.proofs.Tokenized.{word_found, word_only}
 use Rattle.definitions.proofs.NameLists.{listed_found, ListStands, listed_only}
@@ -65,6 +65,11 @@ element_no_kind word which =
     (cond (element_word_apart word which (codes "STRUCTURAL") refl refl refl refl i) (Some kinds.Structural)
     (cond (element_word_apart word which (codes "AUXILIARY") refl refl refl refl i) (Some kinds.Auxiliary) None)))
 
+same_quotes : (which : ClassList) → stands_quoted which ≡ may_be_quoted which
+same_quotes lists.Superiors = refl
+same_quotes lists.Must = refl
+same_quotes lists.May = refl
+
 -- ---- what stands there is read
 
 module _ (text word rest : List ℕ) (begins : Begins text (Word word) rest) where
@@ -75,8 +80,9 @@ module _ (text word rest : List ℕ) (begins : Begins text (Word word) rest) whe
   abbrev inner : Option Read
   inner = element_field sorts.ObjectClass word rest >>> of_element
 
-  at_list : (which : ClassList) → list_of word ≡ Some which → field_at text ≡ (names_at (may_be_quoted which) rest >>> list_field which)
-  at_list which e = at_word ∙ ap (λ (o : Option ClassList). or_list o rest (or_kind (kind_of word) rest inner)) e
+  at_list : (which : ClassList) → list_of word ≡ Some which → field_at text ≡ (names_at (stands_quoted which) rest >>> list_field which)
+  at_list which e =
+      at_word ∙ ap (λ (o : Option ClassList). or_list o rest (or_kind (kind_of word) rest inner)) e ∙ ap (λ (quotes : Bool). names_at quotes rest >>> list_field which) (sym (same_quotes which))
 
   at_kind : (kind : ClassKind) → list_of word ≡ None → kind_of word ≡ Some kind → field_at text ≡ Some (fields.Kind kind, rest)
   at_kind kind e f = at_word ∙ (λ i. or_list (e i) rest (or_kind (f i) rest inner))
@@ -99,10 +105,10 @@ element_class field text tokens e =
       on = no_end text e.word e.rest e.begins;
     }
 
-list_class : (which : ClassList) (names : List (List ℕ)) (text : List ℕ) (tokens : List Token) → Headline (list_word which) (AreListed (may_be_quoted which) names) tokens text → ClassReads (fields.List which names) text tokens
+list_class : (which : ClassList) (names : List (List ℕ)) (text : List ℕ) (tokens : List Token) → Headline (list_word which) (AreListed (stands_quoted which) names) tokens text → ClassReads (fields.List which names) text tokens
 list_class which names text tokens h =
     record {
-      reads = something_more (names_at (may_be_quoted which) h.rest) names (field_at text) (fields.List which names) text h.word h.rest tokens h.begins (listed_found (may_be_quoted which) names h.front tokens h.rest h.form h.left) (λ e.
+      reads = something_more (names_at (stands_quoted which) h.rest) names (field_at text) (fields.List which names) text h.word h.rest tokens h.begins (listed_found (stands_quoted which) names h.front tokens h.rest h.form h.left) (λ e.
           at_list text h.word h.rest h.begins which (same_list (list_word which) h.word h.same ∙ list_known which) ∙ ap (λ (o : Option Cuts). o >>> list_field which) e);
       on = no_end text h.word h.rest h.begins;
     }
@@ -117,7 +123,7 @@ kind_class kind text tokens h =
 
 pub class_field_found : (field : ClassField) (front tokens : List Token) (text : List ℕ) → IsClassField field front → AreTokens (front ++ tokens) text → FieldReads field_at field text tokens
 class_field_found (fields.Element field) front tokens text is h = element_class field text tokens (element_found sorts.ObjectClass field front tokens text is h)
-class_field_found (fields.List which names) front tokens text is h = list_class which names text tokens (headline (list_word which) (AreListed (may_be_quoted which) names) front tokens text is h)
+class_field_found (fields.List which names) front tokens text is h = list_class which names text tokens (headline (list_word which) (AreListed (stands_quoted which) names) front tokens text is h)
 class_field_found (fields.Kind kind) front tokens text is h = kind_class kind text tokens (headline (kind_word kind) IsNothing front tokens text is h)
 
 -- ---- what is read stands there
@@ -163,7 +169,7 @@ module _ (text : List ℕ) (w : Cut) (begins : Begins text (Word w.0) w.1) where
       let s = there (ListStands (may_be_quoted which) w.1) (names_at (may_be_quoted which) w.1) x e (listed_only (may_be_quoted which) w.1) in
       record {
         front = Word w.0 ∷ s.front;
-        is = record { text = w.0; rest = s.front; tokens_are = refl; same = h; behind = s.are };
+        is = record { text = w.0; rest = s.front; tokens_are = refl; same = h; behind = subst (λ (quotes : Bool). AreListed quotes x.0 s.front) (sym (same_quotes which)) s.are };
         behind = λ tokens left. (w.1, begins, s.behind tokens left);
       })
 

@@ -12,10 +12,10 @@ use Rattle.definitions.specs.declared.class_definition.ClassField.{ClassField}
 use Rattle.definitions.specs.declared.class_definition.ClassField.TheVariants as fields
 use Rattle.definitions.specs.declared.class_definition.ClassDefinition.{ClassDefinition}
 use Rattle.definitions.specs.Elements.{is_word, unless, is_some_list}
-use Rattle.definitions.specs.ClassDefinitions.{may_be_quoted, with_list, with_element, with_field}
+use Rattle.definitions.specs.ClassDefinitions.{with_list, with_element, with_field}
 use Rattle.definitions.specs.Tokens.{Token}
 use Rattle.definitions.specs.Grammar.{element_word, first, first_list, element_said}
-use Rattle.definitions.specs.ClassGrammar.{AreJoined, AreListed, IsClassField, class_word, element_in, superiors_in, must_in, may_in, kind_in, class_said}
+use Rattle.definitions.specs.ClassGrammar.{AreJoined, AreListed, stands_quoted, IsClassField, class_word, element_in, superiors_in, must_in, may_in, kind_in, class_said}
 use Rattle.definitions.proofs.Keywords.{no_keyword}
 use Rattle.definitions.proofs.Said.{with_more, pushed, passes, any_said, all_pass, put_first}
 use Rattle.definitions.proofs.ElementSaid.{IsGoodElement, element_good, other_word, put_names, element_puts}
@@ -35,7 +35,7 @@ some_listed quotes names tokens (inr some) = some_joined quotes names some.0 som
 
 pub class_good : (field : ClassField) (tokens : List Token) → IsClassField field tokens → IsGood field
 class_good (fields.Element field) tokens is = element_good sorts.ObjectClass field tokens is
-class_good (fields.List which names) tokens is = some_listed (may_be_quoted which) names is.rest is.behind
+class_good (fields.List which names) tokens is = some_listed (stands_quoted which) names is.rest is.behind
 class_good (fields.Kind kind) tokens is = tt
 
 -- ---- words

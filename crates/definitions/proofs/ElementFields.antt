@@ -1,5 +1,5 @@
 -- A field of a type or class as such is read exactly where it stands.
-use Rattle.std.proofs.Common.{◌≡◌, ℕ, Bool, true, false, cond, List, [], ◌∷◌, ◌++◌, Option, Some, None, inl, inr, refl, ap, subst, ◌∙◌, arith}
+use Rattle.std.proofs.Common.{◌≡◌, sym, ℕ, Bool, true, false, cond, List, [], ◌∷◌, ◌++◌, Option, Some, None, inl, inr, refl, ap, subst, ◌∙◌, arith}
 use Rattle.std.specs.Prelude.{codes}
 use Rattle.std.specs.List.{list_all}
 use Rattle.definitions.specs.declared.element.Sort.{Sort}
@@ -13,7 +13,7 @@ use Rattle.definitions.specs.Grammar.{Headed, IsNothing, IsText, AreNames, IsExt
 use Rattle.definitions.proofs.There.{IfThere, chosen, bound, there}
 use Rattle.definitions.proofs.Tokenized.{shorter, word_no_sign, quoted_found, quoted_only}
 use Rattle.definitions.proofs.Listed.{Reads, texts_found, TextsStand, texts_only}
-use Rattle.definitions.proofs.Keywords.{same_word, no_keyword, ElementWord}
+use Rattle.definitions.proofs.Keywords.{same_word, no_keyword, extension_is, ElementWord}
 
 -- ---- a word, and what stands behind it
 
@@ -134,9 +134,9 @@ extension_found sort name front tokens text is h =
       word = name;
       rest = k.0;
       begins = k.1;
-      which = inr (inr is.name_is);
+      which = inr (inr (extension_is name ∙ is.name_is));
       reads = something_more (quoted_texts_at k.0) is.texts.0 (element_field sort name k.0) (fields.Extension name) text name k.0 tokens k.1 (texts_found is.texts.0 is.rest tokens k.0 is.texts.1 k.2) (λ e.
-          extension_read sort name k.0 is.name_is ∙ ap (λ (o : Option Cuts). o >>> extension_field name) e);
+          extension_read sort name k.0 (extension_is name ∙ is.name_is) ∙ ap (λ (o : Option Cuts). o >>> extension_field name) e);
     }
 
 pub element_found : (sort : Sort) (field : ElementField) (front tokens : List Token) (text : List ℕ) → IsElementField sort field front → AreTokens (front ++ tokens) text → ElementReads sort field text tokens
@@ -184,6 +184,6 @@ element_only sort text word rest begins =
     let s = there (TextsStand rest) (quoted_texts_at rest) x f (texts_only rest) in
     record {
       front = Word word ∷ s.front;
-      is = record { rest = s.front; tokens_are = refl; name_is = e; texts = (x.0, s.are) };
+      is = record { rest = s.front; tokens_are = refl; name_is = sym (extension_is word) ∙ e; texts = (x.0, s.are) };
       behind = λ tokens left. (rest, begins, s.behind tokens left);
     })) (λ not_extension. tt))))

@@ -10,7 +10,7 @@ use Rattle.definitions.specs.declared.element.ElementField.TheVariants as fields
 use Rattle.definitions.specs.Elements.{is_word, is_extension, unless, is_some_list, with_element_field}
 use Rattle.definitions.specs.Tokens.{Token}
 use Rattle.definitions.specs.Grammar.{AreTexts, IsElementField, element_word, first_list, names_in, description_in, obsolete_in, extension_in, element_said}
-use Rattle.definitions.proofs.Keywords.{begins_other, no_keyword, lowered, alike}
+use Rattle.definitions.proofs.Keywords.{begins_other, no_keyword, lowered, alike, extension_is}
 use Rattle.definitions.proofs.Said.{with_more, pushed, passes, any_said, all_pass, put_flag}
 
 -- names aren't none, and the name of an extension is one
@@ -32,7 +32,7 @@ pub element_good : (sort : Sort) (field : ElementField) (tokens : List Token) â†
 element_good sort (fields.Names names) tokens is = some_names names is.rest is.behind.0
 element_good sort fields.Description tokens is = tt
 element_good sort fields.Obsolete tokens is = tt
-element_good sort (fields.Extension name) tokens is = is.name_is
+element_good sort (fields.Extension name) tokens is = extension_is name âˆ™ is.name_is
 
 -- ---- words
 

@@ -1,11 +1,13 @@
 -- The words of fields, without case: which is which.
-use Rattle.std.proofs.Common.{◌≡◌, ℕ, Bool, true, false, not, ◌&&◌, eqb, ltb, List, [], ◌∷◌, take, length, ◌⊎◌, inl, inr, refl, ap, ◌∙◌}
+use Rattle.std.proofs.Common.{◌≡◌, ℕ, suc, arith, Bool, true, false, not, ◌&&◌, eqb, ltb, List, [], ◌∷◌, take, length, ◌⊎◌, inl, inr, refl, ap, ◌∙◌}
 use Rattle.std.specs.Prelude.{codes}
 use Rattle.std.specs.Char.{to_ascii_lowercase}
 use Rattle.std.specs.Str.{bytes_eq, str_to_ascii_lowercase}
 use Rattle.std.proofs.lemmas.Bool.{and_parts, eqb-true}
 use Rattle.std.proofs.lemmas.Slice.Eq.{bytes_eq-Decides}
+use Rattle.std.proofs.lemmas.Bool.Decides.{nat_tests}
 use Rattle.definitions.specs.Elements.{is_word, is_extension}
+use Rattle.definitions.specs.Grammar.{is_extension_name}
 
 pub lowered : (keyword word : List ℕ) → is_word keyword word ≡ true → str_to_ascii_lowercase word ≡ str_to_ascii_lowercase keyword
 lowered keyword word h = (bytes_eq-Decides (str_to_ascii_lowercase word) (str_to_ascii_lowercase keyword)).0 h
@@ -38,6 +40,32 @@ no_keyword (x ∷ xs) h [] e = absurd cc
 no_keyword (x ∷ xs) h (k ∷ ks) e =
     ap (λ (c : ℕ). eqb c (to_ascii_lowercase k) && bytes_eq (str_to_ascii_lowercase xs) (str_to_ascii_lowercase ks)) (x_first x xs h)
     ∙ apart (eqb 120 (to_ascii_lowercase k)) (bytes_eq (str_to_ascii_lowercase xs) (str_to_ascii_lowercase ks)) e
+
+-- an extension's name is read as one
+low_x : (x : ℕ) → eqb (to_ascii_lowercase x) 120 ≡ is_word (codes "X") (x ∷ [])
+low_x x = by (eqb (to_ascii_lowercase x) 120) where
+  by : (t : Bool) → t ≡ (t && true)
+  by true = refl
+  by false = refl
+
+low_dash : (b : ℕ) → eqb (to_ascii_lowercase b) 45 ≡ eqb b 45
+low_dash b = grind (arith, nat_tests)
+
+long : (n : ℕ) → ltb 2 (suc (suc (suc n))) ≡ true
+long n = grind (arith, nat_tests)
+
+three : (x dash b : ℕ) (bs : List ℕ) → is_extension (x ∷ dash ∷ b ∷ bs) ≡ is_extension_name (x ∷ dash ∷ b ∷ bs)
+three x dash b bs = (λ i. long (length bs) i && (low_x x i && (low_dash dash i && true))) ∙ by (is_word (codes "X") (x ∷ [])) (eqb dash 45) where
+  by : (t u : Bool) → (t && (u && true)) ≡ (t && u)
+  by true true = refl
+  by true false = refl
+  by false u = refl
+
+pub extension_is : (name : List ℕ) → is_extension name ≡ is_extension_name name
+extension_is [] = refl
+extension_is (x ∷ []) = refl
+extension_is (x ∷ dash ∷ []) = refl
+extension_is (x ∷ dash ∷ b ∷ bs) = three x dash b bs
 
 -- ---- words that begin a field of a type or class as such
 

@@ -97,13 +97,16 @@ no_sign sign (b ∷ bs) rest e h = no_sign_byte sign b e (and_parts (is_in_word 
 pub word_no_sign : (sign : ℕ) (text word rest : List ℕ) → ends_word sign ≡ true → Begins text (Word word) rest → sign_at sign text ≡ None
 word_no_sign sign text word rest e begins = sign_is text (Word word) rest begins sign ∙ ap (λ (t : Bool). cond t (Some (drop 1 (word ++ rest))) None) (no_sign sign word rest e begins.stands)
 
+twice_off : (b : ℕ) → not (is_in_word b) ≡ ends_word b
+twice_off b = twice (ends_word b)
+
 ends_stops : (rest : List ℕ) → ends_here rest ≡ true → Stops ends_word rest
 ends_stops [] h = tt
-ends_stops (b ∷ bs) h = h
+ends_stops (b ∷ bs) h = sym (twice_off b) ∙ h
 
 stops_ends : (rest : List ℕ) → Stops ends_word rest → ends_here rest ≡ true
 stops_ends [] h = refl
-stops_ends (b ∷ bs) h = h
+stops_ends (b ∷ bs) h = twice_off b ∙ h
 
 some_word : (n : ℕ) (word rest : List ℕ) → n ≡ length word → 0 < length word → take n (word ++ rest) ≡ word → drop n (word ++ rest) ≡ rest → cut_word n (word ++ rest) ≡ Some (word, rest)
 some_word n word rest is some front behind =

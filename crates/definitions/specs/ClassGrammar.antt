@@ -1,5 +1,5 @@
 -- The definition of an object class (RFC 4512, 4.1.1): which texts are one, and what each of them says.
-use Rattle.std.specs.Prelude.{◌≡◌, IsPermutation, ℕ, Bool, ◌⊎◌, List, [], ◌∷◌, ◌++◌, Option, Some, None, codes}
+use Rattle.std.specs.Prelude.{◌≡◌, IsPermutation, ℕ, Bool, true, false, ◌⊎◌, List, [], ◌∷◌, ◌++◌, Option, Some, None, codes}
 use Rattle.definitions.specs.declared.element.Sort.TheVariants as sorts
 use Rattle.definitions.specs.declared.element.ElementField.{ElementField}
 use Rattle.definitions.specs.declared.class_definition.ClassList.{ClassList}
@@ -9,7 +9,6 @@ use Rattle.definitions.specs.declared.class_definition.ClassKind.TheVariants as 
 use Rattle.definitions.specs.declared.class_definition.ClassField.{ClassField}
 use Rattle.definitions.specs.declared.class_definition.ClassField.TheVariants as fields
 use Rattle.definitions.specs.declared.class_definition.ClassDefinition.{ClassDefinition}
-use Rattle.definitions.specs.ClassDefinitions.{may_be_quoted}
 use Rattle.definitions.specs.Tokens.{Token, Opening, Closing, Dollar}
 use Rattle.definitions.specs.Grammar.{Headed, IsNothing, IsName, element_word, IsElementField, IsDefinition, AreApart, first, first_list, said, extensions_in, element_said}
 
@@ -38,6 +37,12 @@ list_word lists.Superiors = codes "SUP"
 list_word lists.Must = codes "MUST"
 list_word lists.May = codes "MAY"
 
+-- the names of classes may stand in quotes, those of types not
+abbrev pub stands_quoted : ClassList → Bool
+stands_quoted lists.Superiors = true
+stands_quoted lists.Must = false
+stands_quoted lists.May = false
+
 abbrev pub kind_word : ClassKind → List ℕ
 kind_word kinds.Abstract = codes "ABSTRACT"
 kind_word kinds.Structural = codes "STRUCTURAL"
@@ -51,7 +56,7 @@ class_word (fields.Kind kind) = codes "KIND"
 
 abbrev pub IsClassField : ClassField → List Token → Type 0
 IsClassField (fields.Element field) tokens = IsElementField sorts.ObjectClass field tokens
-IsClassField (fields.List which names) tokens = Headed (list_word which) (AreListed (may_be_quoted which) names) tokens
+IsClassField (fields.List which names) tokens = Headed (list_word which) (AreListed (stands_quoted which) names) tokens
 IsClassField (fields.Kind kind) tokens = Headed (kind_word kind) IsNothing tokens
 
 -- ---- what they say

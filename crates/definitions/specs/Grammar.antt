@@ -1,13 +1,13 @@
 -- What definitions of attribute types and of object classes have in common (RFC 4512, 4.1), as tokens.
-use Rattle.std.specs.Prelude.{◌≡◌, ℕ, Bool, true, ◌&&◌, ◌<◌, ◌≤◌, ◌⊎◌, List, [], ◌∷◌, ◌++◌, map, length, Option, Some, None, codes, count_by, filter_map}
+use Rattle.std.specs.Prelude.{◌≡◌, ℕ, Bool, true, false, ◌&&◌, ◌==◌, ◌<◌, ◌≤◌, ◌⊎◌, List, [], ◌∷◌, ◌++◌, map, length, Option, Some, None, codes, count_by, filter_map}
 use Rattle.std.specs.List.{list_all, join_with_byte}
 use Rattle.std.specs.Char.{is_ascii_digit}
-use Rattle.base.specs.Ascii.{full_stop}
+use Rattle.base.specs.Ascii.{hyphen, full_stop}
 use Rattle.definitions.specs.declared.element.Sort.{Sort}
 use Rattle.definitions.specs.declared.element.Element.{Element}
 use Rattle.definitions.specs.declared.element.ElementField.{ElementField}
 use Rattle.definitions.specs.declared.element.ElementField.TheVariants as fields
-use Rattle.definitions.specs.Elements.{is_word, is_extension, is_allowed, is_some_list}
+use Rattle.definitions.specs.Elements.{is_word, is_allowed, is_some_list}
 use Rattle.definitions.specs.Tokens.{Token, Opening, Closing, Quoted, Word, AreTokens}
 
 -- ---- parts of fields
@@ -51,11 +51,15 @@ AreNames sort names tokens = AreTexts names tokens × (list_all (is_allowed sort
 abbrev pub AreSomeTexts : List Token → Type 0
 AreSomeTexts tokens = (texts : List (List ℕ)) × AreTexts texts tokens
 
--- X-..
+-- `X-`, in either case, and more
+abbrev pub is_extension_name : List ℕ → Bool
+is_extension_name (x ∷ dash ∷ b ∷ bs) = is_word (codes "X") (x ∷ []) && dash == hyphen
+is_extension_name name = false
+
 pub record IsExtension (name : List ℕ) (tokens : List Token) : Type 0 where
   pub rest : List Token
   pub tokens_are : tokens ≡ Word name ∷ rest
-  pub name_is : is_extension name ≡ true
+  pub name_is : is_extension_name name ≡ true
   pub texts : AreSomeTexts rest
 
 -- a name or an OID stands bare; or in quotes, where it may

@@ -1,8 +1,7 @@
 -- The tokens of a definition (RFC 4512, 4.1), and the texts that are made of them. Spaces and tabs may stand round each.
-use Rattle.std.specs.Prelude.{◌≡◌, ℕ, Bool, true, not, ◌==◌, ◌<◌, List, [], ◌∷◌, ◌++◌, length}
+use Rattle.std.specs.Prelude.{◌≡◌, ℕ, Bool, true, not, ◌||◌, ◌==◌, ◌<◌, List, [], ◌∷◌, ◌++◌, length}
 use Rattle.std.specs.List.{list_all}
-use Rattle.base.specs.Ascii.{dollar_sign, apostrophe, left_parenthesis, right_parenthesis}
-use Rattle.definitions.specs.Words.{is_blank, ends_word}
+use Rattle.base.specs.Ascii.{tab, space, dollar_sign, apostrophe, left_parenthesis, right_parenthesis}
 
 pub data Token : Type 0 where
   -- `(`, `)` and `$`
@@ -21,18 +20,22 @@ written Dollar = dollar_sign ∷ []
 written (Quoted text) = apostrophe ∷ (text ++ apostrophe ∷ [])
 written (Word text) = text
 
+-- a space or a tab
+abbrev pub is_blank : ℕ → Bool
+is_blank b = b == space || b == tab
+
 -- no quote
 abbrev pub is_in_quotes : ℕ → Bool
 is_in_quotes b = not (b == apostrophe)
 
 -- no space, tab, quote, parenthesis or `$`
 abbrev pub is_in_word : ℕ → Bool
-is_in_word b = not (ends_word b)
+is_in_word b = not (b == space || b == tab || b == apostrophe || b == left_parenthesis || b == right_parenthesis || b == dollar_sign)
 
 -- no byte of a word comes next
 abbrev pub ends_here : List ℕ → Bool
 ends_here [] = true
-ends_here (b ∷ bs) = ends_word b
+ends_here (b ∷ bs) = not (is_in_word b)
 
 -- whether a token may stand before what follows it: a word takes each byte of a word that comes
 abbrev pub CanStand : Token → List ℕ → Type 0
