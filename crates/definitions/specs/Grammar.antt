@@ -12,6 +12,7 @@ use Rattle.definitions.specs.Tokens.{Token, Opening, Closing, Quoted, Word, AreT
 
 -- ---- parts of fields
 
+-- a digit at least, and digits alone
 abbrev pub is_number : List ℕ → Bool
 is_number text = is_some_list text && list_all is_ascii_digit text
 
@@ -33,6 +34,7 @@ pub record Headed (word : List ℕ) (Behind : List Token → Type 0) (tokens : L
 abbrev pub IsNothing : List Token → Type 0
 IsNothing tokens = tokens ≡ []
 
+-- one text in quotes, which isn't kept
 abbrev pub IsText : List Token → Type 0
 IsText tokens = (text : List ℕ) × (tokens ≡ Quoted text ∷ [])
 
@@ -45,6 +47,7 @@ AreTexts texts tokens =
     ((text : List ℕ) × (texts ≡ text ∷ []) × (tokens ≡ Quoted text ∷ []))
     ⊎ ((0 < length texts) × (tokens ≡ Opening ∷ (map quoted texts ++ Closing ∷ [])))
 
+-- names of the type or class (RFC 4512, 1.4)
 abbrev pub AreNames : Sort → List (List ℕ) → List Token → Type 0
 AreNames sort names tokens = AreTexts names tokens × (list_all (is_allowed sort) names ≡ true)
 
@@ -56,13 +59,14 @@ abbrev pub is_extension_name : List ℕ → Bool
 is_extension_name (x ∷ dash ∷ b ∷ bs) = is_word (codes "X") (x ∷ []) && dash == hyphen
 is_extension_name name = false
 
+-- texts stand behind it, which aren't kept
 pub record IsExtension (name : List ℕ) (tokens : List Token) : Type 0 where
   pub rest : List Token
   pub tokens_are : tokens ≡ Word name ∷ rest
   pub name_is : is_extension_name name ≡ true
   pub texts : AreSomeTexts rest
 
--- a name or an OID stands bare; or in quotes, where it may
+-- what is to be a name or an OID stands bare; or in quotes, where it may. Whether it names anything is said elsewhere
 abbrev pub IsName : Bool → List ℕ → Token → Type 0
 IsName quotes name token = (token ≡ Word name) ⊎ ((quotes ≡ true) × (token ≡ Quoted name))
 
@@ -135,7 +139,7 @@ extension_in fields.Description = None
 extension_in fields.Obsolete = None
 extension_in (fields.Extension name) = Some name
 
--- the names of extensions, in their order
+-- the names of extensions, in the order of their fields
 abbrev pub extensions_in : List ElementField → List (List ℕ)
 extensions_in fields = said extension_in fields
 

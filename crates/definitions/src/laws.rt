@@ -31,7 +31,8 @@ pub fn spelled_classes_are_read()
     ensures found { (text : List ℕ) (d : ClassDefinition) → SpellsClass text d → class_definition_of text ≡ Some d }
 {}
 
-/// Fields may stand in any order: where two texts have the same OID and the same fields, they are read alike.
+/// Fields may stand in any order: where two texts have the same OID and the same fields, they are read alike. Extensions are listed
+/// in the order in which they stand, so among themselves they keep it.
 pub fn fields_stand_in_any_order()
     ensures types { (text other oid : List ℕ) (fields others : List TypeField) → IsDefinition IsTypeField text oid fields → IsDefinition IsTypeField other oid others → AreTypeFieldsMoved fields others → type_definition_of text ≡ type_definition_of other }
     ensures classes { (text other oid : List ℕ) (fields others : List ClassField) → IsDefinition IsClassField text oid fields → IsDefinition IsClassField other oid others → AreClassFieldsMoved fields others → class_definition_of text ≡ class_definition_of other }
