@@ -16,4 +16,5 @@ pub mod Twins
 pub mod Examples
 pub mod ValueExamples
 pub mod SlotExamples
+pub mod ClassExamples
 pub mod RulePrefix
