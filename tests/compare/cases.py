@@ -10,8 +10,8 @@ from typing import Optional
 import ldif
 import model
 import values
-from configs import PAIRED, RULES, Config, definition, other_case, some, value
-from pieces import BAD_NAMES, FIRST_LINES, NAMING, ODD_LINES, PAIRS, TINY, TOKENS, VALUES, VERSIONS, WORDS
+from configs import PAIRED, RULES, SUBSTRINGS, Config, definition, other_case, some, value
+from pieces import BAD_NAMES, FIRST_LINES, INDEX_KINDS, NAMING, ODD_LINES, PAIRS, TINY, TOKENS, VALUES, VERSIONS, WORDS
 
 
 @dataclass(frozen=True)
@@ -95,20 +95,6 @@ class Records:
         kind = b"objectClass" if some(rng, .035) else rng.choice(config.types if some(rng, .05) else config.naming)
         return [[(kind, config.word(kind))] if kind == b"objectClass" else config.rdn(kind)] + parent
 
-    def respelled(self, name):
-        rng = self.rng
-        rdns = [[(kind, rng.choice([word, self.variant(kind, word)])) for kind, word in rdn] for rdn in name]
-        return [rng.choice([rdn, rdn, rdn[::-1]]) for rdn in rdns]
-
-    def variant(self, kind, word):
-        """A value that is equal under most rules, in bytes that a name may have."""
-        rng = self.rng
-        spaced = word.replace(b" ", b"  ")
-        if kind in self.config.kinds and self.config.kinds[kind].family() in ("numeric", "telephone"):
-            spaced = rng.choice([spaced, word.replace(b" ", b""), word[:1] + b" " + word[1:], word.replace(b"-", b"")])
-            spaced = spaced.strip(b" ") or word
-        return rng.choice([other_case(rng, word), spaced])
-
     def line(self, name, text, wild=True):
         return value_line(self.rng, self.config.type_text(name), text, wild)
 
@@ -117,7 +103,8 @@ class Records:
         classes = [b"person", b"top", b"domain", b"2.5.6.6", b"a\x01", b"x\x7f", b"t%d" % rng.randrange(9)]
         lines = [self.line(b"objectClass", rng.choice(classes), wild) for _ in range(rng.choice([1, 1, 1, 2]))]
         for _ in range(rng.randrange(most + 1)):
-            kind = rng.choice(self.config.types if some(rng, .1) else self.config.naming)
+            kinds = self.config.types if some(rng, .1) else self.config.naming
+            kind = rng.choice(self.config.named if self.config.named and some(rng, .2) else kinds)
             lines.append(self.line(kind, self.config.value(kind, .05 if wild else 0), wild))
         if some(rng, .3):
             rng.shuffle(lines)
@@ -131,13 +118,13 @@ class Records:
     def good(self, first):
         rng, name = self.rng, self.new_name()
         self.names.append(name)
-        lines = self.named(self.respelled(name) if some(rng, .3) else name)
+        lines = self.named(self.config.respelled_name(name) if some(rng, .3) else name)
         if some(rng, .3):   # the value of the RDN
-            lines.insert(rng.randrange(1, len(lines) + 1), self.line(*self.respelled(name)[0][0]))
+            lines.insert(rng.randrange(1, len(lines) + 1), self.line(*self.config.respelled_name(name)[0][0]))
         return [rng.choice(VERSIONS)] + lines if first and some(rng, .3) else lines
 
     def again(self, _):
-        return self.named(self.respelled(self.rng.choice(self.names or [self.config.suffix])))
+        return self.named(self.config.respelled_name(self.rng.choice(self.names or [self.config.suffix])))
 
     def nowhere(self, _):
         rng, suffix = self.rng, self.config.suffix
@@ -177,6 +164,19 @@ class Records:
             lines.insert(rng.randrange(1, len(lines) + 1), self.line(kind, text))
         return lines
 
+    def with_names(self, first):
+        """An entry with names for values, some of them alike."""
+        rng, config = self.rng, self.config
+        if not config.named:
+            return self.good(first)
+        name = self.new_name()
+        self.names.append(name)
+        lines = self.named(name)
+        for _ in range(rng.choice([1, 1, 2, 5])):
+            kind, texts = rng.choice(config.named), config.alike_names(rng.choice([1, 2, 2, 3]))
+            lines += [self.line(kind, config.bad_name() if some(rng, .05) else text) for text in texts]
+        return lines
+
     def without_class(self, _):
         lines = self.named(self.new_name())
         return lines[:1] + [line for line in lines[1:] if not line.lower().startswith((b"objectclass", b"2.5.4.0"))]
@@ -193,7 +193,7 @@ class Records:
 
     def record(self, first):
         kinds = [self.good] * 38 + [self.odd] * 28 + [self.again] * 5 + [self.nowhere] * 5 + [self.badly_named] * 6 + \
-            [self.twice] * 5 + [self.without_class] * 3 + [self.oddly_begun] * 7 + [self.change] * 3
+            [self.twice] * 5 + [self.with_names] * 8 + [self.without_class] * 3 + [self.oddly_begun] * 7 + [self.change] * 3
         # little comes of most records where none stands
         return (self.good if not self.names and some(self.rng, .8) else self.rng.choice(kinds))(first)
 
@@ -288,6 +288,8 @@ def random_definition(rng, oid, name, above):
         fields.append(b"SYNTAX " + values.PREFIX + rng.choice(PAIRED)[0])
     if some(rng, .6):
         fields.append(b"EQUALITY " + rng.choice(RULES))
+    if some(rng, .4):
+        fields.append(b"SUBSTR " + rng.choice(SUBSTRINGS))
     rng.shuffle(fields)
     return b"attributetype ( " + oid + b" " + b" ".join(fields) + b" )"
 
@@ -300,6 +302,9 @@ def types_case(rng, config, _):
         others = [b"cn", b"2.5.4.3", b"objectClass", b"no"][:rng.choice([2, 3, 4])]
         lines.append(random_definition(rng, b"1.%d" % at, name, names[:at] + others))
     lines.insert(rng.randrange(len(lines) + 1), b"suffix cn=ex")
+    for _ in range(rng.choice([0, 0, 0, 1, 2])):
+        line = b"index %b %b" % (rng.choice(names), rng.choice(INDEX_KINDS + [b"sub"]))
+        lines.insert(rng.randrange(len(lines) + 1), line)
     records = [[b"dn: cn=ex", b"objectClass: p"]]
     for at in range(rng.randrange(1, 9)):
         part = b"%b=%b" % (rng.choice(names), rng.choice(NAMING))

@@ -4,8 +4,8 @@ from dataclasses import dataclass
 import schema
 import values
 from pieces import (
-    BAD_SUFFIXES, BLANK_EDITS, DEFINITION, DEFINITION_EDITS, DEFINITIONS, FIELDS, IDLE_LINES, KEYWORDS, OPEN_LINES,
-    OTHER_LINES, STRANGE, SUFFIX_LINES, TYPES, WORDS)
+    ALIKE_NAMES, BAD_NAMES, BAD_SUFFIXES, BLANK_EDITS, DEFINITION, DEFINITION_EDITS, DEFINITIONS, FIELDS, IDLE_LINES,
+    INDEX_KINDS, INDEX_LINES, KEYWORDS, NAME_TYPES, OPEN_LINES, OTHER_LINES, STRANGE, SUFFIX_LINES, TYPES, WORDS)
 
 
 def some(rng, chance):
@@ -39,6 +39,13 @@ RULES = [
     b"telephoneNumberMatch", b"integerMatch", b"booleanMatch", b"octetStringMatch", b"distinguishedNameMatch",
     b"objectIdentifierMatch", b"caseIgnoreOrderingMatch", b"caseIgnoreSubstringsMatch", b"2.5.13.2", b"bitStringMatch",
     b"'caseIgnoreMatch'"]
+SUBSTRINGS = [
+    b"caseIgnoreSubstringsMatch", b"CASEIGNOREIA5SUBSTRINGSMATCH", b"caseExactSubstringsMatch", b"caseExactIA5SubstringsMatch",
+    b"numericStringSubstringsMatch", b"telephoneNumberSubstringsMatch", b"'caseIgnoreSubstringsMatch'", b"caseIgnoreMatch",
+    b"caseIgnoreOrderingMatch", b"2.5.13.4", b"caseIgnoreListSubstringsMatch"]
+# the rules of types whose values are names
+NAME_RULES = [b"distinguishedNameMatch"] * 5 + [
+    b"", b"uniqueMemberMatch", b"caseIgnoreMatch", b"caseExactMatch", b"octetStringMatch", b"numericStringMatch"]
 # fields that change nothing of what slapadd does
 IDLE_FIELDS = [
     b"DESC 'a ( $ b )'", b"OBSOLETE", b"NO-USER-MODIFICATION", b"USAGE directoryOperation", b"usage userAPPLICATIONS",
@@ -93,8 +100,13 @@ class Config:
         self.kinds, plain = {}, some(rng, .3)
         for at, name in enumerate(names):
             self.define(name, plain or at == 0)
+        for name in rng.sample(NAME_TYPES, rng.choice([0, 0, 1, 2])):
+            if name not in names:
+                self.define(name, False, (b"12", rng.choice(NAME_RULES)))
         self.types = list(self.kinds)
         self.naming = [name for name in self.types if self.kinds[name].names_entries()]
+        # types whose values are names
+        self.named = [name for name in self.types if self.kinds[name].kind() == "name"]
         first = [rng.choice(self.naming[:6]) for _ in range(rng.choice([1, 1, 1, 2, 3]))]
         self.suffix = [self.rdn(name) for name in first]
         if some(rng, .05):
@@ -110,20 +122,23 @@ class Config:
                 self.lines.insert(rng.randrange(len(self.lines) + 1), rng.choice(idle))
         place = rng.choice([0, 0, 0, len(self.lines), rng.randrange(len(self.lines) + 1)])
         self.lines.insert(place, self.suffix_line())
+        if some(rng, .4):
+            self.add_index_lines()
         self.text = self.joined(self.lines)
 
-    def define(self, name, plain):
-        """A type of its own, or one below another."""
+    def define(self, name, plain, pair=None):
+        """A type of its own, or one below another; or a type of a syntax and a rule."""
         rng, oid = self.rng, TYPES[name]
         if plain:
             self.kinds[name] = Type(name, [name, oid], b"15", b"caseIgnoreMatch", definition(oid, name).partition(b" ")[2])
             return
-        syntax, rule = rng.choice(PAIRED)
+        syntax, rule = pair or rng.choice(PAIRED)
         fields = [b"SYNTAX " + rng.choice([b"%b", b"%b", b"%b{64}", b"'%b'", b"'%b{1}'"]) % (values.PREFIX + syntax)]
         if rule:
             fields.append(b"EQUALITY " + rng.choice([rule, rule, other_case(rng, rule), b"'" + rule + b"'"]))
-        if self.kinds and some(rng, .3):
-            above = rng.choice(list(self.kinds.values()))
+        above = [kind for kind in self.kinds.values() if pair is None or kind.syntax == syntax]
+        if above and some(rng, .3):
+            above = rng.choice(above)
             syntax, rule = above.syntax, above.rule
             same = [b"SYNTAX " + values.PREFIX + syntax] + [b"EQUALITY " + rule] * (rule != b"") + [b"EQUALITY nosuchMatch"]
             fields = [b"SUP " + rng.choice([above.names[0], above.names[-1], b"'" + above.names[0] + b"'"])]
@@ -178,8 +193,7 @@ class Config:
         if kind == "boolean":
             return rng.choice([b"true", b"", b"FALSE "] if some(rng, odd) else [b"TRUE", b"FALSE"])
         if kind == "name":
-            known = [self.name_text([self.rdn(rng.choice(self.naming)) for _ in range(rng.choice([0, 1, 1, 2]))]) for _ in (0, 1)]
-            return rng.choice(known * 4 + [b"", b" ", b"dc=ex", b"no", self.name_text(self.suffix)])
+            return self.bad_name() if some(rng, odd) else self.name_text(self.any_name())
         if kind == "oid":
             return rng.choice(OIDS + [b"t%d" % rng.randrange(9)])
         if self.kinds[name].syntax == b"50" and some(rng, .5):
@@ -187,6 +201,50 @@ class Config:
         if kind == "ascii" and some(rng, .7):
             return rng.choice([b"a", b"A", b"a  b", b"A b", b"", b" ", b"x%d" % rng.randrange(50), b"\0", b"\x7f", b"x" * 80])
         return value(rng)
+
+    def any_name(self):
+        """A name that a value may be: one of the directory or of elsewhere, or the empty one."""
+        rng = self.rng
+        rdns = [self.rdn(rng.choice(self.naming)) for _ in range(rng.choice([0, 1, 1, 2, 3]))]
+        return rdns + self.suffix if some(rng, .4) else rdns
+
+    def bad_name(self):
+        rng = self.rng
+        return self.filled(rng.choice(BAD_NAMES), rng.choice([self.suffix, self.any_name()]))
+
+    def alike_names(self, number):
+        """Texts of names, of which some may be equal."""
+        rng = self.rng
+        if some(rng, .5):
+            name = self.any_name()
+            return [self.name_text(rng.choice([name, self.respelled_name(name), self.near(name)])) for _ in range(number)]
+        one, other, texts = rng.choice(self.naming), rng.choice(self.types), rng.choice(ALIKE_NAMES)
+        texts = [text.replace(b"$A", self.type_text(one)).replace(b"$B", self.type_text(other)) for text in texts]
+        return [self.filled(rng.choice(texts), self.suffix) for _ in range(number)]
+
+    def respelled_name(self, name):
+        """The same name under most rules."""
+        rng = self.rng
+        rdns = [[(kind, rng.choice([word, self.variant(kind, word)])) for kind, word in rdn] for rdn in name]
+        return [rng.choice([rdn, rdn, rdn[::-1]]) for rdn in rdns]
+
+    def variant(self, kind, word):
+        """A value that is equal under most rules, in bytes that a name may have."""
+        rng = self.rng
+        spaced = word.replace(b" ", b"  ")
+        if kind in self.kinds and self.kinds[kind].family() in ("numeric", "telephone"):
+            spaced = rng.choice([spaced, word.replace(b" ", b""), word[:1] + b" " + word[1:], word.replace(b"-", b"")])
+            spaced = spaced.strip(b" ") or word
+        return rng.choice([other_case(rng, word), spaced])
+
+    def near(self, name):
+        """Mostly another name, of the same parts."""
+        rng, parts = self.rng, [part for rdn in name for part in rdn]
+        more = self.rdn(rng.choice(self.naming))
+        others = [name[::-1], name[1:], name + self.suffix, name + [more], [[part] for part in parts]]
+        if parts and len({kind for kind, _ in parts}) == len(parts):
+            others.append([parts])
+        return rng.choice(others)
 
     def respelled(self, line):
         """A definition with its first word in another case, and with other blanks."""
@@ -208,7 +266,22 @@ class Config:
     def suffix_line(self):
         rng, text = self.rng, self.name_text(self.suffix)
         word = rng.choice([b"suffix ", b"suffix ", b"suffix\t", b"SUFFIX  ", b"Suffix \t "])
-        return word + rng.choice([b'"' + text + b'"', text, text + b"  ", b'"' + text + b'" '])
+        # an escaped space at the end stays within quotes alone
+        plain = [] if text.endswith(b" ") or text.startswith((b" ", b"\t")) else [text, text + b"  "]
+        return word + rng.choice([b'"' + text + b'"', b'"' + text + b'" '] + plain)
+
+    def add_index_lines(self):
+        """Good ones, anywhere. Which types take which kinds is read from the definitions."""
+        rng, conf = self.rng, schema.read_conf(b"\n".join(self.lines))
+        for _ in range(rng.choice([1, 1, 2, 5])):
+            kinds = rng.sample(INDEX_KINDS, rng.choice([1, 1, 2, 3]))
+            fit = [name for name in self.types + [b"objectClass"]
+                   if all(conf.types[conf.type_of(name)].takes_index(kind) for kind in kinds)]
+            if fit:
+                names = [self.type_text(name) for name in rng.choices(fit, k=rng.choice([1, 1, 2, 4]))]
+                words = [rng.choice([b"index", b"index", b"INDEX"]), b",".join(names), b",".join(kinds)]
+                line = rng.choice([b" ", b" ", b" ", b"\t", b"  ", b"\n "]).join(words) + rng.choice([b"", b"", b" ", b"\t"])
+                self.lines.insert(rng.randrange(len(self.lines) + 1), line)
 
     def joined(self, lines):
         rng = self.rng
@@ -255,8 +328,10 @@ class Config:
         """The text with one fault put into it, or a few, or with what only looks like one."""
         rng, lines = self.rng, list(self.lines)
         for _ in range(rng.choice([1, 1, 1, 2, 3])):
-            place, kind = rng.randrange(len(lines) + 1), rng.randrange(14)
-            if kind < 6:
+            place, kind = rng.randrange(len(lines) + 1), rng.randrange(17)
+            if kind >= 14:
+                lines[place:place] = [self.filled(rng.choice(INDEX_LINES))]
+            elif kind < 6:
                 lines[place:place] = self.more_lines()
             elif kind < 8:
                 place = rng.choice([len(lines), len(lines), place])

@@ -81,6 +81,7 @@ class Directory:
         self.entries[path] = rdn, attributes
 
     def attributes_of(self, lines):
+        """Lines of every type are taken, also those of types that users don't change: slapadd loads what servers wrote."""
         attributes = Attributes(self.conf)
         for name, value in lines:
             number = self.conf.type_of(name)

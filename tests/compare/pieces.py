@@ -14,6 +14,7 @@ TYPES = {
     b"userPassword": b"2.5.4.35", b"structuralObjectClass": b"2.5.21.9", b"entryUUID": b"1.3.6.1.1.16.4",
     b"creatorsName": b"2.5.18.3", b"createTimestamp": b"2.5.18.1", b"entryCSN": b"1.3.6.1.4.1.4203.666.1.7",
     b"title": b"2.5.4.12", b"telephoneNumber": b"2.5.4.20", b"x-y_z": b"1.1", b"A1": b"1.2.3", b"CamelCase": b"00.05",
+    b"member": b"2.5.4.31", b"owner": b"2.5.4.32", b"seeAlso": b"2.5.4.34",
     b"a": b"2.5.4.00", b"aTypeWhoseNameAloneIsSeventySixBytesLongAndSoFillsALineBeforeItsValueBeginsX": b"9.9.9",
 }
 WORDS = [
@@ -21,7 +22,10 @@ WORDS = [
     b"Bob", b"bob", b"BOB", b"long" * 20, b"z" * 70, b"0", b"a.b_c-d e", b"x y z",
 ]
 
-# lines of a dir.conf that say nothing, aren't known, look like a continuation, and aren't read so far
+# types whose values are names
+NAME_TYPES = [b"member", b"owner", b"seeAlso"]
+
+# lines of a dir.conf that say nothing, aren't known, and look like a continuation; and classes and other lines, good and bad
 IDLE_LINES = [b"", b"", b"# note", b"#", b'#suffix "dc=no"', b"# \xff\x00 note", b"#\t"]
 KEYWORDS = [
     b"overlay x", b"attributetypes ( 1.1 )", b"attributetype(", b'suffix"dc=ex"', b"\r", b"include x", b"\xffsuffix",
@@ -33,14 +37,27 @@ OPEN_LINES = [
 ]
 OTHER_LINES = [
     b"objectclass ( 9.9 NAME 'domain' )", b"objectclass", b"ObjectClass ( 2.5.6.0 )", b"attributetype",
-    b"attributetype ", b"attributetype ( )", b"attributetype ( 9.9 NAME 'n' )", b"index cn eq", b"index",
-    b"Index no sub", b"objectclass ( 9.9 )", b"objectclass ( 9.9 NAME 'top' )", b"objectclass ( 2.5.6.0 NAME 'x' MUST no )",
+    b"attributetype ", b"attributetype ( )", b"attributetype ( 9.9 NAME 'n' )",
+    b"objectclass ( 9.9 )", b"objectclass ( 9.9 NAME 'top' )", b"objectclass ( 2.5.6.0 NAME 'x' MUST no )",
     b"objectclass ( 9.9 SUP no )", b"objectclass ( 9.9 MUST $T MAY ( $T $ objectClass ) )", b"objectclass ( 9.9 MAY no )",
     b"objectclass ( 9.9 MUST ( $T $T ) )", b"objectclass ( 9.9 ABSTRACT AUXILIARY )", b"objectclass ( 9.9 SUP ( top $ ) )",
     b"objectclass ( 9.9 SUP ( 'top' $ 'TOP' ) )", b"objectclass ( 9.9 MUST 'cn' )",
     b"objectclass ( 9.9 MAY $T SUP top x-a 'b' )",
     b"objectclass ( 9.9 NAME ( 'dn' 'control' ) )", b"objectclass ( 2.5.4.0 NAME 'objectClass' )",
     b"objectclass ( 9.9 SYNTAX 1.1 )", b"objectclass ( 9.9 STRUCTURAL structural )", b"objectclass ( 9.9 NAME ( ) )",
+]
+# index lines, most of them with a fault
+INDEX_KINDS = [b"eq", b"pres", b"sub"]
+INDEX_LINES = [
+    b"index $T eq", b"index $T pres", b"index $T sub", b"index $T sub,eq,pres", b"index $T,$T pres,pres", b"INDEX\t$T\t eq \t",
+    b"index $T\n eq", b"index\n  $T\n\tpres", b"index objectClass eq,pres,eq", b"index 2.5.4.0 sub",
+    b"index OBJECTCLASS,$T pres", b"index", b"index  ", b"index $T", b"index $T eq pres", b"index $T eq # c", b"index $T, eq",
+    b"index $T, $T eq", b"index ,$T eq",
+    b"index $T,,$T eq", b"index , eq", b"index $T eq,", b"index $T ,eq", b"index $T eq,,pres", b"index $T ,", b"index no, eq",
+    b"index $T EQ", b"index $T eq,Pres", b"index $T approx", b"index $T subany", b"index $T eq\r", b"index $T\x0beq",
+    b"index no eq", b"index $T,no pres", b"index no,$T sub,x", b"index default eq", b"index $T;x pres", b'index "$T" pres',
+    b"index top pres", b"index 2.5.6.0 pres", b"index\x0b$T eq", b"index no sub,EQ", b"index ( $T ) eq", b"index '$T' pres",
+    b"Indexes $T eq", b"index $T,\xff eq", b"index dn pres",
 ]
 # definitions that don't go with those before them, or do so only just; and some with two faults
 DEFINITIONS = [
@@ -98,6 +115,9 @@ BAD_SUFFIXES = [
     b"", b"=", b"ex", b"nosuch=ex", b"$T", b"$T=", b"=ex", b"$T = ex", b"$T=ex ", b"$T=a+$T=b", b"$T=a,", b",$T=a",
     b"$T=a, $T=b", b"$T=a,,$T=b", b"$T=\xc3\xa9", b"$T=\xff", b"$T=\\61", b"$T=a\tb", b'$T=a"', b"$T=#61", b"$T=a=b",
     b"$T=a;b", b"objectClass=a b", b"objectClass=", b"$T=a,nosuch=b", b"nosuch=a,$T=b", b"$T;x=a", b"$T=a\0", b"  ",
+    b"$T=a\\", b"$T=a\\ ", b"$T=a\\20", b"$T=\\ a", b"$T=a\\,b", b"$T=a\\zb", b"$T=a\\6", b"$T=a<b", b"$T=a>b", b"$T==a",
+    b"$T=\\#a", b"$T=a+$T=b,$T=c", b"$T=a+", b"+$T=a", b"$T=a++$T=b", b"$T = a + $T = b , $T = c", b"$T=a+nosuch=b", b"$T=\\ff",
+    b"$T=\\c3\\a9", b"$T=\xc3\\a9", b"$T=\\\"a\\\"", b"$T=1+$T=2+$T=3", b"$T=a\n b", b"$T=a,\n\t$T=b", b"$T=a\\\n b",
 ]
 SUFFIX_LINES = [
     b'suffix "$N"', b"suffix $N", b'suffix "$N"\t', b"suffix $N\t", b'suffix " $N"', b'suffix "$N "', b'suffix ""$N""',
@@ -113,7 +133,11 @@ BAD_NAMES = [
     b"$T=\xff,$N", b"$T=a\tb,$N", b"$T=a/b,$N", b"$T;x=a,$N", b"$T=a,,$N", b"$T=a ,$N", b"$T= a,$N", b"x y=a,$N",
     b"objectClass=a b,$N", b"1.2.3.4=a,$N", b"$T=a\0,$N", b"$T=a\x7f,$N", b"$T=a\n,$N", b"$T=a\r,$N", b" ", b"ex",
     b"$T=a", b"nosuch=a", b"$T=a:b,$N", b"$T=\xc2\xa0,$N", b"$T=a\\2Cb,$N", b"$T=a\\,$N", b"$T=a@b,$N", b"$N;",
-    b"$T=o'n,$N", b"$T=a*,$N", b"$T=(a),$N",
+    b"$T=o'n,$N", b"$T=a*,$N", b"$T=(a),$N", b"$T=a+nosuch=b,$N", b"$T=a++$T=b,$N", b"+$T=a,$N", b"$T=a+,$N",
+    b"$T=a<b,$N", b"$T=a\\zb,$N", b"$T=a\\6,$N", b"$T=\\ff,$N", b"$T=\xc3\\a9,$N", b"$T=\\c3\\a9,$N", b"$T=a\\+$T=b,$N",
+    b"$T=\\ ,$N", b"$T= ,$N",
+    b"$T=\\#a,$N", b"$T=  #a,$N", b"$T==a,$N", b"$T=a\\20,$N", b"$T=a\\   ,$N", b'$T=a\\"b,$N', b'$T=a"b,$N', b"\\63n=a,$N",
+    b"$T=a+$T=b+$T=c,$N", b"$T=1+$T=2,$T=3,$N", b"$T=a,\t$N", b"\t$T=a,$N", b"$N\\", b"$N+$T=a", b"$N\\,$T=a", b"$T=a\\=,$N",
 ]
 NO_UTF8 = [
     b"\xff", b"\xc3", b"a\xc3", b"\xe9", b"\xc0\x80", b"\xed\xa0\x80", b"\xf4\x90\x80\x80", b"\xf8\x88\x80\x80\x80",
@@ -173,6 +197,19 @@ TOKENS = [
 TINY = [
     b"", b"\n", b"\r\n", b"\r", b"#", b" ", b"\n\n \n", b"version: 1", b"version: 1\n\n", b"#x\n y\n\n", b"\0",
     b"\xef\xbb\xbfdn: x",
+]
+# texts of names that are alike, some of them equal; $A and $B stand for two types, each time the same ones
+ALIKE_NAMES = [
+    [b"$A=a", b"$A = a", b"$A=\\61", b"$A=A", b"$A= a ", b"$A=\\ a\\ ", b"$B=a"],
+    [b"$A=a b", b"$A=a  b", b"$A=a\\ b", b"$A=ab", b"$A=a\\20B", b"$A=a-b"],
+    [b"$A=a,$B=b", b"$B=b,$A=a", b"$A=a+$B=b", b"$B=b+$A=a", b"$A=a\\,$B=b", b"$A=a\\+$B=b", b"$A=a , $B=b",
+     b"$A=a\\\\,$B=b"],
+    [b"$A=1", b"$A=01", b"$A=\\31", b"$A=-1", b"$A=1 ", b"$A=1-", b"$A=1 1", b"$A=11"],
+    [b"$A=\\ ", b"$A=\\20\\20", b"$A=", b"$A=-", b"", b" "],
+    [b"$A=\\c3\\a9", b"$A=\xc3\xa9", b"$A=\\C3\\A9", b"$A=\xc3\x89", b"$A=\\c3", b"$A=\xc3\\a9"],
+    [b"$A=\\#a", b"$A=\\23a", b"$A=\\23A", b"$A=a#", b"$A=a\\#"],
+    [b"$A=a,$N", b"$A=a", b"$N", b"$A=a,$N,$N", b"$A=A,$N", b"$A=a, $N", b"$N,$A=a"],
+    [b"$A=TRUE+$B=1", b"$B=1 + $A=TRUE", b"$A=true+$B=1", b"$A=TRUE,$B=1"],
 ]
 # values of all kinds, some of them equal under some rules, and those that can stand in a name
 VALUES = [

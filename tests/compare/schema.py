@@ -1,4 +1,5 @@
-"""dir.conf in bytes: its lines, the definitions of attribute types and object classes (RFC 4512, 4.1), and the suffix.
+"""dir.conf in bytes: its lines, the definitions of attribute types and object classes (RFC 4512, 4.1), the suffix, and the
+index lines; and names of entries (RFC 4514), which it reads and writes.
 
 Of a definition the form is read whole first: its fields, in any order and each once. Then it is looked at beside those before
 it.
@@ -28,6 +29,9 @@ NAME = re.compile(rb"[A-Za-z][A-Za-z0-9_-]*")
 # a part of a name: its type, and the bytes and escapes of its value (RFC 4514, 3)
 PART = re.compile(rb" *([A-Za-z0-9_.-]+) *= *")
 UNIT = re.compile(rb"""\\(?:(["+,;<>\\ #=])|([0-9A-Fa-f]{2}))|([^"+,;<>\\\0])""", re.DOTALL)
+
+# a word of an index line
+WORD = re.compile(rb"[^ \t]+")
 
 # the fields of definitions, and how their values are read
 TYPE_FIELDS = {
@@ -62,10 +66,14 @@ class Type:
     names: list
     kind: str
     family: Optional[str]
+    has_substrings: bool = False
     is_single: bool = False
 
     def printed(self):
         return self.names[0] if self.names else self.oid
+
+    def takes_index(self, kind):
+        return {b"eq": self.family is not None, b"pres": True, b"sub": self.has_substrings}.get(kind, False)
 
 
 # definitions as text
@@ -244,9 +252,8 @@ class Conf:
         return self.numbers.get(text.lower())
 
     def is_valid(self, number, value):
-        # a type of DN syntax has no values so far
         if self.types[number].kind == "name":
-            return False
+            return self.parts_of(value) is not None
         return values.is_valid(self.types[number].kind, value)
 
     def normal(self, number, value):
@@ -281,25 +288,28 @@ class Conf:
         keys = new_keys(oid, names, self.numbers)
         if b"collective" in fields:
             raise Wrong("C9")
-        kind, family = self.inherited(fields)
+        kind, family, substrings = self.inherited(fields)
         if values.KIND_OF_FAMILY.get(family, kind) != kind:
             raise Wrong("C6")
         self.numbers.update((key, len(self.types)) for key in keys)
-        self.types.append(Type(oid, names, kind, family, b"single-value" in fields))
+        # a substring rule for other values than the equality rule is none
+        has_substrings = substrings is not None and substrings == family
+        self.types.append(Type(oid, names, kind, family, has_substrings, b"single-value" in fields))
 
     def inherited(self, fields):
-        """-> (kind, family) of a type, its own or those of the type above it"""
+        """-> (kind, family, what its substring rule goes with) of a type, its own or those of the type above it"""
         kind = values.kind_of(fields[b"syntax"]) if b"syntax" in fields else None
         family = values.FAMILIES.get(fields.get(b"equality", b"").lower())
+        substrings = values.SUBSTRINGS.get(fields.get(b"substr", b"").lower())
         if b"sup" not in fields:
-            return kind, family
+            return kind, family, substrings
         number = self.type_of(fields[b"sup"])
         if number is None:
             raise Wrong("C4")
         above = self.types[number]
         if family and above.family and family != above.family or kind and kind != above.kind:
             raise Wrong("C5")
-        return above.kind, family or above.family
+        return above.kind, family or above.family, substrings or (above.family if above.has_substrings else None)
 
     def add_class(self, text):
         oid, fields = read_class(text)
@@ -323,6 +333,17 @@ class Conf:
             self.suffix = self.pairs_of(name)
         except BadName:
             raise Wrong("C7") from None
+
+    def check_index(self, text):
+        """An index line: a list of types, and a list of kinds. Nothing comes of a good one so far."""
+        lists = [word.split(b",") for word in WORD.findall(text)]
+        if len(lists) != 2 or b"" in lists[0] or b"" in lists[1]:
+            raise Wrong("C2")
+        numbers = [self.type_of(name) for name in lists[0]]
+        if None in numbers:
+            raise Wrong("C4")
+        if not all(self.types[number].takes_index(kind) for number in numbers for kind in lists[1]):
+            raise Wrong("C8")
 
     def pairs_of(self, name):
         """Looks at each part of a name before the next. -> its RDNs, each [(number, value)]"""
@@ -372,7 +393,7 @@ def joined_lines(text):
 
 
 def read_conf(text):
-    """The suffix and index lines come after all others, wherever they stand. No index is known so far."""
+    """The suffix and index lines come after all others, wherever they stand."""
     conf, later = Conf(), []
     for number, line in joined_lines(text):
         if line == b"" or line.startswith(b"#"):
@@ -389,8 +410,9 @@ def read_conf(text):
     for number, word, rest in later:
         try:
             if word == b"index":
-                raise Wrong("C2")
-            conf.add_suffix(rest)
+                conf.check_index(rest)
+            else:
+                conf.add_suffix(rest)
         except Wrong as wrong:
             raise Fault(number, str(wrong)) from None
     if conf.suffix is None:

@@ -14,6 +14,12 @@ FAMILIES = {
     b"integermatch": "integer", b"booleanmatch": "boolean", b"octetstringmatch": "octet",
     b"distinguishednamematch": "name", b"objectidentifiermatch": "oid",
 }
+# the substring rules, and the equality rules that they go with
+SUBSTRINGS = {
+    b"caseignoresubstringsmatch": "ignore", b"caseignoreia5substringsmatch": "ignore",
+    b"caseexactsubstringsmatch": "exact", b"caseexactia5substringsmatch": "exact",
+    b"numericstringsubstringsmatch": "numeric", b"telephonenumbersubstringsmatch": "telephone",
+}
 # the one kind of syntax that some rules are for
 KIND_OF_FAMILY = {"integer": "integer", "name": "name"}
 
