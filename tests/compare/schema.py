@@ -150,7 +150,7 @@ def read_definition(text, forms):
     fields = {}
     while cursor.peek() != ("mark", b")"):
         word = cursor.take("word").lower()
-        form = "extension" if word.startswith(b"x-") else forms.get(word)
+        form = "extension" if word.startswith(b"x-") and len(word) > 2 else forms.get(word)
         if form is None or word in fields:
             raise Wrong("C2")
         fields[word] = cursor.value(form)
