@@ -28,3 +28,5 @@ mod records_in_little_memory;
 mod runs;
 #[cfg(test)]
 mod runs_in_little_memory;
+#[cfg(test)]
+mod values_in_little_memory;

@@ -2,6 +2,9 @@
 use Rattle.std.specs.Prelude.{ℕ, Bool, List, map, is_some, unwrap_or, Option, Some, None, Result, Ok, Err}
 use Rattle.std.specs.Str.{bytes_eq}
 use Rattle.matching.specs.Forms.{lower}
+use Rattle.matching.specs.Substrings.{piece_norms}
+use Rattle.matching.specs.declared.family.Family.{Family}
+use Rattle.matching.specs.declared.substrings.Pieces.{Pieces}
 use Rattle.matching.specs.Syntaxes.{is_valid}
 use Rattle.base.specs.Answers.{◌>>=◌}
 use Rattle.values.specs.declared.types.AttributeType.{AttributeType}
@@ -68,3 +71,12 @@ norm_at types t v = norm_with types (type_at types t).equality v
 
 abbrev pub are_equal : List AttributeType → ℕ → List ℕ → List ℕ → Bool
 are_equal types t v w = bytes_eq (norm_at types t v) (norm_at types t w)
+
+-- ---- pieces of a substring assertion (RFC 4517, 4.2), of a type that has such a rule
+
+abbrev pub pieces_with : Option Family → Bool → Bool → List (List ℕ) → List (List ℕ)
+pieces_with None front back texts = texts
+pieces_with (Some family) front back texts = piece_norms family front back texts
+
+abbrev pub pieces_of : List AttributeType → ℕ → Bool → Bool → List (List ℕ) → Pieces
+pieces_of types t front back texts = record { pieces = pieces_with (attribute_types.plain_family (type_at types t).equality) front back texts; front = front; back = back }

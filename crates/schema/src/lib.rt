@@ -40,7 +40,7 @@ pub use laws::{
     written_names_are_located,
 };
 pub use locate::Located;
-pub use matching::{Family, Syntax};
+pub use matching::{Family, Pieces, Syntax, contains_pieces, is_less};
 pub use names::read_dn;
 pub use object_class::ObjectClass;
 pub use paths::{Path, Rdn, RdnKey, order_of_paths};

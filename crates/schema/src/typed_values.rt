@@ -1,12 +1,14 @@
 //! Values of attribute types under a configuration.
 
-ghost use Rattle.std.specs.Prelude.{◌≡◌, ◌<◌, IfOk, is_some, length, unwrap_or};
+ghost use Rattle.std.specs.Prelude.{◌≡◌, ◌<◌, IfOk, is_some, length, map, true, unwrap_or};
+ghost use Rattle.std.specs.List.{list_all};
+ghost use Rattle.values.specs.Types.{type_at};
 ghost use Rattle.schema.specs.Gives.{Makes};
-ghost use Rattle.schema.specs.Values.{normal_name, norm_with, is_valid_by, is_valid_at, norm_at};
+ghost use Rattle.schema.specs.Values.{normal_name, norm_with, is_valid_by, is_valid_at, norm_at, pieces_of};
 
 use crate::conf::Conf;
 use crate::dn_values::normal_name;
-use matching::is_valid;
+use matching::{Pieces, is_valid};
 use std::alloc::{AllocError, Global};
 use values::{EqualityRule, TypeId, TypeSyntax, TypeTable, Value, ValueFault};
 
@@ -53,7 +55,49 @@ fn value_with(
     }
 }
 
+fn are_valid_by(
+    alloc: Global,
+    types: &TypeTable,
+    syntax: TypeSyntax,
+    texts: &[&[u8]],
+) -> Result<bool, AllocError>
+    ensures { IfOk result (λ b. b ≡ list_all (is_valid_by types.now syntax) (map (λ text. text.now) texts.now)) }
+{
+    for text in texts {
+        if !is_valid_by(alloc, types, syntax, text)? {
+            return Ok(false);
+        }
+    }
+    Ok(true)
+}
+
 impl Conf {
+    /// The pieces of a substring assertion (RFC 4511, 4.5.1.7.2) for values of a type that has a substrings rule; `front` and `back` say
+    /// whether a star stands there. `Invalid` where a piece by itself is no value of the type's syntax.
+    #[tactic(auto, unfolding(crate::specs::Values::is_valid_at))]
+    pub fn pieces(
+        &self,
+        alloc: Global,
+        t: TypeId,
+        texts: &[&[u8]],
+        front: bool,
+        back: bool,
+    ) -> Result<Pieces, ValueFault>
+        requires known { t < length self.now.types }
+        requires rule { (type_at self.now.types t).has_substrings ≡ true }
+        ensures { Makes result (list_all (is_valid_at self.now.types t) (map (λ text. text.now) texts.now)) (λ p. p ≡ pieces_of self.now.types t front back (map (λ text. text.now) texts.now)) }
+    {
+        self.holds();
+        let kind = self.at(t);
+        if !are_valid_by(alloc, self.table(), kind.syntax, texts)? {
+            return Err(ValueFault::Invalid);
+        }
+        match kind.plain_family() {
+            Some(family) => Ok(Pieces::new(alloc, family, texts, front, back)?),
+            None => unreachable!(),
+        }
+    }
+
     /// The value of these bytes under a type; `Invalid` where the type's syntax has no such value.
     #[tactic(auto, unfolding(crate::specs::Values::is_valid_at, crate::specs::Values::norm_at))]
     pub fn make_value(&self, alloc: Global, t: TypeId, raw: &[u8]) -> Result<Value, ValueFault>
