@@ -1,10 +1,10 @@
 //! A run in which one allocation is refused: `tests/refuse_memory` refuses each in turn, and elsewhere none is.
 
-use crate::little_memory::spend;
 use crate::runs::{ROOT, dump_of, loaded};
 use device::{TrySink, TrySource};
 use directory::{RunFault, Tally, run};
 use ldif::Mode;
+use reading_tests::spend;
 use std::alloc::Global;
 use std::process::Abort;
 use std::test::Fail;

@@ -1,8 +1,10 @@
 //! A configuration that is read, and a value and a place under it, while one allocation is refused: `tests/refuse_memory` refuses
 //! each in turn, and elsewhere none is.
 
-use crate::little_memory::spend;
-use schema::{Conf, ConfFault, PathFault, Value, ValueFault, read_conf};
+ghost use Rattle.std.specs.Prelude.{◌<◌, length};
+
+use reading_tests::spend;
+use schema::{Conf, ConfFault, PathFault, TypeId, Value, ValueFault, read_conf};
 use std::alloc::Global;
 use std::process::Abort;
 use std::test::Fail;
@@ -38,31 +40,46 @@ fn steps_of(alloc: Global, conf: &Conf) -> Result<Option<usize>, Fail> {
     }
 }
 
-fn value_of(alloc: Global, conf: &Conf) -> Result<Option<Value>, Fail> {
-    let Some(t) = conf.type_of(b"member") else {
-        return Err(Fail::from("the type is there"));
-    };
+fn has_normal_form(value: &Value) -> bool {
+    value.norm() == NORMAL
+}
+
+fn is_made(alloc: Global, conf: &Conf, t: TypeId) -> Result<Option<bool>, Fail>
+    requires { t < length conf.now.types }
+{
     match conf.make_value(alloc, t, NAME) {
-        Ok(value) => Ok(Some(value)),
+        Ok(value) => Ok(Some(has_normal_form(&value))),
         Err(ValueFault::OutOfMemory) => Ok(None),
         Err(ValueFault::Invalid) => Err(Fail::from("the text is a name")),
     }
 }
 
-// whether memory was enough for all
-fn make(rt: &impl Abort, alloc: Global) -> Result<bool, Fail> {
-    let Some(conf) = configuration(alloc)? else {
-        return Ok(false);
-    };
-    let Some(steps) = steps_of(alloc, &conf)? else {
+fn is_made_of_member(alloc: Global, conf: &Conf) -> Result<Option<bool>, Fail> {
+    match conf.type_of(b"member") {
+        Some(t) => is_made(alloc, conf, t),
+        None => Err(Fail::from("the type is there")),
+    }
+}
+
+// whether memory was enough for a place and a value
+fn make_under(rt: &impl Abort, alloc: Global, conf: &Conf) -> Result<bool, Fail> {
+    let Some(steps) = steps_of(alloc, conf)? else {
         return Ok(false);
     };
     assert_eq!(rt; steps, 2);
-    let Some(value) = value_of(alloc, &conf)? else {
+    let Some(is_normal) = is_made_of_member(alloc, conf)? else {
         return Ok(false);
     };
-    assert_eq!(rt; value.norm(), NORMAL);
+    assert!(rt; is_normal);
     Ok(true)
+}
+
+// and for the configuration
+fn make(rt: &impl Abort, alloc: Global) -> Result<bool, Fail> {
+    match configuration(alloc)? {
+        Some(conf) => make_under(rt, alloc, &conf),
+        None => Ok(false),
+    }
 }
 
 // the same with so many allocations before and behind: whether it went through, and whether one of those was refused

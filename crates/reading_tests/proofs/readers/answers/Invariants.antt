@@ -1,6 +1,6 @@
 use Rattle.std.proofs.Common.{◌≡◌, ◌≤◌}
 use Rattle.ldif_lines.specs.Reader.{source_of}
-use Rattle.integration.proofs.readers.answers.Given as goal
+use Rattle.reading_tests.proofs.readers.answers.Given as goal
 
 abbrev pub invariant-calls : goal.invariant-calls
 invariant-calls g l = record {

@@ -1,0 +1,26 @@
+//! Tests of public calls that read and write records, names and values, on what no command of the program shows: sources, sinks and
+//! memory that fail in the middle of a call, and calls that no command makes yet. They need no configuration, and so they are proved
+//! while others are.
+#![tactic(auto)]
+
+#[cfg(test)]
+mod adapters;
+#[cfg(test)]
+mod changes;
+#[cfg(test)]
+mod lines_in_little_memory;
+mod little_memory;
+#[cfg(test)]
+mod names;
+#[cfg(test)]
+mod names_in_little_memory;
+#[cfg(test)]
+mod pieces;
+#[cfg(test)]
+mod readers;
+#[cfg(test)]
+mod record_text;
+#[cfg(test)]
+mod records_in_little_memory;
+
+pub use little_memory::spend;
