@@ -7,15 +7,16 @@ use Rattle.base.specs.Answers.{◌>>=◌, each}
 use Rattle.base.proofs.Bound.{bind_ok, same_ok}
 use Rattle.definitions.specs.declared.class_definition.ClassDefinition.{ClassDefinition}
 use Rattle.values.specs.declared.types.AttributeType.{AttributeType}
-use Rattle.values.specs.Types.{is_known, type_of}
+use Rattle.values.specs.Types.{is_known}
 use Rattle.schema.specs.declared.conf_fault.ConfFaultKind.TheVariants.{Twice}
 use Rattle.schema.specs.declared.object_class.ObjectClass.{ObjectClass}
 use Rattle.schema.specs.TypeRules.{object_class, has_twin}
 use Rattle.schema.specs.Classes.{class_of, class_at, no_class, top, extensible_object, share_class_name, IsClass}
-use Rattle.schema.specs.Configurations.{At, is_built_in, Defined, shares_class_name, is_class_taken, or_unknown, class_named, type_named, class_from, class_with, with_class, class_placed}
+use Rattle.schema.specs.NamesInLines.{or_unknown, type_named}
+use Rattle.schema.specs.Configurations.{At, is_built_in, Defined, shares_class_name, is_class_taken, class_named, class_from, class_with, with_class, class_placed}
 use Rattle.schema.proofs.ClassesFound.{found_is_known}
 use Rattle.schema.proofs.OneMore.{distinct_put, at_more}
-use Rattle.schema.proofs.Taken.{known_type}
+use Rattle.schema.proofs.SlotLines.{type_known}
 
 pub record AreClasses (types : List AttributeType) (classes : List ObjectClass) : Type 0 where
   pub first : (rest : List ObjectClass) × (classes ≡ top ∷ extensible_object ∷ rest)
@@ -67,9 +68,6 @@ stands_for line (Some m) n e = ap some (same_ok m n e)
 named_class : (classes : List ObjectClass) (line : ℕ) (name : List ℕ) (c : ℕ) → class_named classes line name ≡ Ok c → c < length classes
 named_class classes line name c e = found_is_known classes name (Some c) (sym (stands_for line (class_of classes name) c e))
 
-named_type : (types : List AttributeType) (line : ℕ) (name : List ℕ) (t : ℕ) → type_named types line name ≡ Ok t → is_known types t ≡ true
-named_type types line name t e = known_type types name t (stands_for line (type_of types name) t e)
-
 class_added : (s : Defined) (line : ℕ) (d : ClassDefinition) (c : ObjectClass) → AreClasses s.types s.classes → is_class_taken s.classes d.element ≡ false → class_with s line d ≡ Ok c → AreClasses s.types (s.classes ++ c ∷ [])
 unfolding class_with
 class_added s line d c h free e =
@@ -82,8 +80,8 @@ class_added s line d c h free e =
       first = (h.first.0 ++ new ∷ [], ap (λ (cs : List ObjectClass). cs ++ new ∷ []) h.first.1);
       fits = at_more (IsClass s.types) s.classes new no_class h.fits (record {
         superiors = each_all (class_named s.classes line) (λ n. n < length s.classes) (named_class s.classes line) d.superiors superiors.0 superiors.1;
-        must = each_all (type_named s.types line) (λ t. is_known s.types t ≡ true) (named_type s.types line) d.must must.0 must.1;
-        may = each_all (type_named s.types line) (λ t. is_known s.types t ≡ true) (named_type s.types line) d.may may.0 may.1;
+        must = each_all (type_named s.types line) (λ t. is_known s.types t ≡ true) (type_known s.types line) d.must must.0 must.1;
+        may = each_all (type_named s.types line) (λ t. is_known s.types t ≡ true) (type_known s.types line) d.may may.0 may.1;
         names_apart = o.1;
       });
       apart = distinct_put share_class_name s.classes new h.apart o.0;

@@ -11,7 +11,8 @@ use Rattle.schema.specs.declared.conf_fault.ConfFaultKind.TheVariants.{Index}
 use Rattle.schema.specs.ConfFaults.{At}
 use Rattle.schema.specs.declared.slots.IndexKind.{IndexKind}
 use Rattle.schema.specs.declared.slots.Slot.{Slot}
-use Rattle.schema.specs.Slots.{slots_with, can_be_kept, IsSlot, words, two_words, members, known_type, type_named, kind_named, each_once, if_kept, slots_in}
+use Rattle.schema.specs.NamesInLines.{or_unknown, type_named}
+use Rattle.schema.specs.Slots.{slots_with, can_be_kept, IsSlot, words, two_words, members, kind_named, each_once, if_kept, slots_in}
 use Rattle.schema.proofs.Found.{found_is_known}
 
 -- what holds of each that is read
@@ -33,10 +34,10 @@ slots_good P [] kinds h = tt
 slots_good P (t ∷ ts) kinds h =
     all_append (λ (s : Slot). P s.type_id) (map (λ k. record { type_id = t; kind = k }) kinds) (slots_with ts kinds) (with_kinds P t h.0 kinds) (slots_good P ts kinds h.1)
 
-type_known : (types : List AttributeType) (line : ℕ) (name : List ℕ) (t : ℕ) → type_named types line name ≡ Ok t → is_known types t ≡ true
+pub type_known : (types : List AttributeType) (line : ℕ) (name : List ℕ) (t : ℕ) → type_named types line name ≡ Ok t → is_known types t ≡ true
 type_known types line name t e = by (type_of types name) refl e
   where
-    by : (o : Option ℕ) → type_of types name ≡ o → known_type line o ≡ Ok t → is_known types t ≡ true
+    by : (o : Option ℕ) → type_of types name ≡ o → or_unknown line o ≡ Ok t → is_known types t ≡ true
     by None is said = absurd cc
     by (Some u) is said = subst (λ (n : ℕ). is_known types n ≡ true) (same_ok u t said) (found_is_known types name u is)
 

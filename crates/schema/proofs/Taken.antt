@@ -1,13 +1,11 @@
 -- Whether one of a definition's names is there already: each is looked up by itself.
-use Rattle.std.proofs.Common.{◌≡◌, ℕ, ◌+◌, Bool, true, false, cond, ◌||◌, List, [], ◌∷◌, length, map, Option, Some, None, refl, sym, ap, ◌∙◌}
+use Rattle.std.proofs.Common.{◌≡◌, ℕ, ◌+◌, Bool, true, false, cond, ◌||◌, List, [], ◌∷◌, map, Option, Some, None, refl, sym, ap, ◌∙◌}
 use Rattle.std.specs.Prelude.{is_some}
 use Rattle.std.specs.List.{list_any, position_from}
-use Rattle.std.proofs.lemmas.Bool.{lt-ltb}
-use Rattle.std.proofs.lemmas.List.Quantifiers.{position-Some}
 use Rattle.std.proofs.lemmas.Iterator.Adapters.{position_from-zero}
 use Rattle.values.specs.declared.types.AttributeType.{AttributeType}
 use Rattle.values.specs.Tables.{or_if}
-use Rattle.values.specs.Types.{is_named, is_known, type_of, no_type}
+use Rattle.values.specs.Types.{is_named, type_of}
 use Rattle.definitions.specs.declared.element.Element.{Element}
 use Rattle.schema.specs.declared.object_class.ObjectClass.{ObjectClass}
 use Rattle.schema.specs.Classes.{is_class, is_class_named}
@@ -48,10 +46,6 @@ from_is_any p i (x ∷ xs) =
 pub type_is_there : (types : List AttributeType) (name : List ℕ) → is_some (type_of types name) ≡ is_type types name
 unfolding type_of
 type_is_there types name = ap (λ (o : Option ℕ). is_some o) (position_from-zero (is_named name) types) ∙ from_is_any (is_named name) 0 types
-
-pub known_type : (types : List AttributeType) (name : List ℕ) (t : ℕ) → type_of types name ≡ Some t → is_known types t ≡ true
-unfolding type_of
-known_type types name t e = lt-ltb t (length types) (position-Some (is_named name) types t no_type e).0
 
 pub types_share : (types : List AttributeType) (e : Element) → list_any (names_one e) types ≡ (is_type types e.oid || list_any (is_type types) e.names)
 types_share types e = any_swap is_named (e.oid ∷ e.names) types

@@ -41,9 +41,8 @@ use Rattle.schema.specs.declared.slots.Slot.{Slot}
 use Rattle.schema.specs.Slots.{IsSlot, slots_in, in_order}
 use Rattle.schema.specs.Configurations.{At, says_nothing, is_first, is_built_in, names_one, is_taken, superior_of, flaw_of, unless, below, refused, placed, Defined, built_in, class_placed, with_types, definition_line, defined_by, some_rdns, suffix_at, suffix_text, Found, none_found, with_suffix, with_slots, later_line, found_in, rules_of, conf_of}
 use Rattle.schema.proofs.OneMore.{all_put, distinct_put, not_below}
-use Rattle.schema.proofs.Taken.{known_type}
 use Rattle.schema.proofs.ClassesKept.{AreClasses, class_keeps, with_more_types, built_in_are}
-use Rattle.schema.proofs.Found.{SpellsRead, name_has_parts, rdns_are}
+use Rattle.schema.proofs.Found.{found_is_known, SpellsRead, name_has_parts, rdns_are}
 use Rattle.schema.proofs.SlotLines.{slots_are}
 use Rattle.schema.proofs.SlotOrder.{in_order_keeps, in_order_rises}
 
@@ -130,7 +129,7 @@ above_is types (Some name) number e = by (type_of types name) refl e
   where
     by : (o : Option ℕ) → type_of types name ≡ o → option_map (λ t. Some t) o ≡ Some number → IsAbove types number
     by None is said = absurd cc
-    by (Some t) is said = subst (IsAbove types) (same_some (Some t) number said) (known_type types name t is)
+    by (Some t) is said = subst (IsAbove types) (same_some (Some t) number said) (found_is_known types name t is)
 
 record HasNoFlaw (new : AttributeType) (up : Option AttributeType) : Type 0 where
   agrees : breaks_with new up ≡ false

@@ -29,6 +29,7 @@ use Rattle.schema.specs.Values.{rdns_in}
 use Rattle.schema.specs.Conf.{Conf}
 use Rattle.schema.specs.declared.slots.Slot.{Slot}
 use Rattle.schema.specs.Slots.{slots_in, in_order}
+use Rattle.schema.specs.NamesInLines.{or_unknown, type_named}
 pub use Rattle.schema.specs.ConfFaults.{At}
 
 -- an empty line or a comment
@@ -107,15 +108,8 @@ abbrev pub is_class_taken : List ObjectClass → Element → Bool
 is_class_taken classes e = list_any (shares_class_name e) classes || has_twin e.names
 
 -- what a name stands for, of what is defined so far
-abbrev pub or_unknown : ℕ → Option ℕ → Result ℕ At
-or_unknown line None = Err (line, UnknownName)
-or_unknown line (Some number) = Ok number
-
 abbrev pub class_named : List ObjectClass → ℕ → List ℕ → Result ℕ At
 class_named classes line name = or_unknown line (class_of classes name)
-
-abbrev pub type_named : List AttributeType → ℕ → List ℕ → Result ℕ At
-type_named types line name = or_unknown line (type_of types name)
 
 -- a class is structural where its definition doesn't say (RFC 4512, 4.1.1)
 abbrev pub kind_with : Option ClassKind → ClassKind

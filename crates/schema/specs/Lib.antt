@@ -10,6 +10,7 @@ pub mod TypeRules
 pub mod Classes
 pub mod Gives
 pub mod ConfFaults
+pub mod NamesInLines
 pub mod Slots
 pub mod Configurations
 pub mod Reads

@@ -1,5 +1,5 @@
 -- Index lines: which values are to be found quickly, and by what.
-use Rattle.std.specs.Prelude.{◌≡◌, ℕ, Bool, true, not, ◌==◌, is_some, if◌then◌else◌, List, [], ◌∷◌, map, length, Option, Some, None, Result, Ok, Err, codes}
+use Rattle.std.specs.Prelude.{◌≡◌, ℕ, Bool, true, not, ◌==◌, is_some, if◌then◌else◌, List, [], ◌∷◌, map, length, Result, Ok, Err, codes}
 use Rattle.std.specs.List.{list_any, list_all, filter, flat_map, slice_split, range_with_len}
 use Rattle.std.specs.Str.{bytes_eq}
 use Rattle.std.specs.declared.cmp.Ordering.{Ordering}
@@ -8,12 +8,13 @@ use Rattle.base.specs.Answers.{◌>>=◌, each}
 use Rattle.base.specs.Ascii.{comma}
 use Rattle.definitions.specs.Words.{is_blank}
 use Rattle.values.specs.declared.types.AttributeType.{AttributeType}
-use Rattle.values.specs.Types.{type_of, type_at, is_known}
-use Rattle.schema.specs.declared.conf_fault.ConfFaultKind.TheVariants.{Form, UnknownName, Index}
+use Rattle.values.specs.Types.{type_at, is_known}
+use Rattle.schema.specs.declared.conf_fault.ConfFaultKind.TheVariants.{Form, Index}
 use Rattle.schema.specs.declared.slots.IndexKind.{IndexKind}
 use Rattle.schema.specs.declared.slots.IndexKind.TheVariants.{Equality, Presence, Substrings}
 use Rattle.schema.specs.declared.slots.Slot.{Slot}
 use Rattle.schema.specs.ConfFaults.{At}
+use Rattle.schema.specs.NamesInLines.{type_named}
 
 -- ---- slots, and their order
 
@@ -85,14 +86,6 @@ unless_empty line parts = if list_any is_empty parts then Err (line, Form) else 
 -- what stands between commas
 abbrev pub members : ℕ → List ℕ → Result (List (List ℕ)) At
 members line word = unless_empty line (slice_split is_comma word)
-
-abbrev pub known_type : ℕ → Option ℕ → Result ℕ At
-known_type line None = Err (line, UnknownName)
-known_type line (Some t) = Ok t
-
--- the type with this name or OID
-abbrev pub type_named : List AttributeType → ℕ → List ℕ → Result ℕ At
-type_named types line name = known_type line (type_of types name)
 
 abbrev pub kind_named : ℕ → List ℕ → Result IndexKind At
 kind_named line word =

@@ -5,14 +5,15 @@ ghost use Rattle.std.specs.List.{list_any};
 ghost use Rattle.base.specs.Answers.{each};
 ghost use Rattle.definitions.specs.ClassDefinitions.{class_definition_of};
 ghost use Rattle.schema.specs.Classes.{is_class, top, extensible_object};
-ghost use Rattle.schema.specs.Configurations.{shares_class_name, is_class_taken, class_named, type_named, kind_with, class_with, class_placed};
+ghost use Rattle.schema.specs.Configurations.{shares_class_name, is_class_taken, class_named, kind_with, class_with, class_placed};
+ghost use Rattle.schema.specs.NamesInLines.{type_named};
 ghost use Rattle.schema.specs.Reads.{Reads};
 
 use crate::class_table::ClassTable;
 use crate::conf_fault::{ConfFault, ConfFaultKind};
 use crate::conf_lines::fault;
 use crate::object_class::ObjectClass;
-use crate::type_lines::{has_twin, is_built_in};
+use crate::type_lines::{has_twin, is_built_in, type_named};
 use base::{Bytes, Sequence};
 use definitions::{ClassDefinition, ClassKind, DefinitionFault, Element, read_class_definition};
 use std::alloc::{AllocError, Global};
@@ -88,15 +89,6 @@ fn class_named(classes: &ClassTable, line: u64, name: &[u8]) -> Result<usize, Co
 {
     match classes.class_of(name) {
         Some(number) => Ok(number),
-        None => Err(fault(line, ConfFaultKind::UnknownName)),
-    }
-}
-
-fn type_named(types: &TypeTable, line: u64, name: &[u8]) -> Result<TypeId, ConfFault>
-    ensures { Reads (λ t. t) result (type_named types.now line name.now) }
-{
-    match types.type_of(name) {
-        Some(t) => Ok(t),
         None => Err(fault(line, ConfFaultKind::UnknownName)),
     }
 }

@@ -3,12 +3,14 @@
 ghost use Rattle.std.specs.Prelude.{◌≡◌, ◌<◌, ◌++◌, IfOk, OnOk, length, map};
 ghost use Rattle.std.specs.List.{AllByRecursion, list_any, list_all, slice_split};
 ghost use Rattle.base.specs.Answers.{each};
-ghost use Rattle.schema.specs.Slots.{is_comma, is_empty, words, two_words, members, type_named, kind_named, each_once, slots_with, has_rule_for, can_be_kept, if_kept, slots_in};
+ghost use Rattle.schema.specs.Slots.{is_comma, is_empty, words, two_words, members, kind_named, each_once, slots_with, has_rule_for, can_be_kept, if_kept, slots_in};
+ghost use Rattle.schema.specs.NamesInLines.{type_named};
 ghost use Rattle.schema.specs.Reads.{Reads};
 
 use crate::conf_fault::{ConfFault, ConfFaultKind};
 use crate::conf_lines::fault;
 use crate::slots::{IndexKind, Slot};
+use crate::type_lines::type_named;
 use std::alloc::{AllocError, Global};
 use values::{AttributeType, TypeId, TypeTable};
 
@@ -63,16 +65,6 @@ fn members<'a>(alloc: Global, line: u64, word: &'a [u8]) -> Result<Vec<&'a [u8]>
         Err(fault(line, ConfFaultKind::Form))
     } else {
         Ok(parts)
-    }
-}
-
-fn type_named(types: &TypeTable, line: u64, name: &[u8]) -> Result<TypeId, ConfFault>
-    ensures gives { Reads (λ t. t) result (type_named types.now line name.now) }
-    ensures known { IfOk result (λ t. t < length types.now) }
-{
-    match types.type_of(name) {
-        Some(t) => Ok(t),
-        None => Err(fault(line, ConfFaultKind::UnknownName)),
     }
 }
 

@@ -7,6 +7,7 @@ ghost use Rattle.std.specs.Str.{str_eq_ignore_ascii_case};
 ghost use Rattle.definitions.specs.TypeDefinitions.{type_definition_of};
 ghost use Rattle.schema.specs.Configurations.{is_built_in, is_type, names_one, is_taken, superior_of, flaw_of, below, refused, placed};
 ghost use Rattle.schema.specs.TypeRules.{type_with, object_class, has_twin, up_of};
+ghost use Rattle.schema.specs.NamesInLines.{type_named};
 ghost use Rattle.schema.specs.Reads.{Reads};
 
 use crate::conf_fault::{ConfFault, ConfFaultKind};
@@ -50,6 +51,17 @@ pub(crate) fn is_type(types: &TypeTable, name: &[u8]) -> bool
     ensures { result ≡ is_type types.now name.now }
 {
     types.type_of(name).is_some()
+}
+
+/// The number of the type with this name or OID; `UnknownName` where there is none.
+pub(crate) fn type_named(types: &TypeTable, line: u64, name: &[u8]) -> Result<TypeId, ConfFault>
+    ensures gives { Reads (λ t. t) result (type_named types.now line name.now) }
+    ensures known { IfOk result (λ t. t < length types.now) }
+{
+    match types.type_of(name) {
+        Some(t) => Ok(t),
+        None => Err(fault(line, ConfFaultKind::UnknownName)),
+    }
 }
 
 fn any_types(types: &TypeTable, names: &[Bytes]) -> bool

@@ -3,7 +3,7 @@ use Rattle.std.proofs.lemmas.List.{drop_more, drop_all}
 use Rattle.std.proofs.lemmas.Result.{err_from_is_err_and}
 use Rattle.base.specs.Answers.{each}
 use Rattle.base.proofs.Each.{with_front, nothing_front, on_cons, ends_cons, done_nil}
-use Rattle.schema.specs.Configurations.{type_named}
+use Rattle.schema.specs.NamesInLines.{type_named}
 use Rattle.schema.specs.Reads.{fault_at}
 use Rattle.schema.proofs.class_lines.types_named.Goals as goal
 
@@ -17,7 +17,7 @@ loop-name-preserved c =
     let i = c.loop-name.name-index in
     let name : c.as_slice.result.now ≡ get_or names i c.name-item.result = c.as_slice.ensures ∙ c.name-item.is in
     ap (λ (front : List ℕ). with_front front (each f (drop (i + 1) names))) c.in_ok-push.ensures.items
-    ∙ on_cons f (drop i names) (get_or names i c.name-item.result) (drop (i + 1) names) c.loop-name.numbers.items c.in_ok-type_named.field-0 (each f names) (drop_more names i c.name-item.result c.loop-name-test.true) (ap f (sym name) ∙ c.in_ok-type_named.ensures) c.loop-name.invariant
+    ∙ on_cons f (drop i names) (get_or names i c.name-item.result) (drop (i + 1) names) c.loop-name.numbers.items c.in_ok-type_named.field-0 (each f names) (drop_more names i c.name-item.result c.loop-name-test.true) (ap f (sym name) ∙ c.in_ok-type_named.ensures.gives) c.loop-name.invariant
 
 pub returns-in_err-type_named : goal.returns-in_err-type_named
 returns-in_err-type_named c =
@@ -27,7 +27,7 @@ returns-in_err-type_named c =
     let name : c.as_slice.result.now ≡ get_or names i c.name-item.result = c.as_slice.ensures ∙ c.name-item.is in
     let p = err_from_is_err_and c.from_residual-in_err-type_named.result c.from_residual-in_err-type_named.ensures.1 in
     rw (p.1, p.2)
-    (ends_cons f (drop i names) (get_or names i c.name-item.result) (drop (i + 1) names) (fault_at c.in_err-type_named.field-0.0) c.loop-name.numbers.items (each f names) (drop_more names i c.name-item.result c.loop-name-test.true) (rw (← name) c.in_err-type_named.ensures) c.loop-name.invariant)
+    (ends_cons f (drop i names) (get_or names i c.name-item.result) (drop (i + 1) names) (fault_at c.in_err-type_named.field-0.0) c.loop-name.numbers.items (each f names) (drop_more names i c.name-item.result c.loop-name-test.true) (rw (← name) c.in_err-type_named.ensures.gives) c.loop-name.invariant)
 
 pub returns : goal.returns
 returns c =

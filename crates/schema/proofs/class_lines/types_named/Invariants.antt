@@ -1,7 +1,7 @@
 use Rattle.std.proofs.Common.{◌≡◌, drop}
 use Rattle.base.specs.Answers.{each}
 use Rattle.base.proofs.Each.{with_front}
-use Rattle.schema.specs.Configurations.{type_named}
+use Rattle.schema.specs.NamesInLines.{type_named}
 use Rattle.schema.proofs.class_lines.types_named.Given as goal
 
 abbrev pub invariant-loop-name : goal.invariant-loop-name

@@ -5,7 +5,7 @@ use Rattle.base.specs.Answers.{each}
 use Rattle.base.proofs.Each.{with_front, nothing_front, goes_on, ends, is_done}
 use Rattle.paths.proofs.Unpacked.{all_append}
 use Rattle.schema.specs.Reads.{fault_at}
-use Rattle.schema.specs.Slots.{type_named}
+use Rattle.schema.specs.NamesInLines.{type_named}
 use Rattle.schema.proofs.index_lines.types_named.Goals as goal
 
 abbrev text : Bor (List ℕ) → List ℕ

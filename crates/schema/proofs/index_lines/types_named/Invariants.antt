@@ -2,7 +2,7 @@ use Rattle.std.proofs.Common.{◌≡◌, ◌<◌, length, map, drop}
 use Rattle.std.specs.List.{AllByRecursion}
 use Rattle.base.specs.Answers.{each}
 use Rattle.base.proofs.Each.{with_front}
-use Rattle.schema.specs.Slots.{type_named}
+use Rattle.schema.specs.NamesInLines.{type_named}
 use Rattle.schema.proofs.index_lines.types_named.Given as goal
 
 abbrev pub invariant-loop-name : goal.invariant-loop-name
