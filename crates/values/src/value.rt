@@ -140,6 +140,16 @@ impl Value {
         }
     }
 
+    /// The same value again.
+    pub fn copy(&self, alloc: Global) -> Result<Value, AllocError>
+        ensures { IfOk result (λ v. v ≡ self.now) }
+    {
+        Ok(Value {
+            bytes: self.bytes.copy(alloc)?,
+            norm_len: self.norm_len,
+        })
+    }
+
     /// The value as written.
     pub fn raw(&self) -> &[u8]
         ensures { result.now ≡ self.now.raw }
