@@ -26,7 +26,7 @@ use Rattle.base.proofs.Bound.{bind_ok, same_ok}
 use Rattle.tree.proofs.Pushed.{AreGood, lines_good, rdn_good, all_come}
 use Rattle.tree.proofs.Adding.{parent_is}
 
-guard_ok : {A : Type 0} (b : Bool) (d : Code) (x : Result A Code) (y : A) → cond b (Err d) x ≡ Ok y → (b ≡ false) × (x ≡ Ok y)
+pub guard_ok : {A : Type 0} (b : Bool) (d : Code) (x : Result A Code) (y : A) → cond b (Err d) x ≡ Ok y → (b ≡ false) × (x ≡ Ok y)
 guard_ok true d x y e = absurd cc
 guard_ok false d x y e = (refl, e)
 

@@ -17,3 +17,9 @@ pub mod NameLemmas
 pub mod PushedNames
 pub mod Above
 pub mod Writable
+pub mod SetValues
+pub mod Modified
+pub mod ModifyLemmas
+pub mod LeftFrom
+pub mod Retained
+pub mod Copied

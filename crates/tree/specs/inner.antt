@@ -1,2 +1,3 @@
 pub mod Above
 pub mod StoredEntries
+pub mod ValuesDrafts

@@ -1,11 +1,12 @@
 //! Entries.
 
-ghost use Rattle.std.specs.Prelude.{◌≡◌};
+ghost use Rattle.std.specs.Prelude.{◌≡◌, IfOk};
 
 use crate::attribute_values::Values;
 use indexmap::IndexMap;
 use indexmap::map::Iter;
 use schema::{Rdn, TypeId};
+use std::alloc::{AllocError, Global};
 use std::marker::Model;
 
 /// Attributes in order, each a type with its values in order.
@@ -48,5 +49,16 @@ impl Entry {
         ensures { result ≡ self.now.attrs }
     {
         self.attrs.iter()
+    }
+
+    /// Its attributes again.
+    pub(crate) fn copy_attributes(&self, alloc: Global) -> Result<Attributes, AllocError>
+        ensures { IfOk result (λ attrs. attrs.entries ≡ self.now.attrs) }
+    {
+        let mut copied = IndexMap::with_capacity(alloc, self.attrs.len())?;
+        for (t, values) in self.attrs.iter() {
+            copied.insert(*t, values.copy(alloc)?)?;
+        }
+        Ok(copied)
     }
 }

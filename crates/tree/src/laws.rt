@@ -1,16 +1,20 @@
 //! Laws of directories, for the crates above.
 
-ghost use Rattle.std.specs.Prelude.{◌≡◌, Some, Ok, List, ℕ};
+ghost use Rattle.std.specs.Prelude.{◌≡◌, Bool, Some, Ok, List, ℕ};
 ghost use Rattle.std.specs.FinMap as finite;
 ghost use Rattle.ldif.specs.Attrs.{Attr};
 ghost use Rattle.ldif.specs.Contents.{IsWritableContent};
+ghost use Rattle.ldif.specs.declared.record.Mod.{Mod};
 ghost use Rattle.ldif.specs.declared.record.Mode.{Mode};
 ghost use Rattle.ldif.specs.declared.record.Mode.TheVariants as modes;
 ghost use Rattle.paths.specs.Paths.{Path};
 ghost use Rattle.schema.specs.Conf.{Conf, IsConf};
-ghost use Rattle.tree.specs.Entries.{EntryContent};
+ghost use Rattle.schema.specs.Rdns.{Rdn};
+ghost use Rattle.schema.specs.GoodRdns.{IsRdn};
+ghost use Rattle.tree.specs.Entries.{EntryContent, IsGood};
 ghost use Rattle.tree.specs.Directories.{Entries, IsDirectory, record_at};
 ghost use Rattle.tree.specs.Adds.{add, added, MayCome};
+ghost use Rattle.tree.specs.Modifies.{modify_entry, rename_entry, changed_to};
 
 /// The empty map is a directory.
 pub fn empty_is_a_directory()
@@ -40,3 +44,13 @@ pub fn own_content_is_written()
     schema::written_names_are_located();
     schema::valid_values_are_bytes();
 }
+
+/// A modify leaves an entry that a directory can have, with its RDN.
+pub fn modifying_keeps_an_entry()
+    ensures { (conf : Conf) (e out : EntryContent) (mods : List Mod) → IsGood conf e → modify_entry conf.types e mods ≡ changed_to out → IsGood conf out × (out.rdn ≡ e.rdn) }
+{}
+
+/// Another RDN leaves an entry that a directory can have.
+pub fn renaming_keeps_an_entry()
+    ensures { (conf : Conf) (e out : EntryContent) (new : Rdn) (delete_old : Bool) → IsGood conf e → IsRdn conf.types new → rename_entry conf.types e new delete_old ≡ changed_to out → IsGood conf out × (out.rdn ≡ new) }
+{}

@@ -5,21 +5,29 @@
 
 mod attribute_values;
 mod attributes;
+mod attributes_draft;
 mod entry;
+mod entry_checks;
 mod laws;
+mod modified_values;
+mod modifies;
 mod names;
 mod naming;
 mod plan_add;
 mod planner;
 mod plans;
 mod range;
+mod rdn_values;
 mod refusal;
+mod renames;
 mod tree;
+mod values_draft;
 
 pub use attribute_values::Values;
 pub use entry::Entry;
 pub use laws::{
-    adding_keeps_a_directory, an_entry_adds_itself, empty_is_a_directory, own_content_is_written,
+    adding_keeps_a_directory, an_entry_adds_itself, empty_is_a_directory, modifying_keeps_an_entry,
+    own_content_is_written, renaming_keeps_an_entry,
 };
 pub use names::Names;
 pub use planner::plan;

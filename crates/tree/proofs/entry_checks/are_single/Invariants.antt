@@ -2,10 +2,10 @@ use Rattle.std.proofs.Common.{◌≡◌}
 use Rattle.std.specs.List.{AllByRecursion}
 use Rattle.tree.specs.Entries.{are_single}
 use Rattle.tree.specs.StoredEntries.{attributes_of, IsMadeAttribute}
-use Rattle.tree.proofs.planner.Planner.are_single.Given as goal
+use Rattle.tree.proofs.entry_checks.are_single.Given as goal
 
 abbrev pub invariant-loop-t : goal.invariant-loop-t
 invariant-loop-t l = record {
-  known : AllByRecursion (IsMadeAttribute l.self.conf.now.types) l.t-iterator;
-  rest : are_single l.self.conf.now.types (attributes_of l.t-iterator) ≡ are_single l.self.conf.now.types (attributes_of l.attrs.entries);
+  known : AllByRecursion (IsMadeAttribute l.conf.types) l.t-iterator;
+  rest : are_single l.conf.types (attributes_of l.t-iterator) ≡ are_single l.conf.types (attributes_of l.attrs.entries);
 }

@@ -6,11 +6,11 @@ use Rattle.tree.specs.StoredEntries.{EntryAttribute, attributes_of, IsMade}
 use Rattle.tree.specs.inner.StoredEntries.{has_norm}
 use Rattle.tree.proofs.LineLemmas.{part_is, part_value, part_normal}
 use Rattle.tree.proofs.StoredLemmas.{raws_pushed, made_pushed}
-use Rattle.tree.proofs.planner.Planner.add_part.Goals as goal
+use Rattle.tree.proofs.rdn_values.add_part.Goals as goal
 
 pub returns-clause-made : goal.returns-clause-made
 returns-clause-made c =
-    let types = c.args.self.now.conf.now.types in
+    let types = c.args.conf.now.types in
     let es : List EntryAttribute = c.args.attrs.now.entries in
     let t = c.args.part.now.0 in
     let v : Value = c.in_ok-value.value in
@@ -22,7 +22,7 @@ returns-clause-made c =
 
 pub returns-clause-values : goal.returns-clause-values
 returns-clause-values c =
-    let types = c.args.self.now.conf.now.types in
+    let types = c.args.conf.now.types in
     let es : List EntryAttribute = c.args.attrs.now.entries in
     let t = c.args.part.now.0 in
     let v : Value = c.in_ok-value.value in

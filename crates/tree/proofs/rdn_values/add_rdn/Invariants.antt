@@ -3,11 +3,11 @@ use Rattle.std.specs.List.{AllByRecursion}
 use Rattle.schema.specs.GoodRdns.{IsAva}
 use Rattle.tree.specs.Entries.{with_rdn}
 use Rattle.tree.specs.StoredEntries.{attributes_of, IsMade}
-use Rattle.tree.proofs.planner.Planner.add_rdn.Given as goal
+use Rattle.tree.proofs.rdn_values.add_rdn.Given as goal
 
 abbrev pub invariant-loop-part : goal.invariant-loop-part
 invariant-loop-part l = record {
-  made : IsMade l.self.conf.now.types l.attrs.entries;
-  left : AllByRecursion (IsAva l.self.conf.now.types) (drop l.part-index l.part-items);
-  rest : with_rdn l.self.conf.now.types (drop l.part-index l.part-items) (attributes_of l.attrs.entries) ≡ with_rdn l.self.conf.now.types l.rdn (attributes_of l.fn.attrs.entries);
+  made : IsMade l.conf.types l.attrs.entries;
+  left : AllByRecursion (IsAva l.conf.types) (drop l.part-index l.part-items);
+  rest : with_rdn l.conf.types (drop l.part-index l.part-items) (attributes_of l.attrs.entries) ≡ with_rdn l.conf.types l.rdn (attributes_of l.fn.attrs.entries);
 }

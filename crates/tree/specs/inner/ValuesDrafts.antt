@@ -1,0 +1,59 @@
+-- Values of an attribute that change, with a map that tells which of them are left.
+use Rattle.std.specs.Prelude.{◌≡◌, ℕ, ◌+◌, Bool, false, not, List, [], ◌∷◌, nat_eq, nat_le, is_some, Option, Some, None, if◌then◌else◌}
+use Rattle.std.specs.BTreeMap.{BTreeMap, get}
+use Rattle.std.specs.Cmp.Lexicographic.{slice_cmp}
+use Rattle.std.specs.Ordering.{nat_cmp}
+use Rattle.std.specs.Map.{lookup}
+use Rattle.std.specs.List.{filter}
+use Rattle.std.specs.Str.{bytes_eq}
+use Rattle.values.specs.Values.{Value}
+use Rattle.tree.specs.Modifies.{set_values}
+use Rattle.tree.specs.StoredEntries.{EntryAttribute}
+use Rattle.tree.specs.inner.StoredEntries.{has_norm}
+
+abbrev pub but_norm : List ℕ → List Value → List Value
+but_norm norm vs = filter (λ v. not (bytes_eq v.norm norm)) vs
+
+-- for a normal form, the place from which on values that have it are left
+abbrev pub Since : Type 0
+Since = BTreeMap (List ℕ) ℕ
+
+abbrev pub is_from : ℕ → Option ℕ → Bool
+is_from place None = false
+is_from place (Some first) = nat_le first place
+
+-- whether the value at a place is left
+abbrev pub is_left : Since → ℕ → Value → Bool
+is_left since place v = is_from place (get (slice_cmp nat_cmp) since v.norm)
+
+-- those that are left, of values from a place on
+unfoldable pub left_from : Since → ℕ → List Value → List Value
+left_from since place [] = []
+left_from since place (v ∷ vs) = if is_left since place v then v ∷ left_from since (place + 1) vs else left_from since (place + 1) vs
+
+abbrev pub left_of : Option Since → List Value → List Value
+left_of None vs = vs
+left_of (Some since) vs = left_from since 0 vs
+
+-- the map has the normal form of each value that is left, and no other
+pub record AreLeft (since : Since) (vs : List Value) : Type 0 where
+  pub each : (norm : List ℕ) → is_some (get (slice_cmp nat_cmp) since norm) ≡ has_norm norm (left_from since 0 vs)
+
+-- each value is left
+pub record IsAtStart (since : Since) (vs : List Value) : Type 0 where
+  pub each : (norm : List ℕ) → get (slice_cmp nat_cmp) since norm ≡ (if has_norm norm vs then Some 0 else None)
+
+abbrev pub IsSinceOf : Option Since → List Value → Type 0
+IsSinceOf None vs = Unit {0}
+IsSinceOf (Some since) vs = AreLeft since vs
+
+-- ---- attributes of which one may be taken out
+
+abbrev pub put_back : List EntryAttribute → Option EntryAttribute → List EntryAttribute
+put_back attrs None = attrs
+put_back attrs (Some a) = set_values attrs a.0 a.1
+
+-- where none of its values are left, no place is kept for it
+abbrev pub IsTaken : List EntryAttribute → Option EntryAttribute → Type 0
+IsTaken attrs None = Unit {0}
+IsTaken attrs (Some a) = a.1 ≡ [] → lookup (nat_eq a.0) attrs ≡ None
