@@ -1,9 +1,9 @@
 -- What is located are RDNs of the configuration.
 use Rattle.std.proofs.Common.{◌≡◌, ℕ, ◌+◌, ◌<◌, Bool, true, false, cond, not, List, [], ◌∷◌, ◌++◌, length, map, reverse, Option, Some, None, Result, Ok, Err, refl, sym, ap, subst, ◌∙◌, arith}
-use Rattle.std.specs.Prelude.{nat_eq, ◌==◌}
-use Rattle.std.specs.List.{AllByRecursion, IsDistinct}
+use Rattle.std.specs.Prelude.{nat_eq, ◌==◌, IfOk}
+use Rattle.std.specs.List.{list_all, AllByRecursion, IsDistinct}
 use Rattle.std.specs.Str.{is_utf8}
-use Rattle.std.proofs.lemmas.Bool.{lt-ltb, ltb-true, ne_eqb, or_parts}
+use Rattle.std.proofs.lemmas.Bool.{and_parts, lt-ltb, ltb-true, ne_eqb, or_parts}
 use Rattle.std.proofs.lemmas.List.{length-append}
 use Rattle.std.proofs.lemmas.List.Quantifiers.{position-Some}
 use Rattle.values.specs.declared.types.AttributeType.{AttributeType}
@@ -17,6 +17,8 @@ use Rattle.dn.specs.declared.faults.NameFaultKind.{NameFaultKind}
 use Rattle.values.specs.Types.{is_named, type_of, no_type, is_known, has_equality}
 use Rattle.schema.proofs.Parts.{plain_is}
 use Rattle.schema.specs.Rdns.{Ava, Rdn, is_valid_part, has_type, part_type, type_among, parts_from, typed_rdn, rdns_from, typed, rdn_key_of}
+use Rattle.schema.specs.declared.fault.PathFault.{PathFault}
+use Rattle.schema.specs.Gives.{Gives}
 use Rattle.schema.specs.GoodRdns.{IsAva, IsRdn, type_in}
 use Rattle.schema.specs.Names.{or_invalid, name_in}
 use Rattle.schema.specs.TypeRules.{has_name_syntax}
@@ -69,6 +71,10 @@ found_is_known types text t e = lt-ltb t (length types) (position-Some (is_named
 record IsNext (types : List AttributeType) (earlier : Rdn) (p : Ava) : Type 0 where
   good : IsAva types p
   apart : has_type p.0 earlier ≡ false
+
+not_true : (b : Bool) → not b ≡ true → b ≡ false
+not_true true h = sym h
+not_true false h = refl
 
 is_not : (b : Bool) → not b ≡ false → b ≡ true
 is_not true h = refl
@@ -128,6 +134,11 @@ rdn_is types n r some e =
     let k = parts_are types [] n r (record { parts = tt; apart = tt }) e in
     let long : length r ≡ length n = omega (arith, k.1) in
     record { parts = k.0.parts; types_apart = k.0.apart; some = ap (λ x. x == 0) long ∙ some }
+
+-- the same of what is answered for one
+pub answered_is : (types : List AttributeType) (n : names.Rdn) (result : Result Rdn PathFault) → names.is_rdn n ≡ true → Gives (λ r. r) result (typed_rdn types n) → IfOk result (IsRdn types)
+answered_is types n (Ok r) good gives = rdn_is types n r (not_true (length n == 0) (and_parts (not (length n == 0)) (list_all names.is_ava n) good).0) gives
+answered_is types n (Err fault) good gives = tt
 
 rdns_are_from : (types : List AttributeType) (done : List Rdn) (n : names.Name) (rs : List Rdn) → AllByRecursion (IsRdn types) done → AllByRecursion HasParts n → rdns_from types done n ≡ Ok rs → AllByRecursion (IsRdn types) rs
 unfolding rdns_from

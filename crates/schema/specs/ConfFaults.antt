@@ -1,5 +1,6 @@
 -- How the faults of a configuration are reported.
-use Rattle.std.specs.Prelude.{ℕ, List, codes}
+use Rattle.std.specs.Prelude.{ℕ, List, ◌++◌, codes}
+use Rattle.std.specs.Fmt.{decimal}
 use Rattle.schema.specs.declared.conf_fault.ConfFaultKind.{ConfFaultKind}
 use Rattle.schema.specs.declared.conf_fault.ConfFaultKind.TheVariants.{Keyword, Form, Twice, UnknownName, Subtype, RuleSyntax, Suffix, Index, Collective, TooManyTypes}
 
@@ -30,3 +31,7 @@ kind_text Suffix = codes "suffix"
 kind_text Index = codes "index"
 kind_text Collective = codes "collective"
 kind_text TooManyTypes = codes "too many types"
+
+-- as it is reported: its number and its words
+abbrev pub kind_report : ConfFaultKind → List ℕ
+kind_report k = codes "C" ++ (decimal (kind_number k) ++ (codes " " ++ kind_text k))

@@ -1,7 +1,7 @@
 //! Why a text is no configuration.
 
-ghost use Rattle.std.specs.Prelude.{◌≡◌};
-ghost use Rattle.schema.specs.ConfFaults.{kind_number, kind_text};
+ghost use Rattle.std.specs.Prelude.{◌≡◌, Some};
+ghost use Rattle.schema.specs.ConfFaults.{kind_number, kind_text, kind_report};
 
 use std::alloc::{AllocError, AllocFailed};
 use std::fmt;
@@ -71,10 +71,10 @@ impl ConfFaultKind {
 }
 
 impl fmt::Display for ConfFaultKind {
+    ghost output = { λ k. Some (kind_report k) };
+
     fn fmt<W: fmt::Write>(&self, f: &mut fmt::Formatter<W>) -> fmt::Result {
-        let number = self.number();
-        let text = self.text();
-        write!(f, "C{number} {text}")
+        write!(f, "C{} {}", self.number(), self.text())
     }
 }
 

@@ -1,8 +1,9 @@
 //! Where a name stands under a configuration.
 
-ghost use Rattle.std.specs.Prelude.{◌≡◌, IfOk, map, reverse};
+ghost use Rattle.std.specs.Prelude.{◌≡◌, ◌++◌, ◌∷◌, [], IfOk, map, reverse};
 ghost use Rattle.std.specs.List.{AllByRecursion};
 ghost use Rattle.schema.specs.Rdns.{rdn_key_of, typed, typed_rdn};
+ghost use Rattle.schema.specs.GoodRdns.{IsRdn};
 ghost use Rattle.schema.specs.inner.Keys.{AreKnown, KeysFit};
 ghost use Rattle.schema.specs.Conf.{below, place_of, located, path_of, path_of_name};
 ghost use Rattle.schema.specs.Gives.{Gives};
@@ -11,7 +12,7 @@ use crate::code::Code;
 use crate::conf::Conf;
 use crate::fault::PathFault;
 use crate::names::read_dn;
-use crate::rdns::{step_down, typed_rdn, typed_rdns};
+use crate::rdns::{rdn_key_of, step_down, typed_rdn, typed_rdns};
 use base::Sequence;
 use dn::Name;
 use paths::{Path, PathDraft, Rdn};
@@ -106,8 +107,19 @@ impl Conf {
 
     /// An RDN with its types, or the code of the first part that has a fault, as `place_of` answers it.
     pub fn typed_rdn(&self, alloc: Global, rdn: &dn::Rdn) -> Result<Rdn, PathFault>
-        ensures { Gives (λ r. r) result (typed_rdn self.now.types rdn.now) }
+        ensures gives { Gives (λ r. r) result (typed_rdn self.now.types rdn.now) }
+        ensures good { IfOk result (IsRdn self.now.types) }
     {
         typed_rdn(alloc, self.table(), rdn.parts())
+    }
+
+    /// The path of what stands below a path by an RDN.
+    pub fn path_below(&self, alloc: Global, upper: &Path, rdn: &Rdn) -> Result<Path, AllocError>
+        requires { IsRdn self.now.types rdn.now }
+        ensures { IfOk result (λ p. p ≡ upper.now ++ rdn_key_of self.now.types rdn.now ∷ []) }
+    {
+        let mut path = upper.copy(alloc)?;
+        path.push(rdn_key_of(alloc, self.table(), rdn)?)?;
+        Ok(path)
     }
 }
