@@ -25,7 +25,7 @@ use Rattle.values.specs.declared.types.EqualityRule.TheVariants as rules
 use Rattle.matching.specs.declared.syntax.Syntax.TheVariants as syntaxes
 use Rattle.values.specs.declared.types.AttributeType.{AttributeType}
 use Rattle.schema.specs.TypeRules.{object_class}
-use Rattle.base.specs.Answers.{each}
+use Rattle.base.specs.Answers.{each, ◌>>=◌}
 use Rattle.dn.specs.Reading as names
 use Rattle.dn.specs.Reading.{octets_from, trimmed, part_at, part_of, cut_raw, rdn_of, name_of}
 use Rattle.dn.specs.Writing.{written, text_from, text_of}
@@ -37,6 +37,7 @@ use Rattle.schema.specs.Conf.{Conf, below, place_of, located, name_text}
 use Rattle.values.specs.Types.{type_of}
 use Rattle.matching.specs.Forms.{norm}
 use Rattle.matching.specs.Syntaxes.{is_valid}
+use Rattle.tree.specs.Changes.{Change, changed}
 use Rattle.tree.specs.Adds.{add, add_at, added}
 use Rattle.tree.specs.Directories as directories
 use Rattle.tree.specs.Directories.{Entries, rdn_in}
@@ -150,19 +151,19 @@ ann_lines : List Attr
 ann_lines = record { name = codes "cn"; value = codes "ann" } ∷ record { name = codes "objectClass"; value = codes "person" } ∷ []
 
 -- not there yet, the parent there, room for one more
-placed : (found orphan full : Bool) (next : Entries) → found ≡ false → orphan ≡ false → full ≡ false → cond found (Err result.EntryAlreadyExists) (cond orphan (Err result.NoSuchObject) (cond full (Err result.AdminLimitExceeded) (added next))) ≡ added next
-placed true orphan full next new parent room = cc
-placed false true full next new parent room = cc
-placed false false true next new parent room = cc
-placed false false false next new parent room = refl
+placed : (found orphan full : Bool) (p : Path) (e : EntryContent) → found ≡ false → orphan ≡ false → full ≡ false → cond found (Err result.EntryAlreadyExists) (cond orphan (Err result.NoSuchObject) (cond full (Err result.AdminLimitExceeded) (added p e))) ≡ added p e
+placed true orphan full p e new parent room = cc
+placed false true full p e new parent room = cc
+placed false false true p e new parent room = cc
+placed false false false p e new parent room = refl
 
-root_placed : add conf Content finite.empty (codes "DC=ex") root_lines ≡ added with_root
+root_placed : add conf Content finite.empty (codes "DC=ex") root_lines ≡ added [] root
 unfolding on_texts on_entries add_at root_lines
-root_placed = placed _ _ _ with_root (ap is_some (finite.get-empty path_cmp [])) refl (ap (nat_le 4294967295) (finite.len-empty path_cmp EntryContent))
+root_placed = placed _ _ _ [] root (ap is_some (finite.get-empty path_cmp [])) refl (ap (nat_le 4294967295) (finite.len-empty path_cmp EntryContent))
 
 -- the state after a record with this outcome of its add
-abbrev next : State → ℕ → Result Entries Code → State
-next s line o = take_up false s line (of_change s.entries false o)
+abbrev next : State → ℕ → Result Change Code → State
+next s line o = take_up false s line (of_change s.entries false (o >>= λ c. Ok (changed s.entries c)))
 
 -- the order of paths is total (`order_of_paths`)
 module _ (total : IsTotalOrder path_cmp) where
@@ -178,9 +179,9 @@ module _ (total : IsTotalOrder path_cmp) where
       ∙ ap (λ o. cond (is_some o) (finite.len (finite.empty {X = EntryContent} {R = path_cmp})) (finite.len (finite.empty {X = EntryContent} {R = path_cmp}) + 1)) (finite.get-empty path_cmp [])
       ∙ ap (λ n. n + 1) (finite.len-empty path_cmp EntryContent)
 
-  ann_placed : add conf Content with_root (codes "CN=Ann,dc=EX") ann_lines ≡ added with_both
+  ann_placed : add conf Content with_root (codes "CN=Ann,dc=EX") ann_lines ≡ added at_ann ann
   unfolding on_texts on_entries add_at ann_lines
-  ann_placed = placed _ _ _ with_both (ap is_some ann_new) (ap (λ o. not (is_some o)) root_found) (ap (nat_le 4294967295) one_there)
+  ann_placed = placed _ _ _ at_ann ann (ap is_some ann_new) (ap (λ o. not (is_some o)) root_found) (ap (nat_le 4294967295) one_there)
 
   two_are_added : after conf Content false finite.empty two_records ≡ record { entries = with_both; accepted = 2; refused = []; ended = false }
   unfolding on_texts root_lines ann_lines

@@ -1,5 +1,5 @@
 -- Loading what was dumped.
-use Rattle.std.proofs.Common.{◌≡◌, ℕ, ◌+◌, ◌≤◌, Bool, true, false, cond, List, [], ◌∷◌, ◌++◌, map, length, Result, Option, Some, None, refl, sym, ◌∙◌, ap, arith}
+use Rattle.std.proofs.Common.{◌≡◌, ℕ, ◌+◌, ◌≤◌, Bool, true, false, cond, List, [], ◌∷◌, ◌++◌, map, length, Result, Ok, Option, Some, None, refl, sym, ◌∙◌, ap, arith}
 use Rattle.std.specs.Prelude.{T, is_some, ◌&&◌}
 use Rattle.std.specs.List.{fold, flat_map, AllByRecursion}
 use Rattle.std.specs.declared.cmp.Ordering.{Ordering}
@@ -13,10 +13,13 @@ use Rattle.ldif.specs.declared.fault.LdifFaultKind.{LdifFaultKind}
 use Rattle.ldif.specs.declared.record.Record.{Record}
 use Rattle.ldif.specs.declared.record.Mode.TheVariants.{Content}
 use Rattle.ldif.specs.Contents.{ContentRecord, IsWritableContent, write_content, readings, reading_of, as_record}
+use Rattle.schema.specs.declared.code.Code.{Code}
+use Rattle.base.specs.Answers.{◌>>=◌}
 use Rattle.paths.specs.Paths.{RdnKey, Path, path_cmp}
 use Rattle.schema.specs.Conf.{Conf, IsConf}
 use Rattle.tree.specs.Entries.{EntryContent}
 use Rattle.tree.specs.Directories.{Entries, IsDirectory, record_at}
+use Rattle.tree.specs.Changes.{Change, changed}
 use Rattle.tree.specs.Adds.{add, added, MayCome}
 use Rattle.directory.specs.Runs.{State, start, outcome, of_change, take_up, step, after_records, record_of, dump, LoadsBack}
 
@@ -118,14 +121,14 @@ module _ (total : IsTotalOrder path_cmp) where
     abbrev read_of : Path × EntryContent → Result Record LdifFaultKind
     read_of x = as_record (record_of conf d x)
 
-    loads_one : (s : State) (e : Path × EntryContent) → add conf Content s.entries (record_of conf d e).dn (record_of conf d e).attrs ≡ added (finite.insert s.entries e.0 e.1)
+    loads_one : (s : State) (e : Path × EntryContent) → add conf Content s.entries (record_of conf d e).dn (record_of conf d e).attrs ≡ added e.0 e.1
         → outcome conf Content s.entries (read_of e) ≡ (finite.insert s.entries e.0 e.1, Rattle.directory.specs.declared.reason.Outcome.TheVariants.Accepted)
     unfolding outcome
-    loads_one s e adds = ap (of_change s.entries false) adds
+    loads_one s e adds = ap (λ (x : Result Change Code). of_change s.entries false (x >>= λ c. Ok (changed s.entries c))) adds
 
     -- the fold over the readings of what is left
     loaded : ((p : Path) (s : RdnKey) → path_cmp p (p ++ s ∷ []) ≡ Less) → finite.IsAntisymmetric path_cmp
-        → ((m : Entries) (p : Path) (e : EntryContent) → finite.get d p ≡ Some e → MayCome m p → add conf Content m (record_at conf d p e).dn (record_at conf d p e).attrs ≡ added (finite.insert m p e))
+        → ((m : Entries) (p : Path) (e : EntryContent) → finite.get d p ≡ Some e → MayCome m p → add conf Content m (record_at conf d p e).dn (record_at conf d p e).attrs ≡ added p e)
         → (rs : List (ℕ × Result Record LdifFaultKind)) (es : Pairs) (s : State) → map reading_of rs ≡ map read_of es → s.ended ≡ false → Stands d s.entries es
         → (let end = fold (step conf Content false) s rs in (end.entries ≡ d) × (end.refused ≡ s.refused))
     unfolding step
@@ -177,7 +180,7 @@ all_written conf d own (e ∷ es) h = (own e.0 e.1 h.0, all_written conf d own e
 
 pub loads_back : ((cs : List ContentRecord) → AllByRecursion IsWritableContent cs → map reading_of (readings Content (flat_map write_content cs)) ≡ map as_record cs)
     → ((conf : Conf) (d : Entries) (p : Path) (e : EntryContent) → IsConf conf → IsDirectory conf d → finite.get d p ≡ Some e → IsWritableContent (record_at conf d p e))
-    → ((conf : Conf) (d m : Entries) (p : Path) (e : EntryContent) → IsConf conf → IsDirectory conf d → finite.get d p ≡ Some e → MayCome m p → add conf Content m (record_at conf d p e).dn (record_at conf d p e).attrs ≡ added (finite.insert m p e))
+    → ((conf : Conf) (d m : Entries) (p : Path) (e : EntryContent) → IsConf conf → IsDirectory conf d → finite.get d p ≡ Some e → MayCome m p → add conf Content m (record_at conf d p e).dn (record_at conf d p e).attrs ≡ added p e)
     → IsTotalOrder path_cmp → finite.IsAntisymmetric path_cmp → ((p : Path) (s : RdnKey) → path_cmp p (p ++ s ∷ []) ≡ Less)
     → (conf : Conf) (d : Entries) → IsConf conf → IsDirectory conf d → LoadsBack conf d
 unfolding dump after_records

@@ -13,7 +13,7 @@ use Rattle.paths.specs.Paths.{Path}
 use Rattle.schema.specs.Conf.{Conf}
 use Rattle.tree.specs.Entries.{EntryContent}
 use Rattle.tree.specs.Directories.{Entries, record_at}
-use Rattle.tree.specs.Adds.{apply}
+use Rattle.tree.specs.Operations.{apply}
 use Rattle.directory.specs.declared.reason.Outcome.{Outcome}
 use Rattle.directory.specs.declared.reason.Outcome.TheVariants as outcomes
 use Rattle.directory.specs.declared.reason.Reason.{Reason}

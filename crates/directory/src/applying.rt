@@ -3,7 +3,7 @@
 ghost use Rattle.std.specs.Prelude.{◌≡◌, IfOk, OnErr, if◌then◌else◌};
 ghost use Rattle.ldif_lines.specs.View.{texts};
 ghost use Rattle.ldif.specs.Reading.{reading};
-ghost use Rattle.tree.specs.Adds.{apply};
+ghost use Rattle.tree.specs.Operations.{apply};
 ghost use Rattle.tree.specs.Gives.{Gives};
 ghost use Rattle.directory.specs.Runs.{is_empty, outcome};
 

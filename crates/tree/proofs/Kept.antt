@@ -19,6 +19,7 @@ use Rattle.schema.specs.Conf.{Conf, IsConf, root_rdn, first_rdn, located, locate
 use Rattle.base.specs.Answers.{◌>>=◌}
 use Rattle.tree.specs.Entries.{EntryContent, Attributes, IsGood, add_lines, has_class, are_single}
 use Rattle.tree.specs.Directories.{Entries, IsDirectory}
+use Rattle.tree.specs.Changes.{Change, Put, changed, MayStand}
 use Rattle.ldif.specs.declared.record.Mode.{Mode}
 use Rattle.tree.specs.Adds.{own_rdn, with_entry, entry_of, add_at, add}
 use Rattle.tree.proofs.Order.{path_total, path_exact}
@@ -37,14 +38,12 @@ equal Greater h = cc
 
 -- ---- the map
 
-record MayPut (conf : Conf) (d : Entries) (p : Path) (e : EntryContent) : Type 0 where
-  pub good : IsGood conf e
+pub record MayPut (conf : Conf) (d : Entries) (p : Path) (e : EntryContent) : Type 0 where
+  pub stands : MayStand conf p e
   pub parent : (not (is_root p) && not (finite.contains_key d (parent_of p))) ≡ false
-  pub last : (q : Path) (s : RdnKey) → p ≡ q ++ s ∷ [] → rdn_key_of conf.types e.rdn ≡ s
-  pub root : p ≡ [] → e.rdn ≡ root_rdn conf
   pub room : nat_le 4294967295 (finite.len d) ≡ false
 
-not_root : (q : Path) (s : RdnKey) → is_root (q ++ s ∷ []) ≡ false
+pub not_root : (q : Path) (s : RdnKey) → is_root (q ++ s ∷ []) ≡ false
 not_root [] s = refl
 not_root (x ∷ q) s = refl
 
@@ -68,12 +67,12 @@ module _ (conf : Conf) (d : Entries) (p : Path) (e : EntryContent) (h : IsDirect
     | inr none ↦ ap (λ (x : Path). finite.contains_key d x) (sym (sym (ap parent_of is) ∙ parent_is q s)) ∙ not-false (finite.contains_key d (parent_of p)) none
   ]
 
-  put_kept : IsDirectory conf (finite.insert d p e)
+  pub put_kept : IsDirectory conf (finite.insert d p e)
   put_kept = record {
-    good = λ q x is. elim (inserted q x is) [ inl k ↦ subst (IsGood conf) (sym k.1) may.good | inr k ↦ h.good q x k ];
+    good = λ q x is. elim (inserted q x is) [ inl k ↦ subst (IsGood conf) (sym k.1) may.stands.good | inr k ↦ h.good q x k ];
     parent = λ q s x is. still_there q (elim (inserted (q ++ s ∷ []) x is) [ inl k ↦ parent_there q s k.0 | inr k ↦ h.parent q s x k ]);
-    last = λ q s x is. elim (inserted (q ++ s ∷ []) x is) [ inl k ↦ ap (λ (y : EntryContent). rdn_key_of conf.types y.rdn) k.1 ∙ may.last q s (sym k.0) | inr k ↦ h.last q s x k ];
-    root = λ x is. elim (inserted [] x is) [ inl k ↦ ap (λ (y : EntryContent). y.rdn) k.1 ∙ may.root (sym k.0) | inr k ↦ h.root x k ];
+    last = λ q s x is. elim (inserted (q ++ s ∷ []) x is) [ inl k ↦ ap (λ (y : EntryContent). rdn_key_of conf.types y.rdn) k.1 ∙ may.stands.last q s (sym k.0) | inr k ↦ h.last q s x k ];
+    root = λ x is. elim (inserted [] x is) [ inl k ↦ ap (λ (y : EntryContent). y.rdn) k.1 ∙ may.stands.root (sym k.0) | inr k ↦ h.root x k ];
     few = few;
   }
     where
@@ -117,35 +116,37 @@ none_good : (conf : Conf) → AreGood conf.types []
 unfolding IsDistinct
 none_good conf = record { all = tt; types_apart = tt }
 
-put_ok : (conf : Conf) (d out : Entries) (p : Path) (e : EntryContent) → with_entry conf d p e ≡ Ok out → (has_class e.attrs ≡ true) × (are_single conf.types e.attrs ≡ true) × (nat_le 4294967295 (finite.len d) ≡ false) × (finite.insert d p e ≡ out)
-put_ok conf d out p e said =
-    let a = guard_ok (not (has_class e.attrs)) ObjectClassViolation (cond (not (are_single conf.types e.attrs)) (Err ConstraintViolation) (cond (nat_le 4294967295 (finite.len d)) (Err AdminLimitExceeded) (Ok (finite.insert d p e)))) out said in
-    let b = guard_ok (not (are_single conf.types e.attrs)) ConstraintViolation (cond (nat_le 4294967295 (finite.len d)) (Err AdminLimitExceeded) (Ok (finite.insert d p e))) out a.1 in
-    let f = guard_ok (nat_le 4294967295 (finite.len d)) AdminLimitExceeded (Ok (finite.insert d p e)) out b.1 in
-    (not-false (has_class e.attrs) a.0, not-false (are_single conf.types e.attrs) b.0, f.0, same_ok (finite.insert d p e) out f.1)
+put_ok : (conf : Conf) (d : Entries) (p : Path) (e : EntryContent) (out : Change) → with_entry conf d p e ≡ Ok out → (has_class e.attrs ≡ true) × (are_single conf.types e.attrs ≡ true) × (nat_le 4294967295 (finite.len d) ≡ false) × (Put p e ≡ out)
+put_ok conf d p e out said =
+    let a = guard_ok (not (has_class e.attrs)) ObjectClassViolation (cond (not (are_single conf.types e.attrs)) (Err ConstraintViolation) (cond (nat_le 4294967295 (finite.len d)) (Err AdminLimitExceeded) (Ok (Put p e)))) out said in
+    let b = guard_ok (not (are_single conf.types e.attrs)) ConstraintViolation (cond (nat_le 4294967295 (finite.len d)) (Err AdminLimitExceeded) (Ok (Put p e))) out a.1 in
+    let f = guard_ok (nat_le 4294967295 (finite.len d)) AdminLimitExceeded (Ok (Put p e)) out b.1 in
+    (not-false (has_class e.attrs) a.0, not-false (are_single conf.types e.attrs) b.0, f.0, same_ok (Put p e) out f.1)
 
 pub keeps : ((conf : Conf) (text : List ℕ) (rs : List Rdn) → located conf text ≡ located_at rs → AllByRecursion (IsRdn conf.types) rs)
-    → (conf : Conf) (mode : Mode) (d out : Entries) (dn : List ℕ) (lines : List Attr) → IsConf conf → IsDirectory conf d → add conf mode d dn lines ≡ Ok out → IsDirectory conf out
+    → (conf : Conf) (mode : Mode) (d : Entries) (dn : List ℕ) (lines : List Attr) (out : Change) → IsConf conf → IsDirectory conf d → add conf mode d dn lines ≡ Ok out → IsDirectory conf (changed d out)
 unfolding add add_at
-keeps reads conf mode d out dn lines ok h said =
+keeps reads conf mode d dn lines out ok h said =
     let b = bind_ok (located conf dn) (λ rs. add_at conf mode d (path_of conf rs) (own_rdn conf rs) lines) out said in
     let rs : List Rdn = b.0 in
     let p : Path = path_of conf rs in
     let rdn : Rdn = own_rdn conf rs in
     let fine = reads conf dn rs b.1 in
-    let put : Attributes → Result Entries Code = λ attrs. with_entry conf d p (entry_of conf rdn attrs) in
+    let put : Attributes → Result Change Code = λ attrs. with_entry conf d p (entry_of conf rdn attrs) in
     let g = guard_ok (finite.contains_key d p) EntryAlreadyExists (cond (not (is_root p) && not (finite.contains_key d (parent_of p))) (Err NoSuchObject) (add_lines mode conf.types [] lines >>= put)) out b.2 in
     let k = guard_ok (not (is_root p) && not (finite.contains_key d (parent_of p))) NoSuchObject (add_lines mode conf.types [] lines >>= put) out g.1 in
     let l = bind_ok (add_lines mode conf.types [] lines) put out k.1 in
     let e : EntryContent = entry_of conf rdn l.0 in
-    let tests = put_ok conf d out p e l.2 in
+    let tests = put_ok conf d p e out l.2 in
     let is_rdn : IsRdn conf.types rdn = own_good conf ok rs fine in
     let attrs = rdn_good conf.types rdn l.0 is_rdn.parts (lines_good mode conf.types lines [] l.0 (none_good conf) l.1) in
-    subst (IsDirectory conf) tests.3 (put_kept conf d p e h (record {
-      good = record { attrs = attrs.all; types_apart = attrs.types_apart; class = tests.0; single = tests.1; rdn = is_rdn; rdn_there = all_come conf.types rdn l.0 };
+    subst (λ (c : Change). IsDirectory conf (changed d c)) tests.3 (put_kept conf d p e h (record {
+      stands = record {
+        good = record { attrs = attrs.all; types_apart = attrs.types_apart; class = tests.0; single = tests.1; rdn = is_rdn; rdn_there = all_come conf.types rdn l.0 };
+        last = λ q s is. last_is conf rs q s is;
+        root = λ is. root_is conf rs is;
+      };
       parent = k.0;
-      last = λ q s is. last_is conf rs q s is;
-      root = λ is. root_is conf rs is;
       room = tests.2;
     }))
 

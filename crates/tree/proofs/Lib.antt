@@ -7,6 +7,10 @@ pub mod Kept
 pub mod Nothing
 pub mod Views
 pub mod Stretch
+pub mod Numbered
+pub mod Carried
+pub mod Leaves
+pub mod Keeping
 pub mod TreeLemmas
 pub mod StoredLemmas
 pub mod NormLemmas
@@ -23,3 +27,4 @@ pub mod ModifyLemmas
 pub mod LeftFrom
 pub mod Retained
 pub mod Copied
+pub mod Planned

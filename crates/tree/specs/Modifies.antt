@@ -1,17 +1,22 @@
--- What a modify and a new RDN make of an entry (RFC 4511, 4.6 and 4.9), or the code of the first check that fails.
+-- Modifying an entry, and what a new RDN makes of it (RFC 4511, 4.6 and 4.9); or the code of the first check that fails.
 use Rattle.std.specs.Prelude.{ℕ, Bool, not, ◌&&◌, List, [], ◌∷◌, ◌++◌, length, nat_eq, nat_lt, Option, Some, None, Result, Ok, Err, if◌then◌else◌}
 use Rattle.std.specs.List.{list_any, list_all, filter}
+use Rattle.std.specs.FinMap as finite
 use Rattle.ldif.specs.declared.record.Mod.{Mod}
 use Rattle.ldif.specs.declared.record.Op.{Op}
 use Rattle.ldif.specs.declared.record.Op.TheVariants as ops
 use Rattle.schema.specs.declared.code.Code.{Code}
-use Rattle.schema.specs.declared.code.Code.TheVariants.{ProtocolError, NoSuchAttribute, UndefinedAttributeType, InappropriateMatching, ConstraintViolation, AttributeOrValueExists, InvalidAttributeSyntax, ObjectClassViolation, NotAllowedOnRdn}
+use Rattle.schema.specs.declared.code.Code.TheVariants.{ProtocolError, NoSuchAttribute, UndefinedAttributeType, InappropriateMatching, ConstraintViolation, AttributeOrValueExists, InvalidAttributeSyntax, NoSuchObject, ObjectClassViolation, NotAllowedOnRdn}
 use Rattle.values.specs.declared.types.AttributeType.{AttributeType}
 use Rattle.values.specs.Types.{type_of, type_at, has_equality}
 use Rattle.schema.specs.Values.{is_valid_at, are_equal}
 use Rattle.schema.specs.Rdns.{Ava, Rdn}
+use Rattle.schema.specs.Conf.{Conf, located, path_of}
+use Rattle.paths.specs.Paths.{Path}
 use Rattle.base.specs.Answers.{◌>>=◌, through}
 use Rattle.tree.specs.Entries.{Attributes, EntryContent, values_of, has_equal, with_rdn, has_class, are_single}
+use Rattle.tree.specs.Directories.{Entries}
+use Rattle.tree.specs.Changes.{Change, Put}
 
 -- a check's fault, or what is said where it finds none
 abbrev pub unless : {A : Type 0} → Option Code → Result A Code → Result A Code
@@ -115,6 +120,15 @@ modified_fault types rdn attrs = if not (has_rdn types rdn attrs) then Some NotA
 unfoldable pub modify_entry : List AttributeType → EntryContent → List Mod → Result EntryContent Code
 modify_entry types e mods =
     through (modify_block types) e.attrs mods >>= λ attrs. unless (modified_fault types e.rdn attrs) (Ok (record { rdn = e.rdn; attrs = attrs }))
+
+-- it is there
+abbrev pub modify_there : Conf → Path → List Mod → Option EntryContent → Result Change Code
+modify_there conf p mods None = Err NoSuchObject
+modify_there conf p mods (Some e) = modify_entry conf.types e mods >>= λ out. Ok (Put p out)
+
+-- the entry with this name
+unfoldable pub modify : Conf → Entries → List ℕ → List Mod → Result Change Code
+modify conf d dn mods = located conf dn >>= λ rs. modify_there conf (path_of conf rs) mods (finite.get d (path_of conf rs))
 
 -- ---- another RDN (RFC 4511, 4.9)
 

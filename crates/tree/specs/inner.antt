@@ -1,3 +1,5 @@
 pub mod Above
 pub mod StoredEntries
+pub mod Trees
+pub mod Plans
 pub mod ValuesDrafts

@@ -1,6 +1,6 @@
 //! Laws of directories, for the crates above.
 
-ghost use Rattle.std.specs.Prelude.{◌≡◌, Bool, Some, Ok, List, ℕ};
+ghost use Rattle.std.specs.Prelude.{◌≡◌, Bool, true, false, Some, Ok, List, ℕ};
 ghost use Rattle.std.specs.FinMap as finite;
 ghost use Rattle.ldif.specs.Attrs.{Attr};
 ghost use Rattle.ldif.specs.Contents.{IsWritableContent};
@@ -13,6 +13,9 @@ ghost use Rattle.schema.specs.Rdns.{Rdn};
 ghost use Rattle.schema.specs.GoodRdns.{IsRdn};
 ghost use Rattle.tree.specs.Entries.{EntryContent, IsGood};
 ghost use Rattle.tree.specs.Directories.{Entries, IsDirectory, record_at};
+ghost use Rattle.tree.specs.Changes.{Change, changed, allowed, MayStand, MayMove};
+ghost use Rattle.tree.specs.Trees.{has_child};
+ghost use Rattle.tree.specs.Plans.{Planned, KeepsNumbers};
 ghost use Rattle.tree.specs.Adds.{add, added, MayCome};
 ghost use Rattle.tree.specs.Modifies.{modify_entry, rename_entry, changed_to};
 
@@ -23,14 +26,34 @@ pub fn empty_is_a_directory()
 
 /// A directory stays one when an entry is added.
 pub fn adding_keeps_a_directory()
-    ensures { (conf : Conf) (mode : Mode) (d out : Entries) (dn : List ℕ) (lines : List Attr) → IsConf conf → IsDirectory conf d → add conf mode d dn lines ≡ added out → IsDirectory conf out }
+    ensures { (conf : Conf) (mode : Mode) (d : Entries) (dn : List ℕ) (lines : List Attr) (change : Change) → IsConf conf → IsDirectory conf d → add conf mode d dn lines ≡ allowed change → IsDirectory conf (changed d change) }
 {
     schema::located_rdns_are_good();
 }
 
+/// A directory stays one when an entry that has no child is taken away.
+pub fn removing_keeps_a_directory()
+    ensures { (conf : Conf) (d : Entries) (p : Path) → IsDirectory conf d → has_child d p ≡ false → IsDirectory conf (finite.remove d p) }
+{}
+
+/// A directory stays one when an entry comes in place of another.
+pub fn replacing_keeps_a_directory()
+    ensures { (conf : Conf) (d : Entries) (p : Path) (e : EntryContent) → IsDirectory conf d → finite.contains_key d p ≡ true → MayStand conf p e → IsDirectory conf (finite.insert d p e) }
+{}
+
+/// A directory stays one when an entry that has no child moves to where it may.
+pub fn moving_keeps_a_directory()
+    ensures { (conf : Conf) (d : Entries) (from to : Path) (e : EntryContent) → IsDirectory conf d → has_child d from ≡ false → MayMove d from to → MayStand conf to e → IsDirectory conf (finite.insert (finite.remove d from) to e) }
+{}
+
+/// The entry that changes has one number before and after, and all others keep theirs.
+pub fn plans_keep_numbers()
+    ensures { (p : Planned) → KeepsNumbers p }
+{}
+
 /// Loading what an entry is written as gives that entry again, wherever it may come.
 pub fn an_entry_adds_itself()
-    ensures { (conf : Conf) (d m : Entries) (p : Path) (e : EntryContent) → IsConf conf → IsDirectory conf d → finite.get d p ≡ Some e → MayCome m p → add conf modes.Content m (record_at conf d p e).dn (record_at conf d p e).attrs ≡ added (finite.insert m p e) }
+    ensures { (conf : Conf) (d m : Entries) (p : Path) (e : EntryContent) → IsConf conf → IsDirectory conf d → finite.get d p ≡ Some e → MayCome m p → add conf modes.Content m (record_at conf d p e).dn (record_at conf d p e).attrs ≡ added p e }
 {
     schema::printed_names_name_their_types();
     schema::written_names_are_located();

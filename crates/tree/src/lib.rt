@@ -1,6 +1,7 @@
 //! Entries, the tree of a directory, and what a record does to it.
 //!
-//! The functions of `laws` do nothing, and neither does `Tree::is_directory`: a call of one is made for what it states alone.
+//! The functions of `laws` do nothing, and neither do `Tree::is_directory` and `is_numbered`: a call of one is made for what it
+//! states alone.
 #![tactic(auto)]
 
 mod attribute_values;
@@ -14,6 +15,9 @@ mod modifies;
 mod names;
 mod naming;
 mod plan_add;
+mod plan_delete;
+mod plan_modify;
+mod plan_rename;
 mod planner;
 mod plans;
 mod range;
@@ -27,7 +31,8 @@ pub use attribute_values::Values;
 pub use entry::Entry;
 pub use laws::{
     adding_keeps_a_directory, an_entry_adds_itself, empty_is_a_directory, modifying_keeps_an_entry,
-    own_content_is_written, renaming_keeps_an_entry,
+    moving_keeps_a_directory, own_content_is_written, plans_keep_numbers,
+    removing_keeps_a_directory, renaming_keeps_an_entry, replacing_keeps_a_directory,
 };
 pub use names::Names;
 pub use planner::plan;

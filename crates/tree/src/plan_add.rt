@@ -6,9 +6,11 @@ ghost use Rattle.std.specs.List.{AllByRecursion};
 ghost use Rattle.paths.specs.Paths.{parent_of};
 ghost use Rattle.schema.specs.GoodRdns.{IsRdn};
 ghost use Rattle.schema.specs.Conf.{located};
-ghost use Rattle.tree.specs.Adds.{own_rdn, with_entry, add_at, add, path_in};
+ghost use Rattle.tree.specs.Adds.{own_rdn, with_entry, add_at, add};
 ghost use Rattle.tree.specs.StoredEntries.{attributes_of, IsMade};
-ghost use Rattle.tree.specs.Plans.{next_of, path_of_change, IsFit, IsChange};
+ghost use Rattle.tree.specs.Changes.{path_before};
+ghost use Rattle.tree.specs.Operations.{path_in};
+ghost use Rattle.tree.specs.inner.Plans.{seen_change, IsFit, IsChange};
 ghost use Rattle.tree.specs.Gives.{Gives};
 
 use crate::attributes::has_class;
@@ -29,8 +31,8 @@ impl Planner<'_> {
     #[tactic(auto, unfolding(crate::specs::Adds::add))]
     pub(crate) fn add_of(&self, dn: &[u8], lines: &[Attr<'_>]) -> Result<Change, Refusal>
         ensures change { IfOk result (λ c. IsChange self.now.tree.now c) }
-        ensures path { IfOk result (λ c. path_of_change c ≡ path_in self.now.conf.now (located self.now.conf.now dn.now)) }
-        ensures gives { Gives (λ c. next_of self.now.tree.now.entries c) result (add self.now.conf.now self.now.mode self.now.tree.now.entries dn.now lines.now) }
+        ensures path { IfOk result (λ c. path_before (seen_change c) ≡ path_in self.now.conf.now (located self.now.conf.now dn.now)) }
+        ensures gives { Gives seen_change result (add self.now.conf.now self.now.mode self.now.tree.now.entries dn.now lines.now) }
     {
         self.conf.holds();
         self.tree.is_directory();
@@ -45,8 +47,8 @@ impl Planner<'_> {
     fn add_at(&self, place: Located, lines: &[Attr<'_>]) -> Result<Change, Refusal>
         requires { AllByRecursion (IsRdn self.now.conf.now.types) place.rdns }
         ensures fit { IfOk result (λ c. IsFit self.now.tree.now c) }
-        ensures path { IfOk result (λ c. path_of_change c ≡ Some place.path) }
-        ensures gives { Gives (λ c. next_of self.now.tree.now.entries c) result (add_at self.now.conf.now self.now.mode self.now.tree.now.entries place.path (own_rdn self.now.conf.now place.rdns) lines.now) }
+        ensures path { IfOk result (λ c. path_before (seen_change c) ≡ Some place.path) }
+        ensures gives { Gives seen_change result (add_at self.now.conf.now self.now.mode self.now.tree.now.entries place.path (own_rdn self.now.conf.now place.rdns) lines.now) }
     {
         let Located { path, rdns } = place;
         if self.tree.contains(&path) {
@@ -86,8 +88,8 @@ impl Planner<'_> {
         requires new { finite.contains_key self.now.tree.now.entries path ≡ false }
         requires made { IsMade self.now.conf.now.types attrs.entries }
         ensures fit { IfOk result (λ c. IsFit self.now.tree.now c) }
-        ensures path { IfOk result (λ c. path_of_change c ≡ Some path) }
-        ensures gives { Gives (λ c. next_of self.now.tree.now.entries c) result (with_entry self.now.conf.now self.now.tree.now.entries path (record { rdn = rdn; attrs = attributes_of attrs.entries })) }
+        ensures path { IfOk result (λ c. path_before (seen_change c) ≡ Some path) }
+        ensures gives { Gives seen_change result (with_entry self.now.conf.now self.now.tree.now.entries path (record { rdn = rdn; attrs = attributes_of attrs.entries })) }
     {
         if !has_class(&attrs) {
             return Err(Refusal::Code(Code::ObjectClassViolation));
@@ -98,6 +100,9 @@ impl Planner<'_> {
         if self.tree.len() >= ENTRIES_LIMIT {
             return Err(Refusal::Code(Code::AdminLimitExceeded));
         }
-        Ok(Change::Put(path, Entry::new(rdn, attrs)))
+        Ok(Change::Add {
+            path,
+            entry: Entry::new(rdn, attrs),
+        })
     }
 }

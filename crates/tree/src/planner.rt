@@ -1,8 +1,9 @@
 //! Makes plans: what a record does to a tree, or the code that it is refused with.
 
 ghost use Rattle.std.specs.Prelude.{◌≡◌, IfOk};
-ghost use Rattle.tree.specs.Adds.{has_critical, apply, record_path};
-ghost use Rattle.tree.specs.Plans.{next_of, path_of_change, IsChange};
+ghost use Rattle.tree.specs.Changes.{path_before};
+ghost use Rattle.tree.specs.Operations.{has_critical, controls_of, change_asked, change_of, record_path};
+ghost use Rattle.tree.specs.inner.Plans.{seen_change, IsChange};
 ghost use Rattle.tree.specs.Gives.{Gives};
 
 use crate::plans::{Change, Plan};
@@ -13,8 +14,7 @@ use schema::{Code, Conf};
 use std::alloc::Global;
 
 /// Works out what a record does to a tree, and changes nothing. `conf` is the configuration that the tree was made with. A
-/// refusal has the code of the first check that fails (RFC 4511, 4.6 to 4.9 and 4.1.9). In this profile an entry can be
-/// added, and any other change is refused with `UnwillingToPerform`.
+/// refusal has the code of the first check that fails (RFC 4511, 4.6 to 4.9 and 4.1.9).
 pub fn plan(
     alloc: Global,
     tree: &Tree,
@@ -24,8 +24,8 @@ pub fn plan(
 ) -> Result<Plan, Refusal>
     requires { tree.now.conf ≡ conf.now }
     ensures of { IfOk result (λ p. p.tree ≡ tree.now) }
-    ensures path { IfOk result (λ p. p.path ≡ record_path conf.now asked.now) }
-    ensures gives { Gives (λ p. p.next) result (apply conf.now mode tree.now.entries asked.now) }
+    ensures path { IfOk result (λ p. path_before p.change ≡ record_path conf.now asked.now) }
+    ensures gives { Gives (λ p. p.change) result (change_of conf.now mode tree.now.entries asked.now) }
 {
     let planner = Planner {
         alloc,
@@ -34,7 +34,7 @@ pub fn plan(
         mode,
     };
     let change = planner.change_of(asked)?;
-    Ok(Plan::of(tree, change))
+    Ok(Plan::of(tree, change)?)
 }
 
 /// A tree, the configuration that it was made with, and what the records are: what a plan is worked out from.
@@ -50,25 +50,38 @@ pub(crate) struct Planner<'a> {
 impl Planner<'_> {
     fn change_of(&self, asked: &Record<'_>) -> Result<Change, Refusal>
         ensures change { IfOk result (λ c. IsChange self.now.tree.now c) }
-        ensures path { IfOk result (λ c. path_of_change c ≡ record_path self.now.conf.now asked.now) }
-        ensures gives { Gives (λ c. next_of self.now.tree.now.entries c) result (apply self.now.conf.now self.now.mode self.now.tree.now.entries asked.now) }
+        ensures path { IfOk result (λ c. path_before (seen_change c) ≡ record_path self.now.conf.now asked.now) }
+        ensures gives { Gives seen_change result (change_of self.now.conf.now self.now.mode self.now.tree.now.entries asked.now) }
+    {
+        if has_critical(controls_of(asked)) {
+            return Err(Refusal::Code(Code::UnavailableCriticalExtension));
+        }
+        self.change_asked(asked)
+    }
+
+    fn change_asked(&self, asked: &Record<'_>) -> Result<Change, Refusal>
+        ensures change { IfOk result (λ c. IsChange self.now.tree.now c) }
+        ensures path { IfOk result (λ c. path_before (seen_change c) ≡ record_path self.now.conf.now asked.now) }
+        ensures gives { Gives seen_change result (change_asked self.now.conf.now self.now.mode self.now.tree.now.entries asked.now) }
     {
         match asked {
             Record::Empty => self.nothing(),
             Record::Content { dn, attrs } => self.add_of(dn.as_slice(), attrs.as_slice()),
-            Record::Add {
+            Record::Add { dn, attrs, .. } => self.add_of(dn.as_slice(), attrs.as_slice()),
+            Record::Delete { dn, .. } => self.delete_of(dn.as_slice()),
+            Record::Modify { dn, mods, .. } => self.modify_of(dn.as_slice(), mods.as_slice()),
+            Record::ModRdn {
                 dn,
-                controls,
-                attrs,
-            } => {
-                if has_critical(controls.as_slice()) {
-                    return Err(Refusal::Code(Code::UnavailableCriticalExtension));
-                }
-                self.add_of(dn.as_slice(), attrs.as_slice())
-            }
-            Record::Delete { .. } | Record::Modify { .. } | Record::ModRdn { .. } => {
-                Err(Refusal::Code(Code::UnwillingToPerform))
-            }
+                newrdn,
+                delete_old,
+                new_superior,
+                ..
+            } => self.rename_of(
+                dn.as_slice(),
+                newrdn.as_slice(),
+                *delete_old,
+                new_superior.as_ref(),
+            ),
         }
     }
 
@@ -79,6 +92,18 @@ impl Planner<'_> {
     {
         self.tree.is_directory();
         Ok(Change::Nothing)
+    }
+}
+
+fn controls_of<'a>(asked: &'a Record<'_>) -> &'a [Control]
+    ensures { result.now ≡ controls_of asked.now }
+{
+    match asked {
+        Record::Empty | Record::Content { .. } => &[],
+        Record::Add { controls, .. } => controls.as_slice(),
+        Record::Delete { controls, .. } => controls.as_slice(),
+        Record::Modify { controls, .. } => controls.as_slice(),
+        Record::ModRdn { controls, .. } => controls.as_slice(),
     }
 }
 

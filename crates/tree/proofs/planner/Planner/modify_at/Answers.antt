@@ -1,0 +1,14 @@
+use Rattle.std.proofs.Common.{sym}
+use Rattle.tree.specs.StoredEntries.{content_of}
+use Rattle.tree.proofs.Planned.{good_under, modified_change}
+use Rattle.tree.proofs.planner.Planner.modify_at.Goals as goal
+
+pub modified-requires-clause-rdn : goal.modified-requires-clause-rdn
+modified-requires-clause-rdn c =
+    (good_under c.args.self.now.tree.now.conf c.args.self.now.conf.now c.args.self.now.tree.now.entries c.args.path (content_of c.in-Some.entry.now)
+    c.args.self.now.same_conf c.is_directory.ensures (sym c.in-Some.ensures.entry)).rdn
+
+pub returns-clause-change : goal.returns-clause-change
+returns-clause-change c =
+    modified_change c.args.self.now.tree.now c.args.self.now.conf.now c.args.path (content_of c.in-Some.entry.now) c.args.mods.now c.in_ok-entry.entry
+    c.args.self.now.same_conf c.is_directory.ensures (sym c.in-Some.ensures.entry) c.in_ok-entry.ensures.made c.in_ok-entry.ensures.gives

@@ -1,0 +1,38 @@
+-- A change as a plan keeps it: values come with their normal forms, and a new entry is told from one in place of another.
+use Rattle.std.specs.Prelude.{◌≡◌, ℕ, true, false, Option}
+use Rattle.std.specs.FinMap as finite
+use Rattle.tree.specs.declared.plans.Change as stored
+use Rattle.tree.specs.declared.plans.Change.TheVariants as changes
+use Rattle.tree.specs.Directories.{IsDirectory}
+use Rattle.tree.specs.StoredEntries.{content_of, IsMade}
+use Rattle.tree.specs.Changes.{Change, Nothing, Put, Remove, Move, changed}
+use Rattle.tree.specs.Trees.{Tree}
+use Rattle.tree.specs.Plans.{Planned, number_of}
+
+abbrev pub seen_change : stored.Change → Change
+seen_change changes.Nothing = Nothing
+seen_change (changes.Add path entry) = Put path (content_of entry)
+seen_change (changes.Replace path entry) = Put path (content_of entry)
+seen_change (changes.Remove path) = Remove path
+seen_change (changes.Move from to entry) = Move from to (content_of entry)
+
+-- what comes was made under the configuration; it is new, or in place of what is there
+abbrev pub IsFit : Tree → stored.Change → Type 0
+IsFit d changes.Nothing = Unit {0}
+IsFit d (changes.Add path entry) = (finite.contains_key d.entries path ≡ false) × IsMade d.conf.types entry.attrs
+IsFit d (changes.Replace path entry) = (finite.contains_key d.entries path ≡ true) × IsMade d.conf.types entry.attrs
+IsFit d (changes.Remove path) = finite.contains_key d.entries path ≡ true
+IsFit d (changes.Move from to entry) = (finite.contains_key d.entries from ≡ true) × (finite.contains_key d.entries to ≡ false) × IsMade d.conf.types entry.attrs
+
+-- a change that leads from a directory to a directory
+pub record IsChange (d : Tree) (c : stored.Change) : Type 0 where
+  pub fit : IsFit d c
+  pub directory : IsDirectory d.conf (changed d.entries (seen_change c))
+
+abbrev pub planned : Tree → stored.Change → Planned
+planned d c = record { tree = d; change = seen_change c }
+
+-- what a plan keeps
+pub record IsPlan (d : Tree) (c : stored.Change) (n : Option ℕ) : Type 0 where
+  pub change : IsChange d c
+  pub number : n ≡ number_of (planned d c)

@@ -1,0 +1,46 @@
+//! Plans of a delete (RFC 4511, 4.8).
+
+ghost use Rattle.std.specs.Prelude.{◌≡◌, IfOk, Some};
+ghost use Rattle.schema.specs.Conf.{located};
+ghost use Rattle.tree.specs.Changes.{path_before};
+ghost use Rattle.tree.specs.Deletes.{delete_at, delete};
+ghost use Rattle.tree.specs.Operations.{path_in};
+ghost use Rattle.tree.specs.inner.Plans.{seen_change, IsChange};
+ghost use Rattle.tree.specs.Gives.{Gives};
+
+use crate::laws::removing_keeps_a_directory;
+use crate::planner::Planner;
+use crate::plans::Change;
+use crate::refusal::Refusal;
+use schema::{Code, Located, Path};
+
+impl Planner<'_> {
+    /// The entry with this name is taken away.
+    #[tactic(auto, unfolding(crate::specs::Deletes::delete))]
+    pub(crate) fn delete_of(&self, dn: &[u8]) -> Result<Change, Refusal>
+        ensures change { IfOk result (λ c. IsChange self.now.tree.now c) }
+        ensures path { IfOk result (λ c. path_before (seen_change c) ≡ path_in self.now.conf.now (located self.now.conf.now dn.now)) }
+        ensures gives { Gives seen_change result (delete self.now.conf.now self.now.tree.now.entries dn.now) }
+    {
+        let Located { path, rdns } = self.conf.locate(self.alloc, dn)?;
+        drop(rdns);
+        self.delete_at(path)
+    }
+
+    // It is there, and nothing stands below it.
+    fn delete_at(&self, path: Path) -> Result<Change, Refusal>
+        ensures change { IfOk result (λ c. IsChange self.now.tree.now c) }
+        ensures path { IfOk result (λ c. path_before (seen_change c) ≡ Some path) }
+        ensures gives { Gives seen_change result (delete_at self.now.tree.now.entries path) }
+    {
+        self.tree.is_directory();
+        removing_keeps_a_directory();
+        if !self.tree.contains(&path) {
+            return Err(Refusal::Code(Code::NoSuchObject));
+        }
+        if self.tree.has_child(&path) {
+            return Err(Refusal::Code(Code::NotAllowedOnNonLeaf));
+        }
+        Ok(Change::Remove { path })
+    }
+}
