@@ -2,11 +2,15 @@
 ghost use Rattle.std.specs.Prelude.{◌≤◌, length};
 ghost use Rattle.command_line.specs.Requests.{AsksForHelp};
 
-use crate::request::{AddOptions, CatOptions, Request, UsageFault};
+use crate::request::{AddOptions, CatOptions, ModifyOptions, Request, UsageFault};
 use clap::error::ErrorKind;
 use clap::{Arg, ArgAction, ArgMatches, Command, Error};
 use std::alloc::{AllocError, Global};
 use std::convert::AsStr;
+
+const INPUT_HELP: &str = "The LDIF text, in place of standard input";
+const GO_ON_HELP: &str = "Goes on after a refused record";
+const DRY_RUN_HELP: &str = "Writes no file";
 
 fn folder_option<'a>(alloc: Global) -> Arg<'a> {
     Arg::new(alloc, "db")
@@ -17,9 +21,9 @@ fn folder_option<'a>(alloc: Global) -> Arg<'a> {
         .help("The folder of the directory")
 }
 
-fn file_option<'a>(alloc: Global, help: &'a str) -> Arg<'a> {
+fn file_option<'a>(alloc: Global, short: char, help: &'a str) -> Arg<'a> {
     Arg::new(alloc, "file")
-        .short('l')
+        .short(short)
         .value_name("FILE")
         .action(ArgAction::Set)
         .help(help)
@@ -36,16 +40,26 @@ fn slapadd<'a>(alloc: Global) -> Result<Command<'a>, AllocError> {
     Command::new(alloc, "slapadd")
         .about("Adds the entries of an LDIF text")
         .arg(folder_option(alloc))?
-        .arg(file_option(alloc, "The LDIF text, in place of standard input"))?
-        .arg(flag(alloc, "go_on", 'c', "Goes on after a refused record"))?
-        .arg(flag(alloc, "dry_run", 'u', "Writes no file"))
+        .arg(file_option(alloc, 'l', INPUT_HELP))?
+        .arg(flag(alloc, "go_on", 'c', GO_ON_HELP))?
+        .arg(flag(alloc, "dry_run", 'u', DRY_RUN_HELP))
+}
+
+fn ldapmodify<'a>(alloc: Global) -> Result<Command<'a>, AllocError> {
+    Command::new(alloc, "ldapmodify")
+        .about("Carries out the changes of an LDIF text")
+        .arg(folder_option(alloc))?
+        .arg(file_option(alloc, 'f', INPUT_HELP))?
+        .arg(flag(alloc, "add", 'a', "Adds the entries of records without changetype"))?
+        .arg(flag(alloc, "go_on", 'c', GO_ON_HELP))?
+        .arg(flag(alloc, "dry_run", 'n', DRY_RUN_HELP))
 }
 
 fn slapcat<'a>(alloc: Global) -> Result<Command<'a>, AllocError> {
     Command::new(alloc, "slapcat")
         .about("Prints the directory as LDIF")
         .arg(folder_option(alloc))?
-        .arg(file_option(alloc, "Is written, in place of standard output"))
+        .arg(file_option(alloc, 'l', "Is written, in place of standard output"))
 }
 
 fn slaptools<'a>(alloc: Global) -> Result<Command<'a>, AllocError> {
@@ -53,6 +67,7 @@ fn slaptools<'a>(alloc: Global) -> Result<Command<'a>, AllocError> {
         .about("Tools for an LDAP directory that is kept as LDIF, without a server")
         .subcommand_required(true)
         .subcommand(slapadd(alloc)?)?
+        .subcommand(ldapmodify(alloc)?)?
         .subcommand(slapcat(alloc)?)
 }
 
@@ -60,6 +75,16 @@ fn add_options<'a>(found: &ArgMatches<'a>) -> Option<AddOptions<'a>> {
     Some(AddOptions {
         db: found.get_str("db")?,
         file: found.get_str("file"),
+        go_on: found.get_flag("go_on"),
+        dry_run: found.get_flag("dry_run"),
+    })
+}
+
+fn modify_options<'a>(found: &ArgMatches<'a>) -> Option<ModifyOptions<'a>> {
+    Some(ModifyOptions {
+        db: found.get_str("db")?,
+        file: found.get_str("file"),
+        add: found.get_flag("add"),
         go_on: found.get_flag("go_on"),
         dry_run: found.get_flag("dry_run"),
     })
@@ -75,6 +100,7 @@ fn cat_options<'a>(found: &ArgMatches<'a>) -> Option<CatOptions<'a>> {
 fn request_of<'a>(matches: &ArgMatches<'a>) -> Option<Request<'a>> {
     match matches.subcommand()? {
         ("slapadd", found) => Some(Request::Add(add_options(found)?)),
+        ("ldapmodify", found) => Some(Request::Modify(modify_options(found)?)),
         ("slapcat", found) => Some(Request::Cat(cat_options(found)?)),
         _ => None,
     }

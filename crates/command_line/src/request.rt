@@ -17,6 +17,21 @@ pub struct AddOptions<'a> {
     pub dry_run: bool,
 }
 
+/// What ldapmodify is asked for.
+#[derive(Clone, Copy, Debug, Drop)]
+pub struct ModifyOptions<'a> {
+    /// The folder of the directory.
+    pub db: &'a str,
+    /// The LDIF file, or none for standard input.
+    pub file: Option<&'a str>,
+    /// Whether a record without `changetype` is one that adds an entry.
+    pub add: bool,
+    /// Whether it goes on after a refusal.
+    pub go_on: bool,
+    /// Whether no file is written.
+    pub dry_run: bool,
+}
+
 /// What slapcat is asked for.
 #[derive(Clone, Copy, Debug, Drop)]
 pub struct CatOptions<'a> {
@@ -32,6 +47,7 @@ pub enum Request<'a> {
     /// This text, for standard output.
     Help(String),
     Add(AddOptions<'a>),
+    Modify(ModifyOptions<'a>),
     Cat(CatOptions<'a>),
 }
 

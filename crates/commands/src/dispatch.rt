@@ -2,9 +2,9 @@
 ghost use Rattle.std.specs.Prelude.{◌≡◌, ◌<◌, ◌≤◌, ◌-◌, ◌^◌, ◌⊎◌, length};
 ghost use Rattle.device.specs.Device.{Took};
 
+use crate::changes::{ldapmodify, slapadd};
 use crate::folder::Folder;
 use crate::messages::{CommandFault, Status, say, tell};
-use crate::slapadd::slapadd;
 use crate::slapcat::slapcat;
 use command_line::{Request, UsageFault, read};
 use device::{Device, Sink, Source, push_all};
@@ -42,6 +42,7 @@ pub fn command<W: AsStr, F: Folder, S: Source, O: Sink, E: Sink>(
     let status = match read(alloc, words) {
         Ok(Request::Help(text)) => print(alloc, text.as_str(), out, err),
         Ok(Request::Add(asked)) => slapadd(alloc, &asked, folder, input, err),
+        Ok(Request::Modify(asked)) => ldapmodify(alloc, &asked, folder, input, err),
         Ok(Request::Cat(asked)) => slapcat(alloc, &asked, folder, out, err),
         Err(UsageFault::Words(text)) => say(err, text.as_str(), Status::Usage),
         Err(UsageFault::OutOfMemory) => tell(alloc, err, &CommandFault::OutOfMemory),

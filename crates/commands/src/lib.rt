@@ -1,11 +1,11 @@
 //! The commands over a directory that is kept in files, whatever keeps the files.
 #![tactic(auto)]
 
+mod changes;
 mod database;
 mod dispatch;
 mod folder;
 mod messages;
-mod slapadd;
 mod slapcat;
 
 pub use dispatch::command;

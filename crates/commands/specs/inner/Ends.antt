@@ -1,7 +1,7 @@
 -- How commands end, and what they did by then. Of a file contracts know no bytes, so its text is some or none that is known.
 use Rattle.std.specs.Prelude.{◌≡◌, ℕ, ◌⊎◌, Bool, true, false, List, Option}
 use Rattle.device.specs.Device.{Written, Took}
-use Rattle.ldif.specs.declared.record.Mode.TheVariants.{Content}
+use Rattle.ldif.specs.declared.record.Mode.{Mode}
 use Rattle.schema.specs.Conf.{Conf}
 use Rattle.tree.specs.Directories.{Entries}
 use Rattle.directory.specs.Runs.{dump}
@@ -17,30 +17,30 @@ pub record IsLoaded (conf : Conf) (d : Entries) : Type 0 where
   pub loads : LoadsOver conf text d
 
 -- records leave these entries, counts and report
-pub record IsAdded (conf : Conf) (go_on : Bool) (old new : Entries) (t : Tally) (a b : Written) : Type 0 where
+pub record HaveRun (conf : Conf) (mode : Mode) (go_on : Bool) (old new : Entries) (t : Tally) (a b : Written) : Type 0 where
   pub text : Option (List ℕ)
-  pub ran : RanOver conf Content go_on old new text t a b
+  pub ran : RanOver conf mode go_on old new text t a b
 
 -- the status is that of the counts of a run, whose report was written
-pub record WentThrough (conf : Conf) (go_on : Bool) (old : Entries) (a b : Written) (s : Status) : Type 0 where
+pub record WentThrough (conf : Conf) (mode : Mode) (go_on : Bool) (old : Entries) (a b : Written) (s : Status) : Type 0 where
   pub new : Entries
   pub tally : Tally
-  pub added : IsAdded conf go_on old new tally a b
+  pub records : HaveRun conf mode go_on old new tally a b
   pub status : s ≡ status_of_tally tally
 
-abbrev pub RunEnds : Conf → Bool → Entries → Written → Written → Status → Type 0
-RunEnds conf go_on old a b s = WentThrough conf go_on old a b s ⊎ (s ≡ Failed)
+abbrev pub RunEnds : Conf → Mode → Bool → Entries → Written → Written → Status → Type 0
+RunEnds conf mode go_on old a b s = WentThrough conf mode go_on old a b s ⊎ (s ≡ Failed)
 
 -- a directory was loaded, and the records ran over it
-pub record LoadedAndRan (go_on : Bool) (a b : Written) (s : Status) : Type 0 where
+pub record LoadedAndRan (mode : Mode) (go_on : Bool) (a b : Written) (s : Status) : Type 0 where
   pub conf : Conf
   pub old : Entries
   pub loaded : IsLoaded conf old
-  pub ran : WentThrough conf go_on old a b s
+  pub ran : WentThrough conf mode go_on old a b s
 
--- slapadd, by its report
-abbrev pub AddEnds : Bool → Written → Written → Status → Type 0
-AddEnds go_on a b s = LoadedAndRan go_on a b s ⊎ (s ≡ Usage) ⊎ (s ≡ Failed)
+-- slapadd and ldapmodify, by their report
+abbrev pub ChangeEnds : Mode → Bool → Written → Written → Status → Type 0
+ChangeEnds mode go_on a b s = LoadedAndRan mode go_on a b s ⊎ (s ≡ Usage) ⊎ (s ≡ Failed)
 
 -- a dump goes to the output, or to a file, and then the output stays as it was
 abbrev pub Dumps : Bool → Conf → Entries → Written → Written → Type 0

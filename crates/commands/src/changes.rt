@@ -1,0 +1,165 @@
+//! slapadd and ldapmodify: the records of an LDIF text are carried out on a directory in a folder.
+ghost use Rattle.std.specs.Prelude.{◌≡◌, ◌<◌, ◌-◌, ◌^◌, OnOk, IfOk, IfErr};
+ghost use Rattle.ldif.specs.declared.record.Mode.TheVariants as modes;
+ghost use Rattle.directory.specs.Folds.{RanOver};
+ghost use Rattle.commands.specs.inner.Ends.{HaveRun, RunEnds, ChangeEnds};
+
+use crate::database::{load_directory, open_present, store_directory};
+use crate::folder::Folder;
+use crate::messages::{CommandFault, Status, tell};
+use command_line::{AddOptions, ModifyOptions};
+use device::{Sink, Source};
+use directory::{Directory, RunFault, Tally, run};
+use ldif::Mode;
+use std::alloc::Global;
+use std::mem;
+
+/// Which records are to run over which directory, and how.
+#[derive(Clone, Copy, Debug, Drop)]
+struct Changes<'a> {
+    db: &'a str,
+    // none for the input
+    file: Option<&'a str>,
+    mode: Mode,
+    go_on: bool,
+    dry_run: bool,
+}
+
+/// Runs the records of a source that has this name, or answers how the command ends.
+fn run_source<S: Source, E: Sink>(
+    alloc: Global,
+    dir: &mut Directory,
+    source: &mut S,
+    name: &str,
+    asked: &Changes<'_>,
+    err: &mut E,
+) -> Result<Tally, Status>
+    requires source { (S.seen source.old).failed < 2 ^ 64 - 1 }
+    requires err { (E.written err.old).failed < 2 ^ 64 - 1 }
+    ensures same_conf { dir.new.conf ≡ dir.old.conf }
+    ensures ran { IfOk result (λ t. RanOver dir.old.conf asked.now.mode asked.now.go_on dir.old.entries dir.new.entries (S.seen source.old).left t (E.written err.old) (E.written err.new)) }
+    ensures ok { OnOk result ((E.written err.new).failed ≡ (E.written err.old).failed) }
+    ensures err { IfErr result (λ s. s ≡ Status.Failed) }
+{
+    match run(alloc, dir, source, err, asked.mode, asked.go_on) {
+        Ok(tally) => Ok(tally),
+        Err(RunFault::Write(_)) => Err(Status::Failed),
+        Err(RunFault::Read(_)) => Err(tell(alloc, err, &CommandFault::cannot_read(alloc, name))),
+        Err(RunFault::OutOfMemory(_)) => Err(tell(alloc, err, &CommandFault::OutOfMemory)),
+    }
+}
+
+fn run_records<F: Folder, S: Source, E: Sink>(
+    alloc: Global,
+    asked: &Changes<'_>,
+    dir: &mut Directory,
+    folder: &mut F,
+    input: &mut S,
+    err: &mut E,
+) -> Result<Tally, Status>
+    requires input { (S.seen input.old).failed < 2 ^ 64 - 1 }
+    requires err { (E.written err.old).failed < 2 ^ 64 - 1 }
+    ensures same_conf { dir.new.conf ≡ dir.old.conf }
+    ensures ran { IfOk result (λ t. HaveRun dir.old.conf asked.now.mode asked.now.go_on dir.old.entries dir.new.entries t (E.written err.old) (E.written err.new)) }
+    ensures ok { OnOk result ((E.written err.new).failed ≡ (E.written err.old).failed) }
+    ensures err { IfErr result (λ s. s ≡ Status.Failed) }
+{
+    let Some(name) = asked.file else {
+        return run_source(alloc, dir, input, "input", asked, err);
+    };
+    match open_present(alloc, folder, name) {
+        Ok(mut source) => run_source(alloc, dir, &mut source, name, asked, err),
+        Err(fault) => Err(tell(alloc, err, &fault)),
+    }
+}
+
+fn run_and_store<F: Folder, S: Source, E: Sink>(
+    alloc: Global,
+    asked: &Changes<'_>,
+    mut dir: Directory,
+    folder: &mut F,
+    input: &mut S,
+    err: &mut E,
+) -> Status
+    requires input { (S.seen input.old).failed < 2 ^ 64 - 1 }
+    requires err { (E.written err.old).failed < 2 ^ 64 - 1 }
+    ensures { RunEnds dir.conf asked.now.mode asked.now.go_on dir.entries (E.written err.old) (E.written err.new) result }
+{
+    let tally = match run_records(alloc, asked, &mut dir, folder, input, err) {
+        Ok(tally) => tally,
+        Err(status) => return status,
+    };
+    if asked.dry_run {
+        return Status::of_tally(tally);
+    }
+    let stored = store_directory(alloc, folder, asked.db, &dir);
+    // The process is about to end, which frees the entries at once.
+    mem::forget(dir);
+    match stored {
+        Ok(()) => Status::of_tally(tally),
+        Err(fault) => tell(alloc, err, &fault),
+    }
+}
+
+fn carry_out<F: Folder, S: Source, E: Sink>(
+    alloc: Global,
+    asked: &Changes<'_>,
+    folder: &mut F,
+    input: &mut S,
+    err: &mut E,
+) -> Status
+    requires input { (S.seen input.old).failed < 2 ^ 64 - 1 }
+    requires err { (E.written err.old).failed < 2 ^ 64 - 1 }
+    ensures { ChangeEnds asked.now.mode asked.now.go_on (E.written err.old) (E.written err.new) result }
+{
+    match load_directory(alloc, folder, asked.db) {
+        Ok(dir) => run_and_store(alloc, asked, dir, folder, input, err),
+        Err(fault) => tell(alloc, err, &fault),
+    }
+}
+
+/// Adds the records of the file, or of the input, to the directory in a folder, with a line on `err` for each that is
+/// refused, and stores the directory, unless a device or memory failed.
+pub fn slapadd<F: Folder, S: Source, E: Sink>(
+    alloc: Global,
+    asked: &AddOptions<'_>,
+    folder: &mut F,
+    input: &mut S,
+    err: &mut E,
+) -> Status
+    requires input { (S.seen input.old).failed < 2 ^ 64 - 1 }
+    requires err { (E.written err.old).failed < 2 ^ 64 - 1 }
+    ensures { ChangeEnds modes.Content asked.now.go_on (E.written err.old) (E.written err.new) result }
+{
+    let changes = Changes {
+        db: asked.db,
+        file: asked.file,
+        mode: Mode::Content,
+        go_on: asked.go_on,
+        dry_run: asked.dry_run,
+    };
+    carry_out(alloc, &changes, folder, input, err)
+}
+
+/// Carries out the change records of the file, or of the input, on the directory in a folder, with a line on `err` for each that
+/// is refused, and stores the directory, unless a device or memory failed.
+pub fn ldapmodify<F: Folder, S: Source, E: Sink>(
+    alloc: Global,
+    asked: &ModifyOptions<'_>,
+    folder: &mut F,
+    input: &mut S,
+    err: &mut E,
+) -> Status
+    requires input { (S.seen input.old).failed < 2 ^ 64 - 1 }
+    requires err { (E.written err.old).failed < 2 ^ 64 - 1 }
+    ensures { ChangeEnds (modes.Changes asked.now.add) asked.now.go_on (E.written err.old) (E.written err.new) result }
+{
+    let changes = Changes {
+        db: asked.db,
+        file: asked.file,
+        mode: Mode::Changes { add: asked.add },
+        go_on: asked.go_on,
+        dry_run: asked.dry_run,
+    };
+    carry_out(alloc, &changes, folder, input, err)
+}
