@@ -1,4 +1,4 @@
-"""Random folders and inputs for slapadd and slapcat, the same for the same seed.
+"""Random folders and inputs for slapadd, ldapmodify and slapcat, the same for the same seed.
 
 Most are good but for a fault or two: those of the lists in `pieces.py`, and those that come of cutting and mixing good
 texts. The configurations are those of `configs.py`. What comes of a case is the model's to say.
@@ -11,7 +11,9 @@ import ldif
 import model
 import values
 from configs import PAIRED, RULES, SUBSTRINGS, Config, definition, other_case, some, value
-from pieces import BAD_NAMES, FIRST_LINES, INDEX_KINDS, NAMING, ODD_LINES, PAIRS, TINY, TOKENS, VALUES, VERSIONS, WORDS
+from pieces import (
+    BAD_CONTROLS, BAD_NAMES, BAD_RDNS, CHANGE_LINES, CONTROLS, CRITICAL_CONTROLS, FIRST_LINES, INDEX_KINDS, NAMING, NO_TYPES,
+    ODD_LINES, PAIRS, TINY, TOKENS, VALUES, VERSIONS, WORDS)
 
 
 @dataclass(frozen=True)
@@ -19,7 +21,9 @@ class Case:
     """The files of a folder, None for one that isn't there, and the input and options of a command."""
     conf: Optional[bytes]
     data: Optional[bytes]
-    input: Optional[bytes]      # None: slapadd is to read a file that isn't there
+    input: Optional[bytes]      # None: the command is to read a file that isn't there
+    changes: bool = False       # ldapmodify reads it, and not slapadd
+    add_default: bool = False   # a record without a changetype adds
     go_on: bool = False
     dry_run: bool = False
     by_file: bool = False       # the input comes as a file
@@ -127,13 +131,16 @@ class Records:
         return self.named(self.config.respelled_name(self.rng.choice(self.names or [self.config.suffix])))
 
     def nowhere(self, _):
+        return self.named(self.nowhere_name())
+
+    def nowhere_name(self):
         rng, suffix = self.rng, self.config.suffix
         kind = rng.choice(self.config.types)
         no, nowhere, single = [(kind, b"no")], [(kind, b"nowhere")], [(kind, b"x")]
-        return self.named(rng.choice([
+        return rng.choice([
             [no, nowhere] + suffix, suffix[1:], [single] + suffix[:-1], [single], [single] + suffix + [no], suffix + suffix,
             [[(kind, word + b"x") for kind, word in rdn] for rdn in suffix], [rdn + single for rdn in suffix],
-            [rdn[:1] for rdn in suffix], [single + no] + suffix]))
+            [rdn[:1] for rdn in suffix], [single + no] + suffix])
 
     def badly_named(self, _):
         rng = self.rng
@@ -236,6 +243,256 @@ class Records:
             (b"entryCSN", b"20240101000000.%06dZ#000000#000#000000" % serial)]
         known = config.types + [b"objectClass"]
         return [pair for pair in pairs if pair[0] in known or some(rng, .015)]
+
+
+class Changes(Records):
+    """Makes records of changes, and carries them out on a directory, so that most speak of what is there."""
+
+    def __init__(self, rng, config, add_default):
+        super().__init__(rng, config)
+        self.directory, self.add_default = model.load(config.text, None, ""), add_default
+
+    def carry_out(self, lines, changes):
+        model.run(self.directory, b"\n".join(lines), False, changes, self.add_default)
+        self.names = [self.name_of(path) for path in self.directory.entries]
+
+    def fill(self, number):
+        """Adds entries with values of many types."""
+        rng, config = self.rng, self.config
+        for _ in range(number):
+            kinds, name = rng.choices(config.types, k=rng.choice([0, 1, 2, 4, 8])), self.new_name()
+            lines = self.named(name, False) + [self.line(kind, config.value(kind, .02), False) for kind in kinds]
+            for part in name[0] if some(rng, .5) else ():
+                lines.insert(rng.randrange(1, len(lines) + 1), self.line(*part))
+            self.carry_out(lines, False)
+
+    def rdn_of(self, pairs):
+        return [(self.directory.conf.types[number].printed(), value) for number, value in pairs]
+
+    def name_of(self, path):
+        rdns = [self.rdn_of(self.directory.entries[path[:depth]][0]) for depth in range(len(path), 0, -1)]
+        return rdns + [self.rdn_of(rdn) for rdn in self.directory.conf.suffix]
+
+    def some_path(self, leaf=.5):
+        """Of an entry that is there, or of the suffix."""
+        paths = list(self.directory.entries) or [()]
+        leaves = [path for path in paths if not self.directory.has_child(path)]
+        return self.rng.choice(leaves if some(self.rng, leaf) else paths)
+
+    def dn_of(self, path, odd=.07):
+        rng, name = self.rng, self.name_of(path) if path in self.directory.entries else self.config.suffix
+        if some(rng, odd):
+            return rng.choice([
+                self.config.filled(rng.choice(BAD_NAMES), name), self.config.name_text(self.nowhere_name()),
+                self.config.name_text(self.new_name())])
+        return self.config.name_text(self.config.respelled_name(name) if some(rng, .2) else name)
+
+    def keyword(self, name, text, is_word=False):
+        """A line of a change. Spaces at the end of a word are dropped."""
+        rng = self.rng
+        spaces = b"  " if is_word and some(rng, .05) else b""
+        return value_line(rng, other_case(rng, name) if some(rng, .1) else name, text + spaces)
+
+    def controls(self):
+        rng, lines = self.rng, []
+        for _ in range(rng.choice([0] * 12 + [1, 1, 2])):
+            lists = [CONTROLS] * 6 + [CRITICAL_CONTROLS, BAD_CONTROLS]
+            lines.append(self.keyword(b"control", rng.choice(rng.choice(lists))))
+        return lines
+
+    def begun(self, dn, word):
+        """A change down to its changetype."""
+        rng = self.rng
+        word = other_case(rng, word) if some(rng, .1) else word
+        return [self.keyword(b"dn", dn)] + self.controls() + [self.keyword(b"changetype", word, True)]
+
+    def addition(self):
+        rng = self.rng
+        kinds = [self.good] * 8 + [self.again, self.nowhere, self.badly_named, self.odd, self.twice, self.with_names,
+                                   self.without_class]
+        lines = rng.choice(kinds)(False)
+        word = [] if some(rng, .5 if self.add_default else .03) else [self.keyword(b"changetype", b"add", True)]
+        return lines[:1] + self.controls() + word + lines[1:]
+
+    def deletion(self):
+        return self.begun(self.dn_of(self.some_path(.7)), b"delete") + self.stray_lines()
+
+    def stray_lines(self):
+        return [self.config.filled(self.rng.choice(CHANGE_LINES), self.config.suffix)] if some(self.rng, .04) else []
+
+    def modification(self):
+        rng, path = self.rng, self.some_path()
+        lines = self.begun(self.dn_of(path), b"modify")
+        rdn, there = self.directory.entries.get(path, ([], model.Attributes(self.directory.conf)))
+        there = there.copy()
+        for _ in range(rng.choice([0, 1, 1, 1, 2, 3, 5])):
+            for block in self.blocks(there, rdn):
+                try:
+                    self.directory.modify_one(there, block)
+                except model.Refused:
+                    pass
+                lines += self.block_lines(block)
+        return lines[:-1] if some(rng, .1) and lines[-1].startswith(b"-") else lines
+
+    def block_lines(self, block):
+        rng = self.rng
+        lines = [self.keyword(block.word.encode(), block.name, True)]
+        for text in block.values:
+            name = self.config.type_text(rng.choice(self.config.types)) if some(rng, .01) else block.name or b"cn"
+            name += b" " if some(rng, .01) else b""
+            lines.append(value_line(rng, other_case(rng, name) if some(rng, .1) else name, text))
+        return lines + [rng.choice([b"-"] * 9 + [b"-  "])]
+
+    def blocks(self, there, rdn):
+        """A block that can mostly be carried out, or two that give the RDN's value another spelling."""
+        rng, types = self.rng, self.directory.conf.types
+        if some(rng, .03):
+            name = self.config.filled(rng.choice(NO_TYPES))
+            return [ldif.Block(rng.choice(["add", "delete", "replace"]), name, rng.choice([[], [b"a"]]))]
+        if some(rng, .12):
+            return [self.wild_block(there)]
+        if rdn and some(rng, .08):
+            number, text = rng.choice(rdn)
+            name = self.config.type_text(types[number].printed())
+            return [ldif.Block("delete", name, [text]), ldif.Block("add", name, [alike(rng, text)])]
+        number = self.some_type(there, rdn)
+        word = rng.choice(["add", "add", "delete", "replace"] + ["add"] * (number not in there.values))
+        if types[number].family is None and number in there.values and not some(rng, .2):
+            word = rng.choice(["replace", "delete"])
+        return [ldif.Block(word, self.config.type_text(types[number].printed()), self.new_values(word, there, number))]
+
+    def wild_block(self, there):
+        """A block that may break several rules at a time."""
+        rng, types = self.rng, self.directory.conf.types
+        numbers = rng.choice([range(len(types)), list(there.values), [
+            number for number, kind in enumerate(types) if kind.is_fixed or kind.family is None]])
+        number = rng.choice(numbers or [model.OBJECT_CLASS])
+        pool = [alike(rng, text) for text in there.values.get(number, {}).values()]
+        pool += [self.new_value(number), self.new_value(number), rng.choice(VALUES)]
+        picked = rng.choices(pool, k=rng.choice([0, 0, 1, 2, 3]))
+        return ldif.Block(rng.choice(["add", "delete", "replace"]), self.config.type_text(types[number].printed()), picked)
+
+    def some_type(self, there, rdn):
+        """Seldom one that users don't change, or one of the RDN."""
+        rng, types = self.rng, self.directory.conf.types
+        for _ in range(6):
+            number = rng.choice(list(there.values)) if there.values and some(rng, .6) else rng.randrange(len(types))
+            if some(rng, .05) or not types[number].is_fixed and number not in [number for number, _ in rdn]:
+                break
+        return number
+
+    def new_value(self, number):
+        name = self.directory.conf.types[number].printed()
+        if number == model.OBJECT_CLASS:
+            return self.rng.choice([b"person", b"PERSON", b"top", b"2.5.6.6", b"a\x01", b"t%d" % self.rng.randrange(9)])
+        return self.config.value(name, .03)
+
+    def new_values(self, word, there, number):
+        """The values of a block."""
+        rng, kind = self.rng, self.directory.conf.types[number]
+        old = list(there.values.get(number, {}).values())
+        few = 1 if kind.is_single and some(rng, .8) else rng.choice([1, 1, 2, 3])
+        new = [self.new_value(number) for _ in range(few)]
+        if word == "delete":
+            takes_none = some(rng, .9 if kind.family is None else .3) or not old and some(rng, .3)
+            picked = [alike(rng, text) for text in rng.sample(old, rng.randrange(1, len(old) + 1))] if old else new
+            picked = [] if takes_none else picked + (new if some(rng, .05) else [])
+        elif word == "replace":
+            kept = [alike(rng, text) for text in old if some(rng, .4)]
+            picked = rng.choice([[], new, new, new, new[:1], kept if kind.is_single else kept + new])
+            rng.shuffle(picked)
+        else:
+            picked = [] if some(rng, .03) else new + ([alike(rng, rng.choice(old))] if old and some(rng, .07) else [])
+        return picked + ([alike(rng, rng.choice(picked))] if picked and some(rng, .05) else [])
+
+    def renaming(self):
+        rng, wild = self.rng, some(self.rng, .12)   # a wild one may break several rules at a time
+        path = self.some_path(.2 if wild else .6)
+        if path == () and not wild:         # the suffix keeps its name
+            path = self.some_path(1)
+        lines = self.begun(self.dn_of(path), rng.choice([b"modrdn", b"modrdn", b"moddn"]))
+        moves = some(rng, .4)
+        lines.append(self.keyword(b"newrdn", self.new_rdn(path, moves, .3 if wild else .05)))
+        word = rng.choice([b"2", b"", b"00", b"-1", b"a"]) if some(rng, .02) else rng.choice([b"0", b"1"])
+        lines.append(self.keyword(b"deleteoldrdn", word, True))
+        lines += [self.keyword(b"newsuperior", self.superior(path, 4 if wild else 16))] if moves else []
+        return lines + self.stray_lines()
+
+    def new_rdn(self, path, moves, bad):
+        """A new RDN, the old one in other words, one with a part more or less, that of another entry, or no good one."""
+        rng, config = self.rng, self.config
+        if some(rng, bad):
+            return config.filled(rng.choice(BAD_RDNS), config.suffix)
+        old, entries = self.name_of(path)[0] if path in self.directory.entries else config.suffix[0], self.directory.entries
+        other = self.name_of(rng.choice(list(entries)))[0] if entries else old
+        kind, text = rng.choice(old)
+        named = [kind for kind in config.naming if kind not in [kind for kind, _ in old]] or config.naming
+        more = rng.choice(named)
+        rdns = [
+            config.rdn(rng.choice(config.naming)), config.rdn(rng.choice(config.naming)), config.respelled_name([old])[0],
+            old + [(more, config.word(more))], [(kind, text)], [(kind, config.word(kind))], other, self.rdn_of_values(path, old)]
+        return config.name_text([config.respelled_name([old])[0] if moves and some(rng, .5) else rng.choice(rdns)])
+
+    def rdn_of_values(self, path, old):
+        """An RDN of values that the entry has."""
+        rng, conf = self.rng, self.directory.conf
+        attributes = self.directory.entries.get(path, (None, model.Attributes(conf)))[1]
+        pairs = [(number, text) for number, texts in attributes.values.items() for text in texts.values()
+                 if conf.types[number].family is not None and conf.types[number].kind != "name"]
+        picked = dict(rng.sample(pairs, min(len(pairs), rng.choice([1, 1, 2, 3]))))
+        return [(name, alike(rng, text)) for name, text in self.rdn_of(picked.items())] or old
+
+    def superior(self, path, kinds):
+        """The name of a parent: mostly of an entry, sometimes of the entry itself or of one below it."""
+        rng, config = self.rng, self.config
+        kind = rng.randrange(kinds)
+        if kind == 0:
+            return rng.choice([b"", b" ", config.filled(rng.choice(BAD_RDNS), config.suffix)])
+        if kind == 1:
+            return self.dn_of(path, 0)
+        if kind == 2:
+            return config.name_text([config.rdn(rng.choice(config.naming))]) + b"," + self.dn_of(path, 0)
+        others = [other for other in self.directory.entries if other[:len(path)] != path]
+        return self.dn_of(path[:-1] if kind == 3 or not others else rng.choice(others), .1)
+
+    def odd_change(self):
+        """A change with a line too much, too few, or elsewhere."""
+        rng = self.rng
+        lines = rng.choice([self.modification, self.renaming, self.deletion, self.addition])()
+        for _ in range(rng.choice([1, 1, 2])):
+            place, kind = rng.randrange(1, len(lines) + 1), rng.randrange(8)
+            if kind < 4 or place >= len(lines):
+                lines.insert(place, self.config.filled(rng.choice(CHANGE_LINES), rng.choice(self.names or [self.config.suffix])))
+            elif kind == 4:
+                lines.insert(place, lines[rng.randrange(len(lines))])
+            elif kind == 5:
+                lines[place], lines[-1] = lines[-1], lines[place]
+            else:
+                lines.pop(place)
+        return lines
+
+    def record(self, first):
+        rng = self.rng
+        kinds = [self.modification] * 40 + [self.renaming] * 25 + [self.deletion] * 8 + [self.addition] * 15 + \
+            [self.odd_change] * 12
+        lines = (self.addition if len(self.names) < 2 and some(rng, .6) else rng.choice(kinds))()
+        if some(rng, .015):
+            lines = self.oddly_begun(first)
+        elif first and some(rng, .1):
+            lines = [rng.choice(VERSIONS)] + lines
+        self.carry_out(lines, True)
+        return lines
+
+    def text(self, number):
+        speller = Speller(self.rng, some(self.rng, .3))
+        speller.folding /= 4        # the lines are many and short
+        return speller.text([self.record(at == 0) for at in range(number)])
+
+
+def alike(rng, text):
+    """A value that is equal to this one under many rules."""
+    return rng.choice([text] * 5 + [other_case(rng, text), text.replace(b" ", b"  "), b" " + text, text + b" ",
+                                    text.replace(b"-", b"")])
 
 
 def mutated(rng, text):
@@ -364,4 +621,17 @@ def case(rng):
     config = Config(rng)
     conf, data, text = rng.choice(KINDS)(rng, config, Records(rng, config))
     return Case(conf, data, text, go_on=some(rng, .7), dry_run=some(rng, .1), by_file=some(rng, .3),
+                to_file=some(rng, .1))
+
+
+def change_case(rng):
+    """A directory, and changes for it."""
+    config, add_default = Config(rng), some(rng, .3)
+    changes = Changes(rng, config, add_default)
+    changes.fill(rng.choice([0, 1, 3, 6, 10]))
+    data = changes.directory.dump() or rng.choice([None, b""])
+    text = changes.text(rng.choice([1, 2, 4, 8, 12]))
+    text = None if some(rng, .02) else mutated(rng, text) if some(rng, .1) else text
+    conf = config.broken_text() if some(rng, .03) else config.text
+    return Case(conf, data, text, True, add_default, go_on=some(rng, .8), dry_run=some(rng, .1), by_file=some(rng, .3),
                 to_file=some(rng, .1))

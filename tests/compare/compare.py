@@ -1,14 +1,15 @@
 #!/usr/bin/env python3
-"""Compares a built program with a second reading of the rules: compare.py PROGRAM COUNT SEED ..
+"""Compares a built program with a second reading of the rules: compare.py PROGRAM COUNT SEED .. [--changes]
 
 The second reading is `model.py` with `schema.py`, `values.py` and `ldif.py`. It was written apart from the program and shares
 no code with it, so that a rule that one of the two reads wrongly shows as a difference. For each SEED, COUNT random folders
 and inputs go through slapadd and then slapcat; statuses, outputs, messages, data.ldif and the names of the files are compared
-byte for byte. A case that differs is cut down and printed; at the end stands how often each status, code and fault came up.
-The exit status is 0 where nothing differs, else 1.
+byte for byte. With --changes as many more go through ldapmodify and then slapcat. A case that differs is cut down and printed; at
+the end stands how often each status, code and fault came up. The exit status is 0 where nothing differs, else 1.
 """
 import argparse
 import collections
+import functools
 import os
 import random
 import re
@@ -59,23 +60,28 @@ class Runner:
         write(self.db / "dir.conf", case.conf)
         write(self.db / "data.ldif", case.data)
         seen, wanted = {}, {}
-        self.slapadd(case, seen, wanted)
+        self.change(case, seen, wanted)
         self.slapcat(case, seen, wanted)
         return seen, wanted
 
-    def slapadd(self, case, seen, wanted):
-        words, text, source = ["slapadd", "--db", self.db], b"", "input"
+    def change(self, case, seen, wanted):
+        """slapadd or ldapmodify"""
+        command, file, dry_run = ("ldapmodify", "-f", "-n") if case.changes else ("slapadd", "-l", "-u")
+        words, text, source = [command, "--db", self.db], b"", "input"
         if case.input is None:
-            words, source = words + ["-l", self.missing], self.missing
+            words, source = words + [file, self.missing], self.missing
         elif case.by_file:
             write(self.input, case.input)
-            words += ["-l", self.input]
+            words += [file, self.input]
         else:
             text = case.input
-        words += ["-c"] * case.go_on + ["-u"] * case.dry_run
+        words += ["-c"] * case.go_on + [dry_run] * case.dry_run + ["-a"] * case.add_default
         seen["status"], seen["output"], seen["messages"] = self.run(*words, text=text)
-        wanted["status"], wanted["messages"], stored = model.slapadd(
-            case.conf, case.data, case.input, case.go_on, case.dry_run, self.db, source)
+        read_by = model.slapadd
+        if case.changes:
+            read_by = functools.partial(model.ldapmodify, add_default=case.add_default)
+        wanted["status"], wanted["messages"], stored = read_by(
+            case.conf, case.data, case.input, go_on=case.go_on, dry_run=case.dry_run, folder=self.db, source=source)
         wanted["output"] = b""
         wanted["dir.conf"], wanted["data.ldif"] = case.conf, case.data if stored is None else stored
         wanted["files"] = [name for name in ("data.ldif", "dir.conf") if wanted[name] is not None]
@@ -83,7 +89,7 @@ class Runner:
         seen["files"] = sorted(os.listdir(self.db))
 
     def slapcat(self, case, seen, wanted):
-        """Prints the folder as slapadd left it."""
+        """Prints the folder as it was left."""
         self.output.unlink(missing_ok=True)
         words = ["-l", self.output] if case.to_file else []
         status, output, messages = self.run("slapcat", "--db", self.db, *words)
@@ -141,7 +147,7 @@ class Shrinker:
         before = None
         while self.small != before:
             before = self.small
-            for option in ("by_file", "to_file", "go_on", "dry_run"):
+            for option in ("by_file", "to_file", "go_on", "dry_run", "add_default"):
                 self.takes(**{option: False})
             for field, plain in (("data", None), ("input", b""), ("conf", configs.PLAIN_CONF)):
                 if len(getattr(self.small, field) or b"") > len(plain or b""):
@@ -160,32 +166,41 @@ def show(case, found):
         print(f"  {' ' * len(key)}  model   {wanted[key]!r}", flush=True)
 
 
-def count(counts, wanted):
-    counts[f"slapadd: status {wanted['status']}"] += 1
+def count(counts, case, wanted):
+    counts[f"{'ldapmodify' if case.changes else 'slapadd'}: status {wanted['status']}"] += 1
     counts[f"slapcat: status {wanted['slapcat status']}"] += 1
     for line in wanted["messages"].decode().splitlines():
         where, what = re.fullmatch(r"(?:(.*) )?line \d+: (\w+) .*|.*: cannot read", line).groups()
-        counts[f"{where or 'input'}: {what}" if what else "a file: cannot read"] += 1
+        where = where or ("changes" if case.changes else "input")
+        counts[f"{where}: {what}" if what else "a file: cannot read"] += 1
 
 
-def compare(runner, number, seeds):
-    """-> (how often each thing came up, number of cases that differ)"""
-    counts, differing = collections.Counter(), 0
+def random_cases(number, seeds, changes):
+    """Those of changes are drawn apart, so that the others are the same with and without them. -> (where it is, case)"""
     for seed in seeds:
         rng = random.Random(seed)
         for serial in range(number):
-            case = cases.case(rng)
-            found = runner.case(case)
-            count(counts, found[1])
-            wrong = differences(*found)
-            if not wrong:
-                continue
-            differing += 1
-            print(f"seed {seed}, case {serial}: {', '.join(wrong)}")
-            if differing <= MOST_SHOWN:
-                shrinker = Shrinker(runner, case, found)
-                shrinker.shrink()
-                show(shrinker.small, shrinker.found)
+            yield f"seed {seed}, case {serial}", cases.case(rng)
+        rng = random.Random(f"{seed} changes")
+        for serial in range(number if changes else 0):
+            yield f"seed {seed}, change {serial}", cases.change_case(rng)
+
+
+def compare(runner, number, seeds, changes):
+    """-> (how often each thing came up, number of cases that differ)"""
+    counts, differing = collections.Counter(), 0
+    for where, case in random_cases(number, seeds, changes):
+        found = runner.case(case)
+        count(counts, case, found[1])
+        wrong = differences(*found)
+        if not wrong:
+            continue
+        differing += 1
+        print(f"{where}: {', '.join(wrong)}")
+        if differing <= MOST_SHOWN:
+            shrinker = Shrinker(runner, case, found)
+            shrinker.shrink()
+            show(shrinker.small, shrinker.found)
     return counts, differing
 
 
@@ -194,16 +209,18 @@ def main():
     parser.add_argument("program")
     parser.add_argument("count", type=int)
     parser.add_argument("seeds", metavar="seed", type=int, nargs="+")
+    parser.add_argument("--changes", action="store_true")
     words = parser.parse_args()
     program = shutil.which(words.program)
     if program is None:
         parser.error(f"{words.program}: no program")
     memory = "/dev/shm" if os.access("/dev/shm", os.W_OK) else None
     with tempfile.TemporaryDirectory(prefix="compare.", dir=memory) as home:
-        counts, differing = compare(Runner(os.path.abspath(program), Path(home)), words.count, words.seeds)
+        runner = Runner(os.path.abspath(program), Path(home))
+        counts, differing = compare(runner, words.count, words.seeds, words.changes)
     for key in sorted(counts, key=lambda key: (key.split(": ")[0], len(key), key)):
         print(f"{key:28} {counts[key]:7}")
-    print(f"{words.count * len(words.seeds)} cases, {differing} with a difference")
+    print(f"{words.count * len(words.seeds) * (1 + words.changes)} cases, {differing} with a difference")
     return 1 if differing else 0
 
 

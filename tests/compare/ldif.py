@@ -1,10 +1,15 @@
-"""LDIF (RFC 2849) in bytes: the records of a text, what a content record says, and how a line is written."""
+"""LDIF (RFC 2849) in bytes: the records of a text, what a record of content or of a change says, and how a line is written."""
 import base64
+import re
+from dataclasses import dataclass
 
 FAULTS = {
     "L1": "dn line missing", "L2": "continuation without a line", "L3": "version", "L4": "base64", "L5": "url value",
-    "L6": "colon missing", "L12": "changetype in content",
+    "L6": "colon missing", "L7": "changetype unknown", "L8": "attribute of another name", "L9": "part missing",
+    "L10": "stray line", "L11": "changetype missing", "L12": "changetype in content", "L13": "word",
 }
+# a control: its OID, perhaps its criticality, and perhaps a value
+CONTROL = re.compile(rb"[0-9.]+(?: +(true|false))? *(:.*)?", re.DOTALL | re.IGNORECASE)
 
 
 class Fault(Exception):
@@ -60,15 +65,20 @@ def value_line(line):
     name, colon, rest = line.partition(b":")
     if not name or not colon:
         raise Fault("L6")
-    if rest.startswith(b":"):
-        return name, base64_value(rest[1:].strip(b" "))
-    if rest.startswith(b"<"):
+    return name, value_of(rest)
+
+
+def value_of(text):
+    """What stands behind a line's first colon."""
+    if text.startswith(b":"):
+        return base64_value(text[1:].strip(b" "))
+    if text.startswith(b"<"):
         raise Fault("L5")
-    return name, rest.lstrip(b" ")
+    return text.lstrip(b" ")
 
 
-def read_content(first, lines):
-    """The first faulty line answers. -> (dn, [(name, value)]), or None where a version is all there is"""
+def read_dn(first, lines):
+    """-> (dn, the lines behind it), or None where a version is all there is"""
     name, value = value_line(lines[0])
     if first and name.lower() == b"version":
         if value != b"1":
@@ -79,12 +89,139 @@ def read_content(first, lines):
         name, value = value_line(lines[0])
     if name.lower() != b"dn":
         raise Fault("L1")
+    return value, lines[1:]
+
+
+def read_content(first, lines):
+    """The first faulty line answers. -> (dn, [(name, value)]), or None where a version is all there is"""
+    found = read_dn(first, lines)
+    if found is None:
+        return None
+    dn, lines = found
     attributes = []
-    for line in lines[1:]:
+    for line in lines:
         attributes.append(value_line(line))
         if attributes[-1][0].lower() == b"changetype":
             raise Fault("L12")
-    return value, attributes
+    return dn, attributes
+
+
+@dataclass
+class Change:
+    """What a record wants done: an add has the attributes as `what`, a modify its blocks, a modrdn a Rename, a delete nothing."""
+    dn: bytes
+    is_critical: bool       # does a control say so?
+    kind: str
+    what: object
+
+
+@dataclass
+class Block:
+    """Of a modify: add, delete or replace, the name of an attribute, and values."""
+    word: str
+    name: bytes
+    values: list
+
+
+@dataclass
+class Rename:
+    rdn: bytes
+    deletes_old: bool
+    superior: object = None     # the name of another parent
+
+
+def read_change(first, lines, add_default):
+    """The first faulty line answers, a missing one as if it stood at the end. Where `add_default` holds, a record
+    without a changetype adds. -> a Change, or None where a version is all there is"""
+    found = read_dn(first, lines)
+    if found is None:
+        return None
+    dn, lines = found
+    is_critical = False
+    for at, line in enumerate(lines):
+        name, value = value_line(line)
+        if name.lower() == b"changetype":
+            kind = value.rstrip(b" ").lower()
+            if kind not in CHANGES:
+                raise Fault("L7")
+            kind, read = CHANGES[kind]
+            return Change(dn, is_critical, kind, read(lines[at + 1:]))
+        if name.lower() != b"control":
+            if not add_default:
+                raise Fault("L11")
+            return Change(dn, is_critical, "add", read_attributes(lines[at:]))
+        is_critical |= control_is_critical(value)
+    if not add_default:
+        raise Fault("L11")
+    return Change(dn, is_critical, "add", [])
+
+
+def control_is_critical(text):
+    """Where no word says so, it isn't."""
+    found = CONTROL.fullmatch(text)
+    if not found:
+        raise Fault("L13")
+    word, value = found.groups()
+    if value is not None:
+        value_of(value[1:])
+    return word is not None and word.lower() == b"true"
+
+
+def read_attributes(lines):
+    return [value_line(line) for line in lines]
+
+
+def read_delete(lines):
+    for line in lines:
+        value_line(line)
+        raise Fault("L10")
+
+
+def read_blocks(lines):
+    """A line `-` ends a block; behind the last one it may be missing."""
+    blocks, is_open = [], False
+    for line in lines:
+        if is_open and line.rstrip(b" ") == b"-":
+            is_open = False
+            continue
+        name, value = value_line(line)
+        name = name.lower()
+        if is_open:
+            if name != blocks[-1].name.lower():
+                raise Fault("L8")
+            blocks[-1].values.append(value)
+            continue
+        if name not in (b"add", b"delete", b"replace"):
+            raise Fault("L10")
+        blocks.append(Block(name.decode(), value.rstrip(b" "), []))
+        is_open = True
+    return blocks
+
+
+def read_rename(lines):
+    values = []
+    for wanted, fault, line in zip((b"newrdn", b"deleteoldrdn", b"newsuperior"), ("L9", "L9", "L10"), lines):
+        name, value = value_line(line)
+        if name.lower() != wanted:
+            raise Fault(fault)
+        if wanted == b"deleteoldrdn":
+            value = value.rstrip(b" ")
+            if value not in (b"0", b"1"):
+                raise Fault("L13")
+        values.append(value)
+    if len(values) < 2:
+        raise Fault("L9")
+    for line in lines[3:]:
+        value_line(line)
+        raise Fault("L10")
+    return Rename(values[0], values[1] == b"1", *values[2:])
+
+
+# the words of changetype: what they do, and how the lines behind them are read
+CHANGES = {
+    b"add": ("add", read_attributes), b"delete": ("delete", read_delete), b"modify": ("modify", read_blocks),
+    b"modrdn": ("modrdn", read_rename), b"moddn": ("modrdn", read_rename),
+}
 
 
 def is_plain(value):

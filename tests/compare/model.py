@@ -1,14 +1,15 @@
-"""What slapadd and slapcat do, byte for byte. `schema.py` reads dir.conf and names, `values.py` compares values, `ldif.py`
-reads and writes records.
+"""What slapadd, ldapmodify and slapcat do, byte for byte. `schema.py` reads dir.conf and names, `values.py` compares values,
+`ldif.py` reads and writes records.
 """
 import ldif
 import schema
 
 # RFC 4511, appendix A
 CODES = {
-    17: "undefinedAttributeType", 19: "constraintViolation", 20: "attributeOrValueExists", 21: "invalidAttributeSyntax",
-    32: "noSuchObject", 34: "invalidDNSyntax", 64: "namingViolation", 65: "objectClassViolation",
-    68: "entryAlreadyExists",
+    2: "protocolError", 12: "unavailableCriticalExtension", 16: "noSuchAttribute", 17: "undefinedAttributeType",
+    18: "inappropriateMatching", 19: "constraintViolation", 20: "attributeOrValueExists", 21: "invalidAttributeSyntax",
+    32: "noSuchObject", 34: "invalidDNSyntax", 53: "unwillingToPerform", 64: "namingViolation",
+    65: "objectClassViolation", 66: "notAllowedOnNonLeaf", 67: "notAllowedOnRDN", 68: "entryAlreadyExists",
 }
 OBJECT_CLASS = 0
 
@@ -27,17 +28,40 @@ class Ended(Exception):
 
 
 class Attributes:
-    """The values of an entry, by type in the order of coming."""
+    """The values of an entry, by type in the order of coming: {type: {normal form: value}}. No type is without values."""
 
-    def __init__(self, conf):
-        self.conf, self.values, self.normal = conf, {}, {}
+    def __init__(self, conf, values=()):
+        self.conf, self.values = conf, dict(values)
+
+    def copy(self):
+        return Attributes(self.conf, {number: dict(values) for number, values in self.values.items()})
 
     def has(self, number, value):
-        return self.conf.normal(number, value) in self.normal.get(number, ())
+        return self.conf.normal(number, value) in self.values.get(number, ())
 
     def add(self, number, value):
-        self.values.setdefault(number, []).append(value)
-        self.normal.setdefault(number, set()).add(self.conf.normal(number, value))
+        """A value that isn't there comes last."""
+        self.values.setdefault(number, {})[self.conf.normal(number, value)] = value
+
+    def remove(self, number, value):
+        """Takes an equal value away, and the type with its last one."""
+        del self.values[number][self.conf.normal(number, value)]
+        if not self.values[number]:
+            del self.values[number]
+
+    def replace(self, number, values):
+        """The new values stand where the old ones did. None take the type away."""
+        if values:
+            self.values[number] = {self.conf.normal(number, value): value for value in values}
+        else:
+            self.values.pop(number, None)
+
+    def check(self):
+        """What holds of each entry as a whole: it has a class, and one value of each type that takes no more."""
+        if OBJECT_CLASS not in self.values:
+            raise Refused(65)
+        if any(self.conf.types[number].is_single and len(values) > 1 for number, values in self.values.items()):
+            raise Refused(19)
 
 
 class Directory:
@@ -61,38 +85,156 @@ class Directory:
             raise Refused(32)
         return pairs, tuple(tuple(step) for step in reversed(steps[:depth]))
 
-    def add(self, dn, lines):
-        """Adds an entry, or changes nothing and raises the code of the first rule that it breaks."""
+    def found(self, dn):
+        """-> (the path of an entry that is there, its RDN, its attributes)"""
+        path = self.located(dn)[1]
+        if path not in self.entries:
+            raise Refused(32)
+        return path, *self.entries[path]
+
+    def has_child(self, path):
+        return any(other[:-1] == path for other in self.entries if other)
+
+    def change(self, change):
+        """Does what a change says, or changes nothing and raises the code of the first rule that it breaks. No control is
+        known here (RFC 4511, 4.1.11)."""
+        if change.is_critical:
+            raise Refused(12)
+        if change.kind == "add":
+            self.add(change.dn, change.what, True)
+        elif change.kind == "delete":
+            self.delete(change.dn)
+        elif change.kind == "modify":
+            self.modify(change.dn, change.what)
+        else:
+            self.rename(change.dn, change.what)
+
+    def add(self, dn, lines, by_user=False):
+        """Adds an entry, or changes nothing and raises the code of the first rule that it breaks (RFC 4511, 4.7)."""
         pairs, path = self.located(dn)
         if path in self.entries:
             raise Refused(68)
         if path and path[:-1] not in self.entries:
             raise Refused(32)
-        attributes = self.attributes_of(lines)
+        attributes = self.attributes_of(lines, by_user)
         # the entry of the suffix is named as dir.conf writes it
         rdn = pairs[0] if path else self.conf.suffix[0]
         for pair in rdn:
             if not attributes.has(*pair):
                 attributes.add(*pair)
-        if OBJECT_CLASS not in attributes.values:
-            raise Refused(65)
-        if any(self.conf.types[number].is_single and len(values) > 1 for number, values in attributes.values.items()):
-            raise Refused(19)
+        attributes.check()
         self.entries[path] = rdn, attributes
 
-    def attributes_of(self, lines):
-        """Lines of every type are taken, also those of types that users don't change: slapadd loads what servers wrote."""
+    def attributes_of(self, lines, by_user):
+        """slapadd takes lines of types that users don't change, too: it loads what servers wrote."""
         attributes = Attributes(self.conf)
         for name, value in lines:
             number = self.conf.type_of(name)
             if number is None:
                 raise Refused(17)
+            if by_user and self.conf.types[number].is_fixed:
+                raise Refused(19)
             if not self.conf.is_valid(number, value):
                 raise Refused(21)
             if attributes.has(number, value):
                 raise Refused(20)
             attributes.add(number, value)
         return attributes
+
+    def delete(self, dn):
+        """An entry with entries below it stays (RFC 4511, 4.8)."""
+        path, _, _ = self.found(dn)
+        if self.has_child(path):
+            raise Refused(66)
+        del self.entries[path]
+
+    def modify(self, dn, blocks):
+        """Each block sees what those before it made; the entry is looked at as a whole behind the last (RFC 4511, 4.6)."""
+        path, rdn, attributes = self.found(dn)
+        attributes = attributes.copy()
+        for block in blocks:
+            self.modify_one(attributes, block)
+        if not all(attributes.has(*pair) for pair in rdn):
+            raise Refused(67)
+        attributes.check()
+        self.entries[path] = rdn, attributes
+
+    def modify_one(self, attributes, block):
+        number = self.conf.type_of(block.name)
+        if number is None:
+            raise Refused(17)
+        kind, is_there = self.conf.types[number], number in attributes.values
+        if kind.is_fixed:
+            raise Refused(19)
+        if block.word == "add" and not block.values:
+            raise Refused(2)
+        # without a rule no value can be looked for among those that are there (RFC 4512, 2.5.1)
+        if kind.family is None and (block.word == "add" and is_there or block.word == "delete" and block.values):
+            raise Refused(18)
+        if block.word == "delete" and not is_there:
+            raise Refused(16)
+        if block.word == "add":
+            self.add_values(attributes, number, block.values)
+        elif block.word == "delete" and block.values:
+            self.delete_values(attributes, number, block.values)
+        else:
+            # a delete without values takes all of them
+            self.add_values(Attributes(self.conf), number, block.values)
+            attributes.replace(number, block.values)
+
+    def add_values(self, attributes, number, values):
+        for value in values:
+            if not self.conf.is_valid(number, value):
+                raise Refused(21)
+            if attributes.has(number, value):
+                raise Refused(20)
+            attributes.add(number, value)
+
+    def delete_values(self, attributes, number, values):
+        for value in values:
+            if not self.conf.is_valid(number, value):
+                raise Refused(21)
+            if not attributes.has(number, value):
+                raise Refused(16)
+            attributes.remove(number, value)
+
+    def rename(self, dn, rename):
+        """Gives an entry another RDN, another parent, or both (RFC 4511, 4.9). Its new values come before the old ones go."""
+        path, old, attributes = self.found(dn)
+        if not path:
+            raise Refused(53)
+        new = self.read_rdn(rename.rdn)
+        parent = path[:-1] if rename.superior is None else self.located(rename.superior)[1]
+        if self.has_child(path):
+            raise Refused(66)
+        if parent[:len(path)] == path:
+            raise Refused(53)
+        if parent not in self.entries:
+            raise Refused(32)
+        moved = parent + (tuple(self.conf.steps([new])[0]),)
+        if moved != path and moved in self.entries:
+            raise Refused(68)
+        attributes = attributes.copy()
+        for pair in new:
+            if not attributes.has(*pair):
+                attributes.add(*pair)
+        for pair in old if rename.deletes_old else ():
+            # the last step of a path has the parts of its RDN as they compare
+            if (pair[0], self.conf.normal(*pair)) not in moved[-1]:
+                attributes.remove(*pair)
+        attributes.check()
+        del self.entries[path]
+        self.entries[moved] = new, attributes
+
+    def read_rdn(self, text):
+        """-> the parts of a name of one RDN"""
+        name = schema.read_name(text)
+        if name is None or len(name) != 1:
+            raise Refused(34)
+        try:
+            return self.conf.pairs_of_rdn(name[0])
+        except schema.BadName as bad:
+            raise Refused(bad.args[0]) from None
 
     def dump(self):
         """Every entry as a content record, in the order of paths, which brings parents first."""
@@ -101,19 +243,24 @@ class Directory:
             rdns = [self.entries[path[:depth]][0] for depth in range(len(path), 0, -1)] + self.conf.suffix
             out.append(ldif.written_line(b"dn", self.conf.written_name(rdns)))
             for number, values in self.entries[path][1].values.items():
-                out += [ldif.written_line(names[number], value) for value in values]
+                out += [ldif.written_line(names[number], value) for value in values.values()]
             out.append(b"\n")
         return b"".join(out)
 
 
-def run(directory, text, go_on):
-    """Adds the records of the text. -> the refused ones, as report lines"""
+def run(directory, text, go_on, changes=False, add_default=False):
+    """Adds the records of the text, or carries them out where they are changes. -> the refused ones, as report lines"""
     report = []
     for number, first, lines in ldif.records(text):
         try:
-            content = ldif.read_content(first, lines)
-            if content is not None:
-                directory.add(*content)
+            if changes:
+                change = ldif.read_change(first, lines, add_default)
+                if change is not None:
+                    directory.change(change)
+            else:
+                content = ldif.read_content(first, lines)
+                if content is not None:
+                    directory.add(*content)
         except (ldif.Fault, Refused) as refusal:
             report.append(f"line {number}: {refusal}\n")
             if not go_on:
@@ -135,7 +282,7 @@ def load(conf_text, data, folder):
     return directory
 
 
-def slapadd(conf_text, data, text, go_on, dry_run, folder, source):
+def run_and_store(conf_text, data, text, dry_run, folder, source, *how):
     """A text of None can't be read. -> (status, messages, data.ldif as stored, or None where nothing is)"""
     try:
         directory = load(conf_text, data, folder)
@@ -143,8 +290,16 @@ def slapadd(conf_text, data, text, go_on, dry_run, folder, source):
             raise Ended(3, f"{source}: cannot read")
     except Ended as end:
         return end.status, end.messages, None
-    report = run(directory, text, go_on)
+    report = run(directory, text, *how)
     return (1 if report else 0), report.encode(), (None if dry_run else directory.dump())
+
+
+def slapadd(conf_text, data, text, go_on, dry_run, folder, source):
+    return run_and_store(conf_text, data, text, dry_run, folder, source, go_on)
+
+
+def ldapmodify(conf_text, data, text, add_default, go_on, dry_run, folder, source):
+    return run_and_store(conf_text, data, text, dry_run, folder, source, go_on, True, add_default)
 
 
 def slapcat(conf_text, data, folder):

@@ -178,6 +178,36 @@ FIRST_LINES = {
         b"version:: IDE=", b"version: 1\0", b"VERSION: x", b"version:: Mg=="],
     "dn": [b"dn:: !", b"dn:: ZGM9ZXg", b"dn:: ZGM9ZXh=", b"dn:< file:///x"],
 }
+# controls that aren't critical, those that are, and those with a fault
+CONTROLS = [
+    b"1.2.3", b"1.2.3 false", b"1.2.3 FALSE: v", b"1.2.3: v", b"1.2.3 : v", b"1.2.3:v", b"1.2.3:: YQ==", b"1 False:: YQ== ",
+    b"...", b"1.2   ", b"1.2 false   ", b"1.2 :", b"1.2  false  :", b"1.2 false ::", b"1.2::   YQ==  ", b"1.2: : x", b"1.2:\xff",
+    b"1.2 false:a\n:b", b"0", b"1.2 : true", b"1.2:true"]
+CRITICAL_CONTROLS = [b"1.2.3 true", b"1.2 TRUE: v", b"1.2 True:: YQ==", b"1.2   true : v", b"1.2 true ", b"1.2 true:"]
+BAD_CONTROLS = [
+    b"1.2.3 maybe", b"", b"x", b"true", b"1.2true", b"1.2 truex", b"1.2 true false", b"1.2 false x", b"1.2,3", b"1.2\ttrue",
+    b" true", b"1.2 true:< x", b"1.2:<x", b"1.2 :<", b"1.2:: YQ", b"1.2 true:: !", b"1.2 truex:: !", b"1.2 x:< y", b"cn: x",
+    b"1.2 tr\xc3\xbce", b"1.2 1.3", b"1.2 true\r", b"1.2 true\0", b"1.2-3", b": v", b"1.2 \xff"]
+# lines that may stand in a change, most of them where others don't
+CHANGE_LINES = [
+    b"-", b"- ", b"- x", b"--", b"foo", b":", b": a", b"changetype: add", b"changetype: delete", b"changetype: rename",
+    b"changetype:", b"changetype:: IGFkZA==", b"changetype:: YWRkIA==", b"changetype: modify x", b"changetype:< add",
+    b"ChangeType: MODRDN", b"changetype : add", b"changetype: moddn\0", b"control: 1.2", b"control: 1.2 x", b"control : 1.2",
+    b"newrdn: $T=a", b"newrdn:: !", b"newrdn:< x", b"deleteoldrdn: 0", b"deleteoldrdn: 2", b"deleteoldrdn: 1 ",
+    b"deleteoldrdn:", b"deleteoldrdn: 01", b"deleteoldrdn: true", b"deleteoldrdn:: MSA=", b"deleteoldrdn:: IDE=",
+    b"newsuperior:", b"newsuperior: $N", b"newsuperior:: !", b"add: $T", b"delete: $T", b"replace: $T", b"Delete: objectClass",
+    b"increment: $T", b"add:", b"add:  ", b"delete:", b"add: $T;x", b"add: nosuch", b"replace:: !", b"add:< $T", b"add : $T",
+    b"$T: a", b"$T:: !", b"$T:< x", b"$T : a", b"objectClass: x", b"nosuch: a", b"dn: $N", b"version: 1",
+]
+# RDNs, most of them not good for a rename
+BAD_RDNS = [
+    b"", b" ", b"$T=a,$T=b", b"$T=a,$N", b"$N", b"$T", b"=a", b"nosuch=a", b"1.2.3.4=a", b"$T=\\zz", b"$T=a+$T=b",
+    b"$T=a+nosuch=b", b"nosuch=a+$T=", b"$T=#61", b'$T="a"', b'$T=a"', b"$T=a;", b"$T=\xff", b"$T=\\ff", b"$T=\xc3\xa9",
+    b"$T=", b"$T=a,", b",$T=a", b"$T=a+", b"+$T=a", b"objectClass=a b", b"objectClass=", b"objectClass=person", b"$T;x=a",
+    b" $T = a ", b"$T=\\ ", b"$T=a\0", b"$T=a b+objectClass=x", b"$T=1", b"$T=TRUE", b"$T=a\\", b"x y=a", b"\t$T=a",
+]
+# names in a block that no type has
+NO_TYPES = [b"nosuch", b"$T;x", b"$T;binary", b"", b"1.2.3.4.5", b"$T x", b" $T", b"\xff", b"dn", b"changetype", b"$T\0"]
 VERSIONS = [b"version: 1", b"version:1", b"VERSION:: MQ==", b"version:  1"]
 # values that are equal, or are alike and not equal
 PAIRS = [

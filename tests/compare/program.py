@@ -6,16 +6,21 @@ import sys
 import model
 
 
+# the option of each command that names a file, and those that stand alone
+OPTIONS = {"slapadd": ("-l", ["-c", "-u"]), "ldapmodify": ("-f", ["-a", "-c", "-n"]), "slapcat": ("-l", [])}
+
+
 def parser_of_words():
     parser = argparse.ArgumentParser(prog="slaptools", allow_abbrev=False)
     commands = parser.add_subparsers(dest="command", required=True)
-    parsers = {name: commands.add_parser(name, allow_abbrev=False) for name in ("slapadd", "slapcat", "help")}
-    for name in ("slapadd", "slapcat"):
+    parsers = {name: commands.add_parser(name, allow_abbrev=False) for name in OPTIONS}
+    for name, (file, flags) in OPTIONS.items():
         parsers[name].add_argument("--db", required=True, action=Once)
-        parsers[name].add_argument("-l", dest="file", action=Once)
-    for flag in ("-c", "-u"):
-        parsers["slapadd"].add_argument(flag, action=Once, nargs=0, const=True, default=False)
-    parsers["help"].add_argument("of", nargs="?", choices=["slapadd", "slapcat"])
+        parsers[name].add_argument(file, dest="file", action=Once)
+        for flag in flags:
+            parsers[name].add_argument(flag, action=Once, nargs=0, const=True, default=False)
+    parsers["help"] = commands.add_parser("help", allow_abbrev=False)
+    parsers["help"].add_argument("of", nargs="?", choices=list(OPTIONS))
     return parser, parsers
 
 
@@ -41,10 +46,14 @@ def write(path, text):
         file.write(text)
 
 
-def slapadd(words):
+def change(words):
+    """slapadd or ldapmodify"""
     text, source = (read(words.file), words.file) if words.file is not None else (sys.stdin.buffer.read(), "input")
-    status, messages, stored = model.slapadd(
-        read(f"{words.db}/dir.conf"), read(f"{words.db}/data.ldif"), text, words.c, words.u, words.db, source)
+    files = read(f"{words.db}/dir.conf"), read(f"{words.db}/data.ldif"), text
+    if words.command == "slapadd":
+        status, messages, stored = model.slapadd(*files, words.c, words.u, words.db, source)
+    else:
+        status, messages, stored = model.ldapmodify(*files, words.a, words.c, words.n, words.db, source)
     if stored is not None:
         write(f"{words.db}/data.ldif", stored)
     return status, b"", messages
@@ -76,7 +85,7 @@ def main():
     if words.command == "help":
         parsers.get(words.of, parser).print_help()
         return 0
-    status, output, messages = slapadd(words) if words.command == "slapadd" else slapcat(words)
+    status, output, messages = slapcat(words) if words.command == "slapcat" else change(words)
     sys.stdout.buffer.write(output)
     sys.stderr.buffer.write(messages)
     return status

@@ -68,6 +68,7 @@ class Type:
     family: Optional[str]
     has_substrings: bool = False
     is_single: bool = False
+    is_fixed: bool = False      # NO-USER-MODIFICATION
 
     def printed(self):
         return self.names[0] if self.names else self.oid
@@ -294,7 +295,8 @@ class Conf:
         self.numbers.update((key, len(self.types)) for key in keys)
         # a substring rule for other values than the equality rule is none
         has_substrings = substrings is not None and substrings == family
-        self.types.append(Type(oid, names, kind, family, has_substrings, b"single-value" in fields))
+        self.types.append(Type(oid, names, kind, family, has_substrings, b"single-value" in fields,
+                               b"no-user-modification" in fields))
 
     def inherited(self, fields):
         """-> (kind, family, what its substring rule goes with) of a type, its own or those of the type above it"""
