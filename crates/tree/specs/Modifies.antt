@@ -57,6 +57,7 @@ delete_fault types t there some =
     if some && not (has_equality types t) then Some InappropriateMatching
     else (if not there then Some NoSuchAttribute else None)
 
+-- a replace can always be carried out
 abbrev pub op_fault : List AttributeType → ℕ → Op → Bool → Bool → Option Code
 op_fault types t ops.Add there some = add_fault types t there some
 op_fault types t ops.Delete there some = delete_fault types t there some

@@ -37,7 +37,7 @@ fn is_left(
     }
 }
 
-/// The values of an attribute in order, one or more; one takes no allocation of its own. A contract sees the list of them.
+/// The values of an attribute in order; one takes no allocation of its own. A contract sees the list of them.
 pub struct Values {
     items: SmallVec<Value, 1>,
 }

@@ -22,8 +22,8 @@ use std::marker::Model;
 
 /// Attributes while they're changed. A contract sees the list of the types with their values.
 ///
-/// The values of the type that was changed last stay as they are made ready for changes, since the next block often changes them
-/// again: a record of many blocks with one value each takes no more time than one block with all values.
+/// The values of the type that was changed last stay as they are made ready for changes: so many blocks of one type with a value each,
+/// one right after the other, take no more time than one block with all values.
 #[derive(Drop)]
 pub(crate) struct AttributesDraft {
     attrs: Attributes,

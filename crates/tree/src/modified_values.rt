@@ -95,7 +95,7 @@ fn remove_values(
 }
 
 // One value after the other. A delete without values takes all, and a replace begins with none.
-fn put_values(
+fn block_values(
     alloc: Global,
     conf: &Conf,
     t: TypeId,
@@ -189,5 +189,5 @@ pub(crate) fn change_values(
     if let Some(code) = block_fault(conf, t, op, values.has_values(), texts.len() > 0) {
         return Err(Refusal::Code(code));
     }
-    put_values(alloc, conf, t, op, values, texts)
+    block_values(alloc, conf, t, op, values, texts)
 }

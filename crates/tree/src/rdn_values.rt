@@ -81,7 +81,7 @@ fn has_norm_at(attrs: &Attributes, t: TypeId, norm: &[u8]) -> bool
 }
 
 // whether a value that equals this part's is there
-fn has_part(
+fn has_value(
     alloc: Global,
     conf: &Conf,
     attrs: &Attributes,
@@ -108,7 +108,7 @@ pub(crate) fn has_rdn(
     ensures { IfOk result (λ there. there ≡ has_rdn conf.now.types rdn.now (attributes_of attrs.now.entries)) }
 {
     for part in rdn.parts() {
-        if !has_part(alloc, conf, attrs, part)? {
+        if !has_value(alloc, conf, attrs, part)? {
             return Ok(false);
         }
     }

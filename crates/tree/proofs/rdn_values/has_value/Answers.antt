@@ -4,7 +4,7 @@ use Rattle.schema.specs.Values.{norm_at}
 use Rattle.tree.specs.Entries.{values_of}
 use Rattle.tree.specs.inner.StoredEntries.{has_norm}
 use Rattle.tree.proofs.StoredLemmas.{equal_stored}
-use Rattle.tree.proofs.rdn_values.has_part.Goals as goal
+use Rattle.tree.proofs.rdn_values.has_value.Goals as goal
 
 pub returns : goal.returns
 returns c =
