@@ -9,7 +9,9 @@ use std::alloc::{AllocError, Global};
 use std::convert::AsStr;
 
 const INPUT_HELP: &str = "The LDIF text, in place of standard input";
+
 const GO_ON_HELP: &str = "Goes on after a refused record";
+
 const DRY_RUN_HELP: &str = "Writes no file";
 
 fn folder_option<'a>(alloc: Global) -> Arg<'a> {
@@ -50,7 +52,12 @@ fn ldapmodify<'a>(alloc: Global) -> Result<Command<'a>, AllocError> {
         .about("Carries out the changes of an LDIF text")
         .arg(folder_option(alloc))?
         .arg(file_option(alloc, 'f', INPUT_HELP))?
-        .arg(flag(alloc, "add", 'a', "Adds the entries of records without changetype"))?
+        .arg(flag(
+            alloc,
+            "add",
+            'a',
+            "Adds the entries of records without changetype",
+        ))?
         .arg(flag(alloc, "go_on", 'c', GO_ON_HELP))?
         .arg(flag(alloc, "dry_run", 'n', DRY_RUN_HELP))
 }
