@@ -1,6 +1,6 @@
 //! Laws of directories, for the crates above.
 
-ghost use Rattle.std.specs.Prelude.{◌≡◌, Bool, true, false, Some, Ok, List, ℕ};
+ghost use Rattle.std.specs.Prelude.{◌≡◌, Bool, true, false, Some, List, ℕ};
 ghost use Rattle.std.specs.FinMap as finite;
 ghost use Rattle.ldif.specs.Attrs.{Attr};
 ghost use Rattle.ldif.specs.Contents.{IsWritableContent};

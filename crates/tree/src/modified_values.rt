@@ -1,6 +1,6 @@
 //! What a block of a modify makes of the values of its type.
 
-ghost use Rattle.std.specs.Prelude.{◌≡◌, ◌<◌, IfOk, OnOk, length};
+ghost use Rattle.std.specs.Prelude.{◌≡◌, ◌<◌, OnOk, length};
 ghost use Rattle.values.specs.Types.{has_equality};
 ghost use Rattle.base.specs.Answers.{through};
 ghost use Rattle.tree.specs.Modifies.{append_value, remove_value, has_values, add_fault, delete_fault, block_fault, block_values, changed_values};

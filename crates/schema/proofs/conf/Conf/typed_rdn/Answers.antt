@@ -1,4 +1,4 @@
-use Rattle.std.proofs.Common.{List, Result, subst}
+use Rattle.std.proofs.Common.{List, subst}
 use Rattle.dn.specs.Names as names
 use Rattle.values.specs.declared.types.AttributeType.{AttributeType}
 use Rattle.schema.specs.Rdns.{typed_rdn}
