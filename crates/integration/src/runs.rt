@@ -135,8 +135,10 @@ fn one_record_is_carried_out(rt: HostRuntime) -> Result<(), Fail> {
         dn: Bytes::from_slice(rt.alloc(), b"dc=ex")?,
         controls: Sequence::new(rt.alloc()),
     };
-    let refused = dir.apply(&delete, Mode::Changes { add: false });
-    assert!(rt; matches!(refused, Err(Refusal::Code(_))));
+    assert!(rt; dir.apply(&delete, Mode::Changes { add: false }).is_ok());
+    assert!(rt; dir.tree().is_empty());
+    let again = dir.apply(&delete, Mode::Changes { add: false });
+    assert!(rt; matches!(again, Err(Refusal::Code(_))));
     assert!(rt; dir.apply(&Record::Empty, Mode::Content).is_ok());
     Ok(())
 }
