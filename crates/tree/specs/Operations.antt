@@ -22,6 +22,7 @@ use Rattle.tree.specs.Renames.{rename}
 abbrev pub has_critical : List Control → Bool
 has_critical controls = list_any (λ c. c.critical) controls
 
+-- those that stand with a change
 abbrev pub controls_of : Record → List Control
 controls_of records.Empty = []
 controls_of (records.Content dn attrs) = []
@@ -39,10 +40,11 @@ change_asked conf mode d (records.Delete dn controls) = delete conf d dn
 change_asked conf mode d (records.Modify dn controls mods) = modify conf d dn mods
 change_asked conf mode d (records.ModRdn dn controls newrdn delete_old new_superior) = rename conf d dn newrdn delete_old new_superior
 
+-- the change that a record comes to
 abbrev pub change_of : Conf → Mode → Entries → Record → Result Change Code
 change_of conf mode d r = if has_critical (controls_of r) then Err UnavailableCriticalExtension else change_asked conf mode d r
 
--- the directory after it
+-- and the directory after it
 abbrev pub apply : Conf → Mode → Entries → Record → Result Entries Code
 apply conf mode d r = change_of conf mode d r >>= λ c. Ok (changed d c)
 
