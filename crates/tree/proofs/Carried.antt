@@ -1,20 +1,20 @@
 -- Changes carried out on what a tree keeps.
-use Rattle.std.proofs.Common.{◌≡◌, ◌≢◌, ℕ, Bool, true, false, cond, List, refl, sym, ◌∙◌, ap, subst, Option, Some, None}
-use Rattle.std.specs.Prelude.{IsSome, IsSomeAnd, is_some, slice_index_or, unwrap_or}
+use Rattle.std.proofs.Common.{◌≡◌, ◌≢◌, ℕ, ◌+◌, ◌-◌, ◌<◌, ◌≤◌, Bool, true, false, cond, List, length, refl, sym, ◌∙◌, ap, subst, Option, Some, None, arith}
+use Rattle.std.specs.Prelude.{IsSome, IsSomeAnd, is_some, unwrap_or}
 use Rattle.std.specs.Ordering.{eq_by_cmp}
 use Rattle.std.specs.Map.{remove_entry}
 use Rattle.std.specs.BTreeMap.{insert_entry, is_at}
 use Rattle.std.specs.FinMap as finite
-use Rattle.slab.specs.Slab.{Slab, Updates}
+use Rattle.slots.specs.Slots.{slot, IsTaken, taken, most, IsSet}
 use Rattle.paths.specs.Paths.{Path, path_cmp}
 use Rattle.schema.specs.Conf.{Conf}
 use Rattle.tree.specs.Directories.{Entries, IsDirectory}
 use Rattle.tree.specs.StoredEntries.{Entry, content_of, IsMade}
 use Rattle.tree.specs.Trees.{Tree, Numbers, IsNumbered, number_at}
-use Rattle.tree.specs.inner.Trees.{Slots, slot, numbers_of, entries_in, AreNumbered, IsKept}
+use Rattle.tree.specs.inner.Trees.{Slots, numbers_of, entries_in, AreNumbered, IsKept}
 use Rattle.tree.proofs.Kept.{equal}
 use Rattle.tree.proofs.Order.{path_total, path_exact}
-use Rattle.tree.proofs.Numbered.{IsRising, IsSet, IsFree, removed, rising_put, rising_remove, numbers_put, numbers_remove, entries_put, entries_remove, numbered_put, numbered_remove, free_new, free_own, nothing_set, set_twice}
+use Rattle.tree.proofs.Numbered.{IsRising, IsFree, removed, rising_put, rising_remove, numbers_put, numbers_remove, numbers_len, entries_len, entries_put, entries_remove, numbered_put, numbered_remove, free_new, free_own, nothing_set}
 
 -- this is kept, and is seen as these entries and numbers
 pub record IsCarried (conf : Conf) (slots : Slots) (es : List (Path × ℕ)) (d : Entries) (m : Numbers) : Type 0 where
@@ -22,19 +22,14 @@ pub record IsCarried (conf : Conf) (slots : Slots) (es : List (Path × ℕ)) (d 
   pub entries : entries_in slots (numbers_of es) ≡ d
   pub numbers : numbers_of es ≡ m
 
-pub carried : (conf : Conf) (slots : Slots) (es : List (Path × ℕ)) (d : Entries) (m : Numbers) → IsRising es → numbers_of es ≡ m → AreNumbered conf slots m → entries_in slots m ≡ d → IsDirectory conf d → IsCarried conf slots es d m
-carried conf slots es d m rising is numbered seen directory =
+pub carried : (conf : Conf) (slots : Slots) (es : List (Path × ℕ)) (d : Entries) (m : Numbers) → IsRising es → numbers_of es ≡ m → AreNumbered conf slots m → taken slots ≡ length es → entries_in slots m ≡ d → IsDirectory conf d → IsCarried conf slots es d m
+carried conf slots es d m rising is numbered counted seen directory =
     let e : entries_in slots (numbers_of es) ≡ d = ap (entries_in slots) is ∙ seen in
     record {
-      kept = record { sorted = rising; numbered = subst (AreNumbered conf slots) (sym is) numbered; directory = subst (IsDirectory conf) (sym e) directory };
+      kept = record { sorted = rising; numbered = subst (AreNumbered conf slots) (sym is) numbered; counted = counted; directory = subst (IsDirectory conf) (sym e) directory };
       entries = e;
       numbers = is;
     }
-
--- ---- what a slab says
-
-pub slab_set : (s t : Slab Entry) (k n : ℕ) (o : Option Entry) → Updates s t k o → k ≡ n → IsSet s.slots t.slots n o
-slab_set s t k n o u is = subst (λ j. IsSet s.slots t.slots j o) is (record { at = u.changed; others = u.others })
 
 some_and : {A : Type 0} (P : A → Type 0) (o : Option A) → IsSomeAnd o P → IsSome o
 some_and P None h = absurd h
@@ -80,92 +75,128 @@ no_number d are p new = is_none (finite.get d.numbers p) (are.there p ∙ new)
 pub number_new : (d : Tree) → IsNumbered d.entries d.numbers → (p : Path) → finite.contains_key d.entries p ≡ false → number_at d p ≡ d.next_number
 number_new d are p new = ap (λ o. unwrap_or o d.next_number) (no_number d are p new)
 
+-- ---- how many there are
+
+length_put : (es : List (Path × ℕ)) (k : Path) (n : ℕ) → IsRising es → finite.get (numbers_of es) k ≡ None → length (insert_entry path_cmp es k n) ≡ length es + 1
+length_put es k n h new =
+    sym (numbers_len (insert_entry path_cmp es k n) (rising_put es k n h))
+    ∙ ap finite.len (numbers_put es k n h)
+    ∙ finite.len-insert path_total (numbers_of es) k n
+    ∙ ap (λ b. cond b (finite.len (numbers_of es)) (finite.len (numbers_of es) + 1)) (ap is_some new)
+    ∙ ap (λ x. x + 1) (numbers_len es h)
+
+length_remove : (es : List (Path × ℕ)) (k : Path) (n : ℕ) → IsRising es → finite.get (numbers_of es) k ≡ Some n → length (remove_entry (is_at (path_cmp k)) es) ≡ length es - 1
+length_remove es k n h there =
+    sym (numbers_len (remove_entry (is_at (path_cmp k)) es) (rising_remove es k h))
+    ∙ ap finite.len (numbers_remove es k h)
+    ∙ finite.len-remove path_total (numbers_of es) k
+    ∙ ap (λ b. cond b (finite.len (numbers_of es) - 1) (finite.len (numbers_of es))) (ap is_some there)
+    ∙ ap (λ x. x - 1) (numbers_len es h)
+
 -- ---- each change
 
-module _ (conf : Conf) (s : Slab Entry) (es : List (Path × ℕ)) (kept : IsKept conf s.slots es) where
+module _ (conf : Conf) (slots : Slots) (next : ℕ) (es : List (Path × ℕ)) (kept : IsKept conf slots es) where
   abbrev m : Numbers
   m = numbers_of es
 
   abbrev whole : Tree
-  whole = record { conf = conf; entries = entries_in s.slots m; numbers = m; next_number = s.vacant_key }
+  whole = record { conf = conf; entries = entries_in slots m; numbers = m; next_number = next }
 
-  pub slot_there : (d : Tree) → whole ≡ d → (p : Path) (n : ℕ) → finite.get d.numbers p ≡ Some n → IsSome (slice_index_or s.slots n None)
-  slot_there d is p n there = some_and _ (slot s.slots n) (kept.numbered.filled p n (ap (λ (x : Tree). finite.get x.numbers p) is ∙ there))
+  pub slot_there : (d : Tree) → whole ≡ d → (p : Path) (n : ℕ) → finite.get d.numbers p ≡ Some n → IsTaken slots n
+  slot_there d is p n there = some_and _ (slot slots n) (kept.numbered.filled p n (ap (λ (x : Tree). finite.get x.numbers p) is ∙ there))
 
-  pub new_done : (r t : Slab Entry) (p : Path) (n k : ℕ) (e : Entry) → r ≡ record s { capacity = r.capacity } → Updates r t k (Some e) → k ≡ r.vacant_key → slice_index_or r.slots k None ≡ None
+  -- where a new entry leaves a directory, its slot has a number
+  pub slot_left : (d : Tree) → whole ≡ d → (p : Path) (e : EntryContent) → finite.contains_key d.entries p ≡ false → IsDirectory d.conf (finite.insert d.entries p e) → taken slots < most
+  slot_left d is p e new directory =
+      let len_is : finite.len d.entries ≡ length es = ap (λ (x : Tree). finite.len x.entries) (sym is) ∙ entries_len slots m ∙ numbers_len es kept.sorted in
+      let more : finite.len (finite.insert d.entries p e) ≡ finite.len d.entries + 1 = finite.len-insert path_total d.entries p e ∙ ap (λ b. cond b (finite.len d.entries) (finite.len d.entries + 1)) new in
+      omega (arith, kept.counted, len_is, more, directory.few)
+
+  -- an entry in the next slot, where none was
+  pub new_done : (after : Slots) (p : Path) (n : ℕ) (e : Entry) → slot slots n ≡ None → IsSet slots after n (Some e) → taken after ≡ taken slots + 1
       → (es' : List (Path × ℕ)) → es' ≡ insert_entry path_cmp es p n
-      → (d : Tree) → whole ≡ d → n ≡ d.next_number → IsMade d.conf.types e.attrs → IsDirectory d.conf (finite.insert d.entries p (content_of e))
-      → IsCarried conf t.slots es' (finite.insert d.entries p (content_of e)) (finite.insert d.numbers p n)
-  new_done r t p n k e room u key vacant es' come d is number made directory = subst
-      (λ (x : Tree). n ≡ x.next_number → IsMade x.conf.types e.attrs → IsDirectory x.conf (finite.insert x.entries p (content_of e)) → IsCarried conf t.slots es' (finite.insert x.entries p (content_of e)) (finite.insert x.numbers p n))
+      → (d : Tree) → whole ≡ d → finite.get d.numbers p ≡ None → IsMade d.conf.types e.attrs → IsDirectory d.conf (finite.insert d.entries p (content_of e))
+      → IsCarried conf after es' (finite.insert d.entries p (content_of e)) (finite.insert d.numbers p n)
+  new_done after p n e vacant sets more es' come d is new made directory = subst
+      (λ (x : Tree). finite.get x.numbers p ≡ None → IsMade x.conf.types e.attrs → IsDirectory x.conf (finite.insert x.entries p (content_of e)) → IsCarried conf after es' (finite.insert x.entries p (content_of e)) (finite.insert x.numbers p n))
       is
-      (λ number made directory.
-      let k_is : k ≡ n = key ∙ ap (λ (x : Slab Entry). x.vacant_key) room ∙ sym number in
-      let slots_are : r.slots ≡ s.slots = ap (λ (x : Slab Entry). x.slots) room in
-      let sets : IsSet s.slots t.slots n (Some e) = subst (λ x. IsSet x t.slots n (Some e)) slots_are (slab_set r t k n (Some e) u k_is) in
-      let free : IsFree m p n = free_new conf s.slots m kept.numbered p n ((λ i. slot (sym slots_are i) (sym k_is i)) ∙ vacant) in
-      carried conf t.slots es' _ _
+      (λ new made directory.
+      let free : IsFree m p n = free_new conf slots m kept.numbered p n vacant in
+      carried conf after es' _ _
       (subst IsRising (sym come) (rising_put es p n kept.sorted))
       (ap numbers_of come ∙ numbers_put es p n kept.sorted)
-      (numbered_put s.slots t.slots m p n free conf kept.numbered e sets made)
-      (entries_put s.slots t.slots m p n free e sets)
+      (numbered_put slots after m p n free conf kept.numbered e sets made)
+      (more ∙ ap (λ k. k + 1) kept.counted ∙ sym (ap length come ∙ length_put es p n kept.sorted new))
+      (entries_put slots after m p n free e sets)
       directory)
-      number made directory
+      new made directory
 
-  pub over_done : (r t : Slab Entry) (p : Path) (n k : ℕ) (e : Entry) → Updates s r n None → r.vacant_key ≡ n → Updates r t k (Some e) → k ≡ r.vacant_key
+  -- another one in the slot of an entry
+  pub over_done : (after : Slots) (p : Path) (n : ℕ) (e : Entry) → IsSet slots after n (Some e) → taken after ≡ taken slots
       → (d : Tree) → whole ≡ d → finite.get d.numbers p ≡ Some n → IsMade d.conf.types e.attrs → IsDirectory d.conf (finite.insert d.entries p (content_of e))
-      → IsCarried conf t.slots es (finite.insert d.entries p (content_of e)) (finite.insert d.numbers p n)
-  over_done r t p n k e u next v key d is there made directory = subst
-      (λ (x : Tree). finite.get x.numbers p ≡ Some n → IsMade x.conf.types e.attrs → IsDirectory x.conf (finite.insert x.entries p (content_of e)) → IsCarried conf t.slots es (finite.insert x.entries p (content_of e)) (finite.insert x.numbers p n))
+      → IsCarried conf after es (finite.insert d.entries p (content_of e)) (finite.insert d.numbers p n)
+  over_done after p n e sets same d is there made directory = subst
+      (λ (x : Tree). finite.get x.numbers p ≡ Some n → IsMade x.conf.types e.attrs → IsDirectory x.conf (finite.insert x.entries p (content_of e)) → IsCarried conf after es (finite.insert x.entries p (content_of e)) (finite.insert x.numbers p n))
       is
       (λ there made directory.
-      let sets : IsSet s.slots t.slots n (Some e) = set_twice s.slots r.slots t.slots n None (Some e) (slab_set s r n n None u refl) (slab_set r t k n (Some e) v (key ∙ next)) in
-      let free : IsFree m p n = free_own conf s.slots m kept.numbered p n there in
-      carried conf t.slots es _ _
+      let free : IsFree m p n = free_own conf slots m kept.numbered p n there in
+      carried conf after es _ _
       kept.sorted
       (put_same m p n there)
-      (numbered_put s.slots t.slots m p n free conf kept.numbered e sets made)
-      (entries_put s.slots t.slots m p n free e sets)
+      (numbered_put slots after m p n free conf kept.numbered e sets made)
+      (same ∙ kept.counted)
+      (entries_put slots after m p n free e sets)
       directory)
       there made directory
 
-  pub take_done : (t : Slab Entry) (p : Path) (n : ℕ) → Updates s t n None
+  -- none there
+  pub take_done : (after : Slots) (p : Path) (n : ℕ) → IsSet slots after n None → taken after + 1 ≡ taken slots
       → (es' : List (Path × ℕ)) → es' ≡ remove_entry (is_at (path_cmp p)) es
       → (d : Tree) → whole ≡ d → finite.get d.numbers p ≡ Some n → IsDirectory d.conf (finite.remove d.entries p)
-      → IsCarried conf t.slots es' (finite.remove d.entries p) (finite.remove d.numbers p)
-  take_done t p n u es' go d is there directory = subst
-      (λ (x : Tree). finite.get x.numbers p ≡ Some n → IsDirectory x.conf (finite.remove x.entries p) → IsCarried conf t.slots es' (finite.remove x.entries p) (finite.remove x.numbers p))
+      → IsCarried conf after es' (finite.remove d.entries p) (finite.remove d.numbers p)
+  take_done after p n sets fewer es' go d is there directory = subst
+      (λ (x : Tree). finite.get x.numbers p ≡ Some n → IsDirectory x.conf (finite.remove x.entries p) → IsCarried conf after es' (finite.remove x.entries p) (finite.remove x.numbers p))
       is
       (λ there directory.
-      let sets : IsSet s.slots t.slots n None = slab_set s t n n None u refl in
-      let free : IsFree m p n = free_own conf s.slots m kept.numbered p n there in
-      carried conf t.slots es' _ _
+      let free : IsFree m p n = free_own conf slots m kept.numbered p n there in
+      let length_is : length es' ≡ length es - 1 = ap length go ∙ length_remove es p n kept.sorted there in
+      carried conf after es' _ _
       (subst IsRising (sym go) (rising_remove es p kept.sorted))
       (ap numbers_of go ∙ numbers_remove es p kept.sorted)
-      (numbered_remove s.slots t.slots m p n free conf kept.numbered None sets)
-      (entries_remove s.slots t.slots m p n free None sets)
+      (numbered_remove slots after m p n free conf kept.numbered None sets)
+      (omega (arith, fewer, kept.counted, length_is))
+      (entries_remove slots after m p n free None sets)
       directory)
       there directory
 
-  pub move_done : (r t : Slab Entry) (from to : Path) (n k : ℕ) (e : Entry) → Updates s r n None → r.vacant_key ≡ n → Updates r t k (Some e) → k ≡ r.vacant_key
+  -- another one in the slot of an entry, and at another path
+  pub move_done : (after : Slots) (from to : Path) (n : ℕ) (e : Entry) → IsSet slots after n (Some e) → taken after ≡ taken slots
       → (es1 es2 : List (Path × ℕ)) → es1 ≡ insert_entry path_cmp es to n → es2 ≡ remove_entry (is_at (path_cmp from)) es1
       → (d : Tree) → whole ≡ d → finite.get d.numbers from ≡ Some n → finite.get d.numbers to ≡ None → IsMade d.conf.types e.attrs → IsDirectory d.conf (finite.insert (finite.remove d.entries from) to (content_of e))
-      → IsCarried conf t.slots es2 (finite.insert (finite.remove d.entries from) to (content_of e)) (finite.insert (finite.remove d.numbers from) to n)
-  move_done r t from to n k e u next v key es1 es2 come go d is there new made directory = subst
+      → IsCarried conf after es2 (finite.insert (finite.remove d.entries from) to (content_of e)) (finite.insert (finite.remove d.numbers from) to n)
+  move_done after from to n e sets same es1 es2 come go d is there new made directory = subst
       (λ (x : Tree). finite.get x.numbers from ≡ Some n → finite.get x.numbers to ≡ None → IsMade x.conf.types e.attrs → IsDirectory x.conf (finite.insert (finite.remove x.entries from) to (content_of e))
-      → IsCarried conf t.slots es2 (finite.insert (finite.remove x.entries from) to (content_of e)) (finite.insert (finite.remove x.numbers from) to n))
+      → IsCarried conf after es2 (finite.insert (finite.remove x.entries from) to (content_of e)) (finite.insert (finite.remove x.numbers from) to n))
       is
       (λ there new made directory.
-      let sets : IsSet s.slots t.slots n (Some e) = set_twice s.slots r.slots t.slots n None (Some e) (slab_set s r n n None u refl) (slab_set r t k n (Some e) v (key ∙ next)) in
-      let free : IsFree m from n = free_own conf s.slots m kept.numbered from n there in
+      let free : IsFree m from n = free_own conf slots m kept.numbered from n there in
       let left : Numbers = finite.remove m from in
       let free_left : IsFree left to n = λ q j _ at. let g = removed m from q j at in free q j g.0 g.1 in
       let apart : from ≢ to = λ same. (let b : Some n ≡ None = sym there ∙ ap (λ (x : Path). finite.get m x) same ∙ new in cc) in
       let rising : IsRising es1 = subst IsRising (sym come) (rising_put es to n kept.sorted) in
-      carried conf t.slots es2 _ _
+      let seen : numbers_of es1 ≡ finite.insert m to n = ap numbers_of come ∙ numbers_put es to n kept.sorted in
+      let longer : length es1 ≡ length es + 1 = ap length come ∙ length_put es to n kept.sorted new in
+      let shorter : length es2 ≡ length es1 - 1 = ap length go ∙ length_remove es1 from n rising (
+          ap (λ x. finite.get x from) seen ∙ finite.get-insert path_total m to n from ∙ not_there (eq_by_cmp path_cmp from to) (λ tie. apart (path_exact from to (equal (path_cmp from to) tie))) (finite.get m from) ∙ there) in
+      carried conf after es2 _ _
       (subst IsRising (sym go) (rising_remove es1 from rising))
-      (ap numbers_of go ∙ numbers_remove es1 from rising ∙ ap (λ x. finite.remove x from) (ap numbers_of come ∙ numbers_put es to n kept.sorted) ∙ commuted m from to n apart)
-      (numbered_put s.slots t.slots left to n free_left conf (numbered_remove s.slots s.slots m from n free conf kept.numbered (slot s.slots n) (nothing_set s.slots n)) e sets made)
-      (entries_put s.slots t.slots left to n free_left e sets ∙ ap (λ (x : Entries). finite.insert x to (content_of e)) (entries_remove s.slots s.slots m from n free (slot s.slots n) (nothing_set s.slots n)))
+      (ap numbers_of go ∙ numbers_remove es1 from rising ∙ ap (λ x. finite.remove x from) seen ∙ commuted m from to n apart)
+      (numbered_put slots after left to n free_left conf (numbered_remove slots slots m from n free conf kept.numbered (slot slots n) (nothing_set slots n)) e sets made)
+      (omega (arith, same, kept.counted, longer, shorter))
+      (entries_put slots after left to n free_left e sets ∙ ap (λ (x : Entries). finite.insert x to (content_of e)) (entries_remove slots slots m from n free (slot slots n) (nothing_set slots n)))
       directory)
       there new made directory
+    where
+      not_there : (b : Bool) → (b ≡ true → ⊥) → (o : Option ℕ) → cond b (Some n) o ≡ o
+      not_there true apart o = absurd (apart refl)
+      not_there false apart o = refl

@@ -15,7 +15,8 @@ use Rattle.tree.specs.Entries.{EntryContent}
 use Rattle.tree.specs.Directories.{Entries}
 use Rattle.tree.specs.StoredEntries.{Entry, content_of, IsMade}
 use Rattle.tree.specs.Trees.{Numbers, seen_entries}
-use Rattle.tree.specs.inner.Trees.{Slots, slot, entry_at, joined, numbers_of, entries_in, AreNumbered}
+use Rattle.slots.specs.Slots.{slot, IsSet}
+use Rattle.tree.specs.inner.Trees.{Slots, entry_at, joined, numbers_of, entries_in, AreNumbered}
 use Rattle.tree.proofs.Kept.{equal}
 use Rattle.tree.proofs.Order.{path_total, path_exact}
 use Rattle.tree.proofs.Views.{put_is, find_is, remove_is, find_seen, rising_seen, seen_length}
@@ -88,10 +89,6 @@ module _ (slots : Slots) where
       ∙ ap (option_map content_at) (sym (finite.get-entries m q))
 
 -- ---- a change of one slot
-
-pub record IsSet (old new : Slots) (n : ℕ) (o : Option Entry) : Type 0 where
-  pub at : slot new n ≡ o
-  pub others : (k : ℕ) → k ≢ n → slot new k ≡ slot old k
 
 pub same_key : (p q : Path) (b : Bool) → eq_by_cmp path_cmp q p ≡ b → (b ≡ false) → q ≢ p
 same_key p q b is not_tied same = let k : true ≡ false = sym (ap is_eq (tied_itself path_total p)) ∙ ap (λ x. eq_by_cmp path_cmp x p) (sym same) ∙ is ∙ not_tied in cc
@@ -182,6 +179,3 @@ module _ (conf : Conf) (slots : Slots) (m : Numbers) (h : AreNumbered conf slots
 
 pub nothing_set : (slots : Slots) (n : ℕ) → IsSet slots slots n (slot slots n)
 nothing_set slots n = record { at = refl; others = λ k _. refl }
-
-pub set_twice : (a b c : Slots) (n : ℕ) (x y : Option Entry) → IsSet a b n x → IsSet b c n y → IsSet a c n y
-set_twice a b c n x y one two = record { at = two.at; others = λ k apart. two.others k apart ∙ one.others k apart }

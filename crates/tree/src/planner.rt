@@ -34,7 +34,7 @@ pub fn plan(
         mode,
     };
     let change = planner.change_of(asked)?;
-    Ok(Plan::of(tree, change)?)
+    Ok(Plan::of(tree, change))
 }
 
 /// A tree, the configuration that it was made with, and what the records are: what a plan is worked out from.

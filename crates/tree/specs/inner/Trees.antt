@@ -1,8 +1,9 @@
 -- What a tree keeps: the number of each path, and each entry in the slot with its number.
-use Rattle.std.specs.Prelude.{◌≡◌, ℕ, Bool, List, [], map, T, if◌then◌else◌, take_while, Option, Some, None, unwrap_or, slice_index_or, IsSome, IsSomeAnd}
+use Rattle.std.specs.Prelude.{◌≡◌, ℕ, Bool, List, [], map, T, if◌then◌else◌, take_while, Option, Some, None, unwrap_or, length, IsSome, IsSomeAnd}
 use Rattle.std.specs.List.{AllByRecursion}
 use Rattle.std.specs.FinMap as finite
 use Rattle.std.specs.FinMap.Entries.{is_sorted}
+use Rattle.slots.specs.Slots.{slot, taken}
 use Rattle.paths.specs.Paths.{Path, path_cmp, begins}
 use Rattle.schema.specs.Conf.{Conf}
 use Rattle.tree.specs.Directories.{Entries, IsDirectory}
@@ -16,9 +17,6 @@ numbers_of es = finite.from_sorted es
 
 abbrev pub Slots : Type 0
 Slots = List (Option Entry)
-
-abbrev pub slot : Slots → ℕ → Option Entry
-slot slots n = slice_index_or slots n None
 
 abbrev pub entry_at : Slots → ℕ → Entry
 entry_at slots n = unwrap_or (slot slots n) (record { rdn = []; attrs = [] })
@@ -45,6 +43,7 @@ pub record AreNumbered (conf : Conf) (slots : Slots) (m : Numbers) : Type 0 wher
 pub record IsKept (conf : Conf) (slots : Slots) (es : List (Path × ℕ)) : Type 0 where
   pub sorted : T (is_sorted path_cmp es)
   pub numbered : AreNumbered conf slots (numbers_of es)
+  pub counted : taken slots ≡ length es
   pub directory : IsDirectory conf (entries_in slots (numbers_of es))
 
 -- ---- a part of it

@@ -1,14 +1,24 @@
-use Rattle.std.proofs.Common.{◌∙◌, sym, ap}
+use Rattle.std.proofs.Common.{◌≡◌, ◌∙◌, sym, ap, subst, Some, None}
 use Rattle.std.specs.FinMap as finite
-use Rattle.tree.specs.StoredEntries.{content_of}
-use Rattle.tree.proofs.Carried.{IsCarried, new_done, number_new}
+use Rattle.slots.specs.Slots as seen
+use Rattle.slots.specs.Slots.{slot, taken, most, IsSet}
+use Rattle.tree.specs.StoredEntries.{Entry, content_of}
+use Rattle.tree.specs.Trees.{Tree}
+use Rattle.tree.specs.inner.Trees.{Slots}
+use Rattle.tree.proofs.Carried.{IsCarried, slot_left, new_done, no_number, number_new}
 use Rattle.tree.proofs.tree.Tree.add.Goals as goal
 
-carried : (c : goal.After-insert_reserved) → IsCarried c.self.inside.made.value c.insert_reserved.new.self.slots c.insert.new.self.entries (finite.insert c.args.self.now.entries c.args.path (content_of c.args.entry)) (finite.insert c.args.self.now.numbers c.args.path c.in_ok-number.number)
+same_slots : (c : goal.After-reserve) → c.reserve.new.self.slots ≡ c.self.inside.slots.slots
+same_slots c = ap (λ (s : seen.Slots Entry). s.slots) c.reserve.ensures.kept
+
+pub insert_reserved-requires-few : goal.insert_reserved-requires-few
+insert_reserved-requires-few c = subst (λ (s : Slots). taken s < most) (sym (same_slots c)) (slot_left c.self.inside.made.value c.self.inside.slots.slots c.self.inside.slots.next c.self.inside.numbers.entries c.self.invariant c.args.self.now c.self.view_is c.args.path (content_of c.args.entry) c.requires.new c.requires.directory)
+
+carried : (c : goal.After-insert_reserved) → IsCarried c.self.inside.made.value c.insert_reserved.new.self.slots c.insert.new.self.entries (finite.insert c.args.self.now.entries c.args.path (content_of c.args.entry)) (finite.insert c.args.self.now.numbers c.args.path c.next_number-number.result)
 carried c =
-    new_done c.self.inside.made.value c.self.inside.slots c.self.inside.numbers.entries c.self.invariant c.reserve.new.self c.insert_reserved.new.self c.args.path c.in_ok-number.number c.insert_reserved.result c.args.entry
-    c.reserve.ensures.rest_kept c.insert_reserved.ensures.updates c.insert_reserved.ensures.key c.insert_reserved.ensures.was_vacant _ c.in_ok-insert.ensures.entries
-    c.args.self.now c.self.view_is c.in_ok-number.ensures c.requires.made c.requires.directory
+    new_done c.self.inside.made.value c.self.inside.slots.slots c.self.inside.slots.next c.self.inside.numbers.entries c.self.invariant c.insert_reserved.new.self.slots c.args.path c.next_number-number.result c.args.entry
+    c.insert_reserved.ensures.was_free c.insert_reserved.ensures.set c.insert_reserved.ensures.taken _ c.in_ok-insert.ensures.entries
+    c.args.self.now c.self.view_is (no_number c.args.self.now c.is_numbered.ensures c.args.path c.requires.new) c.requires.made c.requires.directory
 
 pub invariant_of-self-2 : goal.invariant_of-self-2
 invariant_of-self-2 c = (carried c).kept
@@ -17,4 +27,4 @@ pub returns-clause-entries : goal.returns-clause-entries
 returns-clause-entries c = (carried c).entries
 
 pub returns-clause-numbers : goal.returns-clause-numbers
-returns-clause-numbers c = (carried c).numbers ∙ ap (finite.insert c.args.self.now.numbers c.args.path) (c.in_ok-number.ensures ∙ sym (number_new c.args.self.now c.is_numbered.ensures c.args.path c.requires.new))
+returns-clause-numbers c = (carried c).numbers ∙ ap (finite.insert c.args.self.now.numbers c.args.path) (c.next_number-number.ensures ∙ sym (number_new c.args.self.now c.is_numbered.ensures c.args.path c.requires.new))

@@ -4,13 +4,13 @@ use Rattle.tree.specs.StoredEntries.{content_of}
 use Rattle.tree.proofs.Carried.{IsCarried, slot_there, over_done, number_is}
 use Rattle.tree.proofs.tree.Tree.replace.Goals as goal
 
-pub remove-requires : goal.remove-requires
-remove-requires c = slot_there c.self.inside.made.value c.self.inside.slots c.self.inside.numbers.entries c.self.invariant c.args.self.now c.self.view_is c.args.path.now c.number_there-number.result c.number_there-number.ensures
+pub replace-requires : goal.replace-requires
+replace-requires c = slot_there c.self.inside.made.value c.self.inside.slots.slots c.self.inside.slots.next c.self.inside.numbers.entries c.self.invariant c.args.self.now c.self.view_is c.args.path.now c.number_there-number.result c.number_there-number.ensures
 
-carried : (c : goal.After-insert_reserved) → IsCarried c.self.inside.made.value c.insert_reserved.new.self.slots c.self.inside.numbers.entries (finite.insert c.args.self.now.entries c.args.path.now (content_of c.args.entry)) (finite.insert c.args.self.now.numbers c.args.path.now c.number_there-number.result)
+carried : (c : goal.After-drop) → IsCarried c.self.inside.made.value c.replace.new.self.slots c.self.inside.numbers.entries (finite.insert c.args.self.now.entries c.args.path.now (content_of c.args.entry)) (finite.insert c.args.self.now.numbers c.args.path.now c.number_there-number.result)
 carried c =
-    over_done c.self.inside.made.value c.self.inside.slots c.self.inside.numbers.entries c.self.invariant c.remove.new.self c.insert_reserved.new.self c.args.path.now c.number_there-number.result c.insert_reserved.result c.args.entry
-    c.remove.ensures.updates c.remove.ensures.key_is_next c.insert_reserved.ensures.updates c.insert_reserved.ensures.key
+    over_done c.self.inside.made.value c.self.inside.slots.slots c.self.inside.slots.next c.self.inside.numbers.entries c.self.invariant c.replace.new.self.slots c.args.path.now c.number_there-number.result c.args.entry
+    c.replace.ensures.set c.replace.ensures.taken
     c.args.self.now c.self.view_is c.number_there-number.ensures c.requires.made c.requires.directory
 
 pub invariant_of-self : goal.invariant_of-self
