@@ -1,5 +1,5 @@
 -- Changes carried out on what a tree keeps.
-use Rattle.std.proofs.Common.{◌≡◌, ◌≢◌, ℕ, ◌+◌, ◌-◌, ◌<◌, ◌≤◌, Bool, true, false, cond, List, length, refl, sym, ◌∙◌, ap, subst, Option, Some, None, arith}
+use Rattle.std.proofs.Common.{◌≡◌, ◌≢◌, ℕ, ◌+◌, ◌-◌, ◌<◌, Bool, true, false, cond, List, length, refl, sym, ◌∙◌, ap, subst, Option, Some, None, arith}
 use Rattle.std.specs.Prelude.{IsSome, IsSomeAnd, is_some, unwrap_or}
 use Rattle.std.specs.Ordering.{eq_by_cmp}
 use Rattle.std.specs.Map.{remove_entry}
@@ -8,6 +8,7 @@ use Rattle.std.specs.FinMap as finite
 use Rattle.slots.specs.Slots.{slot, IsTaken, taken, most, IsSet}
 use Rattle.paths.specs.Paths.{Path, path_cmp}
 use Rattle.schema.specs.Conf.{Conf}
+use Rattle.tree.specs.Entries.{EntryContent}
 use Rattle.tree.specs.Directories.{Entries, IsDirectory}
 use Rattle.tree.specs.StoredEntries.{Entry, content_of, IsMade}
 use Rattle.tree.specs.Trees.{Tree, Numbers, IsNumbered, number_at}
@@ -187,7 +188,7 @@ module _ (conf : Conf) (slots : Slots) (next : ℕ) (es : List (Path × ℕ)) (k
       let seen : numbers_of es1 ≡ finite.insert m to n = ap numbers_of come ∙ numbers_put es to n kept.sorted in
       let longer : length es1 ≡ length es + 1 = ap length come ∙ length_put es to n kept.sorted new in
       let shorter : length es2 ≡ length es1 - 1 = ap length go ∙ length_remove es1 from n rising (
-          ap (λ x. finite.get x from) seen ∙ finite.get-insert path_total m to n from ∙ not_there (eq_by_cmp path_cmp from to) (λ tie. apart (path_exact from to (equal (path_cmp from to) tie))) (finite.get m from) ∙ there) in
+      ap (λ x. finite.get x from) seen ∙ finite.get-insert path_total m to n from ∙ not_there (eq_by_cmp path_cmp from to) (λ tie. apart (path_exact from to (equal (path_cmp from to) tie))) (finite.get m from) ∙ there) in
       carried conf after es2 _ _
       (subst IsRising (sym go) (rising_remove es1 from rising))
       (ap numbers_of go ∙ numbers_remove es1 from rising ∙ ap (λ x. finite.remove x from) seen ∙ commuted m from to n apart)

@@ -1,5 +1,5 @@
 -- What a tree keeps: the number of each path, and each entry in the slot with its number.
-use Rattle.std.specs.Prelude.{◌≡◌, ℕ, Bool, List, [], map, T, if◌then◌else◌, take_while, Option, Some, None, unwrap_or, length, IsSome, IsSomeAnd}
+use Rattle.std.specs.Prelude.{◌≡◌, ℕ, Bool, List, [], map, T, if◌then◌else◌, take_while, Option, Some, unwrap_or, length, IsSome, IsSomeAnd}
 use Rattle.std.specs.List.{AllByRecursion}
 use Rattle.std.specs.FinMap as finite
 use Rattle.std.specs.FinMap.Entries.{is_sorted}
