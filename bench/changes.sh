@@ -13,7 +13,7 @@ trap 'rm -rf "$work"' EXIT
 
 mkdir "$work/people" "$work/group"
 cp "$here/dir.conf" "$work/people"
-cp "$here/dir.conf" "$work/group"
+(cat "$here/dir.conf"; echo "attributetype ( 2.5.4.31 NAME 'member' EQUALITY distinguishedNameMatch SYNTAX 1.3.6.1.4.1.1466.115.121.1.12 )") > "$work/group/dir.conf"
 python3 "$here/people.py" 100000 > "$work/people.ldif"
 python3 "$here/changes.py" group > "$work/group.ldif"
 "$program" slapadd --db "$work/people" -l "$work/people.ldif"

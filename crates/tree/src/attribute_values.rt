@@ -37,6 +37,21 @@ fn is_left(
     }
 }
 
+/// As many values as are copied each by itself. More of them are shared with their copies: a record that changes one of many values
+/// then copies none.
+const FEW: usize = 64;
+
+// The same value again, where the attribute has so many.
+fn copy_value(alloc: Global, value: &Value, count: usize) -> Result<Value, AllocError>
+    ensures { IfOk result (λ v. v ≡ value.now) }
+{
+    if count > FEW {
+        value.share(alloc)
+    } else {
+        value.copy(alloc)
+    }
+}
+
 /// The values of an attribute in order; one takes no allocation of its own. A contract sees the list of them.
 pub struct Values {
     items: SmallVec<Value, 1>,
@@ -83,7 +98,7 @@ impl Values {
     {
         let mut items = SmallVec::with_capacity(alloc, self.len())?;
         for value in self.as_slice() {
-            items.push(value.copy(alloc)?)?;
+            items.push(copy_value(alloc, value, self.len())?)?;
         }
         Ok(Values { items })
     }

@@ -5,9 +5,12 @@ mod name_index;
 mod table;
 mod types;
 mod value;
+mod value_form;
+mod written;
 
 pub use name_index::NameIndex;
 pub use paths::TypeId;
 pub use table::TypeTable;
 pub use types::{AttributeType, EqualityRule, TypeSyntax};
-pub use value::{Value, ValueFault, norm_by};
+pub use value::{Value, ValueFault};
+pub use written::norm_by;
