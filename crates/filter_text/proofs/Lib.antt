@@ -1,0 +1,9 @@
+pub mod Runs
+pub mod ValueTexts
+pub mod PieceTexts
+pub mod ShapeTexts
+pub mod ItemTexts
+pub mod Texts
+pub mod Readings
+pub mod Wholes
+pub mod Depths
