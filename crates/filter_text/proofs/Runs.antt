@@ -1,5 +1,6 @@
 -- Runs of bytes, and results of readers.
-use Rattle.std.proofs.Common.{◌≡◌, ℕ, ◌+◌, Bool, true, false, cond, List, [], ◌∷◌, ◌++◌, Result, Ok, Err, refl, sym, ap, subst, ◌∙◌, append_assoc, length, arith, length-append, ◌≤◌}
+use Rattle.std.proofs.Common.{◌≡◌, ℕ, ◌+◌, Bool, true, false, cond, List, [], ◌∷◌, ◌++◌, Result, Ok, Err, refl, sym, ap, subst, ◌∙◌, append_assoc, length, arith, length-append, ◌≤◌, ◌<◌, ◌==◌}
+use Rattle.std.proofs.lemmas.Bool.Decides.{nat_tests}
 use Rattle.std.specs.Result.{MatchResult, IfErr, IsErrAnd}
 use Rattle.filter_text.specs.declared.fault.Fault.{Fault}
 use Rattle.filter_text.specs.declared.fault.Fault.TheVariants.{OutOfMemory, Syntax}
@@ -103,3 +104,15 @@ stops_by b bytes false e h = e
 pub front_stops : (bytes : List ℕ) → Stops is_space (without_front bytes)
 front_stops [] = tt
 front_stops (b ∷ bytes) = stops_by b bytes (is_space b) refl (front_stops bytes)
+
+-- what a test for no bytes tells
+pub some_left : (xs : List ℕ) {b : Bool} → b ≡ (length xs == 0) → b ≡ false → 0 < length xs
+some_left [] e f = absurd (let clash : true ≡ false = sym e ∙ f in cc)
+some_left (x ∷ xs) e f = omega arith
+
+some_length : (n : ℕ) → 0 < n → (n == 0) ≡ false
+some_length n h = grind (arith, nat_tests)
+
+pub none_is_left : (xs : List ℕ) {b : Bool} → b ≡ (length xs == 0) → b ≡ true → xs ≡ []
+none_is_left [] e t = refl
+none_is_left (x ∷ xs) e t = absurd (both_ways (sym e ∙ t) (some_length (length (x ∷ xs)) (omega arith)))

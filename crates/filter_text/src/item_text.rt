@@ -86,7 +86,7 @@ pub fn item_of(alloc: Global, text: &[u8]) -> Result<Item, Fault>
     ensures front { IfErr result (Faulty SomeItem text.now) }
 {
     let (name, rest) = name_at(text);
-    if name.len() == 0 {
+    if name.is_empty() {
         let (words, value) = words_of(alloc, rest, 1)?;
         return Ok(Item::Extensible {
             attribute: None,

@@ -37,7 +37,7 @@ pub fn pieces_of(alloc: Global, text: &[u8]) -> Result<(Bytes, Vec<Bytes>), Faul
         others.push(piece)?;
         rest = end;
     }
-    if rest.len() > 0 {
+    if !rest.is_empty() {
         return Err(Fault::Syntax(rest.len()));
     }
     Ok((first, others))

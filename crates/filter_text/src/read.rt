@@ -24,13 +24,13 @@ fn whole(alloc: Global, text: &[u8]) -> Result<Filter, Fault>
     if opens(start) {
         let (filter, end) = filter_at(alloc, start)?;
         let rest = after_spaces(end);
-        if rest.len() > 0 {
+        if !rest.is_empty() {
             return Err(Fault::Syntax(rest.len()));
         }
         return Ok(filter);
     }
     let (filter, end) = comp_at(alloc, start)?;
-    if end.len() > 0 {
+    if !end.is_empty() {
         return Err(Fault::Syntax(end.len()));
     }
     Ok(filter)

@@ -90,7 +90,7 @@ pub fn value_of(alloc: Global, text: &[u8]) -> Result<Bytes, Fault>
     ensures front { IfErr result (Faulty SomeValue text.now) }
 {
     let (value, rest) = value_at(alloc, text)?;
-    if rest.len() > 0 {
+    if !rest.is_empty() {
         return Err(Fault::Syntax(rest.len()));
     }
     Ok(value)

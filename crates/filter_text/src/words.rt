@@ -7,6 +7,10 @@ ghost use Rattle.filter_text.specs.Items.{IsWords};
 use crate::cursor::{after, name_at};
 use crate::fault::Fault;
 use crate::values::value_of;
+
+/// As many words may stand behind an attribute.
+const MOST: usize = 2;
+
 use base::{Bytes, Sequence};
 use std::alloc::Global;
 
@@ -31,11 +35,11 @@ pub fn words_of(alloc: Global, text: &[u8], least: usize) -> Result<(Sequence<By
             let value = value_of(alloc, right)?;
             return Ok((words, value));
         }
-        if words.len() == 2 {
+        if words.len() == MOST {
             return Err(Fault::Syntax(more.len()));
         }
         let (run, end) = name_at(more);
-        if run.len() == 0 {
+        if run.is_empty() {
             return Err(Fault::Syntax(more.len()));
         }
         let word = Bytes::from_slice(alloc, run)?;

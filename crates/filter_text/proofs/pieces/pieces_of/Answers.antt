@@ -3,7 +3,7 @@ use Rattle.std.proofs.lemmas.List.{append-nil}
 use Rattle.filter_text.specs.Runs.{Stops, is_star}
 use Rattle.filter_text.specs.Values.{SomeValue}
 use Rattle.filter_text.specs.inner.Pieces.{IsStarred, IsPieces, SomePieces}
-use Rattle.filter_text.proofs.Runs.{exit_only, exit_front, faulty_in, both_ways, stops_at, none_left}
+use Rattle.filter_text.proofs.Runs.{exit_only, exit_front, faulty_in, both_ways, stops_at, none_is_left, some_left}
 use Rattle.filter_text.proofs.ValueTexts.{one_value}
 use Rattle.filter_text.proofs.PieceTexts.{tail_stops, stops_after, value_stops_star, tail_goes_on, tail_ends, pattern_first, pattern_value}
 use Rattle.filter_text.proofs.pieces.pieces_of.Goals as goal
@@ -88,22 +88,22 @@ stars-preserved c =
           (next.1, subst (IsStarred next.1) (sym one.1) next.6, o.2 ∙ ap (λ xs. c.in_ok-first.first ∷ c.stars.others.items ++ xs) (next.4 ∙ ap (λ z. z ∷ next.1) (sym one.0)) ∙ sym (same next.1));
     }
 
-pub returns-then-rest-gt0-clause-only : goal.returns-then-rest-gt0-clause-only
-returns-then-rest-gt0-clause-only c ps h =
+pub returns-then-not-is_empty-clause-only : goal.returns-then-not-is_empty-clause-only
+returns-then-not-is_empty-clause-only c ps h =
     let o = c.stars.invariant.only ps h in
     let none = ap (λ xs. length xs) (tail_ends o.0 c.stars.rest.now o.1 c.in_default.ensures).1 in
-    let some = c.if-rest-gt0.true in
+    let some = some_left c.stars.rest.now c.is_empty.ensures c.if-not-is_empty.true in
     omega (arith, none, some)
 
-pub returns-then-rest-gt0-clause-front : goal.returns-then-rest-gt0-clause-front
-returns-then-rest-gt0-clause-front c =
+pub returns-then-not-is_empty-clause-front : goal.returns-then-not-is_empty-clause-front
+returns-then-not-is_empty-clause-front c =
     let old = c.stars.invariant.found in
     record { done = old.0; rest = c.stars.rest.now; all = old.1; from_end = refl; more = []; viable = (c.in_ok-first.first ∷ c.stars.others.items ++ [], old.2 [] [] refl (λ _. tt)) }
 
 pub returns-clause-found : goal.returns-clause-found
 returns-clause-found c =
     let old = c.stars.invariant.found in
-    let none = none_left c.stars.rest.now c.if-rest-gt0.false in
+    let none = none_is_left c.stars.rest.now c.is_empty.ensures c.if-not-is_empty.false in
     subst (λ (ps : List (List ℕ)). IsPieces ps c.args.text.now) (append-nil (c.in_ok-first.first ∷ c.stars.others.items))
     (subst (IsPieces (c.in_ok-first.first ∷ c.stars.others.items ++ [])) (ap (λ xs. old.0 ++ xs) (sym none) ∙ sym old.1) (old.2 [] [] refl (λ _. tt)))
 

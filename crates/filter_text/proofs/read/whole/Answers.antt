@@ -1,7 +1,7 @@
 use Rattle.std.proofs.Common.{[], ◌++◌, refl, sym, ap, subst, ◌∙◌, append_assoc, arith, length, inl, inr}
 use Rattle.std.proofs.lemmas.List.{append-nil}
 use Rattle.filter_text.specs.Spells.{view, IsFilterComp, SomeFilter, SomeFilterComp, SomeText}
-use Rattle.filter_text.proofs.Runs.{exit_only, exit_front, faulty_in}
+use Rattle.filter_text.proofs.Runs.{exit_only, exit_front, faulty_in, some_left}
 use Rattle.filter_text.proofs.Wholes.{whole_wrapped, whole_bare, all_skipped}
 use Rattle.filter_text.proofs.read.whole.Goals as goal
 
@@ -18,19 +18,19 @@ returns-in_err-filter-clause-front c =
     exit_front SomeText c.args.text.now c.from_residual.result _ c.from_residual.ensures.1
     (faulty_in SomeFilter SomeText run.0 c.args.text.now c.after_spaces-start.result.now run.2 (λ t h. ([], (h.0, inl (run.0, t, [], refl, run.1, h.1, tt)))) _ c.in_err-filter.ensures.front)
 
-pub returns-then-rest-gt0-clause-only : goal.returns-then-rest-gt0-clause-only
-returns-then-rest-gt0-clause-only c f h =
+pub returns-then-not-is_empty-clause-only : goal.returns-then-not-is_empty-clause-only
+returns-then-not-is_empty-clause-only c f h =
     let run = c.after_spaces-start.ensures.run in
     let opening = c.if-opens.ensures.yes refl in
     let w = whole_wrapped f c.args.text.now run.0 c.after_spaces-start.result.now opening.0 run.1 c.after_spaces-start.ensures.stops run.2 opening.1 h in
     let read = c.in_ok-filter.ensures.only f w.0 w.1 w.3 w.2 in
     let after = c.after_spaces-rest.ensures.run in
     let none = ap (λ xs. length xs) (all_skipped w.1 after.0 c.after_spaces-rest.result.now w.4 after.1 c.after_spaces-rest.ensures.stops (sym read.1 ∙ after.2)) in
-    let some = c.if-rest-gt0.true in
+    let some = some_left c.after_spaces-rest.result.now c.is_empty.ensures c.if-not-is_empty.true in
     omega (arith, none, some)
 
-pub returns-then-rest-gt0-clause-front : goal.returns-then-rest-gt0-clause-front
-returns-then-rest-gt0-clause-front c =
+pub returns-then-not-is_empty-clause-front : goal.returns-then-not-is_empty-clause-front
+returns-then-not-is_empty-clause-front c =
     let run = c.after_spaces-start.ensures.run in
     let after = c.after_spaces-rest.ensures.run in
     let found = c.in_ok-filter.ensures.found in
@@ -64,16 +64,16 @@ returns-in_err-filter-2-clause-front c =
     exit_front SomeText c.args.text.now c.from_residual-in_err-filter-2.result _ c.from_residual-in_err-filter-2.ensures.1
     (faulty_in SomeFilterComp SomeText run.0 c.args.text.now c.after_spaces-start.result.now run.2 (λ t h. ([], (h.0, inr (run.0, t ++ [], refl, run.1, subst (IsFilterComp h.0) (sym (append-nil t)) h.1)))) _ c.in_err-filter-2.ensures.front)
 
-pub returns-then-end-gt0-clause-only : goal.returns-then-end-gt0-clause-only
-returns-then-end-gt0-clause-only c f h =
+pub returns-then-not-is_empty-2-clause-only : goal.returns-then-not-is_empty-2-clause-only
+returns-then-not-is_empty-2-clause-only c f h =
     let run = c.after_spaces-start.ensures.run in
     let w = whole_bare f c.args.text.now run.0 c.after_spaces-start.result.now run.1 c.after_spaces-start.ensures.stops run.2 (c.if-opens.ensures.no refl) h in
     let none = ap (λ xs. length xs) (c.in_ok-filter-2.ensures.only f c.after_spaces-start.result.now [] w tt (sym (append-nil c.after_spaces-start.result.now))).1 in
-    let some = c.if-end-gt0.true in
+    let some = some_left c.in_ok-filter-2.end.now c.is_empty-2.ensures c.if-not-is_empty-2.true in
     omega (arith, none, some)
 
-pub returns-then-end-gt0-clause-front : goal.returns-then-end-gt0-clause-front
-returns-then-end-gt0-clause-front c =
+pub returns-then-not-is_empty-2-clause-front : goal.returns-then-not-is_empty-2-clause-front
+returns-then-not-is_empty-2-clause-front c =
     let run = c.after_spaces-start.ensures.run in
     let found = c.in_ok-filter-2.ensures.found in
     let end = c.in_ok-filter-2.end.now in

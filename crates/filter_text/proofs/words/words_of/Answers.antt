@@ -4,7 +4,7 @@ use Rattle.filter_text.specs.inner.Begins.{Begins}
 use Rattle.filter_text.specs.Values.{IsValue, SomeValue}
 use Rattle.filter_text.specs.inner.Shapes.{IsAmount, SomeWords}
 use Rattle.filter_text.specs.Items.{IsWords}
-use Rattle.filter_text.proofs.Runs.{exit_only, exit_front, faulty_in, both_ways, stops_at}
+use Rattle.filter_text.proofs.Runs.{exit_only, exit_front, faulty_in, both_ways, stops_at, none_is_left, some_left}
 use Rattle.filter_text.proofs.ShapeTexts.{words_first, words_go_on, words_end, words_more, completes}
 use Rattle.filter_text.proofs.words.words_of.Goals as goal
 
@@ -90,32 +90,32 @@ returns-in-Some-after-clause-only c ws v h a =
     let ends = words_end o.0 v c.words.rest.now c.in-Some-after.right.now o.1 (c.in-Some.ensures ∙ ap (λ xs. 58 ∷ xs) c.in-Some-after.ensures) in
     (sym (o.2 ∙ ap (λ xs. c.words.words ++ xs) ends.0 ∙ append-nil c.words.words), c.in_ok-value.ensures.only v ends.1)
 
-pub returns-then-len-eq2-clause-only : goal.returns-then-len-eq2-clause-only
-returns-then-len-eq2-clause-only c ws v h a =
+pub returns-then-len-eq-MOST-clause-only : goal.returns-then-len-eq-MOST-clause-only
+returns-then-len-eq-MOST-clause-only c ws v h a =
     let o = c.words.invariant.only ws v h in
     let more = words_more o.0 v c.words.rest.now c.in-Some.more.now o.1 c.in-Some.ensures c.in_default-after.ensures in
     let long = ap (λ xs. length xs) o.2 ∙ length-append c.words.words o.0 in
-    let two = c.if-len-eq2.true in
+    let two = c.if-len-eq-MOST.true in
     let most = a.1 in
     let len : c.len-in-words.result ≡ length c.words.words = search rules in
     omega (arith, more, long, two, most, len)
 
-pub returns-then-len-eq2-clause-front : goal.returns-then-len-eq2-clause-front
-returns-then-len-eq2-clause-front c =
+pub returns-then-len-eq-MOST-clause-front : goal.returns-then-len-eq-MOST-clause-front
+returns-then-len-eq-MOST-clause-front c =
     let old = c.words.invariant.found in
     behind c.args.least c.words.words old.0 c.words.rest.now c.in-Some.more.now c.args.text.now c.requires c.words.invariant.few old.1 c.in-Some.ensures old.2
 
-pub returns-then-run-eq0-clause-only : goal.returns-then-run-eq0-clause-only
-returns-then-run-eq0-clause-only c ws v h a =
+pub returns-then-is_empty-clause-only : goal.returns-then-is_empty-clause-only
+returns-then-is_empty-clause-only c ws v h a =
     let o = c.words.invariant.only ws v h in
     let n = c.name_at.ensures in
     let next = words_go_on o.0 v c.words.rest.now c.in-Some.more.now c.name_at.result.0.now c.name_at.result.1.now o.1 c.in-Some.ensures c.in_default-after.ensures n.run n.stops n.all in
     let some = next.3.0 in
-    let none = c.if-run-eq0.true in
+    let none = ap (λ xs. length xs) (none_is_left c.name_at.result.0.now c.is_empty.ensures c.if-is_empty.true) in
     omega (arith, some, none)
 
-pub returns-then-run-eq0-clause-front : goal.returns-then-run-eq0-clause-front
-returns-then-run-eq0-clause-front c =
+pub returns-then-is_empty-clause-front : goal.returns-then-is_empty-clause-front
+returns-then-is_empty-clause-front c =
     let old = c.words.invariant.found in
     behind c.args.least c.words.words old.0 c.words.rest.now c.in-Some.more.now c.args.text.now c.requires c.words.invariant.few old.1 c.in-Some.ensures old.2
 
@@ -128,10 +128,10 @@ words-preserved c =
     let ws = c.words.words in
     let word = c.in_ok-word.word in
     let same = λ (vs : List (List ℕ)). ap (λ xs. xs ++ vs) c.in_ok-push.ensures.ok ∙ append_assoc ws (word ∷ []) vs ∙ ap (λ w. ws ++ w ∷ vs) c.in_ok-word.ensures in
-    let some : 0 < length run = (let f = c.if-run-eq0.false in omega (arith, f)) in
+    let some : 0 < length run = some_left run c.is_empty.ensures c.if-is_empty.false in
     let long = ap (λ xs. length xs) (sym (append-nil c.push.new.self) ∙ same []) ∙ length-append ws (run ∷ []) in
     let few = c.words.invariant.few in
-    let not_two = c.if-len-eq2.false in
+    let not_two = c.if-len-eq-MOST.false in
     let len : c.len-in-words.result ≡ length c.words.words = search rules in
     record {
       few = omega (arith, long, few, not_two, len);
