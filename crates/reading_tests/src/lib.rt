@@ -8,6 +8,8 @@ mod adapters;
 #[cfg(test)]
 mod changes;
 #[cfg(test)]
+mod filters;
+#[cfg(test)]
 mod lines_in_little_memory;
 mod little_memory;
 #[cfg(test)]

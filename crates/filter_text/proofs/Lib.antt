@@ -1,0 +1,10 @@
+pub mod Depths
+pub mod Examples
+pub mod ItemTexts
+pub mod PieceTexts
+pub mod Readings
+pub mod Runs
+pub mod ShapeTexts
+pub mod Texts
+pub mod ValueTexts
+pub mod Wholes

@@ -1,0 +1,142 @@
+-- Texts of filters, put together and taken apart.
+use Rattle.std.proofs.Common.{◌≡◌, ℕ, ◌==◌, List, [], ◌∷◌, ◌++◌, map, refl, sym, ap, subst, ◌∙◌, append_assoc, arith}
+use Rattle.std.proofs.Common.{Vec, Box, Global, true, false}
+use Rattle.std.proofs.lemmas.Grind.{common_steps}
+use Rattle.filter_text.specs.declared.filters.Filter.TheViews.{And, Or, Not}
+use Rattle.filter_text.specs.declared.filters.Filter.TheBlock as block
+use Rattle.filter_text.specs.declared.filters.Filter.TheVariants.{rolls-And, rolls-Or, rolls-Not, rolls-Item}
+use Rattle.filter_text.specs.declared.filters.Filter.TheOpen as layer
+use Rattle.filter_text.specs.declared.filters.Filter.TheFolds.{fold-roll-Filter}
+use Rattle.filter_text.specs.declared.filters.Filter.{Filter}
+use Rattle.filter_text.specs.declared.items.Item.{Item}
+use Rattle.filter_text.specs.Items.{IsItem}
+use Rattle.base.specs.Ends.{is_space}
+use Rattle.filter_text.specs.Runs.{Run, Stops, Closed, is_plain, is_item_first}
+use Rattle.filter_text.specs.Spells.{Tree, Trees, All_of, Any_of, Not_of, Leaf, No_more, And_then, trees_then, views, view, view_step, IsFilterComp, IsFilterList, IsFilter, IsSpacedList, SomeFilter}
+use Rattle.filter_text.proofs.Runs.{head_eq, tail_eq, stops_at, both_ways, same_span, closed_space, closed_plain}
+use Rattle.filter_text.proofs.ItemTexts.{item_plain, item_first}
+
+pub view_and : (parts : Vec Filter Global) → view (And parts) ≡ All_of (views parts.items)
+view_and parts = ap view (sym (rolls-And parts)) ∙ fold-roll-Filter Tree view_step (layer.And parts)
+
+pub view_or : (parts : Vec Filter Global) → view (Or parts) ≡ Any_of (views parts.items)
+view_or parts = ap view (sym (rolls-Or parts)) ∙ fold-roll-Filter Tree view_step (layer.Or parts)
+
+pub view_not : (part : Box Filter Global) → view (Not part) ≡ Not_of (view part.value)
+view_not part = ap view (sym (rolls-Not part)) ∙ fold-roll-Filter Tree view_step (layer.Not part)
+
+pub view_item : (item : Item) → view (block.Item item) ≡ Leaf item
+view_item item = ap view (sym (rolls-Item item)) ∙ fold-roll-Filter Tree view_step (layer.Item item)
+
+pub map_push : {X Y : Type 0} (f : X → Y) (xs : List X) (x : X) → map f (xs ++ x ∷ []) ≡ map f xs ++ f x ∷ []
+map_push f [] x = refl
+map_push f (y ∷ xs) x = ap (λ zs. f y ∷ zs) (map_push f xs x)
+
+pub trees_push : (ts : List Tree) (t : Tree) (us : Trees) → trees_then (ts ++ t ∷ []) us ≡ trees_then ts (And_then t us)
+trees_push [] t us = refl
+trees_push (x ∷ ts) t us = ap (And_then x) (trees_push ts t us)
+
+pub views_push : (fs gs : List Filter) (f : Filter) (us : Trees) → gs ≡ fs ++ f ∷ [] → trees_then (map view gs) us ≡ trees_then (map view fs) (And_then (view f) us)
+views_push fs gs f us e = ap (λ hs. trees_then (map view hs) us) e ∙ ap (λ ts. trees_then ts us) (map_push view fs f) ∙ trees_push (map view fs) (view f) us
+
+pub item_clash : (byte b : ℕ) → is_item_first byte ≡ false → is_item_first b ≡ true → byte ≡ b → ⊥
+item_clash byte b other first e = both_ways first (ap is_item_first (sym e) ∙ other)
+
+byte_differs : (byte b : ℕ) → (b ≡ byte → ⊥) → (b == byte) ≡ false
+byte_differs byte b apart = grind (arith, common_steps)
+
+pub differs : (byte b : ℕ) → is_item_first byte ≡ false → is_item_first b ≡ true → (b == byte) ≡ false
+differs byte b other first = byte_differs byte b (λ e. item_clash byte b other first (sym e))
+
+-- which filter a first byte begins
+pub comp_and : (f : Tree) (text more list : List ℕ) → IsFilterComp f text → 38 ∷ list ≡ text ++ more → (parts : Trees) × (inner : List ℕ) × (f ≡ All_of parts) × IsSpacedList parts inner × (list ≡ inner ++ more)
+comp_and (All_of parts) text more list h e = (parts, h.0, refl, h.2, tail_eq (e ∙ ap (λ xs. xs ++ more) h.1))
+comp_and (Any_of parts) text more list h e = absurd (let clash = head_eq (e ∙ ap (λ xs. xs ++ more) h.1) in omega (arith, clash))
+comp_and (Not_of part) text more list h e = absurd (let clash = head_eq (e ∙ ap (λ xs. xs ++ more) h.3) in omega (arith, clash))
+comp_and (Leaf item) text more list h e = let first = item_first item text h in absurd (item_clash 38 first.0 refl first.3 (head_eq (e ∙ ap (λ xs. xs ++ more) first.2)))
+
+pub comp_or : (f : Tree) (text more list : List ℕ) → IsFilterComp f text → 124 ∷ list ≡ text ++ more → (parts : Trees) × (inner : List ℕ) × (f ≡ Any_of parts) × IsSpacedList parts inner × (list ≡ inner ++ more)
+comp_or (Any_of parts) text more list h e = (parts, h.0, refl, h.2, tail_eq (e ∙ ap (λ xs. xs ++ more) h.1))
+comp_or (All_of parts) text more list h e = absurd (let clash = head_eq (e ∙ ap (λ xs. xs ++ more) h.1) in omega (arith, clash))
+comp_or (Not_of part) text more list h e = absurd (let clash = head_eq (e ∙ ap (λ xs. xs ++ more) h.3) in omega (arith, clash))
+comp_or (Leaf item) text more list h e = let first = item_first item text h in absurd (item_clash 124 first.0 refl first.3 (head_eq (e ∙ ap (λ xs. xs ++ more) first.2)))
+
+pub comp_not : (f : Tree) (text more list : List ℕ) → IsFilterComp f text → 33 ∷ list ≡ text ++ more
+    → (part : Tree) × (s : List ℕ) × (a : List ℕ) × (z : List ℕ) × (f ≡ Not_of part) × Run is_space s × IsFilter part a × Run is_space z × (list ≡ s ++ (a ++ (z ++ more)))
+comp_not (Not_of part) text more list h e = (
+  part,
+  h.0,
+  h.1,
+  h.2,
+  refl,
+  h.4,
+  h.5,
+  h.6,
+  tail_eq (e ∙ ap (λ xs. xs ++ more) h.3) ∙ append_assoc h.0 (h.1 ++ h.2) more ∙ ap (λ xs. h.0 ++ xs) (append_assoc h.1 h.2 more),
+)
+comp_not (All_of parts) text more list h e = absurd (let clash = head_eq (e ∙ ap (λ xs. xs ++ more) h.1) in omega (arith, clash))
+comp_not (Any_of parts) text more list h e = absurd (let clash = head_eq (e ∙ ap (λ xs. xs ++ more) h.1) in omega (arith, clash))
+comp_not (Leaf item) text more list h e = let first = item_first item text h in absurd (item_clash 33 first.0 refl first.3 (head_eq (e ∙ ap (λ xs. xs ++ more) first.2)))
+
+-- the byte is not that one
+abbrev pub Not_first : ℕ → List ℕ → Type 0
+Not_first byte bytes = Stops (λ b. b == byte) bytes
+
+pub not_first : (byte : ℕ) (bytes rest : List ℕ) → (byte == byte) ≡ true → Not_first byte bytes → bytes ≡ byte ∷ rest → ⊥
+not_first byte bytes rest same s e = both_ways same (stops_at (λ b. b == byte) byte bytes rest s e)
+
+pub comp_item : (f : Tree) (bytes text more : List ℕ) → Not_first 38 bytes → Not_first 124 bytes → Not_first 33 bytes → IsFilterComp f text → bytes ≡ text ++ more
+    → (item : Item) × (f ≡ Leaf item) × IsItem item text
+comp_item (All_of parts) bytes text more a o n h e = absurd (not_first 38 bytes (h.0 ++ more) refl a (e ∙ ap (λ xs. xs ++ more) h.1))
+comp_item (Any_of parts) bytes text more a o n h e = absurd (not_first 124 bytes (h.0 ++ more) refl o (e ∙ ap (λ xs. xs ++ more) h.1))
+comp_item (Not_of part) bytes text more a o n h e = absurd (not_first 33 bytes ((h.0 ++ (h.1 ++ h.2)) ++ more) refl n (e ∙ ap (λ xs. xs ++ more) h.3))
+comp_item (Leaf item) bytes text more a o n h e = (item, refl, h)
+
+-- an item ends at the first parenthesis
+pub item_only : (item : Item) (bytes text end t more : List ℕ) → Run is_plain text → Stops is_plain end → bytes ≡ text ++ end → IsItem item t → Closed more → bytes ≡ t ++ more → (t ≡ text) × (end ≡ more)
+item_only item bytes text end t more r s all h closed e =
+    let both = same_span is_plain t text more end (item_plain item t h) r (closed_plain more closed) s (sym e ∙ all) in
+    (both.0, sym both.1)
+
+pub list_stops : (fs : Trees) (t more : List ℕ) → IsFilterList fs t → Closed more → Stops is_space (t ++ more)
+list_stops No_more t more h closed = subst (λ (xs : List ℕ). Stops is_space (xs ++ more)) (sym h) (closed_space more closed)
+list_stops (And_then f fs) t more h closed = subst (λ (xs : List ℕ). Stops is_space (xs ++ more)) (sym (h.2 ∙ ap (λ xs. xs ++ h.1) h.3.1)) refl
+
+-- the spaces before a list are those that were skipped
+pub list_only : (fs : Trees) (bytes text more s rest : List ℕ) → IsSpacedList fs text → Closed more → bytes ≡ text ++ more → Run is_space s → bytes ≡ s ++ rest → Stops is_space rest
+    → (t : List ℕ) × IsFilterList fs t × (rest ≡ t ++ more)
+list_only fs bytes text more s rest h closed e r all stops =
+    let cut = e ∙ ap (λ xs. xs ++ more) h.2 ∙ append_assoc h.0 h.1 more in
+    let both = same_span is_space s h.0 rest (h.1 ++ more) r h.3 stops (list_stops fs h.1 more h.4 closed) (sym all ∙ cut) in
+    (h.1, h.4, both.1)
+
+-- a filter begins with a parenthesis, so spaces before it are skipped
+pub filter_after : (f : Tree) (bytes s rest z a more : List ℕ) → Run is_space s → bytes ≡ s ++ rest → Stops is_space rest → Run is_space z → IsFilter f a → bytes ≡ z ++ (a ++ more) → rest ≡ a ++ more
+filter_after f bytes s rest z a more r all stops q h e =
+    (same_span is_space s z rest (a ++ more) r q stops (subst (λ (xs : List ℕ). Stops is_space (xs ++ more)) (sym h.1) refl) (sym all ∙ e)).1
+
+-- a list that goes on at a parenthesis has one more filter
+pub list_goes_on : (fs : Trees) (rest inside t more : List ℕ) → IsFilterList fs t → Closed more → rest ≡ 40 ∷ inside → rest ≡ t ++ more
+    → (f : Tree) × (gs : Trees) × (a : List ℕ) × (b : List ℕ) × (fs ≡ And_then f gs) × IsFilter f a × IsSpacedList gs b × (rest ≡ a ++ (b ++ more))
+list_goes_on No_more rest inside t [] h closed e all = absurd (let clash : 40 ∷ inside ≡ [] = sym e ∙ all ∙ ap (λ xs. xs ++ []) h in cc)
+list_goes_on No_more rest inside t (b ∷ more) h closed e all = absurd (let clash = head_eq (sym e ∙ all ∙ ap (λ xs. xs ++ b ∷ more) h) in omega (arith, clash, closed))
+list_goes_on (And_then f gs) rest inside t more h closed e all = (f, gs, h.0, h.1, refl, h.3, h.4, all ∙ ap (λ xs. xs ++ more) h.2 ∙ append_assoc h.0 h.1 more)
+
+-- a list that stops has no more filters
+pub list_ends : (fs : Trees) (rest t more : List ℕ) → IsFilterList fs t → Not_first 40 rest → rest ≡ t ++ more → (fs ≡ No_more) × (rest ≡ more)
+list_ends No_more rest t more h s all = (refl, all ∙ ap (λ xs. xs ++ more) h)
+list_ends (And_then f gs) rest t more h s all = absurd (not_first 40 rest ((h.3.0 ++ 41 ∷ []) ++ h.1 ++ more) refl s (all ∙ ap (λ xs. xs ++ more) (h.2 ∙ ap (λ xs. xs ++ h.1) h.3.1)))
+
+-- any text that may follow closes a list, a filter
+pub empty_filter : SomeFilter (40 ∷ 38 ∷ 41 ∷ [])
+empty_filter = (All_of No_more, (38 ∷ [], refl, ([], refl, ([], [], refl, tt, refl))))
+
+-- what stands between parentheses begins with no space and no parenthesis
+pub comp_first : (f : Tree) (a : List ℕ) → IsFilterComp f a → (b : ℕ) × (rest : List ℕ) × (a ≡ b ∷ rest) × (is_space b ≡ false) × ((b == 40) ≡ false)
+comp_first (All_of parts) a h = (38, h.0, h.1, refl, refl)
+comp_first (Any_of parts) a h = (124, h.0, h.1, refl, refl)
+comp_first (Not_of part) a h = (33, h.0 ++ (h.1 ++ h.2), h.3, refl, refl)
+comp_first (Leaf item) a h = let first = item_first item a h in (first.0, first.1, first.2, differs 32 first.0 refl first.3, differs 40 first.0 refl first.3)
+
+pub spells_stops : (f : Tree) (a more : List ℕ) → IsFilter f a → Stops is_space (a ++ more)
+spells_stops f a more h = subst (λ (xs : List ℕ). Stops is_space (xs ++ more)) (sym h.1) refl

@@ -1,0 +1,29 @@
+use Rattle.std.proofs.Common.{◌≡◌, ◌≤◌, ◌*◌, ◌+◌, ◌++◌, List, ℕ, length, map}
+use Rattle.base.specs.Ends.{is_space}
+use Rattle.filter_text.specs.Runs.{Closed, Stops}
+use Rattle.filter_text.specs.Spells.{Trees, trees_then, view, IsSpacedList, IsFilterList}
+use Rattle.filter_text.proofs.descent.+reader.Given as goal
+
+abbrev pub decreases-filter_at : goal.decreases-filter_at
+decreases-filter_at l = 3 * length l.bytes.now
+
+abbrev pub decreases-comp_at : goal.decreases-comp_at
+decreases-comp_at l = 3 * length l.bytes.now + 2
+
+abbrev pub decreases-list_at : goal.decreases-list_at
+decreases-list_at l = 3 * length l.bytes.now + 1
+
+-- whatever list follows, the filters so far come before it
+abbrev pub invariant-list_at-parts : goal.invariant-list_at-parts
+invariant-list_at-parts l =
+    record {
+      no_longer : length l.rest ≤ length l.fn.bytes;
+      stops : Stops is_space l.rest;
+      found : (text : List ℕ) × (l.fn.bytes ≡ text ++ l.rest)
+          × ((us : Trees) (t : List ℕ) → IsFilterList us t → IsSpacedList (trees_then (map view l.parts.items) us) (text ++ t));
+      only : (fs : Trees) (text more : List ℕ) → IsSpacedList fs text → Closed more → l.fn.bytes ≡ text ++ more
+          → (us : Trees) × (t : List ℕ) × IsFilterList us t × (l.rest ≡ t ++ more) × (fs ≡ trees_then (map view l.parts.items) us);
+    }
+
+abbrev pub decreases-list_at-parts : goal.decreases-list_at-parts
+decreases-list_at-parts l = length l.rest

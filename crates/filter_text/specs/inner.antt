@@ -1,0 +1,4 @@
+pub mod Begins
+pub mod Pieces
+pub mod Shapes
+pub mod Depth
