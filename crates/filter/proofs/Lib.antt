@@ -1,0 +1,9 @@
+pub mod Told
+pub mod PieceTests
+pub mod OrderTests
+pub mod SubtypeTests
+pub mod SubtypeRules
+pub mod Values
+pub mod Items
+pub mod Truths
+pub mod Trees
