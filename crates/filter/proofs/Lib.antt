@@ -7,3 +7,4 @@ pub mod Values
 pub mod Items
 pub mod Truths
 pub mod Trees
+pub mod Examples

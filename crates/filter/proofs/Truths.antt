@@ -3,7 +3,7 @@ use Rattle.std.proofs.Common.{◌≡◌, Bool, true, false, cond, List, ◌∷�
 use Rattle.std.specs.List.{list_any}
 use Rattle.filter.specs.declared.truth.Truth.{Truth}
 use Rattle.filter.specs.declared.truth.Truth.TheVariants.{True, Undefined, False}
-use Rattle.filter.specs.Truths.{and_of, or_of, is_false, is_true, is_undefined}
+use Rattle.filter.specs.Truths.{and_of, or_of, opposite, is_false, is_true, is_undefined}
 
 -- the lesser of two truths
 abbrev pub lesser : Truth → Truth → Truth
@@ -40,3 +40,8 @@ pub or_of_more : (t : Truth) (ts : List Truth) → or_of (t ∷ ts) ≡ greater 
 or_of_more False ts = refl
 or_of_more True ts = refl
 or_of_more Undefined ts = or_undefined (list_any is_true ts) (list_any is_undefined ts)
+
+pub twice : (t : Truth) → opposite (opposite t) ≡ t
+twice True = refl
+twice Undefined = refl
+twice False = refl

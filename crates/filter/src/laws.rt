@@ -4,8 +4,12 @@ ghost use Rattle.std.specs.Prelude.{◌≡◌, ◌<◌, ◌↔◌, true, Bool, �
 ghost use Rattle.matching.specs.Orders.{Before};
 ghost use Rattle.matching.specs.Substrings.{Fits};
 ghost use Rattle.matching.specs.declared.family.Family.{Family};
+ghost use Rattle.values.specs.declared.types.AttributeType.{AttributeType};
 ghost use Rattle.schema.specs.Conf.{Conf, IsConf};
 ghost use Rattle.schema.specs.Subtypes.{IsSubtype};
+ghost use Rattle.tree.specs.Entries.{Attributes};
+ghost use Rattle.filter_text.specs.Spells.{Tree, Not_of};
+ghost use Rattle.filter.specs.Filters.{truth};
 ghost use Rattle.filter.specs.Orders.{comes_before};
 ghost use Rattle.filter.specs.Pieces.{fits};
 ghost use Rattle.filter.specs.Subtypes.{is_subtype};
@@ -23,4 +27,9 @@ pub fn pieces_are_told()
 /// The test of an order tells which of two normal forms comes first.
 pub fn orders_are_told()
     ensures { (family : Family) (a b : List ℕ) → (comes_before family a b ≡ true) ↔ Before family a b }
+{}
+
+/// A filter says what the negation of its negation says.
+pub fn negating_twice_changes_nothing()
+    ensures { (types : List AttributeType) (attrs : Attributes) (f : Tree) → truth types attrs (Not_of (Not_of f)) ≡ truth types attrs f }
 {}

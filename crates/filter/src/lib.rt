@@ -15,7 +15,9 @@ mod truth;
 
 pub use assertion::Assertion;
 pub use filter_text::{Filter, Item};
-pub use laws::{orders_are_told, pieces_are_told, subtypes_are_told};
+pub use laws::{
+    negating_twice_changes_nothing, orders_are_told, pieces_are_told, subtypes_are_told,
+};
 pub use meter::Meter;
 pub use prepared::Prepared;
 pub use prepared_filter::PreparedFilter;
