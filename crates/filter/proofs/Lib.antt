@@ -1,0 +1,10 @@
+pub mod Told
+pub mod PieceTests
+pub mod OrderTests
+pub mod SubtypeTests
+pub mod SubtypeRules
+pub mod Values
+pub mod Items
+pub mod Truths
+pub mod Trees
+pub mod Examples

@@ -1,0 +1,74 @@
+-- Filters of settled items, part by part.
+use Rattle.std.proofs.Common.{◌≡◌, ℕ, ◌+◌, ◌<◌, ◌≤◌, List, [], ◌∷◌, ◌++◌, map, drop, length, get_or, refl, sym, ap, ◌∙◌, add-one, drop-cons}
+use Rattle.std.specs.List.{AllByRecursion}
+use Rattle.std.proofs.lemmas.List.{map-append}
+use Rattle.std.proofs.Math.ListN.{drop_of_length-le}
+use Rattle.values.specs.declared.types.AttributeType.{AttributeType}
+use Rattle.tree.specs.StoredEntries.{EntryAttribute, attributes_of, IsMadeAttribute}
+use Rattle.filter_text.specs.declared.filters.Filter.{Filter}
+use Rattle.filter_text.specs.Spells as texts
+use Rattle.filter.specs.declared.prepared_filter.PreparedFilter.{PreparedFilter}
+use Rattle.filter.specs.declared.truth.Truth.{Truth}
+use Rattle.filter.specs.Truths.{and_of, or_of, opposite}
+use Rattle.filter.specs.Filters.{truth, truths}
+use Rattle.filter.specs.Prepared.{Tree, Trees, And_then, trees_then, tree_of, trees_of, prepared_tree, prepared_trees, filter_test, filter_tests}
+use Rattle.filter.proofs.SubtypeTests.{AreTypes}
+use Rattle.filter.proofs.Items.{item_law}
+use Rattle.filter.proofs.Truths.{lesser, greater, and_of_more, or_of_more}
+
+-- ---- what is settled says the same
+
+mutual
+  pub filter_law : (types : List AttributeType) → AreTypes types → (attrs : List EntryAttribute) → AllByRecursion (IsMadeAttribute types) attrs
+      → (f : texts.Tree) → filter_test attrs (prepared_tree types f) ≡ truth types (attributes_of attrs) f
+  filter_law types each attrs made (texts.All_of parts) = ap and_of (filters_law types each attrs made parts)
+  filter_law types each attrs made (texts.Any_of parts) = ap or_of (filters_law types each attrs made parts)
+  filter_law types each attrs made (texts.Not_of part) = ap opposite (filter_law types each attrs made part)
+  filter_law types each attrs made (texts.Leaf item) = item_law types each attrs made item
+
+  filters_law : (types : List AttributeType) → AreTypes types → (attrs : List EntryAttribute) → AllByRecursion (IsMadeAttribute types) attrs
+      → (fs : texts.Trees) → filter_tests attrs (prepared_trees types fs) ≡ truths types (attributes_of attrs) fs
+  filters_law types each attrs made texts.No_more = refl
+  filters_law types each attrs made (texts.And_then first rest) =
+      ap (λ (t : Truth). t ∷ filter_tests attrs (prepared_trees types rest)) (filter_law types each attrs made first)
+      ∙ ap (λ (ts : List Truth). truth types (attributes_of attrs) first ∷ ts) (filters_law types each attrs made rest)
+
+-- ---- one part after the other
+
+-- the truths of the parts from one on
+abbrev pub from_part : List EntryAttribute → List PreparedFilter → ℕ → List Truth
+from_part attrs fs i = filter_tests attrs (trees_of (drop i fs))
+
+part_more : (attrs : List EntryAttribute) (fs : List PreparedFilter) (i : ℕ) (d : PreparedFilter) → i < length fs
+    → from_part attrs fs i ≡ filter_test attrs (tree_of (get_or fs i d)) ∷ from_part attrs fs (i + 1)
+part_more attrs fs i d lt = rw (add-one, drop-cons fs i d lt) refl
+
+pub and_next : (attrs : List EntryAttribute) (fs : List PreparedFilter) (i : ℕ) (d : PreparedFilter) → i < length fs
+    → and_of (from_part attrs fs i) ≡ lesser (filter_test attrs (tree_of (get_or fs i d))) (and_of (from_part attrs fs (i + 1)))
+and_next attrs fs i d lt = ap and_of (part_more attrs fs i d lt) ∙ and_of_more (filter_test attrs (tree_of (get_or fs i d))) (from_part attrs fs (i + 1))
+
+pub or_next : (attrs : List EntryAttribute) (fs : List PreparedFilter) (i : ℕ) (d : PreparedFilter) → i < length fs
+    → or_of (from_part attrs fs i) ≡ greater (filter_test attrs (tree_of (get_or fs i d))) (or_of (from_part attrs fs (i + 1)))
+or_next attrs fs i d lt = ap or_of (part_more attrs fs i d lt) ∙ or_of_more (filter_test attrs (tree_of (get_or fs i d))) (from_part attrs fs (i + 1))
+
+-- ---- parts prepared
+
+-- the parts that are prepared, and those that are left
+abbrev pub prepared_parts : List AttributeType → List PreparedFilter → List Filter → Trees
+prepared_parts types done rest = trees_then (map tree_of done) (prepared_trees types (texts.views rest))
+
+then_one : (ts : List Tree) (t : Tree) (us : Trees) → trees_then (ts ++ t ∷ []) us ≡ trees_then ts (And_then t us)
+then_one [] t us = refl
+then_one (x ∷ ts) t us = ap (And_then x) (then_one ts t us)
+
+pub parts_next : (types : List AttributeType) (done : List PreparedFilter) (p : PreparedFilter) (fs : List Filter) (i : ℕ) (d : Filter) → i < length fs
+    → tree_of p ≡ prepared_tree types (texts.view (get_or fs i d)) → prepared_parts types (done ++ p ∷ []) (drop (i + 1) fs) ≡ prepared_parts types done (drop i fs)
+parts_next types done p fs i d lt is =
+    let rest = prepared_trees types (texts.views (drop (i + 1) fs)) in
+    ap (λ (ts : List Tree). trees_then ts rest) (map-append tree_of done (p ∷ []))
+    ∙ then_one (map tree_of done) (tree_of p) rest
+    ∙ ap (λ (t : Tree). trees_then (map tree_of done) (And_then t rest)) is
+    ∙ sym (rw (add-one, drop-cons fs i d lt) refl)
+
+pub parts_done : (types : List AttributeType) (done : List PreparedFilter) (fs : List Filter) (i : ℕ) → length fs ≤ i → prepared_parts types done (drop i fs) ≡ trees_of done
+parts_done types done fs i le = ap (λ (rest : List Filter). prepared_parts types done rest) (drop_of_length-le fs le)

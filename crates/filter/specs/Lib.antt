@@ -1,0 +1,8 @@
+pub mod Truths
+pub mod Subtypes
+pub mod Orders
+pub mod Pieces
+pub mod Items
+pub mod Filters
+pub mod Prepared
+pub mod Made

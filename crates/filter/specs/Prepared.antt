@@ -1,0 +1,125 @@
+-- Filters whose items are settled under a configuration, and what they say of entries as they are stored.
+use Rattle.std.specs.Prelude.{ℕ, Bool, true, not, ◌&&◌, ◌||◌, ◌==◌, List, [], ◌∷◌, map, Option, Some, None, if◌then◌else◌}
+use Rattle.std.specs.List.{list_any, list_all}
+use Rattle.std.specs.Str.{bytes_eq}
+use Rattle.values.specs.declared.types.AttributeType.{AttributeType}
+use Rattle.values.specs.Types.{type_at, has_equality}
+use Rattle.schema.specs.Values.{is_valid_at, norm_at}
+use Rattle.tree.specs.StoredEntries.{EntryAttribute}
+use Rattle.filter_text.specs.declared.items.Item as written
+use Rattle.filter_text.specs.declared.items.Item.TheVariants as items
+use Rattle.filter_text.specs.Spells as texts
+use Rattle.filter.specs.declared.truth.Truth.{Truth}
+use Rattle.filter.specs.declared.truth.Truth.TheVariants as truths
+use Rattle.filter.specs.declared.assertion.Assertion.{Assertion}
+use Rattle.filter.specs.declared.assertion.Assertion.TheVariants.{Equality, GreaterOrEqual, LessOrEqual, Present, Substrings}
+use Rattle.filter.specs.declared.prepared_item.PreparedItem.{PreparedItem}
+use Rattle.filter.specs.declared.prepared_item.PreparedItem.TheVariants.{Undefined, Asserts}
+use Rattle.filter.specs.declared.prepared_filter.PreparedFilter.{PreparedFilter}
+use Rattle.filter.specs.declared.prepared_filter.PreparedFilter.TheOpen.{PreparedFilter-F, And, Or, Not, Item}
+use Rattle.filter.specs.declared.prepared_filter.PreparedFilter.TheFolds.{fold-PreparedFilter}
+use Rattle.filter.specs.Truths.{and_of, or_of, opposite}
+use Rattle.filter.specs.Orders.{comes_before}
+use Rattle.filter.specs.Subtypes.{subtypes}
+use Rattle.filter.specs.Items.{item_type, item_pieces, texts_of, contains, order_of, true_or_false}
+
+-- ---- items
+
+-- x, where this holds
+abbrev pub only_if : {X : Type 0} → Bool → X → Option X
+only_if b x = if b then Some x else None
+
+-- what an item asks of normal forms of values of the type, where it can be told
+abbrev pub assertion_of : List AttributeType → ℕ → written.Item → Option Assertion
+assertion_of types t (items.Equality attribute value) = only_if (has_equality types t && is_valid_at types t value) (Equality (norm_at types t value))
+assertion_of types t (items.Approx attribute value) = only_if (has_equality types t && is_valid_at types t value) (Equality (norm_at types t value))
+assertion_of types t (items.GreaterOrEqual attribute value) = only_if ((type_at types t).is_ordered && is_valid_at types t value) (GreaterOrEqual (order_of types t) (norm_at types t value))
+assertion_of types t (items.LessOrEqual attribute value) = only_if ((type_at types t).is_ordered && is_valid_at types t value) (LessOrEqual (order_of types t) (norm_at types t value))
+assertion_of types t (items.Present attribute) = Some Present
+assertion_of types t (items.Substrings attribute initial any last) = only_if ((type_at types t).has_substrings && list_all (is_valid_at types t) (texts_of initial any last)) (Substrings (item_pieces types t initial any last))
+assertion_of types t (items.Extensible attribute words value) = None
+
+abbrev pub settled : List AttributeType → ℕ → Option Assertion → PreparedItem
+settled types t None = Undefined
+settled types t (Some assertion) = Asserts t (subtypes types t) assertion
+
+abbrev pub settled_at : List AttributeType → written.Item → Option ℕ → PreparedItem
+settled_at types item None = Undefined
+settled_at types item (Some t) = settled types t (assertion_of types t item)
+
+-- the item with its type, that type's subtypes, and what it asks of their values
+abbrev pub prepared_item : List AttributeType → written.Item → PreparedItem
+prepared_item types item = settled_at types item (item_type types item)
+
+-- whether the value with this normal form is one that is asked for
+abbrev pub matches : Assertion → List ℕ → Bool
+matches (Equality value) norm = bytes_eq norm value
+matches (GreaterOrEqual family value) norm = not (comes_before family norm value)
+matches (LessOrEqual family value) norm = comes_before family norm value || bytes_eq norm value
+matches Present norm = true
+matches (Substrings pieces) norm = contains pieces norm
+
+abbrev pub is_among : List ℕ → ℕ → Bool
+is_among types t = list_any (λ u. u == t) types
+
+-- whether one of the values of these types is asked for
+abbrev pub has_match : List ℕ → Assertion → List EntryAttribute → Bool
+has_match types assertion attrs = list_any (λ a. is_among types a.0 && list_any (λ v. matches assertion v.norm) a.1) attrs
+
+abbrev pub item_test : List EntryAttribute → PreparedItem → Truth
+item_test attrs Undefined = truths.Undefined
+item_test attrs (Asserts t types assertion) = true_or_false (has_match types assertion attrs)
+
+-- ---- filters
+
+-- a filter of settled items without where it lies in memory
+mutual
+  pub data Tree : Type 0 where
+    All_of : (parts : Trees) → Tree
+    Any_of : (parts : Trees) → Tree
+    Not_of : (part : Tree) → Tree
+    Leaf : (item : PreparedItem) → Tree
+
+  pub data Trees : Type 0 where
+    No_more : Trees
+    And_then : (first : Tree) (rest : Trees) → Trees
+
+abbrev pub trees_then : List Tree → Trees → Trees
+trees_then [] us = us
+trees_then (t ∷ ts) us = And_then t (trees_then ts us)
+
+abbrev pub tree_step : PreparedFilter-F Tree → Tree
+tree_step (And fs) = All_of (trees_then fs.items No_more)
+tree_step (Or fs) = Any_of (trees_then fs.items No_more)
+tree_step (Not f) = Not_of f.value
+tree_step (Item item) = Leaf item
+
+abbrev pub tree_of : PreparedFilter → Tree
+tree_of = fold-PreparedFilter Tree tree_step
+
+abbrev pub trees_of : List PreparedFilter → Trees
+trees_of fs = trees_then (map tree_of fs) No_more
+
+-- the same filter with each item settled
+abbrev mutual
+  pub prepared_tree : List AttributeType → texts.Tree → Tree
+  prepared_tree types (texts.All_of parts) = All_of (prepared_trees types parts)
+  prepared_tree types (texts.Any_of parts) = Any_of (prepared_trees types parts)
+  prepared_tree types (texts.Not_of part) = Not_of (prepared_tree types part)
+  prepared_tree types (texts.Leaf item) = Leaf (prepared_item types item)
+
+  pub prepared_trees : List AttributeType → texts.Trees → Trees
+  prepared_trees types texts.No_more = No_more
+  prepared_trees types (texts.And_then first rest) = And_then (prepared_tree types first) (prepared_trees types rest)
+
+-- what it says of an entry
+abbrev mutual
+  pub filter_test : List EntryAttribute → Tree → Truth
+  filter_test attrs (All_of parts) = and_of (filter_tests attrs parts)
+  filter_test attrs (Any_of parts) = or_of (filter_tests attrs parts)
+  filter_test attrs (Not_of part) = opposite (filter_test attrs part)
+  filter_test attrs (Leaf item) = item_test attrs item
+
+  pub filter_tests : List EntryAttribute → Trees → List Truth
+  filter_tests attrs No_more = []
+  filter_tests attrs (And_then first rest) = filter_test attrs first ∷ filter_tests attrs rest

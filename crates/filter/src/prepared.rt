@@ -1,0 +1,76 @@
+//! Prepared filters.
+
+ghost use Rattle.std.specs.Prelude.{◌≡◌, ◌+◌, ◌<◌, ◌^◌};
+ghost use Rattle.schema.specs.Conf.{IsConf};
+ghost use Rattle.tree.specs.StoredEntries.{attributes_of, IsMade};
+ghost use Rattle.filter_text.specs.Spells.{view};
+ghost use Rattle.filter.specs.Filters.{truth};
+ghost use Rattle.filter.specs.Prepared.{prepared_tree, tree_of};
+
+use crate::meter::Meter;
+use crate::prepared_filter::PreparedFilter;
+use crate::truth::Truth;
+use filter_text::Filter;
+use schema::Conf;
+use std::marker::Model;
+use std::snapshot::Snapshot;
+use tree::Entry;
+
+/// A filter with its items settled under a configuration. A contract sees the two that it was made of.
+#[derive(Drop)]
+pub struct Prepared {
+    conf: Snapshot<Conf>,
+    filter: Snapshot<Filter>,
+    root: PreparedFilter,
+}
+
+impl Model for Prepared {
+    ghost use Rattle.std.specs.Prelude.{◌≡◌};
+    ghost use Rattle.std.specs.Coded.{codes};
+    ghost use Rattle.schema.specs.Conf.{IsConf};
+    ghost use Rattle.filter_text.specs.contracts.filters.Filter as filters;
+    ghost use Rattle.filter_text.specs.Spells as texts;
+    ghost use Rattle.filter.specs.Made.{Made};
+    ghost use Rattle.filter.specs.Prepared.{prepared_tree, tree_of};
+
+    ghost Value = { Made };
+
+    ghost coded = { Prim.hlevel (codes, filters.the_row.coded) };
+
+    ghost view = { λ p. record { conf = p.conf.value; filter = p.filter.value } };
+
+    ghost invariant = { λ p. (IsConf p.conf.value) × (tree_of p.root ≡ prepared_tree p.conf.value.types (texts.view p.filter.value)) };
+}
+
+impl Prepared {
+    pub(crate) fn of(filter: &Filter, conf: &Conf, root: PreparedFilter) -> Prepared
+        requires conf { IsConf conf.now }
+        requires root { tree_of root ≡ prepared_tree conf.now.types (view filter.now) }
+        ensures { result ≡ record { conf = conf.now; filter = filter.now } }
+    {
+        Prepared {
+            conf: Snapshot::of(conf),
+            filter: Snapshot::of(filter),
+            root,
+        }
+    }
+
+    /// The filter with each item settled.
+    pub fn root(&self) -> &PreparedFilter
+        ensures { tree_of result.now ≡ prepared_tree self.now.conf.types (view self.now.filter) }
+    {
+        &self.root
+    }
+
+    /// What the filter says of an entry, made under the filter's configuration (RFC 4511, 4.5.1.7). It raises the meter by one, and takes
+    /// no memory.
+    pub fn truth(&self, entry: &Entry, meter: &mut Meter) -> Truth
+        requires made { IsMade self.now.conf.types entry.now.attrs }
+        requires meter { meter.old + 1 < 2 ^ 64 }
+        ensures truth { result ≡ truth self.now.conf.types (attributes_of entry.now.attrs) (view self.now.filter) }
+        ensures meter { meter.new ≡ meter.old + 1 }
+    {
+        meter.raise();
+        self.root.truth_of(entry)
+    }
+}

@@ -1,0 +1,61 @@
+//! Filters of settled items.
+
+ghost use Rattle.std.specs.Prelude.{◌≡◌};
+ghost use Rattle.filter.specs.Truths.{opposite};
+ghost use Rattle.filter.specs.Prepared.{filter_test, tree_of};
+
+use crate::prepared_item::PreparedItem;
+use crate::truth::Truth;
+use tree::Entry;
+
+/// A filter whose items are settled.
+#[derive(Drop)]
+pub enum PreparedFilter {
+    And(Vec<PreparedFilter>),
+    Or(Vec<PreparedFilter>),
+    Not(Box<PreparedFilter>),
+    Item(PreparedItem),
+}
+
+fn opposite(truth: Truth) -> Truth
+    ensures { result ≡ opposite truth }
+{
+    match truth {
+        Truth::True => Truth::False,
+        Truth::Undefined => Truth::Undefined,
+        Truth::False => Truth::True,
+    }
+}
+
+impl PreparedFilter {
+    pub(crate) fn truth_of(&self, entry: &Entry) -> Truth
+        ensures { result ≡ filter_test entry.now.attrs (tree_of self.now) }
+    {
+        match self {
+            PreparedFilter::And(parts) => {
+                let mut least = Truth::True;
+                for part in parts {
+                    match part.truth_of(entry) {
+                        Truth::True => {}
+                        Truth::Undefined => least = Truth::Undefined,
+                        Truth::False => return Truth::False,
+                    }
+                }
+                least
+            }
+            PreparedFilter::Or(parts) => {
+                let mut greatest = Truth::False;
+                for part in parts {
+                    match part.truth_of(entry) {
+                        Truth::True => return Truth::True,
+                        Truth::Undefined => greatest = Truth::Undefined,
+                        Truth::False => {}
+                    }
+                }
+                greatest
+            }
+            PreparedFilter::Not(part) => opposite(part.truth_of(entry)),
+            PreparedFilter::Item(item) => item.truth_of(entry),
+        }
+    }
+}

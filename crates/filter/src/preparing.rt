@@ -1,0 +1,48 @@
+//! Preparing filters.
+
+ghost use Rattle.std.specs.Prelude.{◌≡◌, IfOk};
+ghost use Rattle.filter_text.specs.Spells.{view};
+ghost use Rattle.filter.specs.Prepared.{prepared_tree, tree_of};
+
+use crate::prepare_item::prepare_item;
+use crate::prepared::Prepared;
+use crate::prepared_filter::PreparedFilter;
+use filter_text::Filter;
+use schema::Conf;
+use std::alloc::{AllocError, Global};
+
+fn prepare_filter(alloc: Global, conf: &Conf, filter: &Filter) -> Result<PreparedFilter, AllocError>
+    ensures { IfOk result (λ p. tree_of p ≡ prepared_tree conf.now.types (view filter.now)) }
+{
+    match filter {
+        Filter::And(parts) => {
+            let mut prepared = Vec::with_capacity(alloc, parts.len())?;
+            for part in parts {
+                prepared.push(prepare_filter(alloc, conf, part)?)?;
+            }
+            Ok(PreparedFilter::And(prepared))
+        }
+        Filter::Or(parts) => {
+            let mut prepared = Vec::with_capacity(alloc, parts.len())?;
+            for part in parts {
+                prepared.push(prepare_filter(alloc, conf, part)?)?;
+            }
+            Ok(PreparedFilter::Or(prepared))
+        }
+        Filter::Not(part) => {
+            let prepared = prepare_filter(alloc, conf, part)?;
+            Ok(PreparedFilter::Not(Box::new(alloc, prepared)?))
+        }
+        Filter::Item(item) => Ok(PreparedFilter::Item(prepare_item(alloc, conf, item)?)),
+    }
+}
+
+/// A filter made ready for testing entries under a configuration: of each item it is settled once which types it is about and what it
+/// asks of their values, or that it can't be told.
+pub fn prepare(alloc: Global, filter: &Filter, conf: &Conf) -> Result<Prepared, AllocError>
+    ensures { IfOk result (λ p. p ≡ record { conf = conf.now; filter = filter.now }) }
+{
+    conf.holds();
+    let root = prepare_filter(alloc, conf, filter)?;
+    Ok(Prepared::of(filter, conf, root))
+}
