@@ -28,3 +28,4 @@ pub mod LeftFrom
 pub mod Retained
 pub mod Copied
 pub mod Planned
+pub mod ChangeExamples
