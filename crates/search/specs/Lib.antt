@@ -1,0 +1,4 @@
+pub mod Scopes
+pub mod Searches
+pub mod Lent
+pub mod Hits
