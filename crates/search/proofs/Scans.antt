@@ -11,15 +11,15 @@ use Rattle.filter.specs.Truths.{is_true}
 use Rattle.filter.specs.Filters.{truth}
 use Rattle.search.specs.declared.scope.Scope.{Scope}
 use Rattle.search.specs.Scopes.{depth_fits, is_in_scope}
-use Rattle.search.specs.Lent.{Lent, seen, lent, tested_in_all}
+use Rattle.search.specs.Walks.{Lent, seen, lent, tested_in_all}
 
 both_filters : {A : Type 0} (p q : A → Bool) (xs : List A) → filter q (filter p xs) ≡ filter (λ x. p x && q x) xs
 both_filters p q [] = refl
-both_filters p q (x ∷ xs) = by (p x)
+both_filters p q (x ∷ xs) = by (p x) (both_filters p q xs)
   where
-    by : (b : Bool) → filter q (cond b (x ∷ filter p xs) (filter p xs)) ≡ cond (b && q x) (x ∷ filter (λ x. p x && q x) xs) (filter (λ x. p x && q x) xs)
-    by true = ap (λ ys. cond (q x) (x ∷ ys) ys) (both_filters p q xs)
-    by false = both_filters p q xs
+    by : (b : Bool) → filter q (filter p xs) ≡ filter (λ x. p x && q x) xs → filter q (cond b (x ∷ filter p xs) (filter p xs)) ≡ cond (b && q x) (x ∷ filter (λ x. p x && q x) xs) (filter (λ x. p x && q x) xs)
+    by true same = ap (λ ys. cond (q x) (x ∷ ys) ys) same
+    by false same = same
 
 same_filter : {A : Type 0} (p q : A → Bool) → ((x : A) → p x ≡ q x) → (xs : List A) → filter p xs ≡ filter q xs
 same_filter p q same [] = refl
@@ -35,13 +35,13 @@ module _ (types : List AttributeType) (scope : Scope) (base : Path) (f : Tree) w
 
   lent_is : (n : ℕ) (es : List (Path × Entry)) → map seen (lent types scope (length base) f n es) ≡ filter is_hit (seen_entries es)
   lent_is n [] = refl
-  lent_is n (e ∷ es) = by (depth_fits scope (length base) (length e.0)) (is_true (truth types (attributes_of e.1.attrs) f))
+  lent_is n (e ∷ es) = by (depth_fits scope (length base) (length e.0)) (is_true (truth types (attributes_of e.1.attrs) f)) (λ k. lent_is k es)
     where
-      by : (a b : Bool) → map seen (cond a (cond b (record { tested = n + 1; path = e.0; entry = e.1 } ∷ lent types scope (length base) f (n + 1) es) (lent types scope (length base) f (n + 1) es)) (lent types scope (length base) f n es))
+      by : (a b : Bool) → ((k : ℕ) → map seen (lent types scope (length base) f k es) ≡ filter is_hit (seen_entries es)) → map seen (cond a (cond b (record { tested = n + 1; path = e.0; entry = e.1 } ∷ lent types scope (length base) f (n + 1) es) (lent types scope (length base) f (n + 1) es)) (lent types scope (length base) f n es))
           ≡ cond (a && b) ((e.0, content_of e.1) ∷ filter is_hit (seen_entries es)) (filter is_hit (seen_entries es))
-      by true true = ap (λ xs. (e.0, content_of e.1) ∷ xs) (lent_is (n + 1) es)
-      by true false = lent_is (n + 1) es
-      by false b = lent_is n es
+      by true true rest = ap (λ xs. (e.0, content_of e.1) ∷ xs) (rest (n + 1))
+      by true false rest = rest (n + 1)
+      by false b rest = rest n
 
   pub found_is : (es : List (Path × Entry)) (all : List (Path × EntryContent)) → seen_entries es ≡ filter (λ e. begins base e.0) all
       → map seen (lent types scope (length base) f 0 es) ≡ filter (λ e. is_in_scope scope base e.0 && is_true (truth types e.1.attrs f)) all
@@ -55,11 +55,11 @@ module _ (scope : Scope) (base : Path) where
 
   count_is : (n : ℕ) (es : List (Path × Entry)) → tested_in_all scope (length base) n es ≡ n + length (filter fits (seen_entries es))
   count_is n [] = omega arith
-  count_is n (e ∷ es) = by (depth_fits scope (length base) (length e.0))
+  count_is n (e ∷ es) = by (depth_fits scope (length base) (length e.0)) (λ k. count_is k es)
     where
-      by : (a : Bool) → cond a (tested_in_all scope (length base) (n + 1) es) (tested_in_all scope (length base) n es) ≡ n + length (cond a ((e.0, content_of e.1) ∷ filter fits (seen_entries es)) (filter fits (seen_entries es)))
-      by true = let k = count_is (n + 1) es in omega (arith, k)
-      by false = count_is n es
+      by : (a : Bool) → ((k : ℕ) → tested_in_all scope (length base) k es ≡ k + length (filter fits (seen_entries es))) → cond a (tested_in_all scope (length base) (n + 1) es) (tested_in_all scope (length base) n es) ≡ n + length (cond a ((e.0, content_of e.1) ∷ filter fits (seen_entries es)) (filter fits (seen_entries es)))
+      by true rest = let k = rest (n + 1) in omega (arith, k)
+      by false rest = rest n
 
   pub tested_is : (es : List (Path × Entry)) (all : List (Path × EntryContent)) → seen_entries es ≡ filter (λ e. begins base e.0) all
       → tested_in_all scope (length base) 0 es ≡ length (filter (λ e. is_in_scope scope base e.0) all)
@@ -67,12 +67,12 @@ module _ (scope : Scope) (base : Path) where
 
 pub filter_shorter : {A : Type 0} (p : A → Bool) (xs : List A) → (n : ℕ) × (length xs ≡ n + length (filter p xs))
 filter_shorter p [] = (0, refl)
-filter_shorter p (x ∷ xs) = by (p x)
+filter_shorter p (x ∷ xs) = by (p x) (filter_shorter p xs)
   where
-    by : (b : Bool) → (n : ℕ) × (length (x ∷ xs) ≡ n + length (cond b (x ∷ filter p xs) (filter p xs)))
-    by true = let k = filter_shorter p xs in (k.0, omega (arith, k.1))
-    by false = let k = filter_shorter p xs in (k.0 + 1, omega (arith, k.1))
+    by : (b : Bool) → ((n : ℕ) × (length xs ≡ n + length (filter p xs))) → (n : ℕ) × (length (x ∷ xs) ≡ n + length (cond b (x ∷ filter p xs) (filter p xs)))
+    by true k = (k.0, omega (arith, k.1))
+    by false k = (k.0 + 1, omega (arith, k.1))
 
 pub seen_length : (es : List (Path × Entry)) → length (seen_entries es) ≡ length es
 seen_length [] = refl
-seen_length (e ∷ es) = ap (λ n. n + 1) (seen_length es)
+seen_length (e ∷ es) = let k = seen_length es in omega (arith, k)

@@ -1,4 +1,3 @@
 pub mod Scopes
 pub mod Searches
-pub mod Lent
-pub mod Hits
+pub mod Walks

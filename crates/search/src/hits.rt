@@ -1,13 +1,19 @@
 //! The entries that a search finds.
 
-ghost use Rattle.std.specs.Prelude.{◌≡◌};
+ghost use Rattle.std.specs.Prelude.{◌≡◌, ◌+◌, ◌<◌, ◌^◌, length};
+ghost use Rattle.std.specs.List.{AllByRecursion};
+ghost use Rattle.tree.specs.StoredEntries.{IsMade};
+ghost use Rattle.filter_text.specs.Spells.{view};
+ghost use Rattle.search.specs.Walks.{walk, Steps};
 
 use crate::scope::Scope;
 use filter::{Meter, Prepared, Truth};
 use schema::Path;
+use std::marker::Model;
 use tree::{Below, Entry};
 
-/// The entries that a search finds, in dump order, each with its path. They are lent, and it takes no memory to find them.
+/// The entries that a search finds, in dump order, each with its path. They are lent, and it takes no memory to find them. A contract
+/// sees those that are still to come, each with the number of entries tested by then.
 #[derive(Drop)]
 pub struct Hits<'a> {
     rest: Below<'a>,
@@ -15,18 +21,48 @@ pub struct Hits<'a> {
     base_depth: usize,
     filter: &'a Prepared,
     meter: Meter,
-    ghost made: { AllByRecursion (λ e. IsMade (conf_of filter.now).types e.1.attrs) rest },
-    ghost room: { meter + length rest < 2 ^ 64 },
+}
+
+impl<'a> Model for Hits<'a> {
+    ghost use Rattle.std.specs.Prelude.{◌+◌, ◌<◌, ◌^◌, length};
+    ghost use Rattle.std.specs.List.{AllByRecursion};
+    ghost use Rattle.tree.specs.StoredEntries.{IsMade};
+    ghost use Rattle.filter_text.specs.Spells.{view as seen};
+    ghost use Rattle.search.specs.Walks.{Walk, walk_code, walk};
+
+    ghost Value = { Walk };
+
+    ghost coded = { walk_code };
+
+    ghost view = { λ h. walk h.filter.now.conf.types h.scope h.base_depth (seen h.filter.now.filter) h.meter h.rest };
+
+    ghost invariant = { λ h. AllByRecursion (λ e. IsMade h.filter.now.conf.types e.1.attrs) h.rest × (h.meter + length h.rest < 2 ^ 64) };
+}
+
+// The next of the rest that is in scope and of which the filter is True.
+fn next_hit<'a>(
+    rest: &mut Below<'a>,
+    scope: Scope,
+    base_depth: usize,
+    filter: &Prepared,
+    meter: &mut Meter,
+) -> Option<(&'a Path, &'a Entry)>
+    requires made { AllByRecursion (λ e. IsMade filter.now.conf.types e.1.attrs) rest.old }
+    requires room { meter.old + length rest.old < 2 ^ 64 }
+    ensures made { AllByRecursion (λ e. IsMade filter.now.conf.types e.1.attrs) rest.new }
+    ensures room { meter.new + length rest.new < 2 ^ 64 }
+    ensures steps { Steps (walk filter.now.conf.types scope base_depth (view filter.now.filter) meter.old rest.old) result (walk filter.now.conf.types scope base_depth (view filter.now.filter) meter.new rest.new) }
+{
+    while let Some(found) = rest.next() {
+        let (path, entry) = found;
+        if scope.fits(base_depth, path.len()) && filter.truth(entry, meter) == Truth::True {
+            return Some(found);
+        }
+    }
+    None
 }
 
 impl<'a> Hits<'a> {
-    ghost use Rattle.std.specs.Prelude.{◌≡◌, ◌+◌, ◌<◌, ◌^◌, length};
-    ghost use Rattle.std.specs.List.{AllByRecursion};
-    ghost use Rattle.tree.specs.StoredEntries.{IsMade};
-    ghost use Rattle.filter.specs.Made.{conf_of, filter_of};
-    ghost use Rattle.search.specs.Lent.{lent, tested_in_all};
-    ghost use Rattle.search.specs.Hits.{to_come, in_the_end};
-
     // those of the rest, all of which the base begins
     pub(crate) fn new(
         rest: Below<'a>,
@@ -34,10 +70,9 @@ impl<'a> Hits<'a> {
         base_depth: usize,
         filter: &'a Prepared,
     ) -> Hits<'a>
-        requires made { AllByRecursion (λ e. IsMade (conf_of filter.now).types e.1.attrs) rest }
+        requires made { AllByRecursion (λ e. IsMade filter.now.conf.types e.1.attrs) rest }
         requires room { length rest < 2 ^ 64 }
-        ensures come { to_come result ≡ lent (conf_of filter.now).types scope base_depth (filter_of filter.now) 0 rest }
-        ensures end { in_the_end result ≡ tested_in_all scope base_depth 0 rest }
+        ensures { result ≡ walk filter.now.conf.types scope base_depth (view filter.now.filter) 0 rest.entry }
     {
         Hits {
             rest,
@@ -50,32 +85,29 @@ impl<'a> Hits<'a> {
 
     /// How many entries were tested so far. At the end it is the number of those in scope.
     pub fn tested(&self) -> u64
-        ensures { result ≡ self.now.meter }
+        ensures { result ≡ self.now.tested }
     {
         self.meter.count()
     }
 }
 
 impl<'a> Iterator for Hits<'a> {
-    ghost use Rattle.std.specs.Prelude.{length};
     ghost use Rattle.std.specs.Iterator.{at_most};
-    ghost use Rattle.search.specs.Hits.{Steps, to_come};
+    ghost use Rattle.search.specs.Walks.{Steps};
 
     type Item = (&'a Path, &'a Entry);
 
     ghost next_gives = { λ old item new. Steps old item new };
 
-    ghost remaining = { λ h. at_most (length (to_come h)) };
+    ghost remaining = { λ h. at_most (length h.to_come) };
 
     fn next(&mut self) -> Option<(&'a Path, &'a Entry)> {
-        while let Some(found) = self.rest.next() {
-            let (path, entry) = found;
-            if self.scope.fits(self.base_depth, path.len())
-                && self.filter.truth(entry, &mut self.meter) == Truth::True
-            {
-                return Some((path, entry));
-            }
-        }
-        None
+        next_hit(
+            &mut self.rest,
+            self.scope,
+            self.base_depth,
+            self.filter,
+            &mut self.meter,
+        )
     }
 }

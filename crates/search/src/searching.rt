@@ -2,10 +2,9 @@
 
 ghost use Rattle.std.specs.Prelude.{◌≡◌, map, is_some, IfSome};
 ghost use Rattle.std.specs.FinMap as finite;
-ghost use Rattle.filter.specs.Made.{conf_of, filter_of};
+ghost use Rattle.filter_text.specs.Spells.{view};
 ghost use Rattle.search.specs.Searches.{scan, count_in_scope};
-ghost use Rattle.search.specs.Lent.{seen};
-ghost use Rattle.search.specs.Hits.{to_come, in_the_end};
+ghost use Rattle.search.specs.Walks.{seen};
 
 use crate::hits::Hits;
 use crate::scope::Scope;
@@ -21,10 +20,10 @@ pub fn search<'a>(
     scope: Scope,
     filter: &'a Prepared,
 ) -> Option<Hits<'a>>
-    requires { conf_of filter.now ≡ tree.now.conf }
+    requires { filter.now.conf ≡ tree.now.conf }
     ensures there { is_some result ≡ finite.contains_key tree.now.entries base.now }
-    ensures found { IfSome result (λ h. map seen (to_come h) ≡ scan tree.now.conf tree.now.entries base.now scope (filter_of filter.now)) }
-    ensures tested { IfSome result (λ h. in_the_end h ≡ count_in_scope tree.now.entries base.now scope) }
+    ensures found { IfSome result (λ h. map seen h.to_come ≡ scan tree.now.conf tree.now.entries base.now scope (view filter.now.filter)) }
+    ensures tested { IfSome result (λ h. h.in_the_end ≡ count_in_scope tree.now.entries base.now scope) }
 {
     tree.is_directory();
     tree.get(base)?;
