@@ -1,5 +1,5 @@
 -- Texts and what they spell, worked out by hand.
-use Rattle.std.proofs.Common.{◌≡◌, ℕ, ◌<◌, lit<, lit≤, List, [], ◌∷◌, Option, Some, None, refl, inl, inr}
+use Rattle.std.proofs.Common.{◌≡◌, lit<, lit≤, [], ◌∷◌, Some, None, refl, inl, inr}
 use Rattle.std.specs.Prelude.{codes}
 use Rattle.filter_text.specs.declared.items.Item.TheVariants.{Equality, Present, Substrings, Extensible}
 use Rattle.filter_text.specs.Depth.{added}

@@ -7,12 +7,11 @@ ghost use Rattle.filter_text.specs.Items.{IsWords};
 use crate::cursor::{after, name_at};
 use crate::fault::Fault;
 use crate::values::value_of;
+use base::{Bytes, Sequence};
+use std::alloc::Global;
 
 /// As many words may stand behind an attribute.
 const MOST: usize = 2;
-
-use base::{Bytes, Sequence};
-use std::alloc::Global;
 
 /// The words and the value that the whole text spells, at least that many words and at most two.
 pub fn words_of(alloc: Global, text: &[u8], least: usize) -> Result<(Sequence<Bytes>, Bytes), Fault>
