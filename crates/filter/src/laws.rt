@@ -8,10 +8,12 @@ ghost use Rattle.values.specs.declared.types.AttributeType.{AttributeType};
 ghost use Rattle.schema.specs.Conf.{Conf, IsConf};
 ghost use Rattle.schema.specs.Subtypes.{IsSubtype};
 ghost use Rattle.tree.specs.Entries.{Attributes};
+ghost use Rattle.tree.specs.StoredEntries.{EntryAttribute, attributes_of, IsMade};
 ghost use Rattle.filter_text.specs.Spells.{Tree, Not_of};
 ghost use Rattle.filter.specs.Filters.{truth};
 ghost use Rattle.filter.specs.Orders.{comes_before};
 ghost use Rattle.filter.specs.Pieces.{fits};
+ghost use Rattle.filter.specs.Prepared.{filter_test, prepared_tree};
 ghost use Rattle.filter.specs.Subtypes.{is_subtype};
 
 /// The test for subtypes tells them.
@@ -32,4 +34,9 @@ pub fn orders_are_told()
 /// A filter says what the negation of its negation says.
 pub fn negating_twice_changes_nothing()
     ensures { (types : List AttributeType) (attrs : Attributes) (f : Tree) → truth types attrs (Not_of (Not_of f)) ≡ truth types attrs f }
+{}
+
+/// A filter of settled items says of an entry as it is stored what the filter says of the entry.
+pub fn settled_filters_say_the_same()
+    ensures { (conf : Conf) (attrs : List EntryAttribute) (f : Tree) → IsConf conf → IsMade conf.types attrs → filter_test attrs (prepared_tree conf.types f) ≡ truth conf.types (attributes_of attrs) f }
 {}
