@@ -87,10 +87,12 @@ fn filters_are_read_and_faults_are_told(rt: HostRuntime) -> Result<(), Fail> {
 /// How many bytes stand before the parenthesis that is too deep.
 fn deep_place(alloc: Global, text: &[u8]) -> Option<usize> {
     match read_filter(alloc, text) {
-        Err(FilterFault::At {
-            at,
-            kind: FilterFaultKind::Deep,
-        }) => Some(at),
+        Err(
+            FilterFault::At {
+                at,
+                kind: FilterFaultKind::Deep,
+            },
+        ) => Some(at),
         _ => None,
     }
 }
