@@ -7,8 +7,8 @@ ghost use Rattle.filter.specs.Prepared.{has_match, is_among, item_test, matches}
 use crate::assertion::Assertion;
 use crate::truth::Truth;
 use base::Sequence;
-use schema::{TypeId, Value};
-use tree::Entry;
+use schema::TypeId;
+use tree::{Entry, Values};
 
 /// An item of a filter, settled under a configuration.
 #[derive(Debug, Drop)]
@@ -29,17 +29,22 @@ fn is_among(types: &[TypeId], t: TypeId) -> bool
     types.iter().any(|among| *among == t)
 }
 
-fn any_matches(values: &[Value], assertion: &Assertion) -> bool
+fn any_matches(values: &Values, assertion: &Assertion) -> bool
     ensures { result ≡ list_any (λ v. matches assertion.now v.norm) values.now }
 {
-    values.iter().any(|value| assertion.matches(value.norm()))
+    for value in values.iter() {
+        if assertion.matches(value.norm()) {
+            return true;
+        }
+    }
+    false
 }
 
 fn has_match(entry: &Entry, types: &[TypeId], assertion: &Assertion) -> bool
     ensures { result ≡ has_match types.now assertion.now entry.now.attrs }
 {
     for (t, values) in entry.attrs() {
-        if is_among(types, *t) && any_matches(values.as_slice(), assertion) {
+        if is_among(types, *t) && any_matches(values, assertion) {
             return true;
         }
     }

@@ -1,5 +1,5 @@
 -- Values that are left, where a map tells from which place on.
-use Rattle.std.proofs.Common.{◌≡◌, ℕ, ◌+◌, ◌<◌, Bool, true, false, cond, not, List, [], ◌∷◌, ◌++◌, length, Option, Some, None, refl, sym, ap, ◌∙◌, arith}
+use Rattle.std.proofs.Common.{◌≡◌, ℕ, ◌+◌, ◌<◌, Bool, true, false, cond, not, List, [], ◌∷◌, ◌++◌, length, Option, Some, None, refl, sym, ap, subst, ◌∙◌, arith}
 use Rattle.std.specs.Prelude.{◌&&◌, is_some, nat_lt}
 use Rattle.std.specs.BTreeMap.{get, is_at}
 use Rattle.std.specs.Cmp.Lexicographic.{slice_cmp, nat_list_eq_equiv}
@@ -7,13 +7,15 @@ use Rattle.std.specs.Ordering.{nat_cmp, is_eq}
 use Rattle.std.specs.Str.{bytes_eq}
 use Rattle.std.specs.Map.{lookup}
 use Rattle.std.proofs.lemmas.Bool.{lt-ltb, lt-leb, le-leb, or_left, or_right}
+use Rattle.std.proofs.lemmas.List.{append_assoc, append-nil, length-append}
 use Rattle.std.proofs.lemmas.List.Folds.{list_any-append}
 use Rattle.std.proofs.lemmas.Map.Text.{is_eq-slice_cmp}
 use Rattle.std.proofs.lemmas.Map.Views.{any-filter_same}
 use Rattle.std.proofs.lemmas.Slice.Eq.{bytes_eq-Decides}
 use Rattle.values.specs.Values.{Value}
-use Rattle.tree.specs.inner.StoredEntries.{has_norm}
-use Rattle.tree.specs.inner.ValuesDrafts.{but_norm, Since, is_from, is_left, left_from, left_of, AreLeft, IsAtStart}
+use Rattle.values.specs.Norms.{has_norm, but_norm}
+use Rattle.tree.specs.inner.ValuesDrafts.{Since, is_from, is_left, left_from, left_of, AreLeft, IsAtStart, AreAllLeft, KeepsPlaces}
+use Rattle.tree.specs.declared.values_draft.Places.{Places}
 use Rattle.tree.proofs.NormLemmas.{or_swap}
 
 abbrev at : Since → List ℕ → Option ℕ
@@ -121,6 +123,32 @@ start_more old new vs v h updates = record {
       ∙ ap start_if (one_more q vs v);
 }
 
+-- each value that was gone through is left, and the others are still to come
+pub record AtStart (since : Since) (places : ℕ) (rest vs : List Value) : Type 0 where
+  pub done : List Value
+  pub all : done ++ rest ≡ vs
+  pub count : length done ≡ places
+  pub start : IsAtStart since done
+
+pub starts : (since : Since) (vs : List Value) → IsAtStart since [] → AtStart since 0 vs vs
+starts since vs h = record { done = []; all = refl; count = refl; start = h }
+
+pub goes_on : (old new : Since) (count : ℕ) (rest more vs : List Value) (v : Value) → rest ≡ v ∷ more → AtStart old count rest vs → ((q : List ℕ) → at new q ≡ cond (is_eq (slice_cmp nat_cmp v.norm q)) (Some 0) (at old q)) → AtStart new (count + 1) more vs
+goes_on old new count rest more vs v is h updates = record {
+  done = h.done ++ v ∷ [];
+  all = append_assoc h.done (v ∷ []) more ∙ ap (λ (r : List Value). h.done ++ r) (sym is) ∙ h.all;
+  count = length-append h.done (v ∷ []) ∙ ap (λ n. n + 1) h.count;
+  start = start_more old new h.done v h.start updates;
+}
+
+pub ends : (places : Places) (rest vs : List Value) → rest ≡ [] → AtStart places.since places.count rest vs → AreAllLeft places vs
+ends places rest vs none h =
+    let is : h.done ≡ vs = sym (append-nil h.done) ∙ ap (λ (r : List Value). h.done ++ r) (sym none) ∙ h.all in
+    record {
+      start = subst (IsAtStart places.since) is h.start;
+      count = sym h.count ∙ ap length is;
+    }
+
 start_from : (since : Since) (vs : List Value) (i : ℕ) → ((n : List ℕ) → has_norm n vs ≡ true → at since n ≡ Some 0) → left_from since i vs ≡ vs
 unfolding left_from
 start_from since [] i h = refl
@@ -152,6 +180,9 @@ some_alike (e ∷ es) (w ∷ ws) h = lt-ltb 0 (length (e ∷ es)) (omega arith) 
 pub some_left : (since : Since) (vs : List Value) → AreLeft since vs → nat_lt 0 (length since.entries) ≡ nat_lt 0 (length (left_from since 0 vs))
 some_left since vs h = some_alike since.entries (left_from since 0 vs) h.each
 
-pub none_since : (since : Option Since) (vs : List Value) → is_some since ≡ false → left_of since vs ≡ vs
+pub all_kept : (places : Places) (vs : List Value) → AreAllLeft places vs → KeepsPlaces places vs
+all_kept places vs h = record { left = left_start places.since vs h.start; count = h.count; all = λ _. all_left places.since vs h.start }
+
+pub none_since : (places : Option Places) (vs : List Value) → is_some places ≡ false → left_of places vs ≡ vs
 none_since None vs e = refl
-none_since (Some since) vs e = absurd cc
+none_since (Some places) vs e = absurd cc

@@ -25,7 +25,6 @@ pub mod SetValues
 pub mod Modified
 pub mod ModifyLemmas
 pub mod LeftFrom
-pub mod Retained
 pub mod Copied
 pub mod Planned
 pub mod ChangeExamples

@@ -17,8 +17,7 @@ use Rattle.values.specs.Values.{Value}
 use Rattle.schema.specs.Values.{norm_at, is_valid_at}
 use Rattle.tree.specs.Entries.{Attributes, EntryContent, values_of, has_equal}
 use Rattle.tree.specs.StoredEntries.{Entry, EntryAttribute, raws, attributes_of, content_of, AreNormal, IsMadeAttribute, IsMade}
-use Rattle.tree.specs.inner.StoredEntries.{has_norm}
-use Rattle.tree.specs.inner.ValuesDrafts.{but_norm}
+use Rattle.values.specs.Norms.{has_norm, but_norm}
 use Rattle.tree.specs.Modifies.{unless, changed_values, modify_at, modify_block, modified_fault, modify_entry, append_value, without_value, remove_value, attribute, set_values}
 use Rattle.tree.proofs.StoredLemmas.{any_norm, values_raw, normal_values}
 use Rattle.tree.proofs.SetValues.{all_both, set_none}

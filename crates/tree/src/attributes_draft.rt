@@ -9,7 +9,6 @@ ghost use Rattle.tree.specs.StoredEntries.{attributes_of, IsMade};
 ghost use Rattle.tree.specs.inner.ValuesDrafts.{put_back, IsTaken};
 ghost use Rattle.tree.specs.Gives.{Gives};
 
-use crate::attribute_values::Values;
 use crate::entry::Attributes;
 use crate::modified_values::change_values;
 use crate::refusal::Refusal;
@@ -19,6 +18,7 @@ use ldif::Op;
 use schema::{Conf, TypeId};
 use std::alloc::{AllocError, Global};
 use std::marker::Model;
+use values::Values;
 
 /// Attributes while they're changed. A contract sees the list of the types with their values.
 ///
@@ -49,8 +49,8 @@ pub(crate) fn take_values(alloc: Global, attrs: &mut Attributes, t: TypeId) -> V
     ensures place { (vs : List values.Value) → set_values attrs.new.entries t vs ≡ set_values attrs.old.entries t vs }
 {
     match attrs.get_mut(&t) {
-        Some(values) => std::mem::replace(values, Values::none(alloc)),
-        None => Values::none(alloc),
+        Some(values) => std::mem::replace(values, Values::new(alloc)),
+        None => Values::new(alloc),
     }
 }
 

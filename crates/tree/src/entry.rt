@@ -2,12 +2,12 @@
 
 ghost use Rattle.std.specs.Prelude.{◌≡◌, IfOk};
 
-use crate::attribute_values::Values;
 use indexmap::IndexMap;
 use indexmap::map::Iter;
 use schema::{Rdn, TypeId};
 use std::alloc::{AllocError, Global};
 use std::marker::Model;
+use values::Values;
 
 /// Attributes in order, each a type with its values in order.
 pub(crate) type Attributes = IndexMap<TypeId, Values>;

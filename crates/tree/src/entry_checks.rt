@@ -7,13 +7,14 @@ ghost use Rattle.tree.specs.StoredEntries.{attributes_of, raws, IsMade};
 
 use crate::attributes::has_class;
 use crate::entry::Attributes;
-use schema::{Code, Conf, TypeId, Value};
+use schema::{Code, Conf, TypeId};
+use values::Values;
 
-fn is_single(conf: &Conf, t: TypeId, values: &[Value]) -> bool
+fn is_single(conf: &Conf, t: TypeId, values: &Values) -> bool
     requires { t < length conf.now.types }
     ensures { result ≡ is_single conf.now.types (t, raws values.now) }
 {
-    !conf.single(t) || values.len() <= 1
+    !conf.single(t) || values.is_at_most_one()
 }
 
 /// Whether each SINGLE-VALUE type has one value at most.
@@ -22,7 +23,7 @@ pub(crate) fn are_single(conf: &Conf, attrs: &Attributes) -> bool
     ensures { result ≡ are_single conf.now.types (attributes_of attrs.now.entries) }
 {
     for (t, values) in attrs.iter() {
-        if !is_single(conf, *t, values.as_slice()) {
+        if !is_single(conf, *t, values) {
             return false;
         }
     }

@@ -4,7 +4,6 @@
 //! states alone.
 #![tactic(auto)]
 
-mod attribute_values;
 mod attributes;
 mod attributes_draft;
 mod entry;
@@ -27,7 +26,6 @@ mod renames;
 mod tree;
 mod values_draft;
 
-pub use attribute_values::Values;
 pub use entry::Entry;
 pub use laws::{
     adding_keeps_a_directory, an_entry_adds_itself, empty_is_a_directory, modifying_keeps_an_entry,
@@ -40,3 +38,4 @@ pub use plans::Plan;
 pub use range::Below;
 pub use refusal::Refusal;
 pub use tree::Tree;
+pub use values::Values;

@@ -7,13 +7,13 @@ ghost use Rattle.tree.specs.Modifies.{append_value, remove_value, has_values, ad
 ghost use Rattle.tree.specs.StoredEntries.{raws, AreNormal};
 ghost use Rattle.tree.specs.Gives.{Gives};
 
-use crate::attribute_values::Values;
 use crate::refusal::Refusal;
 use crate::values_draft::ValuesDraft;
 use base::Bytes;
 use ldif::Op;
 use schema::{Code, Conf, TypeId};
 use std::alloc::Global;
+use values::Values;
 
 // Puts a value last, unless an equal one is there.
 fn append_value(
@@ -112,13 +112,13 @@ fn block_values(
         Op::Add => append_values(alloc, conf, t, values, texts),
         Op::Delete => match texts {
             [] => {
-                *values = ValuesDraft::new(Values::none(alloc));
+                *values = ValuesDraft::new(Values::new(alloc));
                 Ok(())
             }
             [_, ..] => remove_values(alloc, conf, t, values, texts),
         },
         Op::Replace => {
-            *values = ValuesDraft::new(Values::none(alloc));
+            *values = ValuesDraft::new(Values::new(alloc));
             append_values(alloc, conf, t, values, texts)
         }
     }

@@ -7,9 +7,8 @@ ghost use Rattle.schema.specs.Values.{norm_at, is_valid_at};
 ghost use Rattle.tree.specs.Entries.{values_of, has_equal, with_part, with_rdn};
 ghost use Rattle.tree.specs.Modifies.{has_rdn};
 ghost use Rattle.tree.specs.StoredEntries.{attributes_of, IsMade};
-ghost use Rattle.tree.specs.inner.StoredEntries.{has_norm};
+ghost use Rattle.values.specs.Norms.{has_norm};
 
-use crate::attribute_values::has_norm;
 use crate::attributes::put_value;
 use crate::entry::Attributes;
 use base::Bytes;
@@ -75,7 +74,7 @@ fn has_norm_at(attrs: &Attributes, t: TypeId, norm: &[u8]) -> bool
     ensures { result ≡ has_norm norm.now (values_of attrs.now.entries t) }
 {
     match attrs.get(&t) {
-        Some(values) => has_norm(values.as_slice(), norm),
+        Some(values) => values.has_norm(norm),
         None => false,
     }
 }

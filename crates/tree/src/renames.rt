@@ -76,7 +76,7 @@ fn remove_part(
         return Ok(());
     }
     let mut values = take_values(alloc, attrs, *t);
-    values.remove_norm(value.norm());
+    values.remove_norm(alloc, value.norm())?;
     set_values(attrs, *t, values)?;
     Ok(())
 }

@@ -1,3 +1,5 @@
+pub mod Norms
+pub mod Retained
 pub mod Joined
 pub mod Tables
 pub mod Buckets

@@ -1,18 +1,14 @@
 -- Values of an attribute that change, with a map that tells which of them are left.
-use Rattle.std.specs.Prelude.{◌≡◌, ℕ, ◌+◌, Bool, false, not, List, [], ◌∷◌, nat_eq, nat_le, is_some, Option, Some, None, if◌then◌else◌}
+use Rattle.std.specs.Prelude.{◌≡◌, ℕ, ◌+◌, Bool, false, List, [], ◌∷◌, nat_eq, nat_le, is_some, IsTrue, length, Option, Some, None, if◌then◌else◌}
 use Rattle.std.specs.BTreeMap.{BTreeMap, get}
 use Rattle.std.specs.Cmp.Lexicographic.{slice_cmp}
 use Rattle.std.specs.Ordering.{nat_cmp}
 use Rattle.std.specs.Map.{lookup}
-use Rattle.std.specs.List.{filter}
-use Rattle.std.specs.Str.{bytes_eq}
 use Rattle.values.specs.Values.{Value}
+use Rattle.tree.specs.declared.values_draft.Places.{Places}
 use Rattle.tree.specs.Modifies.{set_values}
 use Rattle.tree.specs.StoredEntries.{EntryAttribute}
-use Rattle.tree.specs.inner.StoredEntries.{has_norm}
-
-abbrev pub but_norm : List ℕ → List Value → List Value
-but_norm norm vs = filter (λ v. not (bytes_eq v.norm norm)) vs
+use Rattle.values.specs.Norms.{has_norm}
 
 -- for a normal form, the place from which on values that have it are left
 abbrev pub Since : Type 0
@@ -31,9 +27,10 @@ unfoldable pub left_from : Since → ℕ → List Value → List Value
 left_from since place [] = []
 left_from since place (v ∷ vs) = if is_left since place v then v ∷ left_from since (place + 1) vs else left_from since (place + 1) vs
 
-abbrev pub left_of : Option Since → List Value → List Value
+-- with places, those that they tell of, and without them all values
+abbrev pub left_of : Option Places → List Value → List Value
 left_of None vs = vs
-left_of (Some since) vs = left_from since 0 vs
+left_of (Some places) vs = left_from places.since 0 vs
 
 -- the map has the normal form of each value that is left, and no other
 pub record AreLeft (since : Since) (vs : List Value) : Type 0 where
@@ -43,9 +40,20 @@ pub record AreLeft (since : Since) (vs : List Value) : Type 0 where
 pub record IsAtStart (since : Since) (vs : List Value) : Type 0 where
   pub each : (norm : List ℕ) → get (slice_cmp nat_cmp) since norm ≡ (if has_norm norm vs then Some 0 else None)
 
-abbrev pub IsSinceOf : Option Since → List Value → Type 0
-IsSinceOf None vs = Unit {0}
-IsSinceOf (Some since) vs = AreLeft since vs
+-- places are those of values
+pub record KeepsPlaces (places : Places) (vs : List Value) : Type 0 where
+  pub left : AreLeft places.since vs
+  pub count : places.count ≡ length vs
+  pub all : IsTrue places.all_left → left_from places.since 0 vs ≡ vs
+
+-- places are those of values, of which each is left
+pub record AreAllLeft (places : Places) (vs : List Value) : Type 0 where
+  pub start : IsAtStart places.since vs
+  pub count : places.count ≡ length vs
+
+abbrev pub KeepPlaces : Option Places → List Value → Type 0
+KeepPlaces None vs = Unit {0}
+KeepPlaces (Some places) vs = KeepsPlaces places vs
 
 -- ---- attributes of which one may be taken out
 

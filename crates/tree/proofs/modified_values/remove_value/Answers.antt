@@ -3,8 +3,7 @@ use Rattle.std.specs.Str.{bytes_eq}
 use Rattle.values.specs.Values.{Value}
 use Rattle.schema.specs.Values.{norm_at}
 use Rattle.tree.specs.StoredEntries.{raws, AreNormal}
-use Rattle.tree.specs.inner.StoredEntries.{has_norm}
-use Rattle.tree.specs.inner.ValuesDrafts.{but_norm}
+use Rattle.values.specs.Norms.{has_norm, but_norm}
 use Rattle.tree.proofs.Modified.{all_kept}
 use Rattle.tree.proofs.ModifyLemmas.{remove_is}
 use Rattle.tree.proofs.modified_values.remove_value.Goals as goal

@@ -3,7 +3,7 @@ use Rattle.std.proofs.lemmas.Bool.{ltb-true}
 use Rattle.values.specs.Values.{Value}
 use Rattle.tree.specs.Entries.{values_of, push_value}
 use Rattle.tree.specs.StoredEntries.{EntryAttribute, attributes_of, IsMade}
-use Rattle.tree.specs.inner.StoredEntries.{has_norm}
+use Rattle.values.specs.Norms.{has_norm}
 use Rattle.tree.proofs.LineLemmas.{part_is, part_value, part_normal}
 use Rattle.tree.proofs.StoredLemmas.{raws_pushed, made_pushed}
 use Rattle.tree.proofs.rdn_values.add_part.Goals as goal

@@ -2,7 +2,7 @@ use Rattle.std.proofs.Common.{◌∙◌, sym, ap}
 use Rattle.values.specs.Values.{Value}
 use Rattle.schema.specs.Values.{norm_at}
 use Rattle.tree.specs.Entries.{values_of}
-use Rattle.tree.specs.inner.StoredEntries.{has_norm}
+use Rattle.values.specs.Norms.{has_norm}
 use Rattle.tree.proofs.StoredLemmas.{equal_stored}
 use Rattle.tree.proofs.rdn_values.has_value.Goals as goal
 

@@ -4,7 +4,7 @@ use Rattle.schema.specs.declared.code.Code.TheVariants.{AttributeOrValueExists}
 use Rattle.values.specs.Values.{Value}
 use Rattle.tree.specs.Entries.{Attributes, values_of, push_value}
 use Rattle.tree.specs.StoredEntries.{EntryAttribute, attributes_of, IsMade}
-use Rattle.tree.specs.inner.StoredEntries.{has_norm}
+use Rattle.values.specs.Norms.{has_norm}
 use Rattle.tree.proofs.LineLemmas.{line_is}
 use Rattle.tree.proofs.StoredLemmas.{raws_pushed, made_pushed}
 use Rattle.tree.proofs.planner.Planner.add_line.Goals as goal

@@ -1,13 +1,12 @@
-use Rattle.std.proofs.Common.{◌∙◌, sym, subst}
-use Rattle.tree.specs.inner.ValuesDrafts.{IsAtStart}
-use Rattle.tree.proofs.LeftFrom.{all_left, left_start, none_since}
+use Rattle.std.proofs.Common.{◌∙◌, sym}
+use Rattle.tree.proofs.LeftFrom.{all_left, all_kept, none_since}
 use Rattle.tree.proofs.values_draft.ValuesDraft.search.Goals as goal
 
 pub invariant_of-self-2 : goal.invariant_of-self-2
-invariant_of-self-2 c = left_start c.in_ok-since_start.field-0 c.self.inside.values (subst (IsAtStart c.in_ok-since_start.field-0) c.as_slice.ensures c.in_ok-since_start.ensures)
+invariant_of-self-2 c = all_kept c.in_ok-places.places c.self.inside.values c.in_ok-places.ensures
 
 pub returns : goal.returns
 returns c =
-    all_left c.in_ok-since_start.field-0 c.self.inside.values (subst (IsAtStart c.in_ok-since_start.field-0) c.as_slice.ensures c.in_ok-since_start.ensures)
-    ∙ sym (none_since c.self.inside.since c.self.inside.values (sym c.is_some.ensures ∙ c.if-is_some.false))
+    all_left c.in_ok-places.places.since c.self.inside.values c.in_ok-places.ensures.start
+    ∙ sym (none_since c.self.inside.places c.self.inside.values (sym c.is_some.ensures ∙ c.if-is_some.false))
     ∙ c.self.view_is
