@@ -1,5 +1,5 @@
 -- The text of a dump, entry by entry.
-use Rattle.std.proofs.Common.{◌≡◌, List, [], ◌∷◌, filter, Some, refl, sym, ◌∙◌, ap, subst}
+use Rattle.std.proofs.Common.{◌≡◌, ℕ, List, [], ◌∷◌, ◌++◌, filter, None, Some, refl, sym, ◌∙◌, ap, subst}
 use Rattle.std.specs.List.{flat_map, AllByRecursion}
 use Rattle.std.specs.FinMap as finite
 use Rattle.std.specs.Cmp.{IsTotalOrder}
@@ -7,11 +7,12 @@ use Rattle.ldif.specs.Contents.{write_content}
 use Rattle.paths.specs.Paths.{Path, path_cmp, begins}
 use Rattle.schema.specs.Conf.{Conf}
 use Rattle.tree.specs.Entries.{EntryContent}
-use Rattle.tree.specs.Directories.{Entries, IsDirectory}
-use Rattle.tree.specs.StoredEntries.{Entry, IsMade, content_of}
+use Rattle.tree.specs.Directories.{Entries, IsDirectory, record_at}
+use Rattle.tree.specs.StoredEntries.{Entry, content_of}
 use Rattle.tree.specs.Trees.{seen_entries}
 use Rattle.directory.specs.Runs.{record_of, dump}
 use Rattle.directory.specs.inner.Dumps.{IsThere, entries_text}
+use Rattle.directory.proofs.EntryText.{all_selected}
 use Rattle.directory.proofs.LoadLaw.{all_there, flat_map-map}
 
 all_begin : (es : List (Path × EntryContent)) → filter (λ e. begins [] e.0) es ≡ es
@@ -22,13 +23,19 @@ module _ (conf : Conf) (d : Entries) (items : List (Path × Entry)) (root : Path
   are : seen_entries items ≡ finite.entries d
   are = seen ∙ ap (λ (p : Path). filter (λ e. begins p e.0) (finite.entries d)) top ∙ all_begin (finite.entries d)
 
-  pub dump_is : dump conf d ≡ entries_text conf d items
+  all_texts : (es : List (Path × Entry)) → entries_text conf d None es ≡ flat_map (λ e. write_content (record_of conf d (e.0, content_of e.1))) es
+  all_texts [] = refl
+  all_texts (e ∷ es) =
+      ap (λ (f : EntryContent). write_content (record_at conf d e.0 f) ++ entries_text conf d None es) (all_selected (content_of e.1))
+      ∙ ap (λ (bs : List ℕ). write_content (record_at conf d e.0 (content_of e.1)) ++ bs) (all_texts es)
+
+  pub dump_is : dump conf d ≡ entries_text conf d None items
   unfolding dump
-  dump_is = ap (flat_map (λ x. write_content (record_of conf d x))) (sym are) ∙ flat_map-map (λ x. write_content (record_of conf d x)) (λ e. (e.0, content_of e.1)) items
+  dump_is = ap (flat_map (λ x. write_content (record_of conf d x))) (sym are) ∙ flat_map-map (λ x. write_content (record_of conf d x)) (λ e. (e.0, content_of e.1)) items ∙ sym (all_texts items)
 
-  each_there : (es : List (Path × Entry)) → AllByRecursion (λ e. finite.get d e.0 ≡ Some e.1) (seen_entries es) → AllByRecursion (λ e. IsMade conf.types e.1.attrs) es → AllByRecursion (IsThere conf d) es
-  each_there [] h k = tt
-  each_there (e ∷ es) h k = (record { there = h.0; made = k.0 }, each_there es h.1 k.1)
+  each_there : (es : List (Path × Entry)) → AllByRecursion (λ e. finite.get d e.0 ≡ Some e.1) (seen_entries es) → AllByRecursion (IsThere d) es
+  each_there [] h = tt
+  each_there (e ∷ es) h = (h.0, each_there es h.1)
 
-  pub all_in : IsTotalOrder path_cmp → IsDirectory conf d → AllByRecursion (λ e. IsMade conf.types e.1.attrs) items → AllByRecursion (IsThere conf d) items
-  all_in total h made = each_there items (subst (AllByRecursion (λ e. finite.get d e.0 ≡ Some e.1)) (sym are) (all_there total conf d h)) made
+  pub all_in : IsTotalOrder path_cmp → IsDirectory conf d → AllByRecursion (IsThere d) items
+  all_in total h = each_there items (subst (AllByRecursion (λ e. finite.get d e.0 ≡ Some e.1)) (sym are) (all_there total conf d h))

@@ -6,3 +6,5 @@ pub mod LoadLaw
 pub mod DumpText
 pub mod LoadSteps
 pub mod Examples
+pub mod SelectedTypes
+pub mod FoundText

@@ -5,4 +5,6 @@ pub mod Stands
 pub mod Dumps
 pub mod Loading
 pub mod Folds
+pub mod Selections
+pub mod Found
 pub mod inner

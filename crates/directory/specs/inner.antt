@@ -2,3 +2,4 @@ pub mod Steps
 pub mod Dumps
 pub mod Loading
 pub mod Stands
+pub mod Found

@@ -1,20 +1,20 @@
 //! The dump of a directory.
 
-ghost use Rattle.std.specs.Prelude.{◌≡◌, ◌<◌, ◌-◌, ◌^◌, ◌++◌, ◌∷◌, [], Some, OnOk};
+ghost use Rattle.std.specs.Prelude.{◌≡◌, ◌<◌, ◌-◌, ◌^◌, ◌++◌, ◌∷◌, [], Some, OnOk, length};
 ghost use Rattle.std.specs.FinMap as finite;
-ghost use Rattle.std.specs.List.{AllByRecursion};
 ghost use Rattle.ldif.specs.Writing.{written_line};
-ghost use Rattle.tree.specs.StoredEntries.{content_of, IsMade, IsMadeAttribute};
+ghost use Rattle.tree.specs.StoredEntries.{content_of};
 ghost use Rattle.directory.specs.Runs.{dump};
 ghost use Rattle.directory.specs.Dumps.{Writes};
-ghost use Rattle.directory.specs.inner.Dumps.{WritesOn, values_text, attributes_text, entry_text};
+ghost use Rattle.directory.specs.inner.Dumps.{WritesOn, AreKnown, values_text, attribute_text, selected_text, entry_text};
 
 use crate::directory::Directory;
+use crate::selection::Selection;
 use device::{Device, Sink, push_all};
 use ldif::{WriteFault, put_line};
-use schema::{Conf, Path, Value};
+use schema::{Conf, Path, TypeId};
 use std::alloc::{AllocError, Global};
-use tree::{Entry, Names};
+use tree::{Entry, Names, Values};
 
 // so many bytes are handed on at once
 const PIECE: usize = 65536;
@@ -24,28 +24,47 @@ fn put_values(
     alloc: Global,
     out: &mut Vec<u8>,
     name: &[u8],
-    values: &[Value],
+    values: &Values,
 ) -> Result<(), AllocError>
     ensures { OnOk result (out.new.items ≡ out.old.items ++ values_text name.now values.now) }
 {
-    for value in values {
+    for value in values.iter() {
         put_line(alloc, out, name, value.raw())?;
     }
     Ok(())
 }
 
-// the lines of the attributes, and an empty line
+// the lines of an attribute, where it is selected
+fn put_attribute(
+    alloc: Global,
+    out: &mut Vec<u8>,
+    conf: &Conf,
+    selection: &Selection,
+    t: TypeId,
+    values: &Values,
+) -> Result<(), AllocError>
+    requires { t < length conf.now.types }
+    ensures { OnOk result (out.new.items ≡ out.old.items ++ attribute_text conf.now.types selection.now (t, values.now)) }
+{
+    if !selection.has(t) {
+        return Ok(());
+    }
+    put_values(alloc, out, conf.name(t), values)
+}
+
+// the lines of the attributes that are selected, and an empty line
 fn put_attributes(
     alloc: Global,
     out: &mut Vec<u8>,
     conf: &Conf,
+    selection: &Selection,
     entry: &Entry,
 ) -> Result<(), AllocError>
-    requires { IsMade conf.now.types entry.now.attrs }
-    ensures { OnOk result (out.new.items ≡ out.old.items ++ attributes_text conf.now.types entry.now.attrs) }
+    requires { AreKnown conf.now.types entry.now.attrs }
+    ensures { OnOk result (out.new.items ≡ out.old.items ++ selected_text conf.now.types selection.now entry.now.attrs) }
 {
     for (t, values) in entry.attrs() {
-        put_values(alloc, out, conf.name(*t), values.as_slice())?;
+        put_attribute(alloc, out, conf, selection, *t, values)?;
     }
     out.push(b'\n')?;
     Ok(())
@@ -56,18 +75,19 @@ fn put_entry(
     alloc: Global,
     out: &mut Vec<u8>,
     conf: &Conf,
+    selection: &Selection,
     name: &[u8],
     entry: &Entry,
 ) -> Result<(), AllocError>
-    requires { IsMade conf.now.types entry.now.attrs }
-    ensures { OnOk result (out.new.items ≡ out.old.items ++ written_line (100 ∷ 110 ∷ []) name.now ++ attributes_text conf.now.types entry.now.attrs) }
+    requires { AreKnown conf.now.types entry.now.attrs }
+    ensures { OnOk result (out.new.items ≡ out.old.items ++ written_line (100 ∷ 110 ∷ []) name.now ++ selected_text conf.now.types selection.now entry.now.attrs) }
 {
     put_line(alloc, out, b"dn", name)?;
-    put_attributes(alloc, out, conf, entry)
+    put_attributes(alloc, out, conf, selection, entry)
 }
 
 // hands on all bytes, and forgets them
-fn pass_on<W: Sink>(sink: &mut W, text: &mut Vec<u8>) -> Result<(), WriteFault>
+pub(crate) fn pass_on<W: Sink>(sink: &mut W, text: &mut Vec<u8>) -> Result<(), WriteFault>
     requires { (W.written sink.old).failed < 2 ^ 64 - 1 }
     ensures writes { Writes result (W.written sink.old) (W.written sink.new) text.old.items }
     ensures empty { OnOk result (text.new.items ≡ []) }
@@ -87,38 +107,42 @@ impl Directory {
         &self,
         alloc: Global,
         names: &mut Names<'_>,
+        selection: &Selection,
         path: &Path,
         entry: &Entry,
         out: &mut Vec<u8>,
     ) -> Result<(), AllocError>
         requires names { names.old ≡ self.now }
         requires there { finite.get self.now.entries path.now ≡ Some (content_of entry.now) }
-        requires made { IsMade self.now.conf.types entry.now.attrs }
         ensures names { names.new ≡ self.now }
-        ensures text { OnOk result (out.new.items ≡ out.old.items ++ entry_text self.now.conf self.now.entries (path.now, entry.now)) }
+        ensures text { OnOk result (out.new.items ≡ out.old.items ++ entry_text self.now.conf self.now.entries selection.now (path.now, entry.now)) }
     {
+        self.tree().is_directory();
         let name = names.name_of(alloc, path, entry)?;
-        put_entry(alloc, out, self.conf(), name.as_slice(), entry)
+        put_entry(alloc, out, self.conf(), selection, name.as_slice(), entry)
     }
 
     // puts the content record of the entry at a path behind a text, and hands the text on where it is long
-    fn write_entry<W: Sink>(
+    pub(crate) fn write_entry<W: Sink>(
         &self,
         alloc: Global,
         sink: &mut W,
         names: &mut Names<'_>,
-        path: &Path,
-        entry: &Entry,
+        selection: &Selection,
+        found: (&Path, &Entry),
         text: &mut Vec<u8>,
     ) -> Result<(), WriteFault>
         requires can_fail { (W.written sink.old).failed < 2 ^ 64 - 1 }
         requires names { names.old ≡ self.now }
-        requires there { finite.get self.now.entries path.now ≡ Some (content_of entry.now) }
-        requires made { IsMade self.now.conf.types entry.now.attrs }
+        requires there { finite.get self.now.entries found.0.now ≡ Some (content_of found.1.now) }
         ensures names { names.new ≡ self.now }
-        ensures writes { WritesOn result (W.written sink.old) (W.written sink.new) (text.old.items ++ entry_text self.now.conf self.now.entries (path.now, entry.now)) text.new.items }
+        ensures writes { WritesOn result (W.written sink.old) (W.written sink.new) (text.old.items ++ entry_text self.now.conf self.now.entries selection.now (found.entry.0.now, found.entry.1.now)) text.new.items }
     {
-        if self.put_record(alloc, names, path, entry, text).is_err() {
+        let (path, entry) = found;
+        if self
+            .put_record(alloc, names, selection, path, entry, text)
+            .is_err()
+        {
             return Err(WriteFault::OutOfMemory);
         }
         if text.len() < PIECE {
@@ -138,8 +162,8 @@ impl Directory {
         let root = Path::root(alloc);
         let mut names = Names::new(alloc, self.tree(), self.conf());
         let mut text = Vec::new(alloc);
-        for (path, entry) in self.tree().range(&root) {
-            self.write_entry(alloc, sink, &mut names, path, entry, &mut text)?;
+        for found in self.tree().range(&root) {
+            self.write_entry(alloc, sink, &mut names, &Selection::all(), found, &mut text)?;
         }
         pass_on(sink, &mut text)
     }

@@ -10,4 +10,6 @@ mod runs;
 #[cfg(test)]
 mod runs_in_little_memory;
 #[cfg(test)]
+mod searches_in_little_memory;
+#[cfg(test)]
 mod values_in_little_memory;

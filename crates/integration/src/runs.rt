@@ -12,6 +12,7 @@ use tree::Refusal;
 const CONF: &str = "suffix \"dc=ex\"
 attributetype ( 0.9.2342.19200300.100.1.25 NAME 'dc' EQUALITY caseIgnoreMatch SYNTAX 1.3.6.1.4.1.1466.115.121.1.15 )
 attributetype ( 2.5.4.3 NAME 'cn' EQUALITY caseIgnoreMatch SYNTAX 1.3.6.1.4.1.1466.115.121.1.15 )
+attributetype ( 2.5.4.13 NAME 'description' EQUALITY caseIgnoreMatch SYNTAX 1.3.6.1.4.1.1466.115.121.1.15 )
 ";
 
 /// The suffix's entry, as it is dumped.
@@ -23,8 +24,13 @@ pub fn conf(alloc: Global) -> Result<Conf, ConfFault> {
 
 /// The directory that a text loads to.
 pub fn loaded(alloc: Global, text: &str) -> Result<Directory, Fail> {
+    loaded_under(alloc, conf(alloc)?, text)
+}
+
+/// The directory that a text loads to under a configuration.
+pub fn loaded_under(alloc: Global, conf: Conf, text: &str) -> Result<Directory, Fail> {
     let mut source = TrySource::new(text.as_bytes(), 8192, None);
-    let Ok(dir) = load(alloc, conf(alloc)?, &mut source) else {
+    let Ok(dir) = load(alloc, conf, &mut source) else {
         return Err(Fail::from("the text loads"));
     };
     Ok(dir)

@@ -1,68 +1,200 @@
-//! A run in which one allocation is refused: `tests/refuse_memory` refuses each in turn, and elsewhere none is.
+//! Runs in which one allocation is refused: `tests/refuse_memory` refuses each in turn, and elsewhere none is.
 
 use crate::runs::{ROOT, dump_of, loaded};
 use device::{TrySink, TrySource};
 use directory::{RunFault, Tally, run};
 use ldif::Mode;
 use reading_tests::spend;
-use std::alloc::Global;
+use std::alloc::{AllocError, Global};
 use std::process::Abort;
 use std::test::Fail;
 
+// a run, and what is left of it wherever it ends
+struct Row {
+    mode: Mode,
+    start: &'static str,
+    records: &'static str,
+    // how many were accepted and refused after each record
+    tallies: &'static [(u64, u64)],
+    // a line for each refused record
+    report: &'static [&'static str],
+    // the entries after so many accepted records, as they are dumped
+    dumps: &'static [&'static [&'static str]],
+}
+
+const A: &str = "dn: cn=a,dc=ex\nobjectClass: person\ncn: a\n\n";
+
+const C: &str = "dn: cn=c,dc=ex\nobjectClass: person\ncn: c\n\n";
+
+const E: &str = "dn: cn=e,dc=ex\nobjectClass: person\ncn: e\n\n";
+
 // the records on lines 4 and 10 are refused
-const FIVE: &str =
-    "dn: cn=a,dc=ex\nobjectClass: person\n\ndn: cn=b,cn=no,dc=ex\nobjectClass: person\n\ndn: cn=c,dc=ex\nobjectClass: person\n\ndn: cn=d,dc=ex\nobjectClass: person\ncn:: YSA\n\ndn: cn=e,dc=ex\nobjectClass: person\n";
+const CONTENT: Row = Row {
+    mode: Mode::Content,
+    start: ROOT,
+    records: "dn: cn=a,dc=ex\nobjectClass: person\n\ndn: cn=b,cn=no,dc=ex\nobjectClass: person\n\ndn: cn=c,dc=ex\nobjectClass: person\n\ndn: cn=d,dc=ex\nobjectClass: person\ncn:: YSA\n\ndn: cn=e,dc=ex\nobjectClass: person\n",
+    tallies: &[(0, 0), (1, 0), (1, 1), (2, 1), (2, 2), (3, 2)],
+    report: &["line 4: 32 noSuchObject\n", "line 10: L4 base64\n"],
+    dumps: &[&[ROOT], &[ROOT, A], &[ROOT, A, C], &[ROOT, A, C, E]],
+};
 
-const REPORT: &str = "line 4: 32 noSuchObject\nline 10: L4 base64\n";
+const B: &str = "dn: cn=b,dc=ex\nobjectClass: person\ncn: b\n\n";
 
-const DUMP: &str =
-    "dn: dc=ex\nobjectClass: domain\ndc: ex\n\ndn: cn=a,dc=ex\nobjectClass: person\ncn: a\n\ndn: cn=c,dc=ex\nobjectClass: person\ncn: c\n\ndn: cn=e,dc=ex\nobjectClass: person\ncn: e\n\n";
+const C_BELOW_B: &str = "dn: cn=c,cn=b,dc=ex\nobjectClass: person\ncn: c\n\n";
 
-// how many were accepted and refused after each record
-const TALLIES: [(u64, u64); 6] = [(0, 0), (1, 0), (1, 1), (2, 1), (2, 2), (3, 2)];
+const D: &str = "dn: cn=d,dc=ex\nobjectClass: person\ncn: d\n\n";
 
-// where the dump ends after so many accepted records
-fn dump_end(accepted: u64) -> usize {
-    match accepted {
-        0 => 38,
-        1 => 80,
-        2 => 122,
-        _ => 164,
+const E_BELOW_D: &str = "dn: cn=e,cn=d,dc=ex\nobjectClass: person\ncn: e\n\n";
+
+const A_OF_TWO: &str =
+    "dn: cn=a,dc=ex\nobjectClass: person\ncn: a\ndescription: first\ndescription: a second one of more than a few bytes\n\n";
+
+const A_OF_ONE: &str =
+    "dn: cn=a,dc=ex\nobjectClass: person\ncn: a\ndescription: a second one of more than a few bytes\n\n";
+
+const A_REPLACED: &str =
+    "dn: cn=a,dc=ex\nobjectClass: person\ncn: a\ndescription: third\ndescription: fourth\n\n";
+
+const E_RENAMED: &str = "dn: cn=f,cn=d,dc=ex\nobjectClass: person\ncn: f\n\n";
+
+const C_MOVED: &str = "dn: cn=g,cn=d,dc=ex\nobjectClass: person\ncn: c\ncn: g\n\n";
+
+// the record on line 22 is refused, since an entry stands below
+const CHANGES: Row = Row {
+    mode: Mode::Changes { add: false },
+    start: "dn: dc=ex\nobjectClass: domain\n\ndn: cn=a,dc=ex\nobjectClass: person\n\ndn: cn=b,dc=ex\nobjectClass: person\n\ndn: cn=c,cn=b,dc=ex\nobjectClass: person\n",
+    records: "dn: cn=d,dc=ex
+changetype: add
+objectClass: person
+
+dn: cn=e,cn=d,dc=ex
+changetype: add
+objectClass: person
+
+dn: cn=a,dc=ex
+changetype: modify
+add: description
+description: first
+description: a second one of more than a few bytes
+-
+
+dn: cn=a,dc=ex
+changetype: modify
+delete: description
+description: FIRST
+-
+
+dn: cn=b,dc=ex
+changetype: delete
+
+dn: cn=a,dc=ex
+changetype: modify
+replace: description
+description: third
+description: fourth
+-
+
+dn: cn=e,cn=d,dc=ex
+changetype: modrdn
+newrdn: cn=f
+deleteoldrdn: 1
+
+dn: cn=c,cn=b,dc=ex
+changetype: modrdn
+newrdn: cn=g
+deleteoldrdn: 0
+newsuperior: cn=d,dc=ex
+
+dn: cn=b,dc=ex
+changetype: delete
+
+dn: cn=g,cn=d,dc=ex
+changetype: delete
+",
+    tallies: &[
+        (0, 0),
+        (1, 0),
+        (2, 0),
+        (3, 0),
+        (4, 0),
+        (4, 1),
+        (5, 1),
+        (6, 1),
+        (7, 1),
+        (8, 1),
+        (9, 1),
+    ],
+    report: &["line 22: 66 notAllowedOnNonLeaf\n"],
+    dumps: &[
+        &[ROOT, A, B, C_BELOW_B],
+        &[ROOT, A, B, C_BELOW_B, D],
+        &[ROOT, A, B, C_BELOW_B, D, E_BELOW_D],
+        &[ROOT, A_OF_TWO, B, C_BELOW_B, D, E_BELOW_D],
+        &[ROOT, A_OF_ONE, B, C_BELOW_B, D, E_BELOW_D],
+        &[ROOT, A_REPLACED, B, C_BELOW_B, D, E_BELOW_D],
+        &[ROOT, A_REPLACED, B, C_BELOW_B, D, E_RENAMED],
+        &[ROOT, A_REPLACED, B, D, E_RENAMED, C_MOVED],
+        &[ROOT, A_REPLACED, D, E_RENAMED, C_MOVED],
+        &[ROOT, A_REPLACED, D, E_RENAMED],
+    ],
+};
+
+// whether these are the lines of the first so many refused records
+fn is_report(alloc: Global, row: &Row, refused: u64, report: &[u8]) -> Result<bool, AllocError> {
+    let Some(lines) = row.report.get(..refused as usize) else {
+        return Ok(false);
+    };
+    Ok(lines.concat(alloc)?.as_bytes() == report)
+}
+
+// whether this is the dump after so many accepted records
+fn is_dump(alloc: Global, row: &Row, accepted: u64, dump: &[u8]) -> Result<bool, AllocError> {
+    let Some(entries) = row.dumps.get(accepted as usize) else {
+        return Ok(false);
+    };
+    Ok(entries.concat(alloc)?.as_bytes() == dump)
+}
+
+// whether a run can have counted this: after all of its records where it went through, and else after some of them
+fn is_tally(row: &Row, tally: Tally, whole: bool) -> bool {
+    let counted = (tally.accepted, tally.refused);
+    if whole {
+        row.tallies.last() == Some(&counted)
+    } else {
+        row.tallies.contains(&counted)
     }
 }
 
-// where the report ends after so many refused records
-fn report_end(refused: u64) -> usize {
-    match refused {
-        0 => 0,
-        1 => 24,
-        _ => 43,
+// whether the run left the report that its counts say; where it broke off, the last line may be wanting
+fn is_reported(
+    alloc: Global,
+    row: &Row,
+    refused: u64,
+    whole: bool,
+    report: &[u8],
+) -> Result<bool, AllocError> {
+    if is_report(alloc, row, refused, report)? {
+        return Ok(true);
     }
-}
-
-// whether these are what a run leaves that counted so many records; the last report line may be wanting
-fn is_left(tally: Tally, whole: bool, report: &[u8], dump: &[u8]) -> bool {
-    let Tally { accepted, refused } = tally;
-    let written = report.len();
-    let last_is_wanting = !whole && written == report_end(refused.saturating_sub(1));
-    REPORT.as_bytes().starts_with(report)
-        && (written == report_end(refused) || last_is_wanting)
-        && DUMP.as_bytes().starts_with(dump)
-        && dump.len() == dump_end(accepted)
+    if whole || refused == 0 {
+        return Ok(false);
+    }
+    is_report(alloc, row, refused - 1, report)
 }
 
 // a run with so many allocations before and behind it: whether it went through, and whether one of those was refused
 fn run_between(
     rt: &impl Abort,
     alloc: Global,
+    row: &Row,
     before: usize,
     behind: usize,
 ) -> Result<(bool, bool), Fail> {
-    let mut dir = loaded(alloc, ROOT)?;
-    let mut source = TrySource::new(FIVE.as_bytes(), 8192, None);
+    let mut dir = loaded(alloc, row.start)?;
+    let mut source = TrySource::new(row.records.as_bytes(), 8192, None);
     let mut sink = TrySink::new(alloc, 8192, None);
     let met_before = spend(alloc, before);
-    let outcome = run(alloc, &mut dir, &mut source, &mut sink, Mode::Content, true);
+    let outcome = run(alloc, &mut dir, &mut source, &mut sink, row.mode, true);
     let met = spend(alloc, behind) || met_before;
     // the sink takes memory too, and fails where it gets none
     let (tally, whole) = match outcome {
@@ -71,16 +203,10 @@ fn run_between(
         Err(RunFault::Read(_)) => return Err(Fail::from("the source doesn't fail")),
     };
     let dump = dump_of(alloc, &dir)?;
+    assert!(rt; is_tally(row, tally, whole), "{tally:?}");
+    assert!(rt; is_dump(alloc, row, tally.accepted, &dump)?, "{tally:?}");
     assert!(rt;
-        TALLIES.contains(&(tally.accepted, tally.refused)),
-        "{tally:?}"
-    );
-    assert!(rt;
-        !whole || (tally.accepted, tally.refused) == (3, 2),
-        "{tally:?}"
-    );
-    assert!(rt;
-        is_left(tally, whole, sink.bytes(), dump.as_slice()),
+        is_reported(alloc, row, tally.refused, whole, sink.bytes())?,
         "{tally:?}"
     );
     Ok((whole, met))
@@ -88,7 +214,9 @@ fn run_between(
 
 #[test]
 fn a_run_leaves_what_it_counts(rt: HostRuntime) -> Result<(), Fail> {
-    let (whole, met) = run_between(&rt, rt.alloc(), 0, 0)?;
-    assert!(rt; whole && !met);
+    for row in [&CONTENT, &CHANGES] {
+        let (whole, met) = run_between(&rt, rt.alloc(), row, 0, 0)?;
+        assert!(rt; whole && !met);
+    }
     Ok(())
 }

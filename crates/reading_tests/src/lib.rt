@@ -10,6 +10,8 @@ mod changes;
 #[cfg(test)]
 mod filters;
 #[cfg(test)]
+mod filters_in_little_memory;
+#[cfg(test)]
 mod lines_in_little_memory;
 mod little_memory;
 #[cfg(test)]
@@ -24,5 +26,7 @@ mod readers;
 mod record_text;
 #[cfg(test)]
 mod records_in_little_memory;
+#[cfg(test)]
+mod written_filter;
 
 pub use little_memory::spend;

@@ -4,7 +4,7 @@ use base::Bytes;
 use ldif::{Attr, Control, LdifFault, Mod, Op, Record};
 use std::alloc::{AllocError, Global};
 
-fn push_words(out: &mut Vec<u8>, words: &[&[u8]]) -> Result<(), AllocError> {
+pub fn push_words(out: &mut Vec<u8>, words: &[&[u8]]) -> Result<(), AllocError> {
     for word in words {
         out.extend_from_slice(word)?;
     }

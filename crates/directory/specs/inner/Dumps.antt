@@ -1,6 +1,6 @@
 -- What is written of a dump, piece by piece.
-use Rattle.std.specs.Prelude.{◌≡◌, ℕ, Some, List, [], ◌∷◌, ◌++◌, Result, Ok, Err}
-use Rattle.std.specs.List.{flat_map}
+use Rattle.std.specs.Prelude.{◌≡◌, ℕ, ◌<◌, Some, List, [], ◌∷◌, ◌++◌, length, if◌then◌else◌, Result, Ok, Err}
+use Rattle.std.specs.List.{flat_map, filter, AllByRecursion}
 use Rattle.std.specs.FinMap as finite
 use Rattle.base.specs.Ascii.{line_feed}
 use Rattle.device.specs.Device.{Written}
@@ -8,13 +8,15 @@ use Rattle.ldif.specs.Attrs.{Attr}
 use Rattle.ldif.specs.declared.write.WriteFault.{WriteFault}
 use Rattle.ldif.specs.Contents.{written_attr, write_content}
 use Rattle.values.specs.declared.types.AttributeType.{AttributeType}
+use Rattle.values.specs.Types.{name_of}
 use Rattle.values.specs.Values.{Value}
 use Rattle.paths.specs.Paths.{Path}
 use Rattle.schema.specs.Conf.{Conf}
 use Rattle.tree.specs.Directories.{Entries, record_at}
 use Rattle.tree.specs.Entries.{lines_of}
-use Rattle.tree.specs.StoredEntries.{Entry, EntryAttribute, content_of, attributes_of, IsMade}
+use Rattle.tree.specs.StoredEntries.{Entry, EntryAttribute, content_of, attributes_of}
 use Rattle.directory.specs.Dumps.{SoFar, Writes}
+use Rattle.directory.specs.Selections.{Selection, selects, selected}
 
 -- of the bytes a beginning was written and the rest is left, or as many were written as came before the fault
 abbrev pub WritesOn : Result (Unit {0}) WriteFault → Written → Written → List ℕ → List ℕ → Type 0
@@ -32,13 +34,24 @@ values_text name vs = flat_map (λ v. written_attr (attr_of name v)) vs
 abbrev pub attributes_text : List AttributeType → List EntryAttribute → List ℕ
 attributes_text types attrs = flat_map written_attr (lines_of types (attributes_of attrs)) ++ line_feed ∷ []
 
-abbrev pub entry_text : Conf → Entries → Path × Entry → List ℕ
-entry_text conf d e = write_content (record_at conf d e.0 (content_of e.1))
+-- the lines of an attribute, where it is selected
+abbrev pub attribute_text : List AttributeType → Selection → EntryAttribute → List ℕ
+attribute_text types s a = if selects s a.0 then values_text (name_of types a.0) a.1 else []
 
-abbrev pub entries_text : Conf → Entries → List (Path × Entry) → List ℕ
-entries_text conf d es = flat_map (entry_text conf d) es
+-- the lines of those attributes that are selected, and the empty line behind them
+abbrev pub selected_text : List AttributeType → Selection → List EntryAttribute → List ℕ
+selected_text types s attrs = attributes_text types (filter (λ a. selects s a.0) attrs)
+
+abbrev pub entry_text : Conf → Entries → Selection → Path × Entry → List ℕ
+entry_text conf d s e = write_content (record_at conf d e.0 (selected s (content_of e.1)))
+
+abbrev pub entries_text : Conf → Entries → Selection → List (Path × Entry) → List ℕ
+entries_text conf d s es = flat_map (entry_text conf d s) es
+
+-- each is of a type that there is
+abbrev pub AreKnown : List AttributeType → List EntryAttribute → Type 0
+AreKnown types attrs = AllByRecursion (λ a. a.0 < length types) attrs
 
 -- entries of a directory, as its tree stores them
-pub record IsThere (conf : Conf) (d : Entries) (e : Path × Entry) : Type 0 where
-  pub there : finite.get d e.0 ≡ Some (content_of e.1)
-  pub made : IsMade conf.types e.1.attrs
+abbrev pub IsThere : Entries → Path × Entry → Type 0
+IsThere d e = finite.get d e.0 ≡ Some (content_of e.1)

@@ -1,7 +1,7 @@
 #!/bin/sh
-# Times the reading of names: names.sh PROGRAM, where the program is that of the crate names_bench
+# Times the reading of names and filters: reading.sh PROGRAM, where the program is that of the crate reading_bench
 #
-# A line for each text in two sizes: its bytes, the nanoseconds a byte of a plain loop over it and of reading it as a name, the
+# A line for each text in two sizes: its bytes, the nanoseconds a byte of a plain loop over it and of reading it, the
 # second in times of the first, and reading in times of that of the smaller size. The status is 1 where a text takes more than
 # 10 times the loop, or the larger size more than 1.3 times the smaller.
 set -eu

@@ -1,8 +1,7 @@
 //! The best time of several.
 
-use crate::texts::Text;
+use crate::texts::{Grammar, Text};
 use anyhow::Result;
-use dn::read_name;
 use std::alloc::Global;
 use std::rt::Clock;
 use std::time::{Duration, Instant};
@@ -60,8 +59,8 @@ fn picoseconds_a_byte(time: Duration, bytes: usize) -> u64 {
     nanoseconds.saturating_mul(1000) / (bytes.max(1) as u64)
 }
 
-/// The plain loop and the reading of a name in turn.
-fn time(clock: &impl Clock, alloc: Global, text: &str) -> Result<Times> {
+/// The plain loop and the reading in turn.
+fn time(clock: &impl Clock, alloc: Global, grammar: Grammar, text: &str) -> Result<Times> {
     let mut best = Times {
         plain: u64::MAX,
         read: u64::MAX,
@@ -72,7 +71,7 @@ fn time(clock: &impl Clock, alloc: Global, text: &str) -> Result<Times> {
         best.hash = hash_of(text.as_bytes());
         let plain = start.elapsed(clock)?;
         let start = Instant::now(clock)?;
-        let _name = read_name(alloc, text)?;
+        grammar.read(alloc, text)?;
         let read = start.elapsed(clock)?;
         best.plain = best.plain.min(picoseconds_a_byte(plain, text.len()));
         best.read = best.read.min(picoseconds_a_byte(read, text.len()));
@@ -85,7 +84,7 @@ pub(crate) fn time_sizes(clock: &impl Clock, alloc: Global, text: &Text) -> Resu
     let small = text.spelled(alloc, text.small)?;
     let large = text.spelled(alloc, text.large)?;
     Ok(Sizes {
-        small: time(clock, alloc, small.as_str())?,
-        large: time(clock, alloc, large.as_str())?,
+        small: time(clock, alloc, text.grammar, small.as_str())?,
+        large: time(clock, alloc, text.grammar, large.as_str())?,
     })
 }

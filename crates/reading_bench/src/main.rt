@@ -1,11 +1,10 @@
-//! Times the reading of names against a plain loop over the same bytes.
+//! Times the reading of names and filters against a plain loop over the same bytes.
 #![tactic(auto)]
 
 mod texts;
 mod timing;
 
 use anyhow::Result;
-use dn::read_name;
 use std::alloc::{AllocError, Global};
 use std::env;
 use std::io::Print;
@@ -83,16 +82,11 @@ fn print_times(rt: &(impl Clock + Print), alloc: Global) -> Result<()> {
     Ok(())
 }
 
-/// What is read of a text in its smaller size.
+/// That a text is read in its smaller size.
 fn print_count(rt: &impl Print, alloc: Global, text: &Text) -> Result<()> {
     let spelled = text.spelled(alloc, text.small)?;
-    let name = read_name(alloc, spelled.as_str())?;
-    println!(rt;
-        "{}: {} bytes, {} RDNs",
-        text.label,
-        spelled.len(),
-        name.rdns().len()
-    )?;
+    text.grammar.read(alloc, spelled.as_str())?;
+    println!(rt; "{}: {} bytes", text.label, spelled.len())?;
     Ok(())
 }
 
@@ -101,7 +95,7 @@ fn main(rt: HostRuntime) -> Result<()> {
     if words.len() > 1 {
         return print_times(&rt, rt.alloc());
     }
-    println!(rt; "names_bench run times the reading of these, and of ten times as much:")?;
+    println!(rt; "reading_bench run times the reading of these, and of ten times as much:")?;
     for text in texts() {
         print_count(&rt, rt.alloc(), &text)?;
     }
