@@ -5,4 +5,4 @@ mod reading;
 mod request;
 
 pub use reading::{help, read};
-pub use request::{AddOptions, CatOptions, ModifyOptions, Request, UsageFault};
+pub use request::{AddOptions, CatOptions, ModifyOptions, Request, SearchOptions, UsageFault};

@@ -2,6 +2,7 @@
 ghost use Rattle.std.specs.Prelude.{◌≡◌};
 ghost use Rattle.command_line.specs.declared.request.UsageFault.TheVariants.{OutOfMemory};
 
+use search::Scope;
 use std::alloc::{AllocError, AllocFailed};
 
 /// What slapadd is asked for.
@@ -32,6 +33,23 @@ pub struct ModifyOptions<'a> {
     pub dry_run: bool,
 }
 
+/// What search is asked for (RFC 4511, 4.5.1).
+#[derive(Debug, Drop)]
+pub struct SearchOptions<'a> {
+    /// The folder of the directory.
+    pub db: &'a str,
+    /// The name of the base, or none for the suffix.
+    pub base: Option<&'a str>,
+    /// Which entries are looked at, from the base on.
+    pub scope: Scope,
+    /// How many entries are printed at most, or none for all.
+    pub limit: Option<u32>,
+    /// The filter as text, or none for all entries.
+    pub filter: Option<&'a str>,
+    /// The attributes that are printed, by name.
+    pub attributes: Vec<&'a str>,
+}
+
 /// What slapcat is asked for.
 #[derive(Clone, Copy, Debug, Drop)]
 pub struct CatOptions<'a> {
@@ -39,6 +57,10 @@ pub struct CatOptions<'a> {
     pub db: &'a str,
     /// The file that is written, or none for standard output.
     pub file: Option<&'a str>,
+    /// The filter as text, or none for all entries.
+    pub filter: Option<&'a str>,
+    /// The name of the entry that is printed with those below it, or none for all.
+    pub base: Option<&'a str>,
 }
 
 /// What a command line asks for.
@@ -48,6 +70,7 @@ pub enum Request<'a> {
     Help(String),
     Add(AddOptions<'a>),
     Modify(ModifyOptions<'a>),
+    Search(SearchOptions<'a>),
     Cat(CatOptions<'a>),
 }
 

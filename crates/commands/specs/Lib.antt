@@ -1,2 +1,3 @@
 pub mod Statuses
+pub mod Parts
 pub mod inner

@@ -21,9 +21,11 @@ status_of_count (suc n) = statuses.Refused
 abbrev pub status_of_tally : Tally → Status
 status_of_tally t = status_of_count t.refused
 
--- a fault of the command line or of the configuration is one of usage
+-- a fault of the command line, of a filter or of the configuration is one of usage
 abbrev pub status_of_fault : CommandFault → Status
 status_of_fault faults.Words = statuses.Usage
+status_of_fault (faults.Filter fault) = statuses.Usage
+status_of_fault (faults.Code command code) = statuses.Refused
 status_of_fault (faults.Configuration line kind) = statuses.Usage
 status_of_fault (faults.Data line reason) = statuses.Failed
 status_of_fault (faults.CannotRead name) = statuses.Failed

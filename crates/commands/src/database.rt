@@ -1,7 +1,7 @@
 //! The files of a directory: its configuration and its entries.
 ghost use Rattle.std.specs.Prelude.{◌≡◌, ◌<◌, ◌-◌, ◌^◌, IfOk, IfErr, IfSome};
 ghost use Rattle.directory.specs.Runs.{dump};
-ghost use Rattle.commands.specs.inner.Ends.{IsLoaded};
+ghost use Rattle.commands.specs.inner.Ends.{IsLoaded, EndsLoading};
 ghost use Rattle.commands.specs.Statuses.{status_of_fault};
 ghost use Rattle.commands.specs.declared.messages.Status.TheVariants.{Failed};
 
@@ -88,7 +88,9 @@ fn contents<S: Source>(alloc: Global, source: &mut S, name: &str) -> Result<Vec<
     }
 }
 
-fn configuration<F: Folder>(alloc: Global, folder: &mut F, db: &str) -> Result<Conf, CommandFault> {
+fn configuration<F: Folder>(alloc: Global, folder: &mut F, db: &str) -> Result<Conf, CommandFault>
+    ensures { IfErr result EndsLoading }
+{
     let name = path(alloc, db, "dir.conf")?;
     let mut source = open_present(alloc, folder, name.as_str())?;
     let text = contents(alloc, &mut source, name.as_str())?;
@@ -115,7 +117,8 @@ pub fn load_directory<F: Folder>(
     folder: &mut F,
     db: &str,
 ) -> Result<Directory, CommandFault>
-    ensures { IfOk result (λ d. IsLoaded d.conf d.entries) }
+    ensures loaded { IfOk result (λ d. IsLoaded d.conf d.entries) }
+    ensures err { IfErr result EndsLoading }
 {
     let conf = configuration(alloc, folder, db)?;
     let name = path(alloc, db, "data.ldif")?;

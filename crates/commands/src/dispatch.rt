@@ -5,6 +5,7 @@ ghost use Rattle.device.specs.Device.{Took};
 use crate::changes::{ldapmodify, slapadd};
 use crate::folder::Folder;
 use crate::messages::{CommandFault, Status, say, tell};
+use crate::searching::search;
 use crate::slapcat::slapcat;
 use command_line::{Request, UsageFault, read};
 use device::{Device, Sink, Source, push_all};
@@ -24,7 +25,8 @@ fn print<O: Sink, E: Sink>(alloc: Global, text: &str, out: &mut O, err: &mut E) 
 }
 
 /// Carries out the command that the words spell, the first being the program's name, and answers its exit status: 0, or 1
-/// where a record was refused, 2 for a fault of the command line or of dir.conf, 3 for one of a file, a stream or memory.
+/// where a record was refused or a search ended with a result code, 2 for a fault of the command line, of a filter or of dir.conf, 3 for
+/// one of a file, a stream or memory.
 pub fn command<W: AsStr, F: Folder, S: Source, O: Sink, E: Sink>(
     alloc: Global,
     words: &[W],
@@ -43,6 +45,7 @@ pub fn command<W: AsStr, F: Folder, S: Source, O: Sink, E: Sink>(
         Ok(Request::Help(text)) => print(alloc, text.as_str(), out, err),
         Ok(Request::Add(asked)) => slapadd(alloc, &asked, folder, input, err),
         Ok(Request::Modify(asked)) => ldapmodify(alloc, &asked, folder, input, err),
+        Ok(Request::Search(asked)) => search(alloc, &asked, folder, out, err),
         Ok(Request::Cat(asked)) => slapcat(alloc, &asked, folder, out, err),
         Err(UsageFault::Words(text)) => say(err, text.as_str(), Status::Usage),
         Err(UsageFault::OutOfMemory) => tell(alloc, err, &CommandFault::OutOfMemory),

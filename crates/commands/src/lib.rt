@@ -4,8 +4,11 @@
 mod changes;
 mod database;
 mod dispatch;
+mod finding;
 mod folder;
 mod messages;
+mod part;
+mod searching;
 mod slapcat;
 
 pub use dispatch::command;

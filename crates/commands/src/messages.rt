@@ -6,7 +6,8 @@ ghost use Rattle.commands.specs.Statuses.{status_number, status_of_fault, status
 
 use device::{Sink, push_all};
 use directory::{Reason, Tally};
-use schema::ConfFaultKind;
+use filter_text::FilterFault;
+use schema::{Code, ConfFaultKind};
 use std::alloc::{AllocError, AllocFailed, Global};
 use std::error::Error;
 use std::fmt;
@@ -15,9 +16,9 @@ use std::fmt;
 #[derive(Clone, Copy, Debug, PartialEq, Eq)]
 pub enum Status {
     Done,
-    /// A record was refused.
+    /// A record was refused, or a search ended with a result code.
     Refused,
-    /// The command line or the configuration is at fault.
+    /// The command line, a filter or the configuration is at fault.
     Usage,
     /// A file, a stream or memory failed, or the directory's own file doesn't load.
     Failed,
@@ -54,6 +55,10 @@ impl Status {
 pub enum CommandFault {
     /// A word of the command line is not UTF-8.
     Words,
+    /// A filter that can't be read.
+    Filter(FilterFault),
+    /// The result code that a search of this command ends with.
+    Code { command: &'static str, code: Code },
     /// The configuration's first line that is at fault, or 0 where a line is missing.
     Configuration { line: u64, kind: ConfFaultKind },
     /// The first record of the directory's file that is refused.
@@ -71,7 +76,9 @@ impl CommandFault {
         ensures { result ≡ status_of_fault self.now }
     {
         match self {
-            CommandFault::Words | CommandFault::Configuration { .. } => Status::Usage,
+            CommandFault::Words | CommandFault::Filter(_) | CommandFault::Configuration { .. } =>
+                Status::Usage,
+            CommandFault::Code { .. } => Status::Refused,
             _ => Status::Failed,
         }
     }
@@ -101,6 +108,8 @@ impl fmt::Display for CommandFault {
     fn fmt<W: fmt::Write>(&self, f: &mut fmt::Formatter<W>) -> fmt::Result {
         match self {
             CommandFault::Words => write!(f, "command line: not UTF-8"),
+            CommandFault::Filter(fault) => write!(f, "filter: {fault}"),
+            CommandFault::Code { command, code } => write!(f, "{command}: {code}"),
             CommandFault::Configuration { line, kind } => write!(f, "dir.conf line {line}: {kind}"),
             CommandFault::Data { line, reason } => write!(f, "data.ldif line {line}: {reason}"),
             CommandFault::CannotRead(name) => write!(f, "{name}: cannot read"),

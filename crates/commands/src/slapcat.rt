@@ -1,63 +1,112 @@
-//! slapcat: a directory is printed as LDIF.
-ghost use Rattle.std.specs.Prelude.{◌≡◌, ◌<◌, ◌-◌, ◌^◌, OnOk, is_some};
-ghost use Rattle.device.specs.Device.{Took};
-ghost use Rattle.directory.specs.Runs.{dump};
-ghost use Rattle.commands.specs.inner.Ends.{Dumps, IsDumped, CatEnds};
+//! slapcat: a directory, or a part of it, is printed as LDIF.
+ghost use Rattle.std.specs.Prelude.{◌≡◌, ◌<◌, ◌-◌, ◌^◌, ◌&&◌, true, false, OnOk, is_some, is_none};
+ghost use Rattle.commands.specs.inner.Ends.{Puts, HasPut, IsPrinted, CatEnds};
 
 use crate::database::{load_directory, store};
-use crate::folder::Folder;
+use crate::finding::{filter_of, path_of};
+use crate::folder::{FileText, Folder};
 use crate::messages::{CommandFault, Status, tell};
+use crate::part::Part;
 use command_line::CatOptions;
 use device::Sink;
 use directory::Directory;
+use filter::prepare;
+use filter_text::Filter;
 use ldif::WriteFault;
+use schema::Code;
 use std::alloc::Global;
 use std::mem;
 
-fn print<O: Sink>(alloc: Global, dir: &Directory, out: &mut O) -> Result<(), CommandFault>
+/// The name that its result codes are printed with.
+const NAME: &str = "slapcat";
+
+fn print<T: FileText, O: Sink>(alloc: Global, text: &T, out: &mut O) -> Result<(), CommandFault>
     requires { (O.written out.old).failed < 2 ^ 64 - 1 }
-    ensures { OnOk result (Took (O.written out.old) (O.written out.new) (dump dir.now.conf dir.now.entries)) }
+    ensures { OnOk result (Puts false (O.written out.old) (O.written out.new) (T.text text.now)) }
 {
-    match dir.dump(alloc, out) {
+    match text.write(alloc, out) {
         Ok(()) => Ok(()),
         Err(WriteFault::Device) => Err(CommandFault::cannot_write(alloc, "output")),
         Err(WriteFault::OutOfMemory) => Err(CommandFault::OutOfMemory),
     }
 }
 
-fn dump_to<F: Folder, O: Sink>(
+/// Writes a text to the file, or prints it.
+fn put<T: FileText, F: Folder, O: Sink>(
     alloc: Global,
-    dir: &Directory,
+    text: &T,
     file: Option<&str>,
     folder: &mut F,
     out: &mut O,
 ) -> Result<(), CommandFault>
     requires { (O.written out.old).failed < 2 ^ 64 - 1 }
-    ensures { OnOk result (Dumps (is_some file.entry) dir.now.conf dir.now.entries (O.written out.old) (O.written out.new)) }
+    ensures { OnOk result (Puts (is_some file.entry) (O.written out.old) (O.written out.new) (T.text text.now)) }
 {
     match file {
-        Some(name) => store(alloc, folder, name, dir),
-        None => print(alloc, dir, out),
+        Some(name) => store(alloc, folder, name, text),
+        None => print(alloc, text, out),
     }
 }
 
-fn load_and_dump<F: Folder, O: Sink>(
+fn put_part<F: Folder, O: Sink>(
+    alloc: Global,
+    asked: &CatOptions<'_>,
+    filter: &Filter,
+    dir: &Directory,
+    folder: &mut F,
+    out: &mut O,
+) -> Result<(), CommandFault>
+    requires { (O.written out.old).failed < 2 ^ 64 - 1 }
+    ensures { OnOk result (HasPut false (is_some asked.now.file) dir.now.conf dir.now.entries (O.written out.old) (O.written out.new)) }
+{
+    let base = path_of(alloc, dir.conf(), asked.base, NAME)?;
+    if asked.base.is_some() && dir.tree().get(&base).is_none() {
+        return Err(CommandFault::Code {
+            command: NAME,
+            code: Code::NoSuchObject,
+        });
+    }
+    let prepared = prepare(alloc, filter, dir.conf())?;
+    let part = Part::new(dir, &base, &prepared);
+    put(alloc, &part, asked.file, folder, out)
+}
+
+fn put_entries<F: Folder, O: Sink>(
+    alloc: Global,
+    asked: &CatOptions<'_>,
+    filter: &Filter,
+    dir: &Directory,
+    folder: &mut F,
+    out: &mut O,
+) -> Result<(), CommandFault>
+    requires { (O.written out.old).failed < 2 ^ 64 - 1 }
+    ensures { OnOk result (HasPut (is_none asked.now.filter && is_none asked.now.base) (is_some asked.now.file) dir.now.conf dir.now.entries (O.written out.old) (O.written out.new)) }
+{
+    if asked.filter.is_none() && asked.base.is_none() {
+        return put(alloc, dir, asked.file, folder, out);
+    }
+    put_part(alloc, asked, filter, dir, folder, out)
+}
+
+fn load_and_put<F: Folder, O: Sink>(
     alloc: Global,
     asked: &CatOptions<'_>,
     folder: &mut F,
     out: &mut O,
 ) -> Result<(), CommandFault>
     requires { (O.written out.old).failed < 2 ^ 64 - 1 }
-    ensures { OnOk result (IsDumped (is_some asked.now.file) (O.written out.old) (O.written out.new)) }
+    ensures { OnOk result (IsPrinted (is_none asked.now.filter && is_none asked.now.base) (is_some asked.now.file) (O.written out.old) (O.written out.new)) }
 {
+    let filter = filter_of(alloc, asked.filter)?;
     let dir = load_directory(alloc, folder, asked.db)?;
-    let dumped = dump_to(alloc, &dir, asked.file, folder, out);
+    let done = put_entries(alloc, asked, &filter, &dir, folder, out);
     // The process is about to end, which frees the entries at once.
     mem::forget(dir);
-    dumped
+    done
 }
 
-/// Writes the directory in a folder to the file, or to `out`.
+/// Writes the directory in a folder to the file, or to `out`: all entries, or those at the base and below it that the filter is True of.
+/// Where the base isn't there, the code is 32 noSuchObject.
 pub fn slapcat<F: Folder, O: Sink, E: Sink>(
     alloc: Global,
     asked: &CatOptions<'_>,
@@ -67,9 +116,9 @@ pub fn slapcat<F: Folder, O: Sink, E: Sink>(
 ) -> Status
     requires out { (O.written out.old).failed < 2 ^ 64 - 1 }
     requires err { (E.written err.old).failed < 2 ^ 64 - 1 }
-    ensures { CatEnds (is_some asked.now.file) (O.written out.old) (O.written out.new) result }
+    ensures { CatEnds (is_none asked.now.filter && is_none asked.now.base) (is_some asked.now.file) (O.written out.old) (O.written out.new) result }
 {
-    match load_and_dump(alloc, asked, folder, out) {
+    match load_and_put(alloc, asked, folder, out) {
         Ok(()) => Status::Done,
         Err(fault) => tell(alloc, err, &fault),
     }

@@ -1,0 +1,14 @@
+-- A part of a directory as text.
+use Rattle.std.specs.Prelude.{ℕ, List, [], None, if◌then◌else◌}
+use Rattle.std.specs.FinMap as finite
+use Rattle.paths.specs.Paths.{Path}
+use Rattle.schema.specs.Conf.{Conf}
+use Rattle.tree.specs.Directories.{Entries}
+use Rattle.filter_text.specs.Spells.{Tree}
+use Rattle.search.specs.declared.scope.Scope.TheVariants.{Sub}
+use Rattle.search.specs.Searches.{scan}
+use Rattle.directory.specs.Found.{found_text}
+
+-- the entries at a base and below it of which a filter is True, whole; nothing where the base isn't there
+abbrev pub part_text : Conf → Entries → Path → Tree → List ℕ
+part_text conf d base f = if finite.contains_key d base then found_text conf d None (scan conf d base Sub f) else []

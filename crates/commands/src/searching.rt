@@ -1,0 +1,94 @@
+//! search: the entries that a filter finds are printed as LDIF.
+ghost use Rattle.std.specs.Prelude.{◌≡◌, ◌<◌, ◌-◌, ◌^◌, IfOk};
+ghost use Rattle.commands.specs.Statuses.{status_of_fault};
+ghost use Rattle.commands.specs.inner.Ends.{HasFound, IsSearched, SearchEnds};
+
+use crate::database::load_directory;
+use crate::finding::{filter_of, path_of, refused};
+use crate::folder::Folder;
+use crate::messages::{CommandFault, Status, tell};
+use command_line::SearchOptions;
+use device::Sink;
+use directory::{Directory, Selection};
+use filter::prepare;
+use filter_text::Filter;
+use ldif::WriteFault;
+use schema::Code;
+use std::alloc::Global;
+use std::mem;
+
+/// The name that its result codes are printed with.
+const NAME: &str = "search";
+
+/// What a search ends with where more entries match than it may print (RFC 4511, 4.5.1.4).
+fn past_limit() -> CommandFault
+    ensures { status_of_fault result ≡ Status.Refused }
+{
+    CommandFault::Code {
+        command: NAME,
+        code: Code::SizeLimitExceeded,
+    }
+}
+
+/// Prints what is found in a directory, and answers whether there is more than may be printed.
+fn print_found<O: Sink>(
+    alloc: Global,
+    asked: &SearchOptions<'_>,
+    filter: &Filter,
+    dir: &Directory,
+    out: &mut O,
+) -> Result<bool, CommandFault>
+    requires { (O.written out.old).failed < 2 ^ 64 - 1 }
+    ensures { IfOk result (λ past. HasFound dir.now.conf dir.now.entries asked.now.scope asked.now.limit past (O.written out.old) (O.written out.new)) }
+{
+    let base = path_of(alloc, dir.conf(), asked.base, NAME)?;
+    let selection = Selection::of(alloc, dir.conf(), asked.attributes.as_slice())?;
+    let prepared = prepare(alloc, filter, dir.conf())?;
+    let hits = match dir.search(&base, asked.scope, &prepared) {
+        Ok(hits) => hits,
+        Err(refusal) => return Err(refused(refusal, NAME)),
+    };
+    match dir.write_found(alloc, out, hits, asked.limit, &selection) {
+        Ok(past) => Ok(past),
+        Err(WriteFault::Device) => Err(CommandFault::cannot_write(alloc, "output")),
+        Err(WriteFault::OutOfMemory) => Err(CommandFault::OutOfMemory),
+    }
+}
+
+fn load_and_print<F: Folder, O: Sink>(
+    alloc: Global,
+    asked: &SearchOptions<'_>,
+    folder: &mut F,
+    out: &mut O,
+) -> Result<bool, CommandFault>
+    requires { (O.written out.old).failed < 2 ^ 64 - 1 }
+    ensures { IfOk result (λ past. IsSearched asked.now.scope asked.now.limit past (O.written out.old) (O.written out.new)) }
+{
+    let filter = filter_of(alloc, asked.filter)?;
+    let dir = load_directory(alloc, folder, asked.db)?;
+    let printed = print_found(alloc, asked, &filter, &dir, out);
+    // The process is about to end, which frees the entries at once.
+    mem::forget(dir);
+    printed
+}
+
+/// Prints the entries of the directory in a folder that are in scope of the base and that the filter is True of, with the attributes that
+/// are asked for (RFC 4511, 4.5.1). Where more than the limit match, the first ones are printed, and the code is 4 sizeLimitExceeded; where
+/// the base isn't there, it is 32 noSuchObject.
+pub fn search<F: Folder, O: Sink, E: Sink>(
+    alloc: Global,
+    asked: &SearchOptions<'_>,
+    folder: &mut F,
+    out: &mut O,
+    err: &mut E,
+) -> Status
+    requires out { (O.written out.old).failed < 2 ^ 64 - 1 }
+    requires err { (E.written err.old).failed < 2 ^ 64 - 1 }
+    ensures { SearchEnds asked.now.scope asked.now.limit (O.written out.old) (O.written out.new) result }
+{
+    match load_and_print(alloc, asked, folder, out) {
+        Ok(false) => Status::Done,
+        Ok(true) => tell(alloc, err, &past_limit()),
+        Err(fault) => tell(alloc, err, &fault),
+    }
+}
