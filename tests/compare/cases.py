@@ -5,12 +5,12 @@ texts. The configurations are those of `configs.py`. What comes of a case is the
 """
 import base64
 from dataclasses import dataclass
-from typing import Optional
+from typing import ClassVar, Optional
 
 import ldif
 import model
 import values
-from configs import PAIRED, RULES, SUBSTRINGS, Config, definition, other_case, some, value
+from configs import PAIRED, PLAIN_CONF, RULES, SUBSTRINGS, Config, definition, other_case, some, value
 from pieces import (
     BAD_CONTROLS, BAD_NAMES, BAD_RDNS, CHANGE_LINES, CONTROLS, CRITICAL_CONTROLS, FIRST_LINES, INDEX_KINDS, NAMING, NO_TYPES,
     ODD_LINES, PAIRS, TINY, TOKENS, VALUES, VERSIONS, WORDS)
@@ -19,6 +19,9 @@ from pieces import (
 @dataclass(frozen=True)
 class Case:
     """The files of a folder, None for one that isn't there, and the input and options of a command."""
+    # what a case is cut down to
+    OPTIONS: ClassVar = tuple((option, False) for option in ("by_file", "to_file", "go_on", "dry_run", "add_default"))
+    TEXTS: ClassVar = (("data", None), ("input", b""), ("conf", PLAIN_CONF))
     conf: Optional[bytes]
     data: Optional[bytes]
     input: Optional[bytes]      # None: the command is to read a file that isn't there

@@ -1,10 +1,11 @@
 #!/usr/bin/env python3
-"""Compares a built program with a second reading of the rules: compare.py PROGRAM COUNT SEED .. [--changes]
+"""Compares a built program with a second reading of the rules: compare.py PROGRAM COUNT SEED .. [--changes] [--searches] [--only]
 
-The second reading is `model.py` with `schema.py`, `values.py` and `ldif.py`. It was written apart from the program and shares
+The second reading is `model.py` with `schema.py`, `values.py`, `ldif.py` and `filters.py`. It was written apart from the program and shares
 no code with it, so that a rule that one of the two reads wrongly shows as a difference. For each SEED, COUNT random folders
 and inputs go through slapadd and then slapcat; statuses, outputs, messages, data.ldif and the names of the files are compared
-byte for byte. With --changes as many more go through ldapmodify and then slapcat. A case that differs is cut down and printed; at
+byte for byte. With --changes as many more go through ldapmodify and then slapcat, and with --searches as many through search or
+through slapcat with a filter or a name; with --only slapadd is left out. A case that differs is cut down and printed; at
 the end stands how often each status, code and fault came up. The exit status is 0 where nothing differs, else 1.
 """
 import argparse
@@ -21,12 +22,15 @@ from dataclasses import fields, replace
 from pathlib import Path
 
 import cases
-import configs
 import model
+import searches
+import values
 
 SECONDS = 10        # for one run of the program
 MOST_SHOWN = 3      # differences that are cut down and printed
 MOST_TRIES = 2000   # cases that are tried to cut down one of them
+# what a case is called, what it is drawn from beside its seed, and how
+KINDS = [("case", "", cases.case), ("change", "{} changes", cases.change_case), ("search", "{} searches", searches.search_case)]
 
 
 def read(path):
@@ -60,8 +64,11 @@ class Runner:
         write(self.db / "dir.conf", case.conf)
         write(self.db / "data.ldif", case.data)
         seen, wanted = {}, {}
-        self.change(case, seen, wanted)
-        self.slapcat(case, seen, wanted)
+        if isinstance(case, searches.Search):
+            self.search(case, seen, wanted)
+        else:
+            self.change(case, seen, wanted)
+            self.slapcat(case, seen, wanted)
         return seen, wanted
 
     def change(self, case, seen, wanted):
@@ -100,6 +107,27 @@ class Runner:
         wanted.update({"slapcat status": status, "slapcat output": b"" if to_file else output,
                        "slapcat messages": messages, "slapcat file": output if to_file else None,
                        "files after slapcat": seen["files"]})
+
+    def search(self, case, seen, wanted):
+        """search, or slapcat for a part of the entries"""
+        self.output.unlink(missing_ok=True)
+        seen["status"], seen["output"], seen["messages"] = self.run(*case.command(self.db, self.output))
+        seen["file"], seen["files"] = read(self.output), sorted(os.listdir(self.db))
+        files = case.conf, case.data, self.db
+        if not all(values.is_utf8(text) for text in case.texts()):
+            answer = 2, b"", b"command line: not UTF-8\n"
+        elif case.is_slapcat:
+            answer = model.slapcat(*files, case.filter, case.base)
+        else:
+            answer = model.search(*files, case.asked(), case.base, case.scope, case.limit)
+        wanted["status"], wanted["output"], wanted["messages"] = answer
+        if wanted["messages"] is None:
+            # a text of the library that reads the words
+            wanted["messages"] = seen["messages"] or b"a message"
+        wanted["file"] = None
+        if case.to_file and wanted["status"] == 0:
+            wanted["output"], wanted["file"] = b"", wanted["output"]
+        wanted["files"] = [name for name, text in (("data.ldif", case.data), ("dir.conf", case.conf)) if text is not None]
 
 
 def differences(seen, wanted):
@@ -147,13 +175,13 @@ class Shrinker:
         before = None
         while self.small != before:
             before = self.small
-            for option in ("by_file", "to_file", "go_on", "dry_run", "add_default"):
-                self.takes(**{option: False})
-            for field, plain in (("data", None), ("input", b""), ("conf", configs.PLAIN_CONF)):
+            for option, plain in before.OPTIONS:
+                self.takes(**{option: plain})
+            for field, plain in before.TEXTS:
                 if len(getattr(self.small, field) or b"") > len(plain or b""):
                     self.takes(**{field: plain})
             for pieces_of in (lambda text: text.splitlines(True), lambda text: [bytes([byte]) for byte in text]):
-                for field in ("data", "input", "conf"):
+                for field, _ in before.TEXTS:
                     self.cut(field, pieces_of(getattr(self.small, field) or b""))
 
 
@@ -167,29 +195,46 @@ def show(case, found):
 
 
 def count(counts, case, wanted):
+    if isinstance(case, searches.Search):
+        count_search(counts, case, wanted)
+        return
     counts[f"{'ldapmodify' if case.changes else 'slapadd'}: status {wanted['status']}"] += 1
     counts[f"slapcat: status {wanted['slapcat status']}"] += 1
-    for line in wanted["messages"].decode().splitlines():
-        where, what = re.fullmatch(r"(?:(.*) )?line \d+: (\w+) .*|.*: cannot read", line).groups()
-        where = where or ("changes" if case.changes else "input")
-        counts[f"{where}: {what}" if what else "a file: cannot read"] += 1
+    count_messages(counts, "changes" if case.changes else "input", wanted["messages"])
 
 
-def random_cases(number, seeds, changes):
-    """Those of changes are drawn apart, so that the others are the same with and without them. -> (where it is, case)"""
+def count_search(counts, case, wanted):
+    counts[f"{'slapcat of a part' if case.is_slapcat else 'search'}: status {wanted['status']}"] += 1
+    if wanted["status"] == 0:
+        found = (wanted["file"] or wanted["output"]).count(b"\n\n")
+        counts[f"searches: {min(found, 3)} {'entries or more' if found > 2 else 'entry' if found == 1 else 'entries'}"] += 1
+    elif case.conf is not None and case.data is not None:
+        count_messages(counts, "searches", wanted["messages"])
+
+
+def count_messages(counts, source, messages):
+    for line in messages.decode().splitlines():
+        found = re.fullmatch(r"(?:(dir\.conf|data\.ldif) )?line \d+: (\w+) .*|.*: cannot read|((?:filter|search|slapcat): .*)", line)
+        where, what, whole = found.groups() if found else (None, None, None)
+        if whole:
+            counts[f"{source}: {re.sub(r'[0-9]+$', 'N', whole)}"] += 1
+        elif found:
+            counts[f"{where or source}: {what}" if what else "a file: cannot read"] += 1
+
+
+def random_cases(number, seeds, kinds):
+    """Those of changes and of searches are drawn apart, so that the others are the same with and without them. -> (where it is, case)"""
     for seed in seeds:
-        rng = random.Random(seed)
-        for serial in range(number):
-            yield f"seed {seed}, case {serial}", cases.case(rng)
-        rng = random.Random(f"{seed} changes")
-        for serial in range(number if changes else 0):
-            yield f"seed {seed}, change {serial}", cases.change_case(rng)
+        for name, of_seed, draw in kinds:
+            rng = random.Random(of_seed.format(seed) if of_seed else seed)
+            for serial in range(number):
+                yield f"seed {seed}, {name} {serial}", draw(rng)
 
 
-def compare(runner, number, seeds, changes):
+def compare(runner, number, seeds, kinds):
     """-> (how often each thing came up, number of cases that differ)"""
     counts, differing = collections.Counter(), 0
-    for where, case in random_cases(number, seeds, changes):
+    for where, case in random_cases(number, seeds, kinds):
         found = runner.case(case)
         count(counts, case, found[1])
         wrong = differences(*found)
@@ -210,6 +255,8 @@ def main():
     parser.add_argument("count", type=int)
     parser.add_argument("seeds", metavar="seed", type=int, nargs="+")
     parser.add_argument("--changes", action="store_true")
+    parser.add_argument("--searches", action="store_true")
+    parser.add_argument("--only", action="store_true", help="no cases of slapadd beside those")
     words = parser.parse_args()
     program = shutil.which(words.program)
     if program is None:
@@ -217,10 +264,11 @@ def main():
     memory = "/dev/shm" if os.access("/dev/shm", os.W_OK) else None
     with tempfile.TemporaryDirectory(prefix="compare.", dir=memory) as home:
         runner = Runner(os.path.abspath(program), Path(home))
-        counts, differing = compare(runner, words.count, words.seeds, words.changes)
+        kinds = [kind for kind, wanted in zip(KINDS, (not words.only, words.changes, words.searches)) if wanted]
+        counts, differing = compare(runner, words.count, words.seeds, kinds)
     for key in sorted(counts, key=lambda key: (key.split(": ")[0], len(key), key)):
         print(f"{key:28} {counts[key]:7}")
-    print(f"{words.count * len(words.seeds) * (1 + words.changes)} cases, {differing} with a difference")
+    print(f"{words.count * len(words.seeds) * len(kinds)} cases, {differing} with a difference")
     return 1 if differing else 0
 
 

@@ -1,17 +1,29 @@
-"""What slapadd, ldapmodify and slapcat do, byte for byte. `schema.py` reads dir.conf and names, `values.py` compares values,
-`ldif.py` reads and writes records.
+"""What slapadd, ldapmodify, slapcat and search do, byte for byte. `schema.py` reads dir.conf and names, `values.py` compares values,
+`ldif.py` reads and writes records, `filters.py` reads and tests filters.
 """
+import re
+
+import filters
 import ldif
 import schema
 
 # RFC 4511, appendix A
 CODES = {
-    2: "protocolError", 12: "unavailableCriticalExtension", 16: "noSuchAttribute", 17: "undefinedAttributeType",
+    2: "protocolError", 4: "sizeLimitExceeded", 12: "unavailableCriticalExtension", 16: "noSuchAttribute", 17: "undefinedAttributeType",
     18: "inappropriateMatching", 19: "constraintViolation", 20: "attributeOrValueExists", 21: "invalidAttributeSyntax",
     32: "noSuchObject", 34: "invalidDNSyntax", 53: "unwillingToPerform", 64: "namingViolation",
     65: "objectClassViolation", 66: "notAllowedOnNonLeaf", 67: "notAllowedOnRDN", 68: "entryAlreadyExists",
 }
 OBJECT_CLASS = 0
+DIGITS = re.compile(rb"[0-9]+")
+MOST_ENTRIES = 2**32 - 1    # that a limit can name
+# which entries are looked at, by their paths (RFC 4511, 4.5.1.2)
+SCOPES = {
+    b"base": lambda path, base: path == base,
+    b"one": lambda path, base: path != () and path[:-1] == base,
+    b"sub": lambda path, base: path[:len(base)] == base,
+    b"children": lambda path, base: path[:len(base)] == base and path != base,
+}
 
 
 class Refused(Exception):
@@ -236,16 +248,30 @@ class Directory:
         except schema.BadName as bad:
             raise Refused(bad.args[0]) from None
 
+    def base(self, name):
+        """The path of the entry with this name, by default of the suffix, where it is there."""
+        path = () if name is None else self.located(name)[1]
+        if path not in self.entries:
+            raise Refused(32)
+        return path
+
+    def matching(self, scope, base, steps):
+        """The paths in scope of those entries for which a prepared filter is True, in the order of paths."""
+        return [path for path in sorted(self.entries)
+                if scope(path, base) and filters.truth(self.conf, steps, self.entries[path][1].values)]
+
     def dump(self):
         """Every entry as a content record, in the order of paths, which brings parents first."""
-        names, out = [kind.printed() for kind in self.conf.types], []
-        for path in sorted(self.entries):
-            rdns = [self.entries[path[:depth]][0] for depth in range(len(path), 0, -1)] + self.conf.suffix
-            out.append(ldif.written_line(b"dn", self.conf.written_name(rdns)))
-            for number, values in self.entries[path][1].values.items():
-                out += [ldif.written_line(names[number], value) for value in values.values()]
-            out.append(b"\n")
-        return b"".join(out)
+        return b"".join(self.printed(path) for path in sorted(self.entries))
+
+    def printed(self, path, is_selected=lambda number: True):
+        """An entry with the types that are selected, in the order in which it has them."""
+        rdns = [self.entries[path[:depth]][0] for depth in range(len(path), 0, -1)] + self.conf.suffix
+        out = [ldif.written_line(b"dn", self.conf.written_name(rdns))]
+        for number, values in self.entries[path][1].values.items():
+            if is_selected(number):
+                out += [ldif.written_line(self.conf.types[number].printed(), value) for value in values.values()]
+        return b"".join(out) + b"\n"
 
 
 def run(directory, text, go_on, changes=False, add_default=False):
@@ -302,9 +328,63 @@ def ldapmodify(conf_text, data, text, add_default, go_on, dry_run, folder, sourc
     return run_and_store(conf_text, data, text, dry_run, folder, source, go_on, True, add_default)
 
 
-def slapcat(conf_text, data, folder):
-    """-> (status, output, messages)"""
+def read_filter(text):
     try:
-        return 0, load(conf_text, data, folder).dump(), b""
+        return filters.read_filter(text)
+    except filters.Fault as fault:
+        raise Ended(2, f"filter: {fault}") from None
+
+
+def base_of(directory, name, command):
+    try:
+        return directory.base(name)
+    except Refused as refused:
+        raise Ended(1, f"{command}: {refused}") from None
+
+
+def slapcat(conf_text, data, folder, filter_text=None, below=None):
+    """All entries, or those for which a filter is True, or those at and below a name. -> (status, output, messages)"""
+    try:
+        steps = read_filter(b"(&)" if filter_text is None else filter_text)
+        directory = load(conf_text, data, folder)
+        base = () if below is None else base_of(directory, below, "slapcat")
     except Ended as end:
         return end.status, b"", end.messages
+    paths = directory.matching(SCOPES[b"sub"], base, filters.prepared(directory.conf, steps))
+    return 0, b"".join(directory.printed(path) for path in paths), b""
+
+
+def limit_of(text):
+    """-> the limit that a word says, 0 for none, or None where it says no limit"""
+    return int(text) if DIGITS.fullmatch(text) and int(text) <= MOST_ENTRIES else None
+
+
+def selection(conf, words):
+    """Which types a list of attributes selects (RFC 4511, 4.5.1.8)."""
+    if words == [b"1.1"]:
+        return lambda number: False
+    words = words or [b"*"]
+    named = [conf.type_of(word) for word in words if conf.type_of(word) is not None]
+    return lambda number: (b"+" if conf.types[number].is_operational else b"*") in words or \
+        any(conf.is_subtype(number, above) for above in named)
+
+
+def search(conf_text, data, folder, words, name=None, scope=None, limit=None):
+    """Of the words the first one may be a filter, the others are attributes. -> (status, output, messages, or None where they are
+    those of the library that reads words)"""
+    scope, limit, text = SCOPES.get(b"sub" if scope is None else scope), limit_of(b"0" if limit is None else limit), b"(objectClass=*)"
+    if scope is None or limit is None:
+        return 2, b"", None
+    if words and (words[0].startswith(b"(") or b"=" in words[0]):
+        text, words = words[0], words[1:]
+    try:
+        steps = read_filter(text)
+        directory = load(conf_text, data, folder)
+        base = base_of(directory, name, "search")
+    except Ended as end:
+        return end.status, b"", end.messages
+    paths = directory.matching(scope, base, filters.prepared(directory.conf, steps))
+    is_selected = selection(directory.conf, words)
+    shown = paths[:limit] if limit else paths
+    output = b"".join(directory.printed(path, is_selected) for path in shown)
+    return (1, output, f"search: {Refused(4)}\n".encode()) if len(shown) < len(paths) else (0, output, b"")

@@ -6,19 +6,26 @@ import sys
 import model
 
 
-# the option of each command that names a file, and those that stand alone
-OPTIONS = {"slapadd": ("-l", ["-c", "-u"]), "ldapmodify": ("-f", ["-a", "-c", "-n"]), "slapcat": ("-l", [])}
+# the options of each command: the one that names a file, those that have another value, and those that stand alone
+OPTIONS = {
+    "slapadd": ("-l", [], ["-c", "-u"]), "ldapmodify": ("-f", [], ["-a", "-c", "-n"]), "slapcat": ("-l", ["-a", "-s"], []),
+    "search": (None, ["-b", "-s", "-z"], []),
+}
 
 
 def parser_of_words():
     parser = argparse.ArgumentParser(prog="slaptools", allow_abbrev=False)
     commands = parser.add_subparsers(dest="command", required=True)
     parsers = {name: commands.add_parser(name, allow_abbrev=False) for name in OPTIONS}
-    for name, (file, flags) in OPTIONS.items():
+    for name, (file, others, flags) in OPTIONS.items():
         parsers[name].add_argument("--db", required=True, action=Once)
-        parsers[name].add_argument(file, dest="file", action=Once)
+        if file is not None:
+            parsers[name].add_argument(file, dest="file", action=Once)
+        for option in others:
+            parsers[name].add_argument(option, action=Once)
         for flag in flags:
             parsers[name].add_argument(flag, action=Once, nargs=0, const=True, default=False)
+    parsers["search"].add_argument("words", nargs="*")
     parsers["help"] = commands.add_parser("help", allow_abbrev=False)
     parsers["help"].add_argument("of", nargs="?", choices=list(OPTIONS))
     return parser, parsers
@@ -59,12 +66,26 @@ def change(words):
     return status, b"", messages
 
 
+def encoded(text):
+    return None if text is None else text.encode()
+
+
 def slapcat(words):
-    status, output, messages = model.slapcat(read(f"{words.db}/dir.conf"), read(f"{words.db}/data.ldif"), words.db)
+    files = read(f"{words.db}/dir.conf"), read(f"{words.db}/data.ldif")
+    status, output, messages = model.slapcat(*files, words.db, encoded(words.a), encoded(words.s))
     if words.file is None or status != 0:
         return status, output, messages
     write(words.file, output)
     return status, b"", messages
+
+
+def search(words, parser):
+    files = read(f"{words.db}/dir.conf"), read(f"{words.db}/data.ldif")
+    asked = [encoded(word) for word in words.words], encoded(words.b), encoded(words.s), encoded(words.z)
+    status, output, messages = model.search(*files, words.db, *asked)
+    if messages is None:
+        parser.error("no scope, or no limit")
+    return status, output, messages
 
 
 def is_utf_8(word):
@@ -85,7 +106,10 @@ def main():
     if words.command == "help":
         parsers.get(words.of, parser).print_help()
         return 0
-    status, output, messages = slapcat(words) if words.command == "slapcat" else change(words)
+    if words.command == "search":
+        status, output, messages = search(words, parsers["search"])
+    else:
+        status, output, messages = slapcat(words) if words.command == "slapcat" else change(words)
     sys.stdout.buffer.write(output)
     sys.stderr.buffer.write(messages)
     return status

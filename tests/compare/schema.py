@@ -67,8 +67,11 @@ class Type:
     kind: str
     family: Optional[str]
     has_substrings: bool = False
+    has_order: bool = False
     is_single: bool = False
     is_fixed: bool = False      # NO-USER-MODIFICATION
+    is_operational: bool = False
+    above: Optional[int] = None     # the number of its supertype
 
     def printed(self):
         return self.names[0] if self.names else self.oid
@@ -252,6 +255,12 @@ class Conf:
         """The number of the type that a name, in any case, or an OID says (RFC 4512, 2.5)."""
         return self.numbers.get(text.lower())
 
+    def is_subtype(self, number, above):
+        """Is it this very type, or one below it?"""
+        while number is not None and number != above:
+            number = self.types[number].above
+        return number == above
+
     def is_valid(self, number, value):
         if self.types[number].kind == "name":
             return self.parts_of(value) is not None
@@ -289,29 +298,33 @@ class Conf:
         keys = new_keys(oid, names, self.numbers)
         if b"collective" in fields:
             raise Wrong("C9")
-        kind, family, substrings = self.inherited(fields)
+        kind, family, substrings, ordering = self.inherited(fields)
         if values.KIND_OF_FAMILY.get(family, kind) != kind:
             raise Wrong("C6")
         self.numbers.update((key, len(self.types)) for key in keys)
-        # a substring rule for other values than the equality rule is none
-        has_substrings = substrings is not None and substrings == family
-        self.types.append(Type(oid, names, kind, family, has_substrings, b"single-value" in fields,
-                               b"no-user-modification" in fields))
+        # a rule for other values than those of the equality rule is none
+        has_substrings, has_order = (rule is not None and rule == family for rule in (substrings, ordering))
+        is_operational = fields.get(b"usage", USAGES[0]).lower() != USAGES[0]
+        self.types.append(Type(oid, names, kind, family, has_substrings, has_order, b"single-value" in fields,
+                               b"no-user-modification" in fields, is_operational, self.type_of(fields.get(b"sup", b""))))
 
     def inherited(self, fields):
-        """-> (kind, family, what its substring rule goes with) of a type, its own or those of the type above it"""
+        """-> (kind, family, what its substring and ordering rules go with) of a type, its own or those of the type above it"""
         kind = values.kind_of(fields[b"syntax"]) if b"syntax" in fields else None
         family = values.FAMILIES.get(fields.get(b"equality", b"").lower())
         substrings = values.SUBSTRINGS.get(fields.get(b"substr", b"").lower())
+        ordering = values.ORDERINGS.get(fields.get(b"ordering", b"").lower())
         if b"sup" not in fields:
-            return kind, family, substrings
+            return kind, family, substrings, ordering
         number = self.type_of(fields[b"sup"])
         if number is None:
             raise Wrong("C4")
         above = self.types[number]
         if family and above.family and family != above.family or kind and kind != above.kind:
             raise Wrong("C5")
-        return above.kind, family or above.family, substrings or (above.family if above.has_substrings else None)
+        substrings = substrings or (above.family if above.has_substrings else None)
+        ordering = ordering or (above.family if above.has_order else None)
+        return above.kind, family or above.family, substrings, ordering
 
     def add_class(self, text):
         oid, fields = read_class(text)

@@ -1,9 +1,11 @@
 #!/usr/bin/env python3
-"""Reads a dir.conf that has all fields, broken at each byte, by a built program and by a second reading: sweep.py PROGRAM [--all]
+"""Reads a dir.conf and a filter that have all forms, broken at each byte, by a built program and by a second reading: sweep.py PROGRAM
+[--all]
 
-Each beginning of the text, and each single byte changed into others (with --all: into all 255), is a dir.conf of its own, with no
-data.ldif. What slapcat answers, prints and says must be what `model.py` says, byte for byte: a configuration, or a numbered fault with its
-line. Prints each difference and at the end the number of texts; the exit status is 0 where nothing differs, else 1.
+Each beginning of the text, and each single byte changed into others (with --all: into all that it may be), is a dir.conf of its own, with no
+data.ldif, or a filter of its own over a few entries. What slapcat answers, prints and says must be what `model.py` says, byte for byte: a
+configuration or a numbered fault with its line; entries or a fault at a place. Prints each difference and at the end the number of texts;
+the exit status is 0 where nothing differs, else 1.
 """
 import argparse
 import collections
@@ -16,7 +18,7 @@ from pathlib import Path
 
 import model
 
-TEXT = b"""\
+CONF = b"""\
 # all fields
 suffix "ou=a\\2Cb+cn=c,dc=ex"
 attributetype ( 2.5.4.41 NAME 'name' DESC 'text' EQUALITY caseIgnoreMatch ORDERING caseIgnoreOrderingMatch
@@ -36,19 +38,31 @@ INDEX m eq
 
 OTHERS = b"\0\t\n\r \"#$'(),09;=Az{}\x80\xff"
 
+FILTER = rb"(&(|(cn=ab)(!(cn:caseExactMatch:=x\2a\28y))(cn=*) (commonName=a*b**c\2A*))(n>=-12)(n<=7)(!(2.5.4.41~=B))" \
+    rb"(|(:dn:=z)(ou:dn:2.5.13.2:=q)(cn;lang-de=x)(dc:=ex)(n=5)(|))(m=cn=x\5c,y,dc=ex)(objectClass=*)(|(!(ou=))(cn=a*)(&)" \
+    rb"(:caseIgnoreMatch:=a)(cn=*b)(cn=\c3\a4*)(ou=*r\20*)(&(n=5)(!(n=6)))(1.3.2=5)(!(x<=1))(x>=)(!(m:=,))))"
 
-def texts(every):
-    """each beginning, and each byte changed -> the text"""
-    for end in range(len(TEXT) + 1):
-        yield TEXT[:end]
-    for at, old in enumerate(TEXT):
-        for new in range(256) if every else OTHERS:
-            if new != old:
-                yield TEXT[:at] + bytes([new]) + TEXT[at + 1:]
+FILTER_OTHERS = [bytes([b]) for b in b"\t\n !#&()*+,-.0:;<=>A\\a|~\x7f"] + ["\u00e9".encode(), "\U0001f600".encode()]
+
+FILTER_CONF = b"\n".join(line for line in CONF.splitlines() if not line.upper().startswith(b"INDEX")).replace(b"ou=a\\2Cb+cn=c,dc=ex", b"dc=ex")
+
+FILTER_DATA = b"dn: dc=ex\nobjectClass: one\n\n" + b"".join(
+    b"dn: cn=%s,dc=ex\nobjectClass: one\nn: %d\nm: cn=x\\2Cy,dc=ex\nou: q r\n\n" % (name, n)
+    for name, n in [(b"ab", 5), (b"a b c*", 7), (b"\xc3\xa4", -12), (b"x*(y", 6)])
 
 
-def answers(program, home, text):
-    """-> (what the program answers, what the second reading answers)"""
+def broken(text, others):
+    """each beginning of a text, and the text with each byte changed"""
+    for end in range(len(text) + 1):
+        yield text[:end]
+    for at, old in enumerate(text):
+        for new in others:
+            if new != bytes([old]):
+                yield text[:at] + new + text[at + 1:]
+
+
+def conf_answers(program, home, text):
+    """-> (what the program answers to a dir.conf, what the second reading answers)"""
     db = home / str(os.getpid())
     db.mkdir(exist_ok=True)
     (db / "dir.conf").write_bytes(text)
@@ -56,13 +70,27 @@ def answers(program, home, text):
     return (done.returncode, done.stdout, done.stderr), model.slapcat(text, None, db)
 
 
+def filter_answers(program, home, text):
+    """-> (what the program answers to a filter, what the second reading answers)"""
+    db = home / f"filter{os.getpid()}"
+    db.mkdir(exist_ok=True)
+    (db / "dir.conf").write_bytes(FILTER_CONF)
+    (db / "data.ldif").write_bytes(FILTER_DATA)
+    # a hyphen in front would be an option
+    text = text.replace(b"-", b" -", 1) if text.startswith(b"-") else text
+    done = subprocess.run([program, "slapcat", "--db", db, "-a", text], capture_output=True, timeout=10)
+    return (done.returncode, done.stdout, done.stderr), model.slapcat(FILTER_CONF, FILTER_DATA, db, text)
+
+
 def compared(work):
-    """a batch of texts -> (the numbers of the faults told, the texts that differ)"""
-    program, home, batch = work
+    """a batch of texts -> (how many are told to be what, the texts that differ)"""
+    answers, program, home, batch = work
     told, different = collections.Counter(), []
     for text in batch:
         seen, wanted = answers(program, home, text)
-        told[seen[2].split(b":")[1].strip() if seen[2].startswith(b"dir.conf") else b"a configuration"] += 1
+        status, output, said = seen
+        what = said.split(b":")[1].strip().split(b" at ")[0] if status == 2 else b"%d, with%s output" % (status, b"" if output else b"out")
+        told[what] += 1
         if seen != wanted:
             different.append((text, seen, wanted))
     return told, different
@@ -73,10 +101,14 @@ def main():
     words.add_argument("program", type=Path)
     words.add_argument("--all", action="store_true")
     words = words.parse_args()
-    every = list(texts(words.all))
+    all_bytes = [bytes([b]) for b in range(256)]
+    sweeps = [
+        (conf_answers, list(broken(CONF, all_bytes if words.all else [bytes([b]) for b in OTHERS]))),
+        (filter_answers, list(broken(FILTER, all_bytes[1:128] + FILTER_OTHERS[-2:] if words.all else FILTER_OTHERS))),
+    ]
     told, different = collections.Counter(), []
     with tempfile.TemporaryDirectory() as home, concurrent.futures.ProcessPoolExecutor() as pool:
-        batches = [(words.program.resolve(), Path(home), every[at:at + 500]) for at in range(0, len(every), 500)]
+        batches = [(answers, words.program.resolve(), Path(home), every[at:at + 500]) for answers, every in sweeps for at in range(0, len(every), 500)]
         for part, others in pool.map(compared, batches):
             told.update(part)
             different += others
@@ -84,7 +116,7 @@ def main():
         print(f"{text!r}\n  seen   {seen}\n  wanted {wanted}")
     for what, count in sorted(told.items()):
         print(f"{count:7} {what.decode(errors='replace')}")
-    print(f"{len(every)} texts, {len(different)} with a difference")
+    print(f"{sum(len(every) for _, every in sweeps)} texts, {len(different)} with a difference")
     return 1 if different else 0
 
 

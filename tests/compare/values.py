@@ -20,6 +20,11 @@ SUBSTRINGS = {
     b"caseexactsubstringsmatch": "exact", b"caseexactia5substringsmatch": "exact",
     b"numericstringsubstringsmatch": "numeric", b"telephonenumbersubstringsmatch": "telephone",
 }
+# the ordering rules, likewise
+ORDERINGS = {
+    b"caseignoreorderingmatch": "ignore", b"caseexactorderingmatch": "exact", b"numericstringorderingmatch": "numeric",
+    b"integerorderingmatch": "integer", b"octetstringorderingmatch": "octet",
+}
 # the one kind of syntax that some rules are for
 KIND_OF_FAMILY = {"integer": "integer", "name": "name"}
 
@@ -75,3 +80,40 @@ def is_valid(kind, value):
 def normal(family, value):
     """What is compared; the bytes themselves where there is no rule that sees less."""
     return NORMAL[family](value) if family in NORMAL else value
+
+
+def less(family, one, other):
+    """Of two normal forms: byte by byte, a beginning first, but whole numbers as numbers."""
+    return int(one) < int(other) if family == "integer" else one < other
+
+
+def normal_pieces(family, pieces, star_before, star_behind):
+    """The pieces of a substring assertion as they are looked for. Texts keep the spaces at their ends but for the first and the
+    last piece where no star stands outside of them; other values are those of their rule."""
+    if family not in ("ignore", "exact"):
+        return [normal(family, piece) for piece in pieces]
+    out = [re.sub(rb" +", b" ", piece.lower() if family == "ignore" else piece) for piece in pieces]
+    if not star_before:
+        out[0] = out[0].lstrip(b" ")
+    if not star_behind:
+        out[-1] = out[-1].rstrip(b" ")
+    return out
+
+
+def fits(value, pieces, star_before, star_behind):
+    """Has the value the pieces one after the other, the outer ones at its ends where no star stands outside of them?"""
+    at, last = 0, len(value)
+    if not star_before:
+        if not value.startswith(pieces[0]):
+            return False
+        at, pieces = len(pieces[0]), pieces[1:]
+    if not star_behind:
+        if not value.endswith(pieces[-1]):
+            return False
+        last, pieces = len(value) - len(pieces[-1]), pieces[:-1]
+    for piece in pieces:
+        found = value.find(piece, at, max(at, last))
+        if found < 0:
+            return False
+        at = found + len(piece)
+    return at <= last
