@@ -1,5 +1,5 @@
 -- Pushes one after another.
-use Rattle.std.proofs.Common.{◌≡◌, ℕ, ◌+◌, ◌≤◌, List, [], ◌++◌, length, take, drop, Option, Some, None, refl, sym, ap, ◌∙◌, append_assoc, arith}
+use Rattle.std.proofs.Common.{◌≡◌, ℕ, ◌+◌, ◌<◌, ◌≤◌, List, [], ◌++◌, length, take, drop, Option, Some, None, refl, sym, ap, ◌∙◌, append_assoc, arith}
 use Rattle.std.proofs.lemmas.List.{append-nil, length-append, take-append-drop, take-append-le, length-take, take-take, drop-take}
 use Rattle.std.proofs.Math.Seq.{take-append-add}
 use Rattle.std.specs.Io.KnownBytes.{Appends, Keeps}
@@ -31,7 +31,7 @@ took_more a b c xs ys zs h k e = rw (← e) (record {
   failed = k.failed ∙ h.failed;
 })
 
-pub broke : (a b c : Written) (bytes : List ℕ) (at : ℕ) → at ≤ length bytes → Took a b (take at bytes) → PushFailed b c → Broke a c bytes
+pub broke : (a b c : Written) (bytes : List ℕ) (at : ℕ) → at < length bytes → Took a b (take at bytes) → PushFailed b c → Broke a c bytes
 broke a b c bytes at le h k = record {
   len = at;
   within = le;
@@ -61,7 +61,7 @@ pub broke_before : (a b : Written) (xs ys : List ℕ) → Broke a b xs → Broke
 broke_before a b xs ys h = record {
   len = h.len;
   within = omega (arith, h.within, length-append xs ys);
-  taken = rw (take-append-le h.len xs ys h.within) h.taken;
+  taken = rw (take-append-le h.len xs ys (omega (arith, h.within))) h.taken;
   count = h.count;
   failed = h.failed;
 }

@@ -1,5 +1,5 @@
 -- What a pull and a push do to the bytes of a source and a sink.
-use Rattle.std.specs.Prelude.{◌≡◌, ℕ, ◌+◌, ◌≤◌, Bool, true, List, [], length, take, Option}
+use Rattle.std.specs.Prelude.{◌≡◌, ℕ, ◌+◌, ◌<◌, Bool, true, List, [], length, take, Option}
 use Rattle.std.specs.Io.KnownBytes.{Consumes, Appends, Keeps}
 
 -- What is seen of a source: the bytes left, where they are known; how many were pulled; how often it failed; whether it has ended.
@@ -41,10 +41,10 @@ pub record PushFailed (old new : Written) : Type 0 where
   pub count : new.count ≡ old.count
   pub failed : new.failed ≡ old.failed + 1
 
--- a beginning of the bytes was taken, and then a push failed
+-- a beginning of the bytes was taken, not all of them, and then a push failed
 pub record Broke (old new : Written) (bytes : List ℕ) : Type 0 where
   pub len : ℕ
-  pub within : len ≤ length bytes
+  pub within : len < length bytes
   pub taken : Appends old.bytes new.bytes (take len bytes)
   pub count : new.count ≡ old.count + len
   pub failed : new.failed ≡ old.failed + 1

@@ -10,6 +10,13 @@ source_seen s = record { left = Some (drop s.at s.bytes.now); pulled = s.at; fai
 abbrev pub sink_written : TrySink → Written
 sink_written s = record { bytes = Some s.bytes.items; count = vec_len s.bytes; failed = s.failures }
 
+-- how many bytes come or go in one call at most
+abbrev pub source_most : TrySource → ℕ
+source_most s = s.most
+
+abbrev pub sink_most : TrySink → ℕ
+sink_most s = s.most
+
 -- how many bytes come or go before each call fails, where there is such a number
 abbrev pub source_limit : TrySource → Option ℕ
 source_limit s = s.fails_after

@@ -1,7 +1,9 @@
 //! Std's readers and writers as sources and sinks.
 
-ghost use Rattle.std.specs.Prelude.{◌≡◌, true, false, []};
+ghost use Rattle.std.specs.Prelude.{◌≡◌, ◌<◌, ◌≤◌, ◌-◌, ◌^◌, true, false, [], length, take, Ok, IfOk, OnErr};
 ghost use Rattle.std.specs.Option.{ForSome};
+ghost use Rattle.std.specs.Io.KnownBytes.{IsAtEnd};
+ghost use Rattle.device.specs.Device.{Gave, PullFailed, Took, PushFailed};
 
 use crate::count::Count;
 use crate::sink::Sink;
@@ -44,7 +46,19 @@ impl<R: Read> Source for OfRead<R> {
         self.failures
     }
 
-    fn pull(&mut self, buffer: &mut [u8]) -> Result<usize, Device> {
+    fn pull(&mut self, buffer: &mut [u8]) -> Result<usize, Device>
+        requires { (read_seen R.remaining self.old).failed < 2 ^ 64 - 1 }
+        ensures bound { IfOk result (λ n. n ≤ length buffer.new) }
+        ensures gave { IfOk result (λ n. Gave (read_seen R.remaining self.old) (read_seen R.remaining self.new) (take n buffer.new)) }
+        ensures fits { IfOk result (λ _. (read_seen R.remaining self.new).pulled < 2 ^ 64) }
+        ensures end { IfOk result (λ n. n ≡ 0 → 0 < length buffer.new
+            → ((read_seen R.remaining self.new).ended ≡ true) × IsAtEnd (read_seen R.remaining self.new).left) }
+        ensures device { OnErr result (PullFailed (read_seen R.remaining self.old) (read_seen R.remaining self.new)) }
+
+        // Beside what the trait says: nothing comes after the end, nor where there is no room.
+        ensures over { (read_seen R.remaining self.old).ended ≡ true → result ≡ Ok 0 }
+        ensures empty { length buffer.old ≡ 0 → result ≡ Ok 0 }
+    {
         if buffer.is_empty() || self.ended {
             return Ok(0);
         }
@@ -105,7 +119,16 @@ impl<W: Write> Sink for OfWrite<W> {
         self.failures
     }
 
-    fn push(&mut self, bytes: &[u8]) -> Result<usize, Device> {
+    fn push(&mut self, bytes: &[u8]) -> Result<usize, Device>
+        requires { (write_seen W.contents self.old).failed < 2 ^ 64 - 1 }
+        ensures bound { IfOk result (λ n. n ≤ length bytes.now) }
+        ensures some { IfOk result (λ n. 0 < length bytes.now → 0 < n) }
+        ensures took { IfOk result (λ n. Took (write_seen W.contents self.old) (write_seen W.contents self.new) (take n bytes.now)) }
+        ensures device { OnErr result (PushFailed (write_seen W.contents self.old) (write_seen W.contents self.new)) }
+
+        // Beside what the trait says: where there is nothing to take, nothing fails.
+        ensures empty { length bytes.now ≡ 0 → result ≡ Ok 0 }
+    {
         if bytes.is_empty() {
             return Ok(0);
         }

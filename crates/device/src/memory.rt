@@ -36,7 +36,7 @@ pub struct TrySource<'a> {
 }
 
 impl<'a> TrySource<'a> {
-    ghost use Rattle.device.specs.Memory.{source_seen, source_limit};
+    ghost use Rattle.device.specs.Memory.{source_seen, source_most, source_limit};
 
     /// A source of these bytes, which gives at most `most` of them a pull.
     ///
@@ -44,6 +44,7 @@ impl<'a> TrySource<'a> {
     pub fn new(bytes: &'a [u8], most: usize, fails_after: Option<usize>) -> Self
         requires { 0 < most }
         ensures seen { source_seen result ≡ record { left = Some bytes.now; pulled = 0; failed = 0; ended = nat_le (length bytes.now) 0 } }
+        ensures most { source_most result ≡ most }
         ensures limit { source_limit result ≡ fails_after }
     {
         TrySource {
@@ -57,7 +58,7 @@ impl<'a> TrySource<'a> {
 }
 
 impl<'a> Source for TrySource<'a> {
-    ghost use Rattle.device.specs.Memory.{source_seen, source_limit};
+    ghost use Rattle.device.specs.Memory.{source_seen, source_most, source_limit};
 
     ghost seen = { source_seen };
 
@@ -74,7 +75,9 @@ impl<'a> Source for TrySource<'a> {
             → ((source_seen self.new).ended ≡ true) × IsAtEnd (source_seen self.new).left) }
         ensures device { OnErr result (PullFailed (source_seen self.old) (source_seen self.new)) }
 
-        // Beside what the trait says: when it fails.
+        // Beside what the trait says: how few bytes come, and when it fails.
+        ensures most { source_most self.new ≡ source_most self.old }
+        ensures few { IfOk result (λ n. n ≤ source_most self.old) }
         ensures limit { source_limit self.new ≡ source_limit self.old }
         ensures fails { MatchOption (source_limit self.old) (IsOk result) (λ limit. IsErr result ↔ (limit ≤ (source_seen self.old).pulled)) }
         ensures within { IfSome (source_limit self.old) (λ limit. OnOk result ((source_seen self.new).pulled ≤ limit)) }
@@ -102,7 +105,7 @@ pub struct TrySink {
 }
 
 impl TrySink {
-    ghost use Rattle.device.specs.Memory.{sink_written, sink_limit};
+    ghost use Rattle.device.specs.Memory.{sink_written, sink_most, sink_limit};
 
     /// A sink that takes at most `most` bytes a push.
     ///
@@ -110,6 +113,7 @@ impl TrySink {
     pub fn new(alloc: Global, most: usize, fails_after: Option<usize>) -> Self
         requires { 0 < most }
         ensures written { sink_written result ≡ record { bytes = Some []; count = 0; failed = 0 } }
+        ensures most { sink_most result ≡ most }
         ensures limit { sink_limit result ≡ fails_after }
     {
         TrySink {
@@ -129,7 +133,7 @@ impl TrySink {
 }
 
 impl Sink for TrySink {
-    ghost use Rattle.device.specs.Memory.{sink_written, sink_limit};
+    ghost use Rattle.device.specs.Memory.{sink_written, sink_most, sink_limit};
 
     ghost written = { sink_written };
 
@@ -144,7 +148,9 @@ impl Sink for TrySink {
         ensures took { IfOk result (λ n. Took (sink_written self.old) (sink_written self.new) (take n bytes.now)) }
         ensures device { OnErr result (PushFailed (sink_written self.old) (sink_written self.new)) }
 
-        // Beside what the trait says: when it fails, but for want of memory.
+        // Beside what the trait says: how few bytes go, and when it fails, but for want of memory.
+        ensures most { sink_most self.new ≡ sink_most self.old }
+        ensures few { IfOk result (λ n. n ≤ sink_most self.old) }
         ensures limit { sink_limit self.new ≡ sink_limit self.old }
         ensures fails { IfSome (sink_limit self.old) (λ limit. limit ≤ (sink_written self.old).count → IsErr result) }
         ensures within { IfSome (sink_limit self.old) (λ limit. OnOk result ((sink_written self.new).count ≤ limit)) }
