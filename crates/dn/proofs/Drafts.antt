@@ -3,12 +3,12 @@ use Rattle.std.proofs.Common.{◌≡◌, ℕ, ◌+◌, ◌<◌, ◌≤◌, Bool,
 use Rattle.std.proofs.lemmas.List.{take-append-le, take_all, length_push, drop_more, drop_all}
 use Rattle.dn.specs.declared.faults.NameFaultKind.{NameFaultKind}
 use Rattle.dn.specs.declared.faults.NameFaultKind.TheVariants.{Escape}
-use Rattle.dn.specs.declared.value.Octet.{Octet}
-use Rattle.dn.specs.declared.value.State.{State}
-use Rattle.dn.specs.declared.value.State.TheVariants.{Plain, Backslash, HalfPair}
-use Rattle.dn.specs.Spelling.{may_stand, may_follow, is_hex, is_raw_space, byte_of}
-use Rattle.dn.specs.Reading.{with_octet, octets_from, step, keep, trimmed, value_from}
+use Rattle.dn.specs.Spelling.{Octet, may_stand, may_follow, is_hex, is_raw_space, byte_of}
+use Rattle.dn.specs.Reading.{State, Plain, Backslash, HalfPair, with_octet, octets_from, step, keep, trimmed, value_from}
 use Rattle.dn.specs.inner.Drafts.{draft_after}
+use Rattle.dn.specs.inner.Octets.{state_seen}
+use Rattle.dn.specs.declared.value.State as states
+use Rattle.dn.specs.declared.value.State.TheVariants as variants
 
 -- what a draft is with these octets behind it
 ended : List ℕ → ℕ → List Octet → List ℕ
@@ -46,6 +46,13 @@ finished_more : (bytes : List ℕ) (kept : ℕ) (o : Octet) (r : Result (List Oc
 unfolding finished trimmed
 finished_more bytes kept o (Ok os) le = ap fine (ended_keep bytes kept o (trimmed os) (is_raw_space o) refl le)
 finished_more bytes kept o (Err e) le = refl
+
+-- ---- the code's state
+
+pub is_plain : (s : states.State) → state_seen s ≡ Plain → s ≡ variants.Plain
+is_plain variants.Plain e = refl
+is_plain variants.Backslash e = absurd cc
+is_plain (variants.HalfPair high) e = absurd cc
 
 -- ---- one byte
 

@@ -37,7 +37,7 @@ of_type ty value = Ok (ty, value)
 abbrev pub before : {X : Type 0} → List ℕ → X → Result (X × List ℕ) NameFaultKind
 before rest x = Ok (x, rest)
 
-abbrev with_type : List ℕ → List ℕ × List ℕ → Got
+abbrev pub with_type : List ℕ → List ℕ × List ℕ → Got
 with_type ty s = Ok ((ty, s.0), s.1)
 
 by_value : (r : Result (List ℕ) NameFaultKind) (ty rest : List ℕ) → ((r >>= of_type ty) >>= before rest) ≡ ((r >>= before rest) >>= with_type ty)
@@ -54,7 +54,7 @@ value_first ty v =
 abbrev from_piece : List ℕ → List ℕ → List ℕ → Got
 from_piece ty text rest = (after_equals ty text >>= λ v. (value_of (without_front v) >>= of_type ty)) >>= before rest
 
-pub from_text : List ℕ → List ℕ → Got
+unfoldable pub from_text : List ℕ → List ℕ → Got
 from_text ty text = after_equals ty text >>= λ v. (first_value (without_front v) >>= with_type ty)
 
 by_type : (t : Bool) (ty bs : List ℕ) → ((cond t (Err TypeMissing) (Ok (P bs)) >>= λ v. (value_of (without_front v) >>= of_type ty)) >>= before (B bs)) ≡ (cond t (Err TypeMissing) (Ok bs) >>= λ v. (first_value (without_front v) >>= with_type ty))

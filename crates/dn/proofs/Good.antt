@@ -4,9 +4,8 @@ use Rattle.std.specs.List.{list_all}
 use Rattle.std.proofs.lemmas.Bool.{and_parts, lt-ltb}
 use Rattle.std.proofs.lemmas.Bool.Decides.{nat_tests}
 use Rattle.std.proofs.lemmas.List.Folds.{list_all-append}
-use Rattle.dn.specs.declared.value.Octet.{Octet}
 use Rattle.dn.specs.Names.{Ava, Rdn, Name, is_byte, is_type, is_ava, is_rdn, is_name}
-use Rattle.dn.specs.Spelling.{may_follow, is_hex, hex, IsOctet, AreOctets, byte_of, spaces, SpellsPart, AreJoined, SpellsRdn, Spells}
+use Rattle.dn.specs.Spelling.{Octet, may_follow, is_hex, hex, IsOctet, AreOctets, byte_of, spaces, SpellsPart, AreJoined, SpellsRdn, Spells}
 
 abbrev AreBytes : List ℕ → Type 0
 AreBytes text = list_all is_byte text ≡ true

@@ -15,3 +15,7 @@ pub mod Spelled
 pub mod Ascii
 pub mod Good
 pub mod Writing
+pub mod ValueFaults
+pub mod PartFaults
+pub mod TextFaults
+pub mod FaultExamples

@@ -12,7 +12,8 @@ use Rattle.dn.specs.Reading.{part_of, cut_raw, rdn_of, name_of}
 use Rattle.dn.specs.Gives.{Gives}
 use Rattle.std.specs.Prelude.{IfOk}
 use Rattle.dn.proofs.Octets.{chosen}
-use Rattle.dn.proofs.Runs.{Stops, all_spaces, spaces_are}
+use Rattle.dn.specs.NameFaults.{Stops}
+use Rattle.dn.proofs.Runs.{all_spaces, spaces_are}
 use Rattle.base.proofs.Bound.{bind_ok, same_ok}
 use Rattle.dn.proofs.Parts.{part_sound, part_complete, type_first}
 use Rattle.dn.proofs.Wholes.{IsWhole, IsSome, cut_at, cut_none, cut_some, cut_joins, part_whole, rdn_whole}

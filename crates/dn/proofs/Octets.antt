@@ -4,13 +4,10 @@ use Rattle.std.proofs.lemmas.Bool.{eqb-true, not-true}
 use Rattle.std.proofs.lemmas.Bool.Decides.{nat_tests}
 use Rattle.dn.specs.declared.faults.NameFaultKind.{NameFaultKind}
 use Rattle.dn.specs.declared.faults.NameFaultKind.TheVariants.{Escape, FormNotSupported}
-use Rattle.dn.specs.declared.value.Octet.{Octet}
-use Rattle.dn.specs.declared.value.State.{State}
-use Rattle.dn.specs.declared.value.State.TheVariants.{Plain, Backslash, HalfPair}
-use Rattle.dn.specs.Spelling.{may_stand, may_follow, is_hex, hex, IsOctet, AreOctets, is_raw_space, begins_well, ends_well, byte_of, spaces}
+use Rattle.dn.specs.Spelling.{Octet, may_stand, may_follow, is_hex, hex, IsOctet, AreOctets, is_raw_space, begins_well, ends_well, byte_of, spaces}
 use Rattle.base.specs.Ends.{is_space}
-use Rattle.dn.specs.Reading.{with_octet, octets_from, keep, trimmed, raw_fault, begins_form, value_from, value_of}
-use Rattle.dn.proofs.Runs.{Stops}
+use Rattle.dn.specs.Reading.{State, Plain, Backslash, HalfPair, with_octet, octets_from, keep, trimmed, raw_fault, begins_form, value_from, value_of}
+use Rattle.dn.specs.NameFaults.{Stops}
 
 pub chosen : {A : Type 0} (b : Bool) (x y z : A) → cond b x y ≡ z → ((b ≡ true) × (x ≡ z)) ⊎ ((b ≡ false) × (y ≡ z))
 chosen true x y z e = inl (refl, e)

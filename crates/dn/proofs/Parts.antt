@@ -7,16 +7,16 @@ use Rattle.std.proofs.lemmas.List.{take-append-drop, append-nil}
 use Rattle.std.proofs.lemmas.List.Folds.{list_all-append}
 use Rattle.dn.specs.declared.faults.NameFaultKind.{NameFaultKind}
 use Rattle.dn.specs.declared.faults.NameFaultKind.TheVariants.{EqualsMissing, TypeMissing}
-use Rattle.dn.specs.declared.value.Octet.{Octet}
 use Rattle.dn.specs.Names.{Ava, is_type_byte, is_type}
-use Rattle.dn.specs.Spelling.{AreOctets, begins_well, ends_well, spaces, SpellsPart, byte_of}
+use Rattle.dn.specs.Spelling.{Octet, AreOctets, begins_well, ends_well, spaces, SpellsPart, byte_of}
 use Rattle.base.proofs.Bound.{bind_ok, same_ok}
 use Rattle.base.proofs.Front.{front_is}
 use Rattle.base.specs.Answers.{◌>>=◌}
 use Rattle.base.specs.Ends.{is_space, without_front}
 use Rattle.dn.specs.Reading.{type_in, after_type, after_equals, octets_from, trimmed, value_of, part_at, part_of}
 use Rattle.dn.proofs.Octets.{chosen, value_sound, value_complete, body_begins}
-use Rattle.dn.proofs.Runs.{Stops, front_passes, run_front, run_rest, skipped, skip_stops, skip_spaces, all_spaces}
+use Rattle.dn.specs.NameFaults.{Stops}
+use Rattle.dn.proofs.Runs.{front_passes, run_front, run_rest, skipped, skip_stops, skip_spaces, all_spaces}
 
 abbrev ok_bytes : List ℕ → Result (List ℕ) NameFaultKind
 ok_bytes v = Ok v

@@ -5,12 +5,10 @@ use Rattle.std.proofs.lemmas.Bool.{and_parts}
 use Rattle.std.proofs.lemmas.List.{append-nil, take_more, drop_more}
 use Rattle.dn.specs.declared.faults.NameFaultKind.{NameFaultKind}
 use Rattle.dn.specs.declared.faults.NameFaultKind.TheVariants.{FormNotSupported}
-use Rattle.dn.specs.declared.value.Octet.{Octet}
-use Rattle.dn.specs.declared.value.State.TheVariants.{Plain, Backslash}
-use Rattle.dn.specs.Spelling.{may_stand, ends_well, byte_of, spaces}
+use Rattle.dn.specs.Spelling.{Octet, may_stand, ends_well, byte_of, spaces}
 use Rattle.base.specs.Answers.{◌>>=◌}
 use Rattle.base.specs.Ends.{is_space}
-use Rattle.dn.specs.Reading.{with_octet, octets_from, raw_fault, trimmed, begins_form, value_from, value_of}
+use Rattle.dn.specs.Reading.{Plain, Backslash, with_octet, octets_from, raw_fault, trimmed, begins_form, value_from, value_of}
 use Rattle.dn.specs.inner.Cuts.{piece, behind, is_separator, first_value, ends_piece, ends_in_space}
 use Rattle.dn.proofs.Octets.{space, trimmed_with}
 use Rattle.dn.proofs.Runs.{spaces_are}

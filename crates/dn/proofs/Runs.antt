@@ -7,14 +7,10 @@ use Rattle.std.proofs.Math.Seq.{drop-append_seam, take-append_seam}
 use Rattle.dn.specs.Spelling.{spaces}
 use Rattle.base.proofs.Front.{front_is}
 use Rattle.base.specs.Ends.{is_space, without_front}
+use Rattle.dn.specs.NameFaults.{Stops}
 
 one : (n : ℕ) → 1 + n ≡ suc n
 one n = omega arith
-
--- what comes next does not pass
-abbrev pub Stops : (ℕ → Bool) → List ℕ → Type 0
-Stops p [] = Unit {0}
-Stops p (b ∷ bs) = p b ≡ false
 
 module _ (p : ℕ → Bool) where
   front_by : (b : ℕ) (bs : List ℕ) (t : Bool) → p b ≡ t → list_all p (take (prefix_len p bs) bs) ≡ true → list_all p (take (cond t (1 + prefix_len p bs) 0) (b ∷ bs)) ≡ true

@@ -4,9 +4,8 @@ use Rattle.std.specs.List.{list_all, join_with_byte}
 use Rattle.std.proofs.lemmas.List.{append-nil}
 use Rattle.std.proofs.lemmas.Bool.{and_parts, ltb-true}
 use Rattle.std.proofs.lemmas.Bool.Decides.{nat_tests}
-use Rattle.dn.specs.declared.value.Octet.{Octet}
 use Rattle.dn.specs.Names.{Ava, Rdn, Name, is_byte, is_type, is_ava, is_rdn, is_name}
-use Rattle.dn.specs.Spelling.{may_stand, may_follow, is_hex, hex, IsOctet, AreOctets, is_raw_space, begins_well, ends_well, byte_of, SpellsPart, AreJoined, SpellsRdn, Spells}
+use Rattle.dn.specs.Spelling.{Octet, may_stand, may_follow, is_hex, hex, IsOctet, AreOctets, is_raw_space, begins_well, ends_well, byte_of, SpellsPart, AreJoined, SpellsRdn, Spells}
 use Rattle.dn.specs.Writing.{digit, is_nothing, needs_pair, stands, written, text_from, value_text, part_text, rdn_text, text_of}
 
 -- ---- a byte

@@ -3,9 +3,8 @@ use Rattle.std.proofs.Common.{◌≡◌, ℕ, Bool, true, false, cond, not, ◌&
 use Rattle.std.specs.List.{onto_first, list_all, join_with_byte}
 use Rattle.std.proofs.lemmas.Bool.{and_parts, eqb-true}
 use Rattle.std.proofs.lemmas.Bool.Decides.{nat_tests}
-use Rattle.dn.specs.declared.value.Octet.{Octet}
 use Rattle.dn.specs.Names.{Ava, Rdn, is_type_byte, is_type}
-use Rattle.dn.specs.Spelling.{may_stand, is_hex, IsOctet, AreOctets, spaces, SpellsPart, AreJoined, SpellsRdn}
+use Rattle.dn.specs.Spelling.{Octet, may_stand, is_hex, IsOctet, AreOctets, spaces, SpellsPart, AreJoined, SpellsRdn}
 use Rattle.base.specs.Ends.{is_space}
 use Rattle.dn.specs.Reading.{escapes, cut_raw}
 use Rattle.dn.proofs.Runs.{all_spaces}

@@ -1,5 +1,6 @@
 pub mod Names
 pub mod Spelling
+pub mod NameFaults
 pub mod Reading
 pub mod Writing
 pub mod Gives

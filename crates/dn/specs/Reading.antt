@@ -6,13 +6,16 @@ use Rattle.base.specs.Answers.{◌>>=◌, each}
 use Rattle.base.specs.Ends.{is_space, without_front}
 use Rattle.dn.specs.declared.faults.NameFaultKind.{NameFaultKind}
 use Rattle.dn.specs.declared.faults.NameFaultKind.TheVariants.{EqualsMissing, Escape, NotEscaped, TypeMissing, FormNotSupported}
-use Rattle.dn.specs.declared.value.Octet.{Octet}
-use Rattle.dn.specs.declared.value.State.{State}
-use Rattle.dn.specs.declared.value.State.TheVariants.{Plain, Backslash, HalfPair}
 use Rattle.dn.specs.Names.{Ava, Rdn, Name, is_type_byte}
-use Rattle.dn.specs.Spelling.{may_stand, may_follow, is_hex, hex, is_raw_space, byte_of}
+use Rattle.dn.specs.Spelling.{Octet, may_stand, may_follow, is_hex, hex, is_raw_space, byte_of}
 
 -- ---- a value
+
+-- what was read of an escape: nothing, the backslash, or the first digit of a pair
+pub data State : Type 0 where
+  Plain : State
+  Backslash : State
+  HalfPair : ℕ → State
 
 -- a byte that may not stand for itself: `;` was once a separator
 abbrev pub raw_fault : ℕ → NameFaultKind

@@ -1,7 +1,6 @@
 -- Which text spells which name (RFC 4514, section 3; spaces may stand round types and values).
 use Rattle.std.specs.Prelude.{◌≡◌, ℕ, ◌+◌, ◌-◌, ◌*◌, Bool, true, false, not, ◌&&◌, ◌||◌, nat_le, ◌==◌, if◌then◌else◌, List, [], ◌∷◌, ◌++◌, map, replicate}
 use Rattle.base.specs.Ascii.{space, quotation_mark, number_sign, plus_sign, comma, semicolon, less_than_sign, equals_sign, greater_than_sign, backslash}
-use Rattle.dn.specs.declared.value.Octet.{Octet}
 use Rattle.dn.specs.Names.{Ava, Rdn, Name, is_type}
 
 -- ---- a value
@@ -23,6 +22,11 @@ is_hex b = is_between 48 57 b || is_between 65 70 b || is_between 97 102 b
 
 abbrev pub hex : ℕ → ℕ
 hex b = if nat_le b 57 then b - 48 else (if nat_le b 70 then b - 55 else b - 87)
+
+-- one byte of a value, and whether it stands in the text by itself
+pub record Octet : Type 0 where
+  pub raw : Bool
+  pub byte : ℕ
 
 -- an octet of a value is a byte by itself, or an escape: a backslash and a byte, or a backslash and two digits
 abbrev pub IsOctet : Octet → List ℕ → Type 0

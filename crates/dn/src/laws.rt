@@ -1,10 +1,12 @@
 //! What holds of the definitions.
 
-ghost use Rattle.std.specs.Prelude.{◌≡◌, ◌↔◌, ℕ, List, true, Ok};
+ghost use Rattle.std.specs.Prelude.{◌≡◌, ◌↔◌, ℕ, List, true, Ok, Err};
 ghost use Rattle.std.specs.List.{list_all};
+ghost use Rattle.dn.specs.declared.faults.NameFaultKind.{NameFaultKind};
 ghost use Rattle.dn.specs.Names.{Name, is_byte, is_ascii, is_name};
 ghost use Rattle.dn.specs.Spelling.{Spells};
 ghost use Rattle.dn.specs.Reading.{name_of};
+ghost use Rattle.dn.specs.NameFaults.{IsNameFault};
 ghost use Rattle.dn.specs.Writing.{text_of};
 
 /// No text spells two names.
@@ -16,6 +18,14 @@ pub fn texts_spell_one_name()
 pub fn spelled_names_are_read()
     ensures read { (text : List ℕ) (n : Name) → (name_of text ≡ Ok n) ↔ Spells text n }
     ensures good { (text : List ℕ) (n : Name) → list_all is_byte text ≡ true → name_of text ≡ Ok n → is_name n ≡ true }
+{}
+
+/// A text has a fault exactly where its reading from the left stops, by what stands there; it has one such fault at most, and none
+/// where it spells a name.
+pub fn faults_stand_where_reading_stops()
+    ensures fault { (text : List ℕ) (fault : NameFaultKind) → (name_of text ≡ Err fault) ↔ IsNameFault text fault }
+    ensures one { (text : List ℕ) (f g : NameFaultKind) → IsNameFault text f → IsNameFault text g → f ≡ g }
+    ensures apart { (text : List ℕ) (n : Name) (fault : NameFaultKind) → Spells text n → IsNameFault text fault → ⊥ }
 {}
 
 /// The text that is written for a name spells it and is read as it; it is ASCII.

@@ -14,7 +14,10 @@ mod value;
 mod write;
 
 pub use faults::{NameFault, NameFaultKind};
-pub use laws::{spelled_names_are_read, texts_spell_one_name, written_names_are_read};
+pub use laws::{
+    faults_stand_where_reading_stops, spelled_names_are_read, texts_spell_one_name,
+    written_names_are_read,
+};
 pub use names::{Name, Rdn};
 pub use part::Ava;
 pub use read::read_name;

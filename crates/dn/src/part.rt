@@ -69,9 +69,12 @@ impl Model for Ava {
 }
 
 impl MadeWith<Global> for Ava {
-    fn made_with(_alloc: Global) -> Ava {
+    /// The part `x=`, to be put in another's place.
+    fn made_with(_alloc: Global) -> Ava
+        ensures { is_ava result ≡ true }
+    {
         Ava {
-            text: AvaText::empty(),
+            text: AvaText::blank(),
         }
     }
 }

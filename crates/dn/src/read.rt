@@ -4,6 +4,7 @@ ghost use Rattle.std.specs.Prelude.{◌≡◌, ◌==◌, ◌++◌, not, true, fa
 ghost use Rattle.std.specs.List.{list_all, prefix_len};
 ghost use Rattle.dn.specs.Names.{Name, is_type, is_ava};
 ghost use Rattle.dn.specs.Spelling.{Spells};
+ghost use Rattle.dn.specs.NameFaults.{IsWhy};
 ghost use Rattle.base.specs.Answers.{each, Fails};
 ghost use Rattle.base.specs.Ends.{is_space, without_front};
 ghost use Rattle.dn.specs.Reading.{after_equals, cut_raw, rdn_of, name_of};
@@ -230,6 +231,8 @@ pub fn read_name(alloc: Global, text: &str) -> Result<Name, NameFault>
     ensures found { IfOk result (λ n. Spells text.now n) }
     // What is spelled so is read, unless memory runs out.
     ensures only { (n : Name) → Spells text.now n → Gives (λ m. m) result (Ok n) }
+    // A fault stands where reading from the left stops.
+    ensures fault { IfErr result (IsWhy text.now) }
     // Which fault it is.
     ensures exact { Gives (λ n. n) result (name_of text.now) }
 {

@@ -42,10 +42,14 @@ impl Model for AvaText {
 }
 
 impl AvaText {
-    pub(crate) fn empty() -> AvaText
-        ensures { result ≡ [] }
+    /// The type `x` and an empty value: a part to be put in another's place.
+    pub(crate) fn blank() -> AvaText
+        ensures { result ≡ 120 ∷ 61 ∷ [] }
     {
-        AvaText::few([0; FEW], 0)
+        let mut bytes = [0; FEW];
+        bytes[0] = b'x';
+        bytes[1] = b'=';
+        AvaText::few(bytes, 2)
     }
 
     /// The first bytes of these.

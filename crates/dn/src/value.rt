@@ -8,8 +8,9 @@ ghost use Rattle.base.specs.Ends.{is_space};
 ghost use Rattle.dn.specs.Reading.{raw_fault, octets_from, step, begins_form, value_from, value_of};
 ghost use Rattle.dn.specs.inner.Cuts.{first_value, ends_in_space};
 ghost use Rattle.dn.specs.inner.Drafts.{draft_after, IsInRange};
+ghost use Rattle.dn.specs.inner.Octets.{octet_seen, any_seen, state_seen, step_seen};
 ghost use Rattle.dn.specs.Gives.{Gives};
-ghost use Rattle.dn.specs.declared.value.State.TheVariants as states;
+ghost use Rattle.dn.specs.Reading as reading;
 
 use crate::faults::{NameFault, NameFaultKind};
 use crate::split::ends_piece;
@@ -74,9 +75,9 @@ fn raw_fault(b: u8) -> NameFaultKind
 
 #[tactic(auto, unfolding(crate::specs::Reading::step))]
 fn step(state: State, byte: u8) -> Result<(State, Option<Octet>), NameFaultKind>
-    requires { IsInRange state }
-    ensures next { result ≡ step state byte }
-    ensures in_range { IfOk result (λ r. IsInRange r.0) }
+    requires { IsInRange (state_seen state) }
+    ensures next { step_seen result ≡ step (state_seen state) byte }
+    ensures in_range { IfOk result (λ r. IsInRange (state_seen r.0)) }
 {
     match state {
         State::Plain => {
@@ -139,7 +140,7 @@ impl ValueDraft {
     }
 
     fn add(&mut self, octet: Octet) -> Result<(), AllocError>
-        ensures { OnOk result ((self.new.bytes.items, self.new.kept) ≡ draft_after self.old.bytes.items self.old.kept (Some octet)) }
+        ensures { OnOk result ((self.new.bytes.items, self.new.kept) ≡ draft_after self.old.bytes.items self.old.kept (Some (octet_seen octet))) }
     {
         self.bytes.push(octet.byte)?;
         self.kept = kept_after(octet, self.kept, self.bytes.len());
@@ -147,7 +148,7 @@ impl ValueDraft {
     }
 
     fn add_any(&mut self, octet: Option<Octet>) -> Result<(), AllocError>
-        ensures { OnOk result ((self.new.bytes.items, self.new.kept) ≡ draft_after self.old.bytes.items self.old.kept octet) }
+        ensures { OnOk result ((self.new.bytes.items, self.new.kept) ≡ draft_after self.old.bytes.items self.old.kept (any_seen octet)) }
     {
         match octet {
             Some(octet) => self.add(octet),
@@ -165,7 +166,7 @@ impl ValueDraft {
 }
 
 fn octets_of(alloc: Global, text: &[u8]) -> Result<SmallVec<u8, 24>, NameFault>
-    ensures { Gives (λ v. v.items) result (value_from (octets_from states.Plain text.now)) }
+    ensures { Gives (λ v. v.items) result (value_from (octets_from reading.Plain text.now)) }
 {
     let mut draft = ValueDraft::new(alloc, text.len())?;
     let mut state = State::Plain;

@@ -1,9 +1,7 @@
 -- The bytes of a value while its octets are read, and how many of them stay where it ends there.
 use Rattle.std.specs.Prelude.{ℕ, ◌+◌, ◌<◌, if◌then◌else◌, List, [], ◌∷◌, ◌++◌, length, Option, Some, None}
-use Rattle.dn.specs.declared.value.Octet.{Octet}
-use Rattle.dn.specs.declared.value.State.{State}
-use Rattle.dn.specs.declared.value.State.TheVariants.{Plain, Backslash, HalfPair}
-use Rattle.dn.specs.Spelling.{is_raw_space}
+use Rattle.dn.specs.Reading.{State, Plain, Backslash, HalfPair}
+use Rattle.dn.specs.Spelling.{Octet, is_raw_space}
 
 -- spaces that stand raw stay only where another octet follows them
 abbrev pub draft_after : List ℕ → ℕ → Option Octet → List ℕ × ℕ

@@ -1,7 +1,7 @@
-use Rattle.std.proofs.Common.{sym, arith}
-use Rattle.dn.specs.declared.value.State.TheVariants.{Plain}
-use Rattle.dn.specs.Reading.{octets_from, value_from}
-use Rattle.dn.proofs.Drafts.{finished_new, goes_on, faults, kept_within, ends_plain, ends_inside}
+use Rattle.std.proofs.Common.{sym, ap, arith}
+use Rattle.dn.specs.Reading.{Plain, octets_from, value_from}
+use Rattle.dn.specs.inner.Octets.{any_seen, state_seen}
+use Rattle.dn.proofs.Drafts.{is_plain, finished_new, goes_on, faults, kept_within, ends_plain, ends_inside}
 use Rattle.dn.proofs.value.octets_of.Goals as goal
 
 pub loop-byte-init : goal.loop-byte-init
@@ -9,7 +9,7 @@ loop-byte-init c = rw (c.in_ok-draft.ensures.bytes, c.in_ok-draft.ensures.kept) 
 
 pub returns-in-Err : goal.returns-in-Err
 returns-in-Err c =
-    faults c.loop-byte.draft.bytes.items c.loop-byte.draft.kept c.loop-byte.state c.args.text.now c.loop-byte.byte-index c.loop-byte-test.true c.in-Err.fault (value_from (octets_from Plain c.args.text.now)) (sym c.in-Err.ensures.next) c.loop-byte.invariant.same
+    faults c.loop-byte.draft.bytes.items c.loop-byte.draft.kept (state_seen c.loop-byte.state) c.args.text.now c.loop-byte.byte-index c.loop-byte-test.true c.in-Err.fault (value_from (octets_from Plain c.args.text.now)) (sym c.in-Err.ensures.next) c.loop-byte.invariant.same
 
 pub loop-byte-preserved : goal.loop-byte-preserved
 loop-byte-preserved c =
@@ -17,15 +17,15 @@ loop-byte-preserved c =
     let bytes = c.loop-byte.draft.bytes.items in
     let kept = c.loop-byte.draft.kept in
     record {
-      same = goes_on bytes kept c.loop-byte.state c.args.text.now c.loop-byte.byte-index c.loop-byte-test.true c.in-Ok.next c.in-Ok.octet (c.add_any.new.self.bytes.items, c.add_any.new.self.kept) (value_from (octets_from Plain c.args.text.now)) h.within (sym c.in-Ok.ensures.next) c.in_ok-add_any-in-Ok.ensures h.same;
-      within = kept_within bytes kept c.in-Ok.octet (c.add_any.new.self.bytes.items, c.add_any.new.self.kept) c.in_ok-add_any-in-Ok.ensures h.within;
+      same = goes_on bytes kept (state_seen c.loop-byte.state) c.args.text.now c.loop-byte.byte-index c.loop-byte-test.true (state_seen c.in-Ok.next) (any_seen c.in-Ok.octet) (c.add_any.new.self.bytes.items, c.add_any.new.self.kept) (value_from (octets_from Plain c.args.text.now)) h.within (sym c.in-Ok.ensures.next) c.in_ok-add_any-in-Ok.ensures h.same;
+      within = kept_within bytes kept (any_seen c.in-Ok.octet) (c.add_any.new.self.bytes.items, c.add_any.new.self.kept) c.in_ok-add_any-in-Ok.ensures h.within;
       in_range = c.in-Ok.ensures.in_range;
     }
 
 pub returns-in-Plain : goal.returns-in-Plain
 returns-in-Plain c =
-    rw c.finish.ensures (ends_plain c.loop-byte.draft.bytes.items c.loop-byte.draft.kept c.loop-byte.state c.args.text.now c.loop-byte.byte-index (value_from (octets_from Plain c.args.text.now)) c.loop-byte-test.false c.loop-byte.invariant.same c.in-Plain.is)
+    rw c.finish.ensures (ends_plain c.loop-byte.draft.bytes.items c.loop-byte.draft.kept (state_seen c.loop-byte.state) c.args.text.now c.loop-byte.byte-index (value_from (octets_from Plain c.args.text.now)) c.loop-byte-test.false c.loop-byte.invariant.same (ap state_seen c.in-Plain.is))
 
 pub returns-in_default : goal.returns-in_default
 returns-in_default c =
-    ends_inside c.loop-byte.draft.bytes.items c.loop-byte.draft.kept c.loop-byte.state c.args.text.now c.loop-byte.byte-index (value_from (octets_from Plain c.args.text.now)) c.loop-byte-test.false c.loop-byte.invariant.same c.in_default.not-Plain
+    ends_inside c.loop-byte.draft.bytes.items c.loop-byte.draft.kept (state_seen c.loop-byte.state) c.args.text.now c.loop-byte.byte-index (value_from (octets_from Plain c.args.text.now)) c.loop-byte-test.false c.loop-byte.invariant.same (λ e. c.in_default.not-Plain (is_plain c.loop-byte.state e))

@@ -1,13 +1,13 @@
 use Rattle.std.proofs.Common.{◌≡◌, ◌≤◌, drop, length}
-use Rattle.dn.specs.declared.value.State.TheVariants.{Plain}
-use Rattle.dn.specs.Reading.{octets_from, value_from}
+use Rattle.dn.specs.Reading.{Plain, octets_from, value_from}
 use Rattle.dn.specs.inner.Drafts.{IsInRange}
+use Rattle.dn.specs.inner.Octets.{state_seen}
 use Rattle.dn.proofs.Drafts.{finished}
 use Rattle.dn.proofs.value.octets_of.Given as goal
 
 abbrev pub invariant-loop-byte : goal.invariant-loop-byte
 invariant-loop-byte l = record {
-  same : finished l.draft.bytes.items l.draft.kept (octets_from l.state (drop l.byte-index l.text)) ≡ value_from (octets_from Plain l.text);
+  same : finished l.draft.bytes.items l.draft.kept (octets_from (state_seen l.state) (drop l.byte-index l.text)) ≡ value_from (octets_from Plain l.text);
   within : l.draft.kept ≤ length l.draft.bytes.items;
-  in_range : IsInRange l.state;
+  in_range : IsInRange (state_seen l.state);
 }
