@@ -107,14 +107,14 @@ superior_only ls (Some v) h =
     ∙ ap (λ (r : Result Attr LdifFaultKind). r >>= λ attr. cond (same_name attr.name (codes "newsuperior")) (okay (some attr.value)) (Err StrayLine)) (named_only (codes "newsuperior") h.0 v h.2)
     ∙ ap (λ (t : Bool). cond t (okay (some v)) (Err StrayLine)) (same_only h.2.name (codes "newsuperior") h.2.same)
 
-flag_found : (text : List ℕ) (flag : Bool) → flag_of text ≡ Ok flag → IsWord text (flag_word flag)
+pub flag_found : (text : List ℕ) (flag : Bool) → flag_of text ≡ Ok flag → IsWord text (flag_word flag)
 unfolding flag_of
 flag_found text flag h = elim (chosen (is_word text (codes "1")) (okay true) (cond (is_word text (codes "0")) (okay false) (Err Word)) (Ok flag) h) [
   | inl one ↦ subst (λ (t : Bool). IsWord text (flag_word t)) (ok_is true flag one.1) (word_found text (codes "1") one.0)
   | inr other ↦ (let zero = good (is_word text (codes "0")) (okay false) Word flag other.1 in subst (λ (t : Bool). IsWord text (flag_word t)) (ok_is false flag zero.1) (word_found text (codes "0") zero.0))
 ]
 
-flag_only : (text : List ℕ) (flag : Bool) → IsWord text (flag_word flag) → flag_of text ≡ Ok flag
+pub flag_only : (text : List ℕ) (flag : Bool) → IsWord text (flag_word flag) → flag_of text ≡ Ok flag
 unfolding flag_of
 flag_only text true h = ap (λ (t : Bool). cond t (okay true) (cond (is_word text (codes "0")) (okay false) (Err Word))) (word_only text (codes "1") h)
 flag_only text false h =
@@ -136,7 +136,7 @@ under_only name line v h =
     ap (λ (r : Result Attr LdifFaultKind). r >>= λ attr. cond (same_name attr.name name) (Ok attr.value) (Err OtherAttribute)) (named_only name line v h)
     ∙ ap (λ (t : Bool). cond t (okay v) (Err OtherAttribute)) (same_only h.name name h.same)
 
-op_found : (name : List ℕ) (op : Op) → op_of name ≡ Ok op → IsSame name (op_word op)
+pub op_found : (name : List ℕ) (op : Op) → op_of name ≡ Ok op → IsSame name (op_word op)
 unfolding op_of
 op_found name op h = elim (chosen (same_name name (codes "add")) (okay ops.Add) (cond (same_name name (codes "delete")) (okay ops.Delete) (cond (same_name name (codes "replace")) (okay ops.Replace) (Err StrayLine))) (Ok op) h) [
   | inl a ↦ subst (λ (o : Op). IsSame name (op_word o)) (ok_is ops.Add op a.1) (same_found name (codes "add") a.0)
@@ -149,7 +149,7 @@ op_found name op h = elim (chosen (same_name name (codes "add")) (okay ops.Add) 
 op_tests : Bool → Bool → Bool → Result Op LdifFaultKind
 op_tests add delete replace = cond add (okay ops.Add) (cond delete (okay ops.Delete) (cond replace (okay ops.Replace) (Err StrayLine)))
 
-op_only : (name : List ℕ) (op : Op) → IsSame name (op_word op) → op_of name ≡ Ok op
+pub op_only : (name : List ℕ) (op : Op) → IsSame name (op_word op) → op_of name ≡ Ok op
 unfolding op_of op_tests
 op_only name ops.Add h = ap (λ (t : Bool). op_tests t (same_name name (codes "delete")) (same_name name (codes "replace"))) (same_only name (codes "add") h)
 op_only name ops.Delete h =
@@ -200,7 +200,7 @@ dash_found line e =
     let r = end_is line in
     record { spaces = r.0; is = r.1 ∙ ap (λ (x : List ℕ). x ++ replicate r.0 32) t }
 
-dash_only : (line : List ℕ) → IsDash line → is_dash line ≡ true
+pub dash_only : (line : List ℕ) → IsDash line → is_dash line ≡ true
 unfolding is_dash
 dash_only line h = ap (λ (x : List ℕ). bytes_eq (without_end x) (codes "-")) h.is ∙ ap (λ (x : List ℕ). bytes_eq x (codes "-")) (cut_end (45 ∷ []) h.spaces)
 
@@ -213,7 +213,7 @@ has_colon [] rest = refl
 has_colon (b ∷ bs) rest = elim (is_no_colon b) as (λ t. (t && list_all is_no_colon (bs ++ 58 ∷ rest)) ≡ false) [ true ↦ has_colon bs rest | false ↦ refl ]
 
 -- a value line is no `-`
-no_dash : (line : List ℕ) (a : Attr) → IsValueLine line a → is_dash line ≡ false
+pub no_dash : (line : List ℕ) (a : Attr) → IsValueLine line a → is_dash line ≡ false
 no_dash line a h = false_from_ne_true (is_dash line) (λ e.
     (let d = dash_found line e in
     true≢false (sym (ap (list_all is_no_colon) d.is ∙ spaces_no_colon d.spaces) ∙ ap (list_all is_no_colon) h.is ∙ has_colon a.name h.rest)))
@@ -257,7 +257,7 @@ cut_is (l ∷ ls) = elim (is_dash l) as (λ t. is_dash l ≡ t → IsCut (cond t
   | false ↦ λ e. onto_cut l ls (blocks ls) (cut_is ls)
 ] refl
 
-bytes_front : (a b : List (List ℕ)) → AreBytes (a ++ b) → AreBytes a
+pub bytes_front : (a b : List (List ℕ)) → AreBytes (a ++ b) → AreBytes a
 bytes_front [] b h = tt
 bytes_front (x ∷ a) b h = (h.0, bytes_front a b h.1)
 

@@ -47,10 +47,10 @@ len_is text n le =
       | false ↦ λ e. (let k = ltb-false n (length text) e in omega arith)
     ] refl
 
-oid_len_at : (oid after : List ℕ) → list_all is_oid_byte oid ≡ true → EndsOid after → oid_len (oid ++ after) ≡ length oid
+pub oid_len_at : (oid after : List ℕ) → list_all is_oid_byte oid ≡ true → EndsOid after → oid_len (oid ++ after) ≡ length oid
 oid_len_at oid after h e = ap (len_at (oid ++ after)) (place oid after h e) ∙ len_is (oid ++ after) (length oid) (omega (arith, length-append oid after))
 
-oid_len_is : (text : List ℕ) → oid_len text ≡ position_or_len ends_oid text
+pub oid_len_is : (text : List ℕ) → oid_len text ≡ position_or_len ends_oid text
 oid_len_is text = len_is text (position_or_len ends_oid text) (prefix_len-le-length (λ x. not (ends_oid x)) text)
 
 passes : (xs : List ℕ) → list_all is_oid_byte (take (prefix_len (λ x. not (ends_oid x)) xs) xs) ≡ true
@@ -63,7 +63,7 @@ passes (x ∷ xs) =
       | false ↦ λ e. refl
     ] refl
 
-oid_found : (text : List ℕ) → list_all is_oid_byte (take (oid_len text) text) ≡ true
+pub oid_found : (text : List ℕ) → list_all is_oid_byte (take (oid_len text) text) ≡ true
 oid_found text = ap (λ (n : ℕ). list_all is_oid_byte (take n text)) (oid_len_is text) ∙ passes text
 
 -- ---- the criticality
@@ -106,7 +106,7 @@ crit_word rest n critical first same =
 abbrev crit_tests : Bool → Bool → List ℕ → List ℕ → Bool × List ℕ
 crit_tests t u rest text = cond t (true, drop 4 text) (cond u (false, drop 5 text) (false, rest))
 
-crit_found : (rest : List ℕ) → IsCriticality rest (criticality rest).0 (criticality rest).1
+pub crit_found : (rest : List ℕ) → IsCriticality rest (criticality rest).0 (criticality rest).1
 unfolding criticality
 crit_found rest =
     let text = without_front rest in
@@ -156,7 +156,7 @@ crit_only_word text false rest h =
     ∙ ap (λ (x : List ℕ). found_crit false x) (drop_at h.word rest 5 five)
 
 -- what can stand behind the spaces after a criticality
-abbrev Closes : List ℕ → Type 0
+abbrev pub Closes : List ℕ → Type 0
 Closes [] = Unit {0}
 Closes (b ∷ bs) = b ≡ 58
 
@@ -164,7 +164,7 @@ closed : (rest : List ℕ) (v : Option (List ℕ)) → IsControlValue rest v →
 closed rest None h = subst Closes (sym h) tt
 closed rest (Some v) h = subst Closes (sym h.1) refl
 
-closed_front : (rest : List ℕ) → Closes rest → without_front rest ≡ rest
+pub closed_front : (rest : List ℕ) → Closes rest → without_front rest ≡ rest
 closed_front [] h = refl
 closed_front (b ∷ bs) h = no_front (b ∷ bs) (ap (λ (x : ℕ). eqb x 32) h)
 
@@ -172,7 +172,7 @@ no_word : (rest : List ℕ) (n d : ℕ) (ds : List ℕ) → Closes rest → eqb 
 no_word [] n d ds h other = refl
 no_word (b ∷ bs) n d ds h other = ap (λ (x : ℕ). eqb (to_ascii_lowercase x) d && bytes_eq (lower (take n bs)) ds) h ∙ ap (λ (t : Bool). t && bytes_eq (lower (take n bs)) ds) other
 
-crit_only : (text : List ℕ) (critical : Bool) (n : ℕ) (rest : List ℕ) → Closes rest → IsCriticality text critical (replicate n 32 ++ rest) → criticality text ≡ (critical, replicate n 32 ++ rest)
+pub crit_only : (text : List ℕ) (critical : Bool) (n : ℕ) (rest : List ℕ) → Closes rest → IsCriticality text critical (replicate n 32 ++ rest) → criticality text ≡ (critical, replicate n 32 ++ rest)
 unfolding criticality
 crit_only text critical n rest closes (inl h) = crit_only_word text critical (replicate n 32 ++ rest) h
 crit_only text critical n rest closes (inr h) =
@@ -203,14 +203,14 @@ value_only rest (Some v) h = ap control_value h.1 ∙ ap (λ (r : Result (List �
 
 -- ---- the whole
 
-crit_bytes : (text : List ℕ) (critical : Bool) (rest : List ℕ) → IsBytes text → IsCriticality text critical rest → IsBytes rest
+pub crit_bytes : (text : List ℕ) (critical : Bool) (rest : List ℕ) → IsBytes text → IsCriticality text critical rest → IsBytes rest
 crit_bytes text critical rest bytes (inl h) = back_bytes h.word rest (back_bytes (replicate (suc h.spaces) 32) (h.word ++ rest) (subst (λ (x : List ℕ). IsBytes x) h.is bytes))
 crit_bytes text critical rest bytes (inr h) = subst (λ (x : List ℕ). IsBytes x) h.0 bytes
 
-abbrev made : List ℕ → Bool → Option (List ℕ) → Control
+abbrev pub made : List ℕ → Bool → Option (List ℕ) → Control
 made oid critical value = record { oid = oid; critical = critical; value = value }
 
-abbrev control_by : ℕ → List ℕ → Result Control LdifFaultKind
+abbrev pub control_by : ℕ → List ℕ → Result Control LdifFaultKind
 control_by n text =
     cond (eqb n 0) (Err Word) (control_value (without_front (criticality (drop n text)).1) >>= λ value. Ok (made (take n text) (criticality (drop n text)).0 value))
 
@@ -242,7 +242,7 @@ space_ends zero [] h = tt
 space_ends zero (b ∷ bs) h = ap is_oid_byte h
 space_ends (suc n) rest h = refl
 
-after_ends : (text : List ℕ) (critical : Bool) (n : ℕ) (rest : List ℕ) → Closes rest → IsCriticality text critical (replicate n 32 ++ rest) → EndsOid text
+pub after_ends : (text : List ℕ) (critical : Bool) (n : ℕ) (rest : List ℕ) → Closes rest → IsCriticality text critical (replicate n 32 ++ rest) → EndsOid text
 after_ends text critical n rest closes (inl h) = subst EndsOid (sym h.is) refl
 after_ends text critical n rest closes (inr h) = subst EndsOid (sym h.0) (space_ends n rest closes)
 

@@ -12,5 +12,11 @@ pub mod ValueForms
 pub mod ControlForms
 pub mod ChangeForms
 pub mod RecordForms
-pub mod EarliestLine
+pub mod RecordLines
 pub mod LineFaults
+pub mod ControlFaults
+pub mod Steps
+pub mod Ways
+pub mod Walks
+pub mod RecordPlaces
+pub mod RecordFaultExamples

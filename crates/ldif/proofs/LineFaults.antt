@@ -12,16 +12,16 @@ use Rattle.ldif.specs.Attrs.{Attr}
 use Rattle.base.specs.Answers.{◌>>=◌}
 use Rattle.ldif.specs.Line.{or_base64, decoded, form_of, value_at, value_of, value_line}
 use Rattle.ldif.specs.Forms.{IsCoded, is_no_colon}
-use Rattle.ldif.specs.Earliest.{IsNamed, IsLineFault}
+use Rattle.ldif.specs.LineFaults.{IsNamedLine, IsLineFault}
 use Rattle.ldif.proofs.Colon.{said, value_is}
 use Rattle.ldif.proofs.Inverted.{okay}
 use Rattle.ldif.proofs.ValueForms.{form_found, form_only, back_bytes}
-use Rattle.ldif.proofs.EarliestLine.{no_colon}
+use Rattle.ldif.proofs.RecordLines.{no_colon}
 
-abbrev bad : {A : Type 0} → LdifFaultKind → Result A LdifFaultKind
+abbrev pub bad : {A : Type 0} → LdifFaultKind → Result A LdifFaultKind
 bad f = Err f
 
-err_is : {A : Type 0} (f g : LdifFaultKind) → bad {A = A} f ≡ bad g → f ≡ g
+pub err_is : {A : Type 0} (f g : LdifFaultKind) → bad {A = A} f ≡ bad g → f ≡ g
 err_is f g e = cc
 
 -- a line by its first colon
@@ -43,7 +43,7 @@ nameless rest = ap (λ (t : Bool). value_at (58 ∷ rest) (cond t (Some 0) None)
 
 -- ---- what stands behind the colon
 
-abbrev IsFormFault : List ℕ → LdifFaultKind → Type 0
+abbrev pub IsFormFault : List ℕ → LdifFaultKind → Type 0
 IsFormFault rest fault = ((fault ≡ Url) × ((text : List ℕ) × (rest ≡ 60 ∷ text))) ⊎ ((fault ≡ Base64) × ((text : List ℕ) × (rest ≡ 58 ∷ text) × ((value : List ℕ) → IsCoded (58 ∷ text) value → ⊥)))
 
 abbrev form_by : Bool → Bool → List ℕ → Result (List ℕ) LdifFaultKind
@@ -56,7 +56,7 @@ decode_fails (Err d) fault e = sym (err_is {A = List ℕ} Base64 fault e)
 uncoded : (text : List ℕ) (fault : LdifFaultKind) → form_of (58 ∷ text) ≡ Err fault → (value : List ℕ) → IsCoded (58 ∷ text) value → ⊥
 uncoded text fault h value k = (let c : okay value ≡ Err fault = sym (form_only (58 ∷ text) value (inl k)) ∙ h in cc)
 
-form_fault : (rest : List ℕ) (fault : LdifFaultKind) → form_of rest ≡ Err fault → (c d : Bool) → begins_with 58 rest ≡ c → begins_with 60 rest ≡ d → IsFormFault rest fault
+pub form_fault : (rest : List ℕ) (fault : LdifFaultKind) → form_of rest ≡ Err fault → (c d : Bool) → begins_with 58 rest ≡ c → begins_with 60 rest ≡ d → IsFormFault rest fault
 unfolding form_of decoded
 form_fault [] fault h c d e f = absurd cc
 form_fault (b ∷ bs) fault h true d e f =
@@ -117,10 +117,10 @@ headless : (line : List ℕ) → begins_with 58 line ≡ true → value_of line 
 headless [] e = absurd cc
 headless (b ∷ bs) e = ap (λ (x : ℕ). value_of (x ∷ bs)) (eqb-true b 58 e) ∙ nameless bs
 
-named_is : (line rest : List ℕ) (h : IsNamed line rest) → value_line line ≡ (form_of rest >>= λ v. said h.name v)
+named_is : (line rest : List ℕ) (h : IsNamedLine line rest) → value_line line ≡ (form_of rest >>= λ v. said h.name v)
 named_is line rest h = not_continued line h.front ∙ ap value_of h.is ∙ value_is h.name rest h.some h.no_colon
 
-url_form : (text : List ℕ) → form_of (60 ∷ text) ≡ Err Url
+pub url_form : (text : List ℕ) → form_of (60 ∷ text) ≡ Err Url
 unfolding form_of
 url_form text = refl
 
@@ -138,6 +138,10 @@ decoded_by text (Err d) none bytes e = e
 decoded_is : (text : List ℕ) → decoded text ≡ or_base64 (decode_of standard text)
 unfolding decoded
 decoded_is text = refl
+
+pub uncoded_fails : (text : List ℕ) → ((value : List ℕ) → IsCoded (58 ∷ text) value → ⊥) → IsBytes (58 ∷ text) → form_of (58 ∷ text) ≡ Err Base64
+uncoded_fails text none bytes =
+    decoded_by text (decode_of standard (without_end (without_front text))) none bytes (coded_is text ∙ decoded_is (without_end (without_front text)))
 
 pub fault_only : (line : List ℕ) (fault : LdifFaultKind) → IsBytes line → IsLineFault line fault → value_line line ≡ Err fault
 fault_only line Continuation bytes h = continued line h

@@ -8,5 +8,7 @@ pub mod Writing
 pub mod Attrs
 pub mod Contents
 pub mod Forms
-pub mod Earliest
+pub mod LineFaults
+pub mod Places
+pub mod RecordFaults
 pub mod inner

@@ -1,6 +1,6 @@
 //! What holds of the definitions.
 
-ghost use Rattle.std.specs.Prelude.{◌≡◌, ◌↔◌, Bool, List, ℕ, true, Ok, Err, map};
+ghost use Rattle.std.specs.Prelude.{◌≡◌, ◌↔◌, ◌++◌, Bool, List, ℕ, true, Ok, Err, map};
 ghost use Rattle.std.specs.List.{list_all, flat_map, AllByRecursion};
 ghost use Rattle.base64.specs.GeneralPurpose.{IsBytes};
 ghost use Rattle.ldif_lines.specs.Folding.{IsWritable};
@@ -9,8 +9,10 @@ ghost use Rattle.ldif.specs.Attrs.{Attr};
 ghost use Rattle.ldif.specs.declared.record.Mode.{Mode};
 ghost use Rattle.ldif.specs.declared.record.Mode.TheVariants.{Content};
 ghost use Rattle.ldif.specs.declared.record.Record.{Record};
-ghost use Rattle.ldif.specs.Earliest.{IsEarliest, IsLineFault};
+ghost use Rattle.ldif.specs.LineFaults.{IsLineFault};
 ghost use Rattle.ldif.specs.Forms.{IsValueLine, IsRecord};
+ghost use Rattle.ldif.specs.Places.{Place, start, IsStep, IsWay};
+ghost use Rattle.ldif.specs.RecordFaults.{IsFaultHere, IsRecordFault};
 ghost use Rattle.ldif.specs.Reading.{reading};
 ghost use Rattle.ldif.specs.Line.{value_line};
 ghost use Rattle.ldif.specs.Writing.{line_text};
@@ -49,7 +51,23 @@ pub fn line_faults_have_forms()
     ensures { (line : List ℕ) (fault : LdifFaultKind) → IsBytes line → (value_line line ≡ Err fault) ↔ IsLineFault line fault }
 {}
 
-/// Lines that are no record have the fault of their earliest line that has one, whatever stands behind it.
-pub fn earliest_line_answers()
-    ensures { (mode : Mode) (first : Bool) (lines : List (List ℕ)) (fault : LdifFaultKind) → reading mode first lines ≡ Err fault → IsEarliest (reading mode first) lines fault }
+/// Lines are no record exactly where they lead to a place of a record at which the next line, or the end, has a fault: the line by
+/// itself, or else by its place. They have one such fault at most, and none where they are a record.
+pub fn record_faults_have_places()
+    ensures fault { (mode : Mode) (first : Bool) (lines : List (List ℕ)) (fault : LdifFaultKind) → AllByRecursion IsBytes lines
+        → (reading mode first lines ≡ Err fault) ↔ IsRecordFault mode first lines fault }
+    ensures one { (mode : Mode) (first : Bool) (lines : List (List ℕ)) (f g : LdifFaultKind) → AllByRecursion IsBytes lines
+        → IsRecordFault mode first lines f → IsRecordFault mode first lines g → f ≡ g }
+    ensures apart { (mode : Mode) (first : Bool) (lines : List (List ℕ)) (found : Record) (fault : LdifFaultKind) → AllByRecursion IsBytes lines
+        → IsRecord mode first lines found → IsRecordFault mode first lines fault → ⊥ }
+{}
+
+/// The places are those of records: lines lead to one exactly where further lines can make them a record, and no line both leads on
+/// from a place and has a fault there.
+pub fn places_stand_in_records()
+    ensures begin { (mode : Mode) (first : Bool) (lines : List (List ℕ)) (place : Place) → AllByRecursion IsBytes lines → IsWay mode (start first) lines place
+        → (more : List (List ℕ)) × (found : Record) × IsRecord mode first (lines ++ more) found }
+    ensures led { (mode : Mode) (first : Bool) (lines more : List (List ℕ)) (found : Record) → AllByRecursion IsBytes lines
+        → IsRecord mode first (lines ++ more) found → (place : Place) × IsWay mode (start first) lines place }
+    ensures apart { (mode : Mode) (place next : Place) (line : List ℕ) (fault : LdifFaultKind) → IsBytes line → IsStep mode place line next → IsFaultHere place line fault → ⊥ }
 {}

@@ -19,8 +19,9 @@ mod write;
 pub use device::{Device, OfRead, OfWrite, Sink, Source, TrySink, TrySource};
 pub use fault::{LdifFault, LdifFaultKind};
 pub use laws::{
-    earliest_line_answers, line_faults_have_forms, line_texts_are_writable, lines_have_forms,
-    records_have_forms, written_contents_are_read, written_lines_are_read,
+    line_faults_have_forms, line_texts_are_writable, lines_have_forms, places_stand_in_records,
+    record_faults_have_places, records_have_forms, written_contents_are_read,
+    written_lines_are_read,
 };
 pub use ldif_lines::{RawRecord, ReadFault, Reader};
 pub use read::read_record;

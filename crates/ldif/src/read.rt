@@ -2,6 +2,10 @@
 
 ghost use Rattle.std.specs.Prelude.{◌≡◌, ◌<◌, ◌∷◌, length};
 ghost use Rattle.ldif.specs.Gives.{Gives, GivesBy};
+ghost use Rattle.std.specs.Prelude.{IfErr};
+ghost use Rattle.std.specs.List.{AllByRecursion};
+ghost use Rattle.base64.specs.GeneralPurpose.{IsBytes};
+ghost use Rattle.ldif.specs.RecordFaults.{IsWhy};
 ghost use Rattle.ldif.specs.Reading.{texts, controls_of, body, entry, after_version, first_of_text, reading};
 
 use crate::attributes::contents_of;
@@ -113,7 +117,9 @@ fn first_of_text(alloc: Global, mode: Mode, lines: &[Vec<u8>]) -> Result<Record<
 /// The answer is what the record asks for, or the fault of its earliest line that has one; at one line `Continuation`,
 /// `ColonMissing`, `Url` and `Base64` come in this order and before any other. `OutOfMemory` says that memory ran out.
 pub fn read_record(alloc: Global, raw: &RawRecord, mode: Mode) -> Result<Record<'_>, LdifFault>
-    ensures { Gives result (reading mode raw.now.first (texts raw.now.lines.items)) }
+    ensures exact { Gives result (reading mode raw.now.first (texts raw.now.lines.items)) }
+    // A fault stands where the lines lead to.
+    ensures fault { AllByRecursion IsBytes (texts raw.now.lines.items) → IfErr result (IsWhy mode raw.now.first (texts raw.now.lines.items)) }
 {
     if raw.first {
         first_of_text(alloc, mode, &raw.lines)
