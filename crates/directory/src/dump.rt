@@ -4,11 +4,12 @@ ghost use Rattle.std.specs.Prelude.{◌≡◌, ◌<◌, ◌-◌, ◌^◌, ◌++�
 ghost use Rattle.std.specs.FinMap as finite;
 ghost use Rattle.ldif.specs.Writing.{written_line};
 ghost use Rattle.tree.specs.StoredEntries.{content_of};
-ghost use Rattle.directory.specs.Runs.{dump};
+ghost use Rattle.directory.specs.Runs.{dump, LoadsBack};
 ghost use Rattle.directory.specs.Dumps.{Writes};
 ghost use Rattle.directory.specs.inner.Dumps.{WritesOn, AreKnown, values_text, attribute_text, selected_text, entry_text};
 
 use crate::directory::Directory;
+use crate::laws::loading_a_dump;
 use crate::selection::Selection;
 use device::{Device, Sink, push_all};
 use ldif::{WriteFault, put_line};
@@ -153,11 +154,16 @@ impl Directory {
 
     /// Writes each entry as a content record, in the order of paths (RFC 2849), in pieces of some 64 KiB. On a fault a
     /// beginning was written.
+    ///
+    /// Loading what a whole dump holds gives this directory again, and refuses none of its records.
     pub fn dump<W: Sink>(&self, alloc: Global, sink: &mut W) -> Result<(), WriteFault>
         requires { (W.written sink.old).failed < 2 ^ 64 - 1 }
-        ensures { Writes result (W.written sink.old) (W.written sink.new) (dump self.now.conf self.now.entries) }
+        ensures writes { Writes result (W.written sink.old) (W.written sink.new) (dump self.now.conf self.now.entries) }
+        ensures loads { LoadsBack self.now.conf self.now.entries }
     {
         self.tree().is_directory();
+        self.conf().holds();
+        loading_a_dump();
         schema::order_of_paths();
         let root = Path::root(alloc);
         let mut names = Names::new(alloc, self.tree(), self.conf());

@@ -52,8 +52,8 @@ loop-found-preserved g c =
           (text ++ entry) (entries_text d.conf d.entries None left) _ next c.in_ok-write_entry.ensures.writes;
     }
 
-pub returns-in_err-write_entry : goal.returns-in_err-write_entry
-returns-in_err-write_entry g c =
+pub returns-in_err-write_entry-clause-writes : goal.returns-in_err-write_entry-clause-writes
+returns-in_err-write_entry-clause-writes g c =
     let p = err_from_is_err_and c.from_residual.result c.from_residual.ensures.1 in
     let d : Tree = c.args.self.now in
     let left : List (Path × Entry) = c.next.new.self in
@@ -68,8 +68,8 @@ returns-in_err-write_entry g c =
     (dump d.conf d.entries) (text ++ entries_text d.conf d.entries None c.loop-found.found-iterator) c.loop-found.invariant.so_far
     c.in_err-write_entry.field-0.0 (text ++ entry) (entries_text d.conf d.entries None left) next c.in_err-write_entry.ensures.writes)
 
-pub returns : goal.returns
-returns g c =
+pub returns-clause-writes : goal.returns-clause-writes
+returns-clause-writes g c =
     let d : Tree = c.args.self.now in
     let text : List ℕ = c.loop-found.text.items in
     let rest : text ++ entries_text d.conf d.entries None c.loop-found.found-iterator ≡ text =
