@@ -1,2 +1,3 @@
-pub mod Loaded
 pub mod Ends
+pub mod Known
+pub mod Loading

@@ -1,3 +1,9 @@
 pub mod Statuses
+pub mod Messages
 pub mod Parts
+pub mod Folders
+pub mod Loaded
+pub mod Changes
+pub mod Prints
+pub mod Commands
 pub mod inner

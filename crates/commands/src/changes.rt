@@ -1,8 +1,9 @@
 //! slapadd and ldapmodify: the records of an LDIF text are carried out on a directory in a folder.
-ghost use Rattle.std.specs.Prelude.{◌≡◌, ◌<◌, ◌-◌, ◌^◌, OnOk, IfOk, IfErr};
-ghost use Rattle.ldif.specs.declared.record.Mode.TheVariants as modes;
+ghost use Rattle.std.specs.Prelude.{◌≡◌, ◌<◌, ◌-◌, ◌^◌, OnOk, IfOk, IfErr, IfSome};
+ghost use Rattle.directory.specs.Faults.{Went};
 ghost use Rattle.directory.specs.Folds.{RanOver};
-ghost use Rattle.commands.specs.inner.Ends.{HaveRun, RunEnds, ChangeEnds};
+ghost use Rattle.commands.specs.Changes.{add_task, modify_task, HaveRun, ChangeEnds, ChangesKnown};
+ghost use Rattle.commands.specs.inner.Tasks.{task_of, RunEnds};
 
 use crate::database::{load_directory, open_present, store_directory};
 use crate::folder::Folder;
@@ -37,6 +38,7 @@ fn run_source<S: Source, E: Sink>(
     requires source { (S.seen source.old).failed < 2 ^ 64 - 1 }
     requires err { (E.written err.old).failed < 2 ^ 64 - 1 }
     ensures same_conf { dir.new.conf ≡ dir.old.conf }
+    ensures went { IfOk result (λ t. IfSome (S.seen source.old).left (λ text. Went dir.old.conf asked.now.mode asked.now.go_on dir.old.entries dir.new.entries text t (E.written err.old) (E.written err.new))) }
     ensures ran { IfOk result (λ t. RanOver dir.old.conf asked.now.mode asked.now.go_on dir.old.entries dir.new.entries (S.seen source.old).left t (E.written err.old) (E.written err.new)) }
     ensures ok { OnOk result ((E.written err.new).failed ≡ (E.written err.old).failed) }
     ensures err { IfErr result (λ s. s ≡ Status.Failed) }
@@ -53,14 +55,14 @@ fn run_records<F: Folder, S: Source, E: Sink>(
     alloc: Global,
     asked: &Changes<'_>,
     dir: &mut Directory,
-    folder: &mut F,
+    folder: &F,
     input: &mut S,
     err: &mut E,
 ) -> Result<Tally, Status>
     requires input { (S.seen input.old).failed < 2 ^ 64 - 1 }
     requires err { (E.written err.old).failed < 2 ^ 64 - 1 }
     ensures same_conf { dir.new.conf ≡ dir.old.conf }
-    ensures ran { IfOk result (λ t. HaveRun dir.old.conf asked.now.mode asked.now.go_on dir.old.entries dir.new.entries t (E.written err.old) (E.written err.new)) }
+    ensures ran { IfOk result (λ t. HaveRun (task_of asked.now) (F.files folder.now) (S.seen input.old).left dir.old.conf dir.old.entries dir.new.entries t (E.written err.old) (E.written err.new)) }
     ensures ok { OnOk result ((E.written err.new).failed ≡ (E.written err.old).failed) }
     ensures err { IfErr result (λ s. s ≡ Status.Failed) }
 {
@@ -83,7 +85,7 @@ fn run_and_store<F: Folder, S: Source, E: Sink>(
 ) -> Status
     requires input { (S.seen input.old).failed < 2 ^ 64 - 1 }
     requires err { (E.written err.old).failed < 2 ^ 64 - 1 }
-    ensures { RunEnds dir.conf asked.now.mode asked.now.go_on dir.entries (E.written err.old) (E.written err.new) result }
+    ensures { RunEnds (task_of asked.now) (F.files folder.old) (F.files folder.new) (S.seen input.old).left dir.conf dir.entries (E.written err.old) (E.written err.new) result }
 {
     let tally = match run_records(alloc, asked, &mut dir, folder, input, err) {
         Ok(tally) => tally,
@@ -101,6 +103,7 @@ fn run_and_store<F: Folder, S: Source, E: Sink>(
     }
 }
 
+#[tactic(auto, using(crate::proofs::Ends::told_explains))]
 fn carry_out<F: Folder, S: Source, E: Sink>(
     alloc: Global,
     asked: &Changes<'_>,
@@ -110,7 +113,7 @@ fn carry_out<F: Folder, S: Source, E: Sink>(
 ) -> Status
     requires input { (S.seen input.old).failed < 2 ^ 64 - 1 }
     requires err { (E.written err.old).failed < 2 ^ 64 - 1 }
-    ensures { ChangeEnds asked.now.mode asked.now.go_on (E.written err.old) (E.written err.new) result }
+    ensures { ChangeEnds (task_of asked.now) (F.files folder.old) (F.files folder.new) (S.seen input.old).left (E.written err.old) (E.written err.new) result }
 {
     match load_directory(alloc, folder, asked.db) {
         Ok(dir) => run_and_store(alloc, asked, dir, folder, input, err),
@@ -129,7 +132,8 @@ pub fn slapadd<F: Folder, S: Source, E: Sink>(
 ) -> Status
     requires input { (S.seen input.old).failed < 2 ^ 64 - 1 }
     requires err { (E.written err.old).failed < 2 ^ 64 - 1 }
-    ensures { ChangeEnds modes.Content asked.now.go_on (E.written err.old) (E.written err.new) result }
+    ensures known { ChangesKnown (add_task asked.now) (F.files folder.old) (F.files folder.new) (S.seen input.old).left (E.written err.old) (E.written err.new) result }
+    ensures ends { ChangeEnds (add_task asked.now) (F.files folder.old) (F.files folder.new) (S.seen input.old).left (E.written err.old) (E.written err.new) result }
 {
     let changes = Changes {
         db: asked.db,
@@ -152,7 +156,8 @@ pub fn ldapmodify<F: Folder, S: Source, E: Sink>(
 ) -> Status
     requires input { (S.seen input.old).failed < 2 ^ 64 - 1 }
     requires err { (E.written err.old).failed < 2 ^ 64 - 1 }
-    ensures { ChangeEnds (modes.Changes asked.now.add) asked.now.go_on (E.written err.old) (E.written err.new) result }
+    ensures known { ChangesKnown (modify_task asked.now) (F.files folder.old) (F.files folder.new) (S.seen input.old).left (E.written err.old) (E.written err.new) result }
+    ensures ends { ChangeEnds (modify_task asked.now) (F.files folder.old) (F.files folder.new) (S.seen input.old).left (E.written err.old) (E.written err.new) result }
 {
     let changes = Changes {
         db: asked.db,

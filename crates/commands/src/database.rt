@@ -1,7 +1,9 @@
 //! The files of a directory: its configuration and its entries.
-ghost use Rattle.std.specs.Prelude.{◌≡◌, ◌<◌, ◌-◌, ◌^◌, IfOk, IfErr, IfSome};
+ghost use Rattle.std.specs.Prelude.{◌≡◌, ◌<◌, ◌-◌, ◌^◌, IfOk, IfErr, IfSome, OnOk, OnErr, Some, string_bytes};
+ghost use Rattle.std.specs.Option.{option_map};
 ghost use Rattle.directory.specs.Runs.{dump};
-ghost use Rattle.commands.specs.inner.Ends.{IsLoaded, EndsLoading};
+ghost use Rattle.commands.specs.Folders.{Finds, with_file, file_in, conf_name, data_name};
+ghost use Rattle.commands.specs.Loaded.{IsConfigured, IsLoaded, Explains};
 ghost use Rattle.commands.specs.Statuses.{status_of_fault};
 ghost use Rattle.commands.specs.declared.messages.Status.TheVariants.{Failed};
 
@@ -24,12 +26,15 @@ impl FileText for Directory {
     }
 }
 
-fn path(alloc: Global, db: &str, name: &str) -> Result<String, AllocError> {
+fn path(alloc: Global, db: &str, name: &str) -> Result<String, AllocError>
+    ensures { IfOk result (λ s. string_bytes s ≡ file_in db.now name.now) }
+{
     format!(in alloc; "{db}/{name}")
 }
 
 /// Opens the file of this name.
-fn open<F: Folder>(alloc: Global, folder: &mut F, name: &str) -> Result<Option<F::In>, CommandFault>
+fn open<F: Folder>(alloc: Global, folder: &F, name: &str) -> Result<Option<F::In>, CommandFault>
+    ensures finds { IfOk result (λ o. Finds (F.files folder.now) name.now (option_map (λ s. (F.In.seen s).left) o)) }
     ensures err { IfErr result (λ f. status_of_fault f ≡ Failed) }
     ensures ok { IfOk result (λ o. IfSome o (λ s. (F.In.seen s).failed ≡ 0)) }
 {
@@ -41,11 +46,8 @@ fn open<F: Folder>(alloc: Global, folder: &mut F, name: &str) -> Result<Option<F
 }
 
 /// Opens the file of this name, which has to be there.
-pub fn open_present<F: Folder>(
-    alloc: Global,
-    folder: &mut F,
-    name: &str,
-) -> Result<F::In, CommandFault>
+pub fn open_present<F: Folder>(alloc: Global, folder: &F, name: &str) -> Result<F::In, CommandFault>
+    ensures finds { IfOk result (λ s. Finds (F.files folder.now) name.now (Some (F.In.seen s).left)) }
     ensures err { IfErr result (λ f. status_of_fault f ≡ Failed) }
     ensures ok { IfOk result (λ s. (F.In.seen s).failed ≡ 0) }
 {
@@ -62,7 +64,9 @@ pub fn store<F: Folder, T: FileText>(
     name: &str,
     text: &T,
 ) -> Result<(), CommandFault>
-    ensures { IfErr result (λ f. status_of_fault f ≡ Failed) }
+    ensures ok { OnOk result (F.files folder.new ≡ with_file (F.files folder.old) name.now (T.text text.now)) }
+    ensures same { OnErr result (F.files folder.new ≡ F.files folder.old) }
+    ensures err { IfErr result (λ f. status_of_fault f ≡ Failed) }
 {
     match folder.store(name, text) {
         Ok(()) => Ok(()),
@@ -88,8 +92,10 @@ fn contents<S: Source>(alloc: Global, source: &mut S, name: &str) -> Result<Vec<
     }
 }
 
-fn configuration<F: Folder>(alloc: Global, folder: &mut F, db: &str) -> Result<Conf, CommandFault>
-    ensures { IfErr result EndsLoading }
+#[tactic(auto, using(crate::proofs::Ends::failed_explains))]
+fn configuration<F: Folder>(alloc: Global, folder: &F, db: &str) -> Result<Conf, CommandFault>
+    ensures err { IfErr result (λ f. Explains (F.files folder.now) db.now (status_of_fault f)) }
+    ensures ok { IfOk result (λ c. IsConfigured (F.files folder.now) (conf_name db.now) c) }
 {
     let name = path(alloc, db, "dir.conf")?;
     let mut source = open_present(alloc, folder, name.as_str())?;
@@ -112,13 +118,14 @@ fn fault_of(alloc: Global, name: &str, fault: LoadFault) -> CommandFault
 }
 
 /// The directory in the folder `db`. Where it has no data.ldif, the directory has no entry.
+#[tactic(auto, using(crate::proofs::Ends::failed_explains))]
 pub fn load_directory<F: Folder>(
     alloc: Global,
-    folder: &mut F,
+    folder: &F,
     db: &str,
 ) -> Result<Directory, CommandFault>
-    ensures loaded { IfOk result (λ d. IsLoaded d.conf d.entries) }
-    ensures err { IfErr result EndsLoading }
+    ensures err { IfErr result (λ f. Explains (F.files folder.now) db.now (status_of_fault f)) }
+    ensures loaded { IfOk result (λ d. IsLoaded (F.files folder.now) db.now d.conf d.entries) }
 {
     let conf = configuration(alloc, folder, db)?;
     let name = path(alloc, db, "data.ldif")?;
@@ -138,7 +145,9 @@ pub fn store_directory<F: Folder>(
     db: &str,
     dir: &Directory,
 ) -> Result<(), CommandFault>
-    ensures { IfErr result (λ f. status_of_fault f ≡ Failed) }
+    ensures ok { OnOk result (F.files folder.new ≡ with_file (F.files folder.old) (data_name db.now) (dump dir.now.conf dir.now.entries)) }
+    ensures same { OnErr result (F.files folder.new ≡ F.files folder.old) }
+    ensures err { IfErr result (λ f. status_of_fault f ≡ Failed) }
 {
     let name = path(alloc, db, "data.ldif")?;
     store(alloc, folder, name.as_str(), dir)

@@ -1,6 +1,8 @@
 //! Files by their paths.
-ghost use Rattle.std.specs.Prelude.{◌≡◌, ◌<◌, ◌-◌, ◌^◌, ℕ, List, IfOk, IfSome};
+ghost use Rattle.std.specs.Prelude.{◌≡◌, ◌<◌, ◌-◌, ◌^◌, ℕ, List, Option, IfOk, IfSome, OnOk, OnErr};
+ghost use Rattle.std.specs.Option.{option_map};
 ghost use Rattle.directory.specs.Dumps.{Writes};
+ghost use Rattle.commands.specs.Folders.{Files, Finds, with_file};
 ghost use Rattle.commands.specs.declared.folder.FolderFault.TheVariants.{OutOfMemory};
 
 use device::{Sink, Source};
@@ -64,10 +66,16 @@ pub trait FileText {
 pub trait Folder {
     type In: Source + Drop;
 
-    /// The file's bytes from its beginning, or `None` where there is no such file.
-    fn open(&mut self, name: &str) -> Result<Option<Self::In>, FolderFault>
-        ensures { IfOk result (λ o. IfSome o (λ s. (Self.In.seen s).failed ≡ 0)) };
+    /// The files and their bytes, where the folder tells them: those in memory can, the system's can't.
+    ghost files: { Self → Option Files };
 
-    /// Puts a file there whole, in place of the one before. On a fault the one before stays.
-    fn store<T: FileText>(&mut self, name: &str, text: &T) -> Result<(), FolderFault>;
+    /// The file's bytes from its beginning, or `None` where there is no such file.
+    fn open(&self, name: &str) -> Result<Option<Self::In>, FolderFault>
+        ensures finds { IfOk result (λ o. Finds (files self.now) name.now (option_map (λ s. (Self.In.seen s).left) o)) }
+        ensures failed { IfOk result (λ o. IfSome o (λ s. (Self.In.seen s).failed ≡ 0)) };
+
+    /// Puts a file there whole, in place of the one before, and changes no other. On a fault all files stay as they were.
+    fn store<T: FileText>(&mut self, name: &str, text: &T) -> Result<(), FolderFault>
+        ensures ok { OnOk result (files self.new ≡ with_file (files self.old) name.now (T.text text.now)) }
+        ensures err { OnErr result (files self.new ≡ files self.old) };
 }

@@ -1,7 +1,7 @@
 //! How a command ends, and what it says on standard error.
 ghost use Rattle.std.specs.Prelude.{◌≡◌, ◌≤◌, ◌<◌, ◌-◌, ◌^◌, ◌⊎◌};
 ghost use Rattle.commands.specs.declared.messages.CommandFault.TheVariants.{OutOfMemory};
-ghost use Rattle.commands.specs.inner.Messages.{IsSaid};
+ghost use Rattle.commands.specs.Messages.{IsSaid};
 ghost use Rattle.commands.specs.Statuses.{status_number, status_of_fault, status_of_tally};
 
 use device::{Sink, push_all};

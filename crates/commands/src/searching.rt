@@ -1,7 +1,7 @@
 //! search: the entries that a filter finds are printed as LDIF.
 ghost use Rattle.std.specs.Prelude.{◌≡◌, ◌<◌, ◌-◌, ◌^◌, IfOk};
 ghost use Rattle.commands.specs.Statuses.{status_of_fault};
-ghost use Rattle.commands.specs.inner.Ends.{HasFound, IsSearched, SearchEnds};
+ghost use Rattle.commands.specs.Prints.{HasFound, IsSearched, SearchEnds};
 
 use crate::database::load_directory;
 use crate::finding::{filter_of, path_of, refused};
@@ -58,11 +58,11 @@ fn print_found<O: Sink>(
 fn load_and_print<F: Folder, O: Sink>(
     alloc: Global,
     asked: &SearchOptions<'_>,
-    folder: &mut F,
+    folder: &F,
     out: &mut O,
 ) -> Result<bool, CommandFault>
     requires { (O.written out.old).failed < 2 ^ 64 - 1 }
-    ensures { IfOk result (λ past. IsSearched asked.now.scope asked.now.limit past (O.written out.old) (O.written out.new)) }
+    ensures { IfOk result (λ past. IsSearched asked.now (F.files folder.now) past (O.written out.old) (O.written out.new)) }
 {
     let filter = filter_of(alloc, asked.filter)?;
     let dir = load_directory(alloc, folder, asked.db)?;
@@ -78,13 +78,13 @@ fn load_and_print<F: Folder, O: Sink>(
 pub fn search<F: Folder, O: Sink, E: Sink>(
     alloc: Global,
     asked: &SearchOptions<'_>,
-    folder: &mut F,
+    folder: &F,
     out: &mut O,
     err: &mut E,
 ) -> Status
     requires out { (O.written out.old).failed < 2 ^ 64 - 1 }
     requires err { (E.written err.old).failed < 2 ^ 64 - 1 }
-    ensures { SearchEnds asked.now.scope asked.now.limit (O.written out.old) (O.written out.new) result }
+    ensures { SearchEnds asked.now (F.files folder.now) (O.written out.old) (O.written out.new) result }
 {
     match load_and_print(alloc, asked, folder, out) {
         Ok(false) => Status::Done,

@@ -1,6 +1,8 @@
 //! slapcat: a directory, or a part of it, is printed as LDIF.
-ghost use Rattle.std.specs.Prelude.{◌≡◌, ◌<◌, ◌-◌, ◌^◌, ◌&&◌, true, false, OnOk, is_some, is_none};
-ghost use Rattle.commands.specs.inner.Ends.{Puts, HasPut, IsPrinted, CatEnds};
+ghost use Rattle.std.specs.Prelude.{◌≡◌, ◌<◌, ◌-◌, ◌^◌, None, false, OnOk, OnErr};
+ghost use Rattle.std.specs.Option.{option_copied};
+ghost use Rattle.device.specs.Device.{Took};
+ghost use Rattle.commands.specs.Prints.{is_whole, Puts, HasPut, IsPrinted, CatEnds};
 
 use crate::database::{load_directory, store};
 use crate::finding::{filter_of, path_of};
@@ -22,7 +24,7 @@ const NAME: &str = "slapcat";
 
 fn print<T: FileText, O: Sink>(alloc: Global, text: &T, out: &mut O) -> Result<(), CommandFault>
     requires { (O.written out.old).failed < 2 ^ 64 - 1 }
-    ensures { OnOk result (Puts false (O.written out.old) (O.written out.new) (T.text text.now)) }
+    ensures { OnOk result (Took (O.written out.old) (O.written out.new) (T.text text.now)) }
 {
     match text.write(alloc, out) {
         Ok(()) => Ok(()),
@@ -40,7 +42,8 @@ fn put<T: FileText, F: Folder, O: Sink>(
     out: &mut O,
 ) -> Result<(), CommandFault>
     requires { (O.written out.old).failed < 2 ^ 64 - 1 }
-    ensures { OnOk result (Puts (is_some file.entry) (O.written out.old) (O.written out.new) (T.text text.now)) }
+    ensures same { OnErr result (F.files folder.new ≡ F.files folder.old) }
+    ensures put { OnOk result (Puts (option_copied file.entry) (F.files folder.old) (F.files folder.new) (O.written out.old) (O.written out.new) (T.text text.now)) }
 {
     match file {
         Some(name) => store(alloc, folder, name, text),
@@ -57,7 +60,8 @@ fn put_part<F: Folder, O: Sink>(
     out: &mut O,
 ) -> Result<(), CommandFault>
     requires { (O.written out.old).failed < 2 ^ 64 - 1 }
-    ensures { OnOk result (HasPut false (is_some asked.now.file) dir.now.conf dir.now.entries (O.written out.old) (O.written out.new)) }
+    ensures same { OnErr result (F.files folder.new ≡ F.files folder.old) }
+    ensures put { OnOk result (HasPut false (option_copied asked.now.file) dir.now.conf dir.now.entries (F.files folder.old) (F.files folder.new) (O.written out.old) (O.written out.new)) }
 {
     let base = path_of(alloc, dir.conf(), asked.base, NAME)?;
     if asked.base.is_some() && dir.tree().get(&base).is_none() {
@@ -80,7 +84,8 @@ fn put_entries<F: Folder, O: Sink>(
     out: &mut O,
 ) -> Result<(), CommandFault>
     requires { (O.written out.old).failed < 2 ^ 64 - 1 }
-    ensures { OnOk result (HasPut (is_none asked.now.filter && is_none asked.now.base) (is_some asked.now.file) dir.now.conf dir.now.entries (O.written out.old) (O.written out.new)) }
+    ensures same { OnErr result (F.files folder.new ≡ F.files folder.old) }
+    ensures put { OnOk result (HasPut (is_whole asked.now) (option_copied asked.now.file) dir.now.conf dir.now.entries (F.files folder.old) (F.files folder.new) (O.written out.old) (O.written out.new)) }
 {
     if asked.filter.is_none() && asked.base.is_none() {
         return put(alloc, dir, asked.file, folder, out);
@@ -95,7 +100,8 @@ fn load_and_put<F: Folder, O: Sink>(
     out: &mut O,
 ) -> Result<(), CommandFault>
     requires { (O.written out.old).failed < 2 ^ 64 - 1 }
-    ensures { OnOk result (IsPrinted (is_none asked.now.filter && is_none asked.now.base) (is_some asked.now.file) (O.written out.old) (O.written out.new)) }
+    ensures same { OnErr result (F.files folder.new ≡ F.files folder.old) }
+    ensures printed { OnOk result (IsPrinted asked.now (F.files folder.old) (F.files folder.new) (O.written out.old) (O.written out.new)) }
 {
     let filter = filter_of(alloc, asked.filter)?;
     let dir = load_directory(alloc, folder, asked.db)?;
@@ -116,7 +122,7 @@ pub fn slapcat<F: Folder, O: Sink, E: Sink>(
 ) -> Status
     requires out { (O.written out.old).failed < 2 ^ 64 - 1 }
     requires err { (E.written err.old).failed < 2 ^ 64 - 1 }
-    ensures { CatEnds (is_none asked.now.filter && is_none asked.now.base) (is_some asked.now.file) (O.written out.old) (O.written out.new) result }
+    ensures { CatEnds asked.now (F.files folder.old) (F.files folder.new) (O.written out.old) (O.written out.new) result }
 {
     match load_and_put(alloc, asked, folder, out) {
         Ok(()) => Status::Done,

@@ -1,4 +1,5 @@
 //! Files in memory, of which one may fail.
+ghost use Rattle.std.specs.Prelude.{None};
 
 use crate::trouble::{FileTrouble, Troubles};
 use commands::{FileText, Folder, FolderFault};
@@ -133,7 +134,9 @@ impl<'a> FailingFiles<'a> {
 impl<'a> Folder for FailingFiles<'a> {
     type In = OfRead<Contents>;
 
-    fn open(&mut self, name: &str) -> Result<Option<OfRead<Contents>>, FolderFault> {
+    ghost files = { λ _. None };
+
+    fn open(&self, name: &str) -> Result<Option<OfRead<Contents>>, FolderFault> {
         let trouble = self.troubles.of_file(name);
         match trouble {
             Some(FileTrouble::Open) => return Err(FolderFault::Device),

@@ -1,4 +1,5 @@
 //! The files of the system.
+ghost use Rattle.std.specs.Prelude.{None};
 
 use commands::{FileText, Folder, FolderFault};
 use device::{OfRead, OfWrite};
@@ -65,12 +66,27 @@ impl<'r, R: HostFiles + AllocGlobal> Files<'r, R> {
         Ok(())
     }
 
+    /// Puts the new name of a file on the disk. The file stands there by then, so a folder that can't be synced is no fault of the store.
+    fn sync_folder(&self, name: &str) {
+        let folder = match name.rsplit_once('/') {
+            Some(("", _)) => "/",
+            Some((folder, _)) => folder,
+            None => ".",
+        };
+        if let Ok(folder) = fs::open(self.rt, folder) {
+            let _ = folder.sync_all();
+        }
+    }
+
     fn replace<T: FileText>(&self, name: &str, text: &T) -> Result<(), FolderFault> {
         let new = reserved(self.rt.alloc(), name)?;
         let file = self.make_anew(new.as_str())?;
         let replaced = self.fill(file, new.as_str(), name, text);
-        if replaced.is_err() {
-            let _ = fs::remove_file(self.rt, new.as_str());
+        match replaced {
+            Ok(()) => self.sync_folder(name),
+            Err(_) => {
+                let _ = fs::remove_file(self.rt, new.as_str());
+            }
         }
         replaced
     }
@@ -79,7 +95,10 @@ impl<'r, R: HostFiles + AllocGlobal> Files<'r, R> {
 impl<'r, R: HostFiles + AllocGlobal> Folder for Files<'r, R> {
     type In = OfRead<R::File>;
 
-    fn open(&mut self, name: &str) -> Result<Option<OfRead<R::File>>, FolderFault> {
+    // Contracts know no bytes of the system's files.
+    ghost files = { λ _. None };
+
+    fn open(&self, name: &str) -> Result<Option<OfRead<R::File>>, FolderFault> {
         match fs::open(self.rt, name) {
             Ok(file) => Ok(Some(OfRead::new(file))),
             Err(error) if error.kind() == ErrorKind::NotFound => Ok(None),

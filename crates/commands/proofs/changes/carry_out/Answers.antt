@@ -1,8 +1,5 @@
-use Rattle.commands.proofs.Ends.{loaded_and_ran, not_loaded}
+use Rattle.commands.proofs.Ends.{loaded_and_ran}
 use Rattle.commands.proofs.changes.carry_out.Goals as goal
 
 pub returns-in-Ok : goal.returns-in-Ok
-returns-in-Ok g c = loaded_and_ran _ _ _ _ _ _ _ c.in-Ok.ensures.loaded c.run_and_store.ensures
-
-pub returns-in-Err : goal.returns-in-Err
-returns-in-Err g c = not_loaded _ _ _ _ _ c.in-Err.fault c.in-Err.ensures.err c.tell.ensures
+returns-in-Ok g c = loaded_and_ran _ _ _ _ _ _ _ _ _ c.in-Ok.ensures.loaded c.run_and_store.ensures

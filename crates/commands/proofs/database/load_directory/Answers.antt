@@ -1,5 +1,14 @@
-use Rattle.commands.proofs.Loaded.{nothing_loaded}
+use Rattle.std.proofs.Common.{ap, ◌∙◌}
+use Rattle.std.specs.Option.{option_map}
+use Rattle.commands.proofs.Loading.{opened_so, none_there, some_there}
 use Rattle.commands.proofs.database.load_directory.Goals as goal
 
 pub returns-in_default-clause-loaded : goal.returns-in_default-clause-loaded
-returns-in_default-clause-loaded g c = nothing_loaded c.in_ok-new.field-0.conf c.in_ok-new.field-0.entries c.in_ok-new.ensures.entries
+returns-in_default-clause-loaded g c =
+    none_there _ _ _ _ _ _ c.in_ok-conf.ensures.ok c.in_ok-new.ensures.same_conf (c.as_str.ensures.value ∙ c.in_ok-name.ensures)
+    _ c.in_ok-source.ensures.finds (ap (option_map _) c.in_default.is) c.in_ok-new.ensures.entries
+
+pub returns-in-Ok-clause-loaded : goal.returns-in-Ok-clause-loaded
+returns-in-Ok-clause-loaded g c =
+    some_there _ _ _ _ _ _ c.in_ok-conf.ensures.ok c.in-Ok.ensures.same_conf (c.as_str.ensures.value ∙ c.in_ok-name.ensures)
+    _ (opened_so _ _ _ _ _ c.in_ok-source.ensures.finds c.in-Some.is) c.in-Ok.ensures.fold c.in-Ok.ensures.loads

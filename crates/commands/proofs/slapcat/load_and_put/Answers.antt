@@ -1,5 +1,5 @@
 use Rattle.commands.proofs.Ends.{loaded_and_printed}
 use Rattle.commands.proofs.slapcat.load_and_put.Goals as goal
 
-pub returns : goal.returns
-returns g c = loaded_and_printed c.put_entries-done.result _ _ _ _ _ _ c.in_ok-dir.ensures.loaded c.put_entries-done.ensures
+pub returns-clause-printed : goal.returns-clause-printed
+returns-clause-printed g c = loaded_and_printed c.put_entries-done.result _ _ _ _ _ _ _ c.in_ok-dir.ensures.loaded c.put_entries-done.ensures.put

@@ -1,0 +1,41 @@
+-- The directory in a folder, by what was found there.
+use Rattle.std.proofs.Common.{◌≡◌, ℕ, List, Option, None, Some, sym, subst}
+use Rattle.std.specs.Prelude.{IfSome}
+use Rattle.std.specs.Option.{option_map}
+use Rattle.std.specs.FinMap as finite
+use Rattle.schema.specs.Conf.{Conf}
+use Rattle.tree.specs.Directories.{Entries}
+use Rattle.directory.specs.Runs.{Loads}
+use Rattle.directory.specs.Folds.{LoadsOver}
+use Rattle.commands.specs.Folders.{Files, Finds, conf_name, data_name}
+use Rattle.commands.specs.Loaded.{IsConfigured, IsLoaded}
+
+-- what was opened is a source
+pub opened_so : {A : Type 0} (files : Option Files) (name : List ℕ) (left_of : A → Option (List ℕ)) (found : Option A) (source : A) → Finds files name (option_map left_of found) → found ≡ Some source → Finds files name (Some (left_of source))
+opened_so {A} files name left_of found source finds is = subst (λ (o : Option A). Finds files name (option_map left_of o)) is finds
+
+module _ (files : Option Files) (db : List ℕ) (conf conf' : Conf) (d : Entries) (name : List ℕ)
+    (configured : IsConfigured files (conf_name db) conf) (same : conf' ≡ conf) (named : name ≡ data_name db) where
+  configured_so : IsConfigured files (conf_name db) conf'
+  configured_so = subst (IsConfigured files (conf_name db)) (sym same) configured
+
+  -- no file
+  pub none_there : (found : Option (Option (List ℕ))) → Finds files name found → found ≡ None → d ≡ finite.empty → IsLoaded files db conf' d
+  none_there found finds none is = record {
+    configured = configured_so;
+    found = None;
+    there = subst (λ (o : Option (Option (List ℕ))). Finds files (data_name db) o) none (subst (λ (n : List ℕ). Finds files n found) named finds);
+    loads = is;
+  }
+
+  -- a file of which no record is refused
+  pub some_there : (text : Option (List ℕ)) → Finds files name (Some text) → LoadsOver conf text d → IfSome text (λ bytes. Loads conf bytes d) → IsLoaded files db conf' d
+  some_there text finds over known = record {
+    configured = configured_so;
+    found = Some text;
+    there = subst (λ (n : List ℕ). Finds files n (Some text)) named finds;
+    loads = record {
+      over = subst (λ (c : Conf). LoadsOver c text d) (sym same) over;
+      known = subst (λ (c : Conf). IfSome text (λ bytes. Loads c bytes d)) (sym same) known;
+    };
+  }

@@ -1,0 +1,97 @@
+-- What slapadd and ldapmodify come to: the files that they leave, the report and the status.
+use Rattle.std.specs.Prelude.{◌≡◌, ℕ, ◌⊎◌, Bool, List, Option, None, Some, IfSome, if◌then◌else◌}
+use Rattle.std.specs.Option.{option_copied}
+use Rattle.std.specs.FinMap as finite
+use Rattle.device.specs.Device.{Written}
+use Rattle.ldif.specs.declared.record.Mode.{Mode}
+use Rattle.ldif.specs.declared.record.Mode.TheVariants as modes
+use Rattle.schema.specs.Conf.{Conf}
+use Rattle.tree.specs.Directories.{Entries}
+use Rattle.directory.specs.Runs.{dump}
+use Rattle.directory.specs.Faults.{Went}
+use Rattle.directory.specs.Folds.{RanOver}
+use Rattle.directory.specs.declared.runs.Tally.{Tally}
+use Rattle.command_line.specs.declared.request.AddOptions.{AddOptions}
+use Rattle.command_line.specs.declared.request.ModifyOptions.{ModifyOptions}
+use Rattle.commands.specs.Folders.{Files, Finds, with_file, data_name}
+use Rattle.commands.specs.Loaded.{IsLoaded, LoadsFiles, Explains}
+use Rattle.commands.specs.Statuses.{status_of_tally}
+use Rattle.commands.specs.declared.messages.Status.{Status}
+
+-- which records are to run over which directory, and how; the file is none for the input
+pub record Task : Type 0 where
+  pub db : List ℕ
+  pub file : Option (List ℕ)
+  pub mode : Mode
+  pub go_on : Bool
+  pub dry_run : Bool
+
+abbrev pub add_task : AddOptions → Task
+add_task asked = record { db = asked.db.now; file = option_copied asked.file; mode = modes.Content; go_on = asked.go_on; dry_run = asked.dry_run }
+
+abbrev pub modify_task : ModifyOptions → Task
+modify_task asked = record { db = asked.db.now; file = option_copied asked.file; mode = modes.Changes asked.add; go_on = asked.go_on; dry_run = asked.dry_run }
+
+-- the text is that of the file of this name, or that of the stream, where no file is named
+abbrev pub IsInput : Option Files → Option (List ℕ) → Option (List ℕ) → Option (List ℕ) → Type 0
+IsInput files None stream text = text ≡ stream
+IsInput files (Some name) stream text = Finds files name (Some text)
+
+-- the records of the input leave these entries, counts and report
+pub record HaveRun (task : Task) (files : Option Files) (stream : Option (List ℕ)) (conf : Conf) (old new : Entries) (t : Tally) (a b : Written) : Type 0 where
+  pub text : Option (List ℕ)
+  pub input : IsInput files task.file stream text
+  pub ran : RanOver conf task.mode task.go_on old new text t a b
+  pub known : IfSome text (λ bytes. Went conf task.mode task.go_on old new bytes t a b)
+
+-- data.ldif is the dump of the directory, and no other file changed; in a dry run none did
+abbrev pub stored : Task → Conf → Entries → Option Files → Option Files
+stored task conf d files = if task.dry_run then files else with_file files (data_name task.db) (dump conf d)
+
+-- the status is that of the counts of a run, whose report was written, and what it left is stored
+pub record WentThrough (task : Task) (files files' : Option Files) (stream : Option (List ℕ)) (conf : Conf) (old : Entries) (a b : Written) (s : Status) : Type 0 where
+  pub new : Entries
+  pub tally : Tally
+  pub records : HaveRun task files stream conf old new tally a b
+  pub stored_is : files' ≡ stored task conf new files
+  pub status : s ≡ status_of_tally tally
+
+-- a directory was loaded, and the records ran over it
+pub record LoadedAndRan (task : Task) (files files' : Option Files) (stream : Option (List ℕ)) (a b : Written) (s : Status) : Type 0 where
+  pub conf : Conf
+  pub old : Entries
+  pub loaded : IsLoaded files task.db conf old
+  pub ran : WentThrough task files files' stream conf old a b s
+
+-- where the command doesn't go through, no file changed
+abbrev pub ChangeEnds : Task → Option Files → Option Files → Option (List ℕ) → Written → Written → Status → Type 0
+ChangeEnds task files files' stream a b s = LoadedAndRan task files files' stream a b s ⊎ (Explains files task.db s × (files' ≡ files))
+
+-- ---- over files that are known, and an input that is
+
+-- the text of the file of this name, or that of the stream
+abbrev pub input_of : Files → Option (List ℕ) → Option (List ℕ) → Option (List ℕ)
+input_of m None stream = stream
+input_of m (Some name) stream = finite.get m name
+
+-- The directory after the text, from the one that dir.conf and data.ldif say: its dump is what data.ldif is then, no other file changed,
+-- the report and the status are those of the run. In a dry run no file changed.
+pub record Changes (task : Task) (m : Files) (files' : Option Files) (stream : Option (List ℕ)) (a b : Written) (s : Status) : Type 0 where
+  pub conf : Conf
+  pub old : Entries
+  pub loaded : LoadsFiles m task.db conf old
+  pub text : List ℕ
+  pub input : input_of m task.file stream ≡ Some text
+  pub new : Entries
+  pub tally : Tally
+  pub went : Went conf task.mode task.go_on old new text tally a b
+  pub status : s ≡ status_of_tally tally
+  pub stored_is : files' ≡ Some (if task.dry_run then m else finite.insert m (data_name task.db) (dump conf new))
+
+-- either the records ran, or no file changed
+abbrev pub ChangesOrNot : Task → Files → Option Files → Option (List ℕ) → Written → Written → Status → Type 0
+ChangesOrNot task m files' stream a b s = Changes task m files' stream a b s ⊎ (Explains (Some m) task.db s × (files' ≡ Some m))
+
+-- where the folder tells its files, and the stream its bytes
+abbrev pub ChangesKnown : Task → Option Files → Option Files → Option (List ℕ) → Written → Written → Status → Type 0
+ChangesKnown task files files' stream a b s = IfSome stream (λ bytes. IfSome files (λ m. ChangesOrNot task m files' (Some bytes) a b s))

@@ -1,0 +1,39 @@
+-- What a command comes to, by what its words ask for. Which words ask for what, contracts don't say, but for the help.
+use Rattle.std.specs.Prelude.{◌≡◌, ℕ, ◌⊎◌, List, Option, Result, Ok, Err, string_bytes}
+use Rattle.device.specs.Device.{Written, Took}
+use Rattle.command_line.specs.declared.request.Request.{Request}
+use Rattle.command_line.specs.declared.request.Request.TheVariants.{Help, Add, Modify, Search, Cat}
+use Rattle.command_line.specs.declared.request.UsageFault.{UsageFault}
+use Rattle.command_line.specs.declared.request.UsageFault.TheVariants.{Words, OutOfMemory}
+use Rattle.commands.specs.Folders.{Files}
+use Rattle.commands.specs.Messages.{IsSaid}
+use Rattle.commands.specs.Changes.{add_task, modify_task, ChangeEnds, ChangesKnown}
+use Rattle.commands.specs.Prints.{CatEnds, SearchEnds}
+use Rattle.commands.specs.Statuses.{status_number}
+use Rattle.commands.specs.declared.messages.Status.{Status}
+use Rattle.commands.specs.declared.messages.Status.TheVariants.{Done, Usage, Failed}
+
+-- the streams before and after
+pub record Streams : Type 0 where
+  pub input : Option (List ℕ)
+  pub out : Written
+  pub out' : Written
+  pub err : Written
+  pub err' : Written
+
+-- what is asked for was done to the files and the streams, and this is the status
+abbrev pub RequestEnds : Result Request UsageFault → Option Files → Option Files → Streams → Status → Type 0
+RequestEnds (Ok (Help text)) files files' t s = (files' ≡ files) × (((s ≡ Done) × Took t.out t.out' (string_bytes text)) ⊎ (s ≡ Failed))
+RequestEnds (Ok (Add asked)) files files' t s = ChangesKnown (add_task asked) files files' t.input t.err t.err' s × ChangeEnds (add_task asked) files files' t.input t.err t.err' s
+RequestEnds (Ok (Modify asked)) files files' t s = ChangesKnown (modify_task asked) files files' t.input t.err t.err' s × ChangeEnds (modify_task asked) files files' t.input t.err t.err' s
+RequestEnds (Ok (Search asked)) files files' t s = (files' ≡ files) × SearchEnds asked files t.out t.out' s
+RequestEnds (Ok (Cat asked)) files files' t s = CatEnds asked files files' t.out t.out' s
+RequestEnds (Err (Words text)) files files' t s = (files' ≡ files) × IsSaid t.err t.err' (string_bytes text) Usage s
+RequestEnds (Err OutOfMemory) files files' t s = (files' ≡ files) × (s ≡ Failed)
+
+-- the words asked for something, it was done, and this is the number of its status
+pub record CommandEnds (files files' : Option Files) (t : Streams) (number : ℕ) : Type 0 where
+  pub asked : Result Request UsageFault
+  pub status : Status
+  pub ends : RequestEnds asked files files' t status
+  pub number_is : number ≡ status_number status

@@ -1,0 +1,29 @@
+-- Files by their names, and what stands at a name.
+use Rattle.std.specs.Prelude.{◌≡◌, ℕ, List, ◌++◌, Option, Some, IfSome, codes}
+use Rattle.std.specs.Option.{option_map}
+use Rattle.std.specs.Ordering.{nat_cmp}
+use Rattle.std.specs.Cmp.Lexicographic.{slice_cmp}
+use Rattle.std.specs.FinMap as finite
+
+-- the bytes of each file, by its name
+abbrev pub Files : Type 0
+Files = finite.FinMap (slice_cmp nat_cmp) (List ℕ)
+
+-- What was found at a name is what stands there, where the folder tells its files: no file, or a source with the file's bytes left.
+abbrev pub Finds : Option Files → List ℕ → Option (Option (List ℕ)) → Type 0
+Finds files name found = IfSome files (λ m. found ≡ option_map (λ bytes. Some bytes) (finite.get m name))
+
+-- with this file, in place of the one of its name, if there is one
+abbrev pub with_file : Option Files → List ℕ → List ℕ → Option Files
+with_file files name text = option_map (λ m. finite.insert m name text) files
+
+-- ---- the files of a directory
+
+abbrev pub file_in : List ℕ → List ℕ → List ℕ
+file_in db name = db ++ (codes "/" ++ name)
+
+abbrev pub conf_name : List ℕ → List ℕ
+conf_name db = file_in db (codes "dir.conf")
+
+abbrev pub data_name : List ℕ → List ℕ
+data_name db = file_in db (codes "data.ldif")

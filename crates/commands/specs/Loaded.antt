@@ -1,0 +1,64 @@
+-- The directory that dir.conf and data.ldif in a folder stand for. Where the folder tells its files, the texts are theirs; where it
+-- doesn't, as the system's, they are some texts.
+use Rattle.std.specs.Prelude.{◌≡◌, ℕ, List, Option, None, Some, Ok, Err, ⊤, IfSome}
+use Rattle.std.specs.FinMap as finite
+use Rattle.schema.specs.Conf.{Conf}
+use Rattle.schema.specs.Configurations.{conf_of}
+use Rattle.schema.specs.declared.conf_fault.ConfFaultKind.{ConfFaultKind}
+use Rattle.tree.specs.Directories.{Entries}
+use Rattle.directory.specs.Runs.{Loads}
+use Rattle.directory.specs.Folds.{LoadsOver}
+use Rattle.commands.specs.Folders.{Files, Finds, conf_name, data_name}
+use Rattle.commands.specs.declared.messages.Status.{Status}
+use Rattle.commands.specs.declared.messages.Status.TheVariants.{Done, Refused, Usage, Failed}
+
+-- the text of this file says this configuration
+pub record IsConfigured (files : Option Files) (name : List ℕ) (conf : Conf) : Type 0 where
+  pub text : List ℕ
+  pub there : Finds files name (Some (Some text))
+  pub says : conf_of text ≡ Ok conf
+
+-- no record of a file is refused, and these are the entries
+pub record LoadsText (conf : Conf) (text : Option (List ℕ)) (d : Entries) : Type 0 where
+  pub over : LoadsOver conf text d
+  pub known : IfSome text (λ bytes. Loads conf bytes d)
+
+-- no file is no entry
+abbrev pub LoadsFound : Conf → Option (Option (List ℕ)) → Entries → Type 0
+LoadsFound conf None d = d ≡ finite.empty
+LoadsFound conf (Some text) d = LoadsText conf text d
+
+-- the configuration and the entries of the directory in this folder
+pub record IsLoaded (files : Option Files) (db : List ℕ) (conf : Conf) (d : Entries) : Type 0 where
+  pub configured : IsConfigured files (conf_name db) conf
+  pub found : Option (Option (List ℕ))
+  pub there : Finds files (data_name db) found
+  pub loads : LoadsFound conf found d
+
+-- the text of dir.conf is at fault
+pub record ConfFails (files : Option Files) (db : List ℕ) : Type 0 where
+  pub text : List ℕ
+  pub there : Finds files (conf_name db) (Some (Some text))
+  pub line : ℕ
+  pub kind : ConfFaultKind
+  pub says : conf_of text ≡ Err (line, kind)
+
+-- why no directory was loaded, by the status: of a failure nothing is said
+abbrev pub Explains : Option Files → List ℕ → Status → Type 0
+Explains files db Done = ⊥
+Explains files db Refused = ⊥
+Explains files db Usage = ConfFails files db
+Explains files db Failed = ⊤
+
+-- ---- over files that are known
+
+abbrev pub LoadsFile : Conf → Option (List ℕ) → Entries → Type 0
+LoadsFile conf None d = d ≡ finite.empty
+LoadsFile conf (Some text) d = Loads conf text d
+
+-- the configuration is that of dir.conf, the entries are those of data.ldif
+pub record LoadsFiles (m : Files) (db : List ℕ) (conf : Conf) (d : Entries) : Type 0 where
+  pub text : List ℕ
+  pub there : finite.get m (conf_name db) ≡ Some text
+  pub says : conf_of text ≡ Ok conf
+  pub loads : LoadsFile conf (finite.get m (data_name db)) d

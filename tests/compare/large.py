@@ -1,0 +1,150 @@
+#!/usr/bin/env python3
+"""Runs what is large through a built program and through a second reading: large.py PROGRAM
+
+Texts over 1 MiB, lines of 100,001 bytes, values over 64 KiB, names of 17 RDNs and more, RDNs of 9 parts and more, long filters and a long
+dir.conf, each whole and with a fault in its last part. Status, output, messages and the stored data.ldif must be the same, and none
+may be out of memory. Prints each difference and at the end the number of runs; the exit status is 0 where nothing differs, else 1.
+"""
+import base64
+import subprocess
+import sys
+import tempfile
+from pathlib import Path
+
+READING = Path(__file__).with_name("program.py")
+
+TYPES = ["cn", "ou", "sn", "o", "l", "st", "title", "street", "uid", "mail", "dc"]
+
+CONF = b'suffix "dc=ex"\n' + b"".join(
+    b"attributetype ( 1.3.%d NAME '%s' EQUALITY caseIgnoreMatch SUBSTR caseIgnoreSubstringsMatch "
+    b"SYNTAX 1.3.6.1.4.1.1466.115.121.1.15 )\n" % (number, name.encode()) for number, name in enumerate(TYPES)) \
+    + b"attributetype ( 1.3.99 NAME 'photo' EQUALITY octetStringMatch SYNTAX 1.3.6.1.4.1.1466.115.121.1.40 )\n"
+
+SUFFIX = b"dn: dc=ex\nobjectClass: top\ndc: ex\n"
+
+
+def entry(name, lines=b""):
+    return b"dn: " + name + b"\nobjectClass: top\n" + lines
+
+
+def texts(entries):
+    return b"\n".join(entries)
+
+
+def chain(length, parts=1):
+    """the names of entries below each other, the last of this many RDNs below the suffix"""
+    name = b"dc=ex"
+    for level in range(length):
+        rdn = b"+".join(b"%s=%d %d" % (TYPES[part].encode(), level, part) for part in range(parts))
+        name = rdn + b"," + name
+        yield name
+
+
+def content():
+    """-> (what it is, a text of content records)"""
+    photo = bytes(range(256)) * 300
+    coded = base64.b64encode(photo)
+    for number in (17, 33, 200):
+        names = list(chain(number))
+        yield f"{number} RDNs", texts([SUFFIX] + [entry(name) for name in names])
+        yield f"{number} RDNs and a fault", texts([SUFFIX] + [entry(name) for name in names] + [entry(b"cn=a\\g," + names[-1]), entry(b"cn=a,x=b" + names[-1])])
+        yield f"{number} RDNs without the one above", texts([SUFFIX] + [entry(name) for name in names[:-2] + names[-1:]])
+    for number in (9, 10, 11):
+        yield f"{number} parts", texts([SUFFIX] + [entry(name) for name in chain(3, number)])
+        rdn = b"+".join(b"%s=a" % name.encode() for name in TYPES[:number])
+        yield f"{number} parts and a fault", texts([SUFFIX, entry(rdn + b"+x,dc=ex"), entry(rdn + b"+cn=b,dc=ex"), entry(rdn + b"+q=b,dc=ex"), entry(rdn + b",dc=ex")])
+    for length in (100001, 1 << 20):
+        line = b"l: " + b"x" * (length - 3) + b"\n"
+        yield f"a line of {length} bytes", texts([SUFFIX, entry(b"cn=a,dc=ex", line)])
+        yield f"a folded line of {length} bytes", texts([SUFFIX, entry(b"cn=a,dc=ex", line[:70] + b"".join(b"\n " + line[at:at + 70].rstrip(b"\n") for at in range(70, len(line), 70)) + b"\n")])
+        yield f"a line of {length} bytes without a colon", texts([SUFFIX, entry(b"cn=a,dc=ex", line.replace(b":", b";"))])
+        yield f"a comment of {length} bytes", texts([b"#" + line + SUFFIX, b"# " + line, entry(b"cn=a,dc=ex")])
+        yield f"a name of {length} bytes", texts([SUFFIX, entry(b"cn=" + b"x" * length + b",dc=ex"), entry(b"cn=" + b"x" * length + b"\",dc=ex")])
+        yield f"a name of {length} bytes in escapes", texts([SUFFIX, entry(b"cn=" + b"\\2Bx" * (length // 4) + b",dc=ex")])
+    yield "values over 64 KiB", texts([SUFFIX, entry(b"cn=a,dc=ex", b"photo:: " + coded + b"\nphoto:: " + coded[4:] + b"\nl: " + b"y z " * 20000 + b".\n")])
+    yield "a value over 64 KiB twice", texts([SUFFIX, entry(b"cn=a,dc=ex", (b"photo:: " + coded + b"\n") * 2), entry(b"cn=b,dc=ex")])
+    yield "a value over 64 KiB with a fault at its end", texts([SUFFIX, entry(b"cn=a,dc=ex", b"photo:: " + coded[:-2] + b"*=\n")])
+    yield "a text over 1 MiB", texts([SUFFIX] + [entry(b"cn=%d,dc=ex" % number, b"photo:: " + coded[number:number + 80000] + b"\n") for number in range(0, 80, 4)])
+    yield "a text over 1 MiB with a fault at its end", texts([SUFFIX] + [entry(b"cn=%d,dc=ex" % number, b"sn: " + b"z" * 70000 + b"\n") for number in range(20)] + [b"dn: cn=x\n y\nfoo\n"])
+    yield "an entry of 5,000 values", texts([SUFFIX, entry(b"cn=a,dc=ex", b"".join(b"sn: value %d\n" % number for number in range(5000)))])
+
+
+def changes():
+    """-> (what it is, a text of change records over the suffix's entry)"""
+    names = list(chain(40))
+    tree = [b"dn: " + name + b"\nchangetype: add\nobjectClass: top\n" for name in names]
+    yield "renames below 40 RDNs", texts(tree + [b"dn: " + names[-1] + b"\nchangetype: modrdn\nnewrdn: cn=" + b"x" * 100001 + b"\ndeleteoldrdn: 1\n"])
+    yield "deletes from below", texts(tree + [b"dn: " + name + b"\nchangetype: delete\n" for name in reversed(names)])
+    values = b"".join(b"sn: " + b"%d" % number * 9000 + b"\n" for number in range(100, 140))
+    yield "values over 1 MiB in one record", texts([b"dn: dc=ex\nchangetype: modify\nadd: sn\n" + values + b"-\ndelete: sn\n" + values[:54010] + b"-\n"])
+    yield "5,000 blocks", texts([b"dn: dc=ex\nchangetype: modify\n" + b"".join(b"add: sn\nsn: %d\n-\n" % number for number in range(5000))])
+    yield "5,000 blocks and a fault", texts([b"dn: dc=ex\nchangetype: modify\n" + b"".join(b"add: sn\nsn: %d\n-\n" % (number % 4999) for number in range(5000))])
+
+
+def confs():
+    """-> (what it is, a dir.conf)"""
+    yield "a dir.conf over 1 MiB", b"# " + b"c" * (1 << 20) + b"\n" + CONF
+    yield "a dir.conf over 1 MiB with a fault at its end", CONF + b"\n" * (1 << 20) + b"suffix 'dc=ex'\n"
+    yield "a line over 64 KiB", CONF + b"attributetype ( 1.4.1 NAME 'a' DESC '" + b"d" * 70000 + b"' SUP cn )\n"
+    yield "3,000 types", CONF + b"".join(b"attributetype ( 1.4.%d NAME 't%d' SUP cn )\n" % (number, number) for number in range(3000))
+
+
+def filters():
+    """-> (what it is, a filter)"""
+    yield "a value over 64 KiB", "(cn=" + "a" * 70000 + ")"
+    yield "a value over 64 KiB in escapes", "(cn=" + "\\61" * 30000 + ")"
+    yield "5,000 pieces", "(cn=" + "*".join("ab" * 4 for _ in range(5000)) + ")"
+    yield "9,000 items", "(|" + "".join(f"(cn={number})" for number in range(9000)) + ")"
+    yield "9,000 items and a fault", "(|" + "".join(f"(cn={number})" for number in range(9000)) + "(cn)"
+    for depth in (511, 512, 513):
+        yield f"{depth} deep", "(!" * (depth - 1) + "(cn=a)" + ")" * (depth - 1)
+
+
+def runs():
+    """-> (what it is, the files before, the words behind the folder's option)"""
+    for what, text in content():
+        yield what, {"dir.conf": CONF, "in": text}, "slapadd", ["-c", "-l", "{}/in"]
+    for what, text in changes():
+        yield what, {"dir.conf": CONF, "data.ldif": SUFFIX, "in": text}, "ldapmodify", ["-c", "-f", "{}/in"]
+    for what, conf in confs():
+        yield what, {"dir.conf": conf, "data.ldif": SUFFIX}, "slapcat", []
+    data = texts([SUFFIX] + [entry(b"cn=%d,dc=ex" % number) for number in range(50)] + [entry(b"cn=" + b"a" * 70000 + b",dc=ex")])
+    for what, text in filters():
+        yield what, {"dir.conf": CONF, "data.ldif": data}, "slapcat", ["-a", text]
+        yield what, {"dir.conf": CONF, "data.ldif": data}, "search", [text]
+
+
+def outcome(program, folder, files, command, words):
+    folder.mkdir()
+    for name, text in files.items():
+        (folder / name).write_bytes(text)
+    words = [word.replace("{}", folder.name) if len(word) < 20 else word for word in words]
+    done = subprocess.run([program, command, "--db", folder.name] + words, cwd=folder.parent, capture_output=True, timeout=300)
+    left = {path.name: path.read_bytes() for path in folder.iterdir()}
+    return done.returncode, done.stdout, done.stderr, left
+
+
+def main():
+    program = Path(sys.argv[1]).resolve()
+    count = differences = 0
+    with tempfile.TemporaryDirectory() as home:
+        for what, files, command, words in runs():
+            count += 1
+            both = [outcome(run, Path(home) / side / "db", files, command, words)
+                    for run, side in ((program, fresh(home, "built", count)), (READING, fresh(home, "read", count)))]
+            if both[0] != both[1] or b"memory" in both[0][2]:
+                differences += 1
+                print(f"{command}, {what}: {[(status, len(out), err[:200], {name: len(text) for name, text in left.items()}) for status, out, err, left in both]}")
+    print(f"{count} large runs, {differences} different")
+    return 1 if differences else 0
+
+
+def fresh(home, side, count):
+    """the name of a new folder"""
+    name = f"{side}{count}"
+    (Path(home) / name).mkdir()
+    return name
+
+
+if __name__ == "__main__":
+    sys.exit(main())
