@@ -13,9 +13,10 @@ use Rattle.commands.specs.Statuses.{status_number}
 use Rattle.commands.specs.declared.messages.Status.{Status}
 use Rattle.commands.specs.declared.messages.Status.TheVariants.{Done, Usage, Failed}
 
--- the streams before and after
+-- the streams before and after: what is left of the input, and what the output and the messages hold
 pub record Streams : Type 0 where
   pub input : Option (List ℕ)
+  pub input' : Option (List ℕ)
   pub out : Written
   pub out' : Written
   pub err : Written
@@ -23,13 +24,15 @@ pub record Streams : Type 0 where
 
 -- what is asked for was done to the files and the streams, and this is the status
 abbrev pub RequestEnds : Result Request UsageFault → Option Files → Option Files → Streams → Status → Type 0
-RequestEnds (Ok (Help text)) files files' t s = (files' ≡ files) × (((s ≡ Done) × Took t.out t.out' (string_bytes text)) ⊎ (s ≡ Failed))
-RequestEnds (Ok (Add asked)) files files' t s = ChangesKnown (add_task asked) files files' t.input t.err t.err' s × ChangeEnds (add_task asked) files files' t.input t.err t.err' s
-RequestEnds (Ok (Modify asked)) files files' t s = ChangesKnown (modify_task asked) files files' t.input t.err t.err' s × ChangeEnds (modify_task asked) files files' t.input t.err t.err' s
-RequestEnds (Ok (Search asked)) files files' t s = (files' ≡ files) × SearchEnds asked files t.out t.out' s
-RequestEnds (Ok (Cat asked)) files files' t s = CatEnds asked files files' t.out t.out' s
-RequestEnds (Err (Words text)) files files' t s = (files' ≡ files) × IsSaid t.err t.err' (string_bytes text) Usage s
-RequestEnds (Err OutOfMemory) files files' t s = (files' ≡ files) × (s ≡ Failed)
+RequestEnds (Ok (Help text)) files files' t s = (files' ≡ files) × (t.input' ≡ t.input) × (((s ≡ Done) × Took t.out t.out' (string_bytes text) × (t.err' ≡ t.err)) ⊎ (s ≡ Failed))
+RequestEnds (Ok (Add asked)) files files' t s =
+    (t.out' ≡ t.out) × ChangesKnown (add_task asked) files files' t.input t.err t.err' s × ChangeEnds (add_task asked) files files' t.input t.err t.err' s
+RequestEnds (Ok (Modify asked)) files files' t s =
+    (t.out' ≡ t.out) × ChangesKnown (modify_task asked) files files' t.input t.err t.err' s × ChangeEnds (modify_task asked) files files' t.input t.err t.err' s
+RequestEnds (Ok (Search asked)) files files' t s = (files' ≡ files) × (t.input' ≡ t.input) × SearchEnds asked files t.out t.out' t.err t.err' s
+RequestEnds (Ok (Cat asked)) files files' t s = (t.input' ≡ t.input) × CatEnds asked files files' t.out t.out' t.err t.err' s
+RequestEnds (Err (Words text)) files files' t s = (files' ≡ files) × (t.input' ≡ t.input) × (t.out' ≡ t.out) × IsSaid t.err t.err' (string_bytes text) Usage s
+RequestEnds (Err OutOfMemory) files files' t s = (files' ≡ files) × (t.input' ≡ t.input) × (t.out' ≡ t.out) × (s ≡ Failed)
 
 -- the words asked for something, it was done, and this is the number of its status
 pub record CommandEnds (files files' : Option Files) (t : Streams) (number : ℕ) : Type 0 where

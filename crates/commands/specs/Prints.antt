@@ -51,9 +51,9 @@ pub record IsPrinted (asked : CatOptions) (files files' : Option Files) (a b : W
 abbrev pub IsStopped : Status → Type 0
 IsStopped s = (s ≡ Refused) ⊎ (s ≡ Usage) ⊎ (s ≡ Failed)
 
--- slapcat: where it doesn't go through, no file changed
-abbrev pub CatEnds : CatOptions → Option Files → Option Files → Written → Written → Status → Type 0
-CatEnds asked files files' a b s = ((s ≡ Done) × IsPrinted asked files files' a b) ⊎ (IsStopped s × (files' ≡ files))
+-- slapcat, by its output and its messages: where it goes through, it says nothing; where it doesn't, no file changed
+abbrev pub CatEnds : CatOptions → Option Files → Option Files → Written → Written → Written → Written → Status → Type 0
+CatEnds asked files files' a b e e' s = ((s ≡ Done) × IsPrinted asked files files' a b × (e' ≡ e)) ⊎ (IsStopped s × (files' ≡ files))
 
 -- ---- search
 
@@ -73,6 +73,6 @@ pub record IsSearched (asked : SearchOptions) (files : Option Files) (past : Boo
   pub loaded : IsLoaded files asked.db.now conf entries
   pub found : HasFound conf entries asked.scope asked.limit past a b
 
--- search, by its output; it changes no file
-abbrev pub SearchEnds : SearchOptions → Option Files → Written → Written → Status → Type 0
-SearchEnds asked files a b s = ((s ≡ Done) × IsSearched asked files false a b) ⊎ IsStopped s
+-- search, likewise; it changes no file
+abbrev pub SearchEnds : SearchOptions → Option Files → Written → Written → Written → Written → Status → Type 0
+SearchEnds asked files a b e e' s = ((s ≡ Done) × IsSearched asked files false a b × (e' ≡ e)) ⊎ IsStopped s

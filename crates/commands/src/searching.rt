@@ -84,7 +84,7 @@ pub fn search<F: Folder, O: Sink, E: Sink>(
 ) -> Status
     requires out { (O.written out.old).failed < 2 ^ 64 - 1 }
     requires err { (E.written err.old).failed < 2 ^ 64 - 1 }
-    ensures { SearchEnds asked.now (F.files folder.now) (O.written out.old) (O.written out.new) result }
+    ensures { SearchEnds asked.now (F.files folder.now) (O.written out.old) (O.written out.new) (E.written err.old) (E.written err.new) result }
 {
     match load_and_print(alloc, asked, folder, out) {
         Ok(false) => Status::Done,

@@ -122,7 +122,7 @@ pub fn slapcat<F: Folder, O: Sink, E: Sink>(
 ) -> Status
     requires out { (O.written out.old).failed < 2 ^ 64 - 1 }
     requires err { (E.written err.old).failed < 2 ^ 64 - 1 }
-    ensures { CatEnds asked.now (F.files folder.old) (F.files folder.new) (O.written out.old) (O.written out.new) result }
+    ensures { CatEnds asked.now (F.files folder.old) (F.files folder.new) (O.written out.old) (O.written out.new) (E.written err.old) (E.written err.new) result }
 {
     match load_and_put(alloc, asked, folder, out) {
         Ok(()) => Status::Done,
