@@ -12,7 +12,8 @@ use Rattle.base.specs.Answers.{◌>>=◌, Fails}
 use Rattle.base.specs.Ends.{is_space, without_front}
 use Rattle.base.proofs.Front.{front_is}
 use Rattle.dn.specs.Reading.{value_of, type_in, after_type, after_equals, part_at, part_of}
-use Rattle.dn.specs.inner.Cuts.{piece, behind, is_separator, first_value, first_part, part_from}
+use Rattle.dn.specs.inner.Cuts.{piece, behind, first_value, first_part, part_from}
+use Rattle.dn.specs.NameFaults.{is_separator}
 use Rattle.dn.specs.inner.Texts.{Starts}
 use Rattle.dn.proofs.Pieces.{P, B, space_apart, type_apart, front_of_piece, rest_of_piece, behind_rest}
 use Rattle.dn.proofs.Runs.{skipped}

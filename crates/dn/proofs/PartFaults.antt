@@ -11,8 +11,8 @@ use Rattle.dn.specs.Names.{Ava, is_type_byte, is_type}
 use Rattle.base.specs.Answers.{◌>>=◌}
 use Rattle.base.specs.Ends.{without_front}
 use Rattle.dn.specs.Reading.{Plain, type_in, after_type, begins_form, octets_from, value_from, value_of}
-use Rattle.dn.specs.inner.Cuts.{piece, is_separator, first_part, first_value}
-use Rattle.dn.specs.NameFaults.{Stops, Comes, is_equals, is_quote_or_sign, IsTyped, IsValued, IsBegun, IsPartFault}
+use Rattle.dn.specs.inner.Cuts.{piece, first_part, first_value}
+use Rattle.dn.specs.NameFaults.{is_separator, Stops, Comes, is_equals, is_quote_or_sign, IsTyped, IsValued, IsBegun, IsPartFault}
 use Rattle.dn.proofs.Octets.{chosen}
 use Rattle.dn.proofs.Pieces.{P, B}
 use Rattle.dn.proofs.Runs.{front_passes, rest_stops, run_front, run_rest, skipped, skip_stops, skip_spaces}

@@ -8,8 +8,8 @@ use Rattle.dn.specs.Names.{is_type_byte}
 use Rattle.dn.specs.Spelling.{may_stand}
 use Rattle.base.specs.Ends.{is_space}
 use Rattle.dn.specs.Reading.{escapes}
-use Rattle.dn.specs.inner.Cuts.{piece, behind, is_separator}
-use Rattle.dn.specs.NameFaults.{Stops}
+use Rattle.dn.specs.inner.Cuts.{piece, behind}
+use Rattle.dn.specs.NameFaults.{is_separator, Stops}
 use Rattle.dn.proofs.Runs.{front_passes, rest_stops, run_front, run_rest}
 
 -- ---- a piece and what stands behind it

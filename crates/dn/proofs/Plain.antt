@@ -9,7 +9,8 @@ use Rattle.dn.specs.Spelling.{Octet, may_stand, ends_well, byte_of, spaces}
 use Rattle.base.specs.Answers.{◌>>=◌}
 use Rattle.base.specs.Ends.{is_space}
 use Rattle.dn.specs.Reading.{Plain, Backslash, with_octet, octets_from, raw_fault, trimmed, begins_form, value_from, value_of}
-use Rattle.dn.specs.inner.Cuts.{piece, behind, is_separator, first_value, ends_piece, ends_in_space}
+use Rattle.dn.specs.inner.Cuts.{piece, behind, first_value, ends_piece, ends_in_space}
+use Rattle.dn.specs.NameFaults.{is_separator}
 use Rattle.dn.proofs.Octets.{space, trimmed_with}
 use Rattle.dn.proofs.Runs.{spaces_are}
 use Rattle.dn.proofs.Pieces.{piece_run, behind_run, stand_apart}

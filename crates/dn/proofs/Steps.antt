@@ -8,7 +8,8 @@ use Rattle.dn.specs.declared.faults.NameFaultKind.{NameFaultKind}
 use Rattle.dn.specs.Names.{Ava, Rdn, Name}
 use Rattle.base.specs.Answers.{◌>>=◌, each}
 use Rattle.dn.specs.Reading.{part_of, escapes, cut_raw, rdn_of}
-use Rattle.dn.specs.inner.Cuts.{piece, behind, is_comma, is_separator, after_first, first_part, first_rdn, parts_behind, parts_from}
+use Rattle.dn.specs.inner.Cuts.{piece, behind, is_comma, after_first, first_part, first_rdn, parts_behind, parts_from}
+use Rattle.dn.specs.NameFaults.{is_separator}
 use Rattle.dn.proofs.Pieces.{P, B, split, ends_is}
 use Rattle.dn.proofs.Firsts.{before}
 use Rattle.dn.proofs.Wholes.{IsWhole, cut_at, cut_none}

@@ -12,8 +12,8 @@ use Rattle.dn.specs.Spelling.{SpellsPart}
 use Rattle.base.specs.Answers.{◌>>=◌}
 use Rattle.base.specs.Ends.{is_space}
 use Rattle.dn.specs.Reading.{escapes, part_of, name_of}
-use Rattle.dn.specs.inner.Cuts.{piece, behind, is_separator, first_part, first_rdn, parts_behind, parts_from}
-use Rattle.dn.specs.NameFaults.{IsPartFault, AreParts, IsNameFault, IsWhy}
+use Rattle.dn.specs.inner.Cuts.{piece, behind, first_part, first_rdn, parts_behind, parts_from}
+use Rattle.dn.specs.NameFaults.{is_separator, IsPartFault, AreParts, IsNameFault, IsWhy}
 use Rattle.dn.proofs.Octets.{chosen}
 use Rattle.dn.proofs.Pieces.{P, B, ends_is}
 use Rattle.dn.proofs.Firsts.{before}

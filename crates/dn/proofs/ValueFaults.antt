@@ -6,8 +6,8 @@ use Rattle.dn.specs.declared.faults.NameFaultKind.{NameFaultKind}
 use Rattle.dn.specs.declared.faults.NameFaultKind.TheVariants.{EqualsMissing, Escape, NotEscaped, TypeMissing, FormNotSupported}
 use Rattle.dn.specs.Spelling.{Octet, may_stand, may_follow, is_hex, hex, IsOctet, AreOctets}
 use Rattle.dn.specs.Reading.{State, Plain, Backslash, HalfPair, with_octet, octets_from, raw_fault}
-use Rattle.dn.specs.inner.Cuts.{piece, is_separator}
-use Rattle.dn.specs.NameFaults.{is_special, is_escape}
+use Rattle.dn.specs.inner.Cuts.{piece}
+use Rattle.dn.specs.NameFaults.{is_separator, is_special, is_escape}
 use Rattle.dn.proofs.Octets.{chosen}
 use Rattle.dn.proofs.Pieces.{P, stand_apart}
 

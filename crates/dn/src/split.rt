@@ -5,7 +5,8 @@ ghost use Rattle.std.specs.Option.{option_map};
 ghost use Rattle.dn.specs.Reading.{escapes};
 ghost use Rattle.base.specs.Ascii.{plus_sign};
 ghost use Rattle.base.specs.Ends.{begins_with};
-ghost use Rattle.dn.specs.inner.Cuts.{piece, behind, is_separator, ends_piece, after_first};
+ghost use Rattle.dn.specs.inner.Cuts.{piece, behind, ends_piece, after_first};
+ghost use Rattle.dn.specs.NameFaults.{is_separator};
 
 fn escapes(escaped: bool, b: u8) -> bool
     ensures { result ≡ escapes escaped b }

@@ -1,10 +1,11 @@
 -- The piece of a text up to the first byte of a kind that is not escaped, and what is read of it.
-use Rattle.std.specs.Prelude.{◌≡◌, ℕ, Bool, true, false, not, ◌&&◌, ◌||◌, ◌==◌, if◌then◌else◌, List, [], ◌∷◌, ◌++◌, Option, Some, None, Result, Ok}
+use Rattle.std.specs.Prelude.{◌≡◌, ℕ, Bool, true, false, not, ◌&&◌, ◌==◌, if◌then◌else◌, List, [], ◌∷◌, ◌++◌, Option, Some, None, Result, Ok}
 use Rattle.base.specs.Ascii.{plus_sign, comma}
 use Rattle.dn.specs.declared.faults.NameFaultKind.{NameFaultKind}
 use Rattle.dn.specs.Names.{Ava, Rdn, Name}
 use Rattle.base.specs.Answers.{◌>>=◌}
 use Rattle.base.specs.Ends.{is_space}
+use Rattle.dn.specs.NameFaults.{is_separator}
 use Rattle.dn.specs.Reading.{escapes, value_of, part_of, rdn_of}
 
 -- the argument says whether the first byte is escaped
@@ -19,9 +20,6 @@ behind ends escaped (b ∷ bs) = if not escaped && ends b then b ∷ bs else beh
 
 abbrev pub is_comma : ℕ → Bool
 is_comma b = b == comma
-
-abbrev pub is_separator : ℕ → Bool
-is_separator b = b == plus_sign || b == comma
 
 -- what the piece at the front reads as, and what stands behind it
 abbrev pub first_by : {X : Type 0} → (ℕ → Bool) → (List ℕ → Result X NameFaultKind) → List ℕ → Result (X × List ℕ) NameFaultKind

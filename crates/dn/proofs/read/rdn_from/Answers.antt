@@ -5,7 +5,8 @@ use Rattle.std.specs.List.{list_all}
 use Rattle.dn.specs.Gives.{fault_of}
 use Rattle.dn.specs.Names.{Rdn, is_ava}
 use Rattle.dn.specs.Reading.{part_of}
-use Rattle.dn.specs.inner.Cuts.{is_separator, parts_from}
+use Rattle.dn.specs.inner.Cuts.{parts_from}
+use Rattle.dn.specs.NameFaults.{is_separator}
 use Rattle.dn.proofs.Firsts.{before}
 use Rattle.dn.proofs.Loop.{one_only, parts_begin, parts_go_on, parts_end_at, parts_done, rdn_push, less_is_left, no_plus}
 use Rattle.dn.proofs.read.rdn_from.Goals as goal

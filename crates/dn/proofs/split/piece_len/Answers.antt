@@ -1,5 +1,6 @@
 use Rattle.std.proofs.Common.{sym, ◌∙◌, false}
-use Rattle.dn.specs.inner.Cuts.{piece, behind, is_separator}
+use Rattle.dn.specs.inner.Cuts.{piece, behind}
+use Rattle.dn.specs.NameFaults.{is_separator}
 use Rattle.dn.proofs.Pieces.{piece_found, behind_found, piece_on, behind_on, piece_end, behind_end}
 use Rattle.dn.proofs.split.piece_len.Goals as goal
 

@@ -1,5 +1,6 @@
 use Rattle.std.proofs.Common.{◌≡◌, ◌++◌, false, take, drop}
-use Rattle.dn.specs.inner.Cuts.{piece, behind, is_separator}
+use Rattle.dn.specs.inner.Cuts.{piece, behind}
+use Rattle.dn.specs.NameFaults.{is_separator}
 use Rattle.dn.proofs.split.piece_len.Given as goal
 
 abbrev pub invariant-loop-i : goal.invariant-loop-i
