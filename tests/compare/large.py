@@ -103,9 +103,9 @@ def filters():
 def runs():
     """-> (what it is, the files before, the words behind the folder's option)"""
     for what, text in content():
-        yield what, {"dir.conf": CONF, "in": text}, "slapadd", ["-c", "-l", "{}/in"]
+        yield what, {"dir.conf": CONF, "in": text}, "slapadd", ["-c", "-l", "db/in"]
     for what, text in changes():
-        yield what, {"dir.conf": CONF, "data.ldif": SUFFIX, "in": text}, "ldapmodify", ["-c", "-f", "{}/in"]
+        yield what, {"dir.conf": CONF, "data.ldif": SUFFIX, "in": text}, "ldapmodify", ["-c", "-f", "db/in"]
     for what, conf in confs():
         yield what, {"dir.conf": conf, "data.ldif": SUFFIX}, "slapcat", []
     data = texts([SUFFIX] + [entry(b"cn=%d,dc=ex" % number) for number in range(50)] + [entry(b"cn=" + b"a" * 70000 + b",dc=ex")])
@@ -114,14 +114,15 @@ def runs():
         yield what, {"dir.conf": CONF, "data.ldif": data}, "search", [text]
 
 
-def outcome(program, folder, files, command, words):
-    folder.mkdir()
-    for name, text in files.items():
-        (folder / name).write_bytes(text)
-    words = [word.replace("{}", folder.name) if len(word) < 20 else word for word in words]
-    done = subprocess.run([program, command, "--db", folder.name] + words, cwd=folder.parent, capture_output=True, timeout=300)
-    left = {path.name: path.read_bytes() for path in folder.iterdir()}
-    return done.returncode, done.stdout, done.stderr, left
+def outcome(program, home, files, command, words):
+    """-> (status, output, messages, the files afterwards) of a run over a new folder db"""
+    with tempfile.TemporaryDirectory(dir=home) as work:
+        db = Path(work) / "db"
+        db.mkdir()
+        for name, text in files.items():
+            (db / name).write_bytes(text)
+        done = subprocess.run([program, command, "--db", "db"] + words, cwd=work, capture_output=True, timeout=300)
+        return done.returncode, done.stdout, done.stderr, {path.name: path.read_bytes() for path in db.iterdir()}
 
 
 def main():
@@ -130,20 +131,17 @@ def main():
     with tempfile.TemporaryDirectory() as home:
         for what, files, command, words in runs():
             count += 1
-            both = [outcome(run, Path(home) / side / "db", files, command, words)
-                    for run, side in ((program, fresh(home, "built", count)), (READING, fresh(home, "read", count)))]
+            both = [outcome(run, home, files, command, words) for run in (program, READING)]
             if both[0] != both[1] or b"memory" in both[0][2]:
                 differences += 1
-                print(f"{command}, {what}: {[(status, len(out), err[:200], {name: len(text) for name, text in left.items()}) for status, out, err, left in both]}")
+                print(f"{command}, {what}:", *(summary(*each) for each in both), sep="\n  ")
     print(f"{count} large runs, {differences} different")
     return 1 if differences else 0
 
 
-def fresh(home, side, count):
-    """the name of a new folder"""
-    name = f"{side}{count}"
-    (Path(home) / name).mkdir()
-    return name
+def summary(status, output, messages, files):
+    sizes = ", ".join(f"{name} {len(text)}" for name, text in sorted(files.items()))
+    return f"status {status}, {len(output)} bytes, {messages[:200]}; {sizes}"
 
 
 if __name__ == "__main__":
