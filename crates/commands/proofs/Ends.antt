@@ -1,5 +1,5 @@
 -- How commands end over a directory that was loaded.
-use Rattle.std.proofs.Common.{◌≡◌, ℕ, Bool, true, false, ◌⊎◌, inl, inr, List, map, Option, Some, None, refl, sym, ap, ◌∙◌, subst}
+use Rattle.std.proofs.Common.{◌≡◌, ℕ, Bool, true, false, ◌⊎◌, inl, inr, List, map, Option, Some, None, refl, sym, ap, ◌∙◌, subst, Bor}
 use Rattle.std.specs.Prelude.{Result, Ok, Err, OnOk, IfOk, nat_lt}
 use Rattle.std.specs.Option.{option_copied}
 use Rattle.std.specs.FinMap as finite
@@ -9,18 +9,21 @@ use Rattle.paths.specs.Paths.{Path}
 use Rattle.schema.specs.Conf.{Conf}
 use Rattle.tree.specs.Entries.{EntryContent}
 use Rattle.tree.specs.Directories.{Entries}
-use Rattle.filter_text.specs.Spells.{Tree}
-use Rattle.search.specs.declared.scope.Scope.{Scope}
+use Rattle.tree.specs.Trees.{Tree as Directory}
+use Rattle.filter_text.specs.Spells.{Tree, view}
+use Rattle.filter.specs.Made.{Made}
 use Rattle.search.specs.Searches.{scan}
 use Rattle.search.specs.Walks.{Lent, seen}
 use Rattle.directory.specs.Selections.{Selection}
 use Rattle.directory.specs.Found.{Answers, found_text, up_to, goes_past}
+use Rattle.commands.specs.Messages.{IsTold}
 use Rattle.commands.specs.Parts.{part_text}
 use Rattle.commands.specs.declared.messages.Status.{Status}
 use Rattle.commands.specs.declared.messages.Status.TheVariants.{Failed}
 use Rattle.commands.specs.declared.messages.CommandFault.{CommandFault}
 use Rattle.command_line.specs.declared.request.CatOptions.{CatOptions}
 use Rattle.command_line.specs.declared.request.SearchOptions.{SearchOptions}
+use Rattle.commands.specs.Asked.{IsFilter, IsBase, IsSelection}
 use Rattle.commands.specs.Folders.{Files}
 use Rattle.commands.specs.Loaded.{IsLoaded, Explains}
 use Rattle.commands.specs.Changes.{Task, ChangeEnds}
@@ -42,33 +45,49 @@ loaded_and_ran task files files' stream conf old a b s loaded (inl ran) = inl (r
 loaded_and_ran task files files' stream conf old a b s loaded (inr failed) = inr (failed_explains files task.db s failed.0, failed.1)
 
 -- how it is printed
-pub loaded_and_printed : (answer : Result (Unit {0}) CommandFault) (asked : CatOptions) (files files' : Option Files) (conf : Conf) (d : Entries) (a b : Written) → IsLoaded files asked.db.now conf d
-    → OnOk answer (HasPut (is_whole asked) (option_copied asked.file) conf d files files' a b) → OnOk answer (IsPrinted asked files files' a b)
-loaded_and_printed (Ok u) asked files files' conf d a b loaded put = record { conf = conf; entries = d; loaded = loaded; printed = put }
-loaded_and_printed (Err f) asked files files' conf d a b loaded put = tt
+pub loaded_and_printed : (answer : Result (Unit {0}) CommandFault) (asked : CatOptions) (f : Tree) (files files' : Option Files) (conf : Conf) (d : Entries) (a b : Written)
+    → IsFilter (option_copied asked.filter) f → IsLoaded files asked.db.now conf d → OnOk answer (HasPut (is_whole asked) asked f conf d files files' a b) → OnOk answer (IsPrinted asked files files' a b)
+loaded_and_printed (Ok u) asked f files files' conf d a b spelled loaded put = record { filter = f; filter_is = spelled; conf = conf; entries = d; loaded = loaded; printed = put }
+loaded_and_printed (Err e) asked f files files' conf d a b spelled loaded put = tt
 
-pub part_put : (answer : Result (Unit {0}) CommandFault) (file : Option (List ℕ)) (conf : Conf) (d : Entries) (base : Path) (f : Tree) (files files' : Option Files) (a b : Written) → OnOk answer (Puts file files files' a b (part_text conf d base f))
-    → OnOk answer (HasPut false file conf d files files' a b)
-part_put (Ok u) file conf d base f files files' a b put = record { text = part_text conf d base f; is = (base, f, refl); put = put }
-part_put (Err e) file conf d base f files files' a b put = tt
+pub part_put : (answer : Result (Unit {0}) CommandFault) (asked : CatOptions) (f : Tree) (conf : Conf) (d : Entries) (base : Path) (text : List ℕ) (files files' : Option Files) (a b : Written)
+    → IsBase conf (option_copied asked.base) base → text ≡ part_text conf d base f → OnOk answer (Puts (option_copied asked.file) files files' a b text) → OnOk answer (HasPut false asked f conf d files files' a b)
+part_put (Ok u) asked f conf d base text files files' a b based is put = record { text = text; is = record { base = base; base_is = based; text_is = is }; put = put }
+part_put (Err e) asked f conf d base text files files' a b based is put = tt
+
+-- the text of a part of the same directory, by the same base and filter
+pub part_same : (dir dir' : Directory) (base base' : Path) (made made' : Made) → dir' ≡ dir → base' ≡ base → made' ≡ made → part_text dir'.conf dir'.entries base' (view made'.filter) ≡ part_text dir.conf dir.entries base (view made.filter)
+part_same dir dir' base base' made made' same_dir same_base same_made = rw (same_dir, same_base, same_made) refl
 
 -- how it is searched
-pub loaded_and_searched : (answer : Result Bool CommandFault) (asked : SearchOptions) (files : Option Files) (conf : Conf) (d : Entries) (a b : Written) → IsLoaded files asked.db.now conf d
-    → IfOk answer (λ past. HasFound conf d asked.scope asked.limit past a b) → IfOk answer (λ past. IsSearched asked files past a b)
-loaded_and_searched (Ok past) asked files conf d a b loaded found = record { conf = conf; entries = d; loaded = loaded; found = found }
-loaded_and_searched (Err f) asked files conf d a b loaded found = tt
+pub loaded_and_searched : (answer : Result Bool CommandFault) (asked : SearchOptions) (f : Tree) (files : Option Files) (conf : Conf) (d : Entries) (a b : Written)
+    → IsFilter (option_copied asked.filter) f → IsLoaded files asked.db.now conf d → IfOk answer (λ past. HasFound asked conf d f past a b) → IfOk answer (λ past. IsSearched asked files past a b)
+loaded_and_searched (Ok past) asked f files conf d a b spelled loaded found = record { filter = f; filter_is = spelled; conf = conf; entries = d; loaded = loaded; found = found }
+loaded_and_searched (Err e) asked f files conf d a b spelled loaded found = tt
 
 past_seen : (limit : Option ℕ) (ls : List Lent) → goes_past limit ls ≡ goes_past limit (map seen ls)
 past_seen None ls = refl
 past_seen (Some n) ls = ap (nat_lt n) (sym (length-map ls seen))
 
-pub has_found : (conf : Conf) (d : Entries) (base : Path) (scope : Scope) (f : Tree) (s : Selection) (limit : Option ℕ) (ls : List Lent) (past : Bool) (a b : Written)
-    → finite.contains_key d base ≡ true → map seen ls ≡ scan conf d base scope f → Answers past (goes_past limit ls) a b (found_text conf d s (up_to limit (map seen ls))) → HasFound conf d scope limit past a b
-has_found conf d base scope f s limit ls past a b there found answers = record {
+pub selection_so : (conf conf' : Conf) (words words' : List (Bor (List ℕ))) (s : Selection) → conf' ≡ conf → words' ≡ words → IsSelection conf' (map (λ w. w.now) words') s → IsSelection conf (map (λ w. w.now) words) s
+selection_so conf conf' words words' s same same_words selects =
+    subst (λ (ws : List (Bor (List ℕ))). IsSelection conf (map (λ w. w.now) ws) s) same_words (subst (λ (k : Conf). IsSelection k (map (λ w. w.now) words') s) same selects)
+
+-- what was written of what was found
+pub has_found : (asked : SearchOptions) (conf : Conf) (d : Entries) (base : Path) (f : Tree) (s : Selection) (ls : List Lent) (past : Bool) (a b : Written)
+    → IsBase conf (option_copied asked.base) base → IsSelection conf (map (λ w. w.now) asked.attributes.items) s → finite.contains_key d base ≡ true → map seen ls ≡ scan conf d base asked.scope f
+    → Answers past (goes_past asked.limit ls) a b (found_text conf d s (up_to asked.limit (map seen ls))) → HasFound asked conf d f past a b
+has_found asked conf d base f s ls past a b based selects there found answers = record {
   base = base;
-  filter = f;
   selection = s;
+  base_is = based;
   there = there;
-  past_is = answers.past_is ∙ past_seen limit ls ∙ ap (goes_past limit) found;
-  written = subst (λ (es : List (Path × EntryContent)). Took a b (found_text conf d s (up_to limit es))) found answers.written;
+  selects = selects;
+  past_is = answers.past_is ∙ past_seen asked.limit ls ∙ ap (goes_past asked.limit) found;
+  written = subst (λ (es : List (Path × EntryContent)). Took a b (found_text conf d s (up_to asked.limit es))) found answers.written;
 }
+
+-- the line of a fault that is another's was told
+pub told_so : (a b : Written) (text text' : List ℕ) (wanted wanted' s : Status) → text ≡ text' → wanted ≡ wanted' → IsTold a b text wanted s → IsTold a b text' wanted' s
+told_so a b text text' wanted wanted' s same_text same_status told =
+    subst (λ (w : Status). IsTold a b text' w s) same_status (subst (λ (t : List ℕ). IsTold a b t wanted s) same_text told)

@@ -1,5 +1,7 @@
 pub mod Statuses
 pub mod Messages
+pub mod Asked
+pub mod Stops
 pub mod Parts
 pub mod Folders
 pub mod Loaded

@@ -1,22 +1,24 @@
 -- How slapcat and search end, and what they did by then.
-use Rattle.std.specs.Prelude.{◌≡◌, ℕ, ◌⊎◌, Bool, true, false, ◌&&◌, List, Option, None, Some, is_none}
+use Rattle.std.specs.Prelude.{◌≡◌, ℕ, ◌⊎◌, Bool, true, false, ◌&&◌, List, Option, None, Some, is_none, map, codes}
 use Rattle.std.specs.Option.{option_copied}
 use Rattle.std.specs.FinMap as finite
 use Rattle.device.specs.Device.{Written, Took}
 use Rattle.paths.specs.Paths.{Path}
 use Rattle.schema.specs.Conf.{Conf}
+use Rattle.schema.specs.declared.code.Code.TheVariants.{SizeLimitExceeded}
 use Rattle.tree.specs.Directories.{Entries}
 use Rattle.filter_text.specs.Spells.{Tree}
-use Rattle.search.specs.declared.scope.Scope.{Scope}
 use Rattle.search.specs.Searches.{scan}
 use Rattle.directory.specs.Selections.{Selection}
 use Rattle.directory.specs.Found.{found_text, up_to, goes_past}
 use Rattle.directory.specs.Runs.{dump}
 use Rattle.command_line.specs.declared.request.CatOptions.{CatOptions}
 use Rattle.command_line.specs.declared.request.SearchOptions.{SearchOptions}
+use Rattle.commands.specs.Asked.{IsFilter, IsBase, IsSelection}
 use Rattle.commands.specs.Folders.{Files, with_file}
 use Rattle.commands.specs.Loaded.{IsLoaded}
 use Rattle.commands.specs.declared.messages.Status.{Status}
+use Rattle.commands.specs.Messages.{IsTold, code_text}
 use Rattle.commands.specs.Parts.{part_text}
 use Rattle.commands.specs.declared.messages.Status.TheVariants.{Done, Refused, Usage, Failed}
 
@@ -29,23 +31,31 @@ Puts (Some name) files files' a b text = (files' ≡ with_file files name text) 
 abbrev pub is_whole : CatOptions → Bool
 is_whole asked = is_none asked.filter && is_none asked.base
 
--- the text of a directory, or of the entries at a base and below it of which a filter is True
-abbrev pub IsCatText : Bool → Conf → Entries → List ℕ → Type 0
-IsCatText true conf d text = text ≡ dump conf d
-IsCatText false conf d text = (base : Path) × (f : Tree) × (text ≡ part_text conf d base f)
+-- the entries at the base that is asked for and below it, of which the filter is True
+pub record IsPartText (asked : CatOptions) (filter : Tree) (conf : Conf) (d : Entries) (text : List ℕ) : Type 0 where
+  pub base : Path
+  pub base_is : IsBase conf (option_copied asked.base) base
+  pub text_is : text ≡ part_text conf d base filter
+
+-- the text of a directory, or of the part that is asked for
+abbrev pub IsCatText : Bool → CatOptions → Tree → Conf → Entries → List ℕ → Type 0
+IsCatText true asked filter conf d text = text ≡ dump conf d
+IsCatText false asked filter conf d text = IsPartText asked filter conf d text
 
 -- the text of these entries was put where it goes
-pub record HasPut (whole : Bool) (file : Option (List ℕ)) (conf : Conf) (d : Entries) (files files' : Option Files) (a b : Written) : Type 0 where
+pub record HasPut (whole : Bool) (asked : CatOptions) (filter : Tree) (conf : Conf) (d : Entries) (files files' : Option Files) (a b : Written) : Type 0 where
   pub text : List ℕ
-  pub is : IsCatText whole conf d text
-  pub put : Puts file files files' a b text
+  pub is : IsCatText whole asked filter conf d text
+  pub put : Puts (option_copied asked.file) files files' a b text
 
--- a directory was loaded, and its text put where it goes
+-- a directory was loaded, and its text put where it goes, by the filter that is asked for
 pub record IsPrinted (asked : CatOptions) (files files' : Option Files) (a b : Written) : Type 0 where
+  pub filter : Tree
+  pub filter_is : IsFilter (option_copied asked.filter) filter
   pub conf : Conf
   pub entries : Entries
   pub loaded : IsLoaded files asked.db.now conf entries
-  pub printed : HasPut (is_whole asked) (option_copied asked.file) conf entries files files' a b
+  pub printed : HasPut (is_whole asked) asked filter conf entries files files' a b
 
 -- it ended before its work was done
 abbrev pub IsStopped : Status → Type 0
@@ -57,22 +67,28 @@ CatEnds asked files files' a b e e' s = ((s ≡ Done) × IsPrinted asked files f
 
 -- ---- search
 
--- what a filter finds below a base was printed up to the limit, and whether there is more is told
-pub record HasFound (conf : Conf) (d : Entries) (scope : Scope) (limit : Option ℕ) (past : Bool) (a b : Written) : Type 0 where
+-- what the filter finds from the base on was printed up to the limit, with the attributes that are asked for, and whether there is more
+-- is told
+pub record HasFound (asked : SearchOptions) (conf : Conf) (d : Entries) (filter : Tree) (past : Bool) (a b : Written) : Type 0 where
   pub base : Path
-  pub filter : Tree
   pub selection : Selection
+  pub base_is : IsBase conf (option_copied asked.base) base
   pub there : finite.contains_key d base ≡ true
-  pub past_is : past ≡ goes_past limit (scan conf d base scope filter)
-  pub written : Took a b (found_text conf d selection (up_to limit (scan conf d base scope filter)))
+  pub selects : IsSelection conf (map (λ w. w.now) asked.attributes.items) selection
+  pub past_is : past ≡ goes_past asked.limit (scan conf d base asked.scope filter)
+  pub written : Took a b (found_text conf d selection (up_to asked.limit (scan conf d base asked.scope filter)))
 
--- a directory was loaded and searched
+-- a directory was loaded, and searched by the filter that is asked for
 pub record IsSearched (asked : SearchOptions) (files : Option Files) (past : Bool) (a b : Written) : Type 0 where
+  pub filter : Tree
+  pub filter_is : IsFilter (option_copied asked.filter) filter
   pub conf : Conf
   pub entries : Entries
   pub loaded : IsLoaded files asked.db.now conf entries
-  pub found : HasFound conf entries asked.scope asked.limit past a b
+  pub found : HasFound asked conf entries filter past a b
 
--- search, likewise; it changes no file
+-- search, likewise; it changes no file. Where there is more than the limit, the first entries are printed, and the code is 4
 abbrev pub SearchEnds : SearchOptions → Option Files → Written → Written → Written → Written → Status → Type 0
-SearchEnds asked files a b e e' s = ((s ≡ Done) × IsSearched asked files false a b × (e' ≡ e)) ⊎ IsStopped s
+SearchEnds asked files a b e e' s = ((s ≡ Done) × IsSearched asked files false a b × (e' ≡ e))
+    ⊎ (IsSearched asked files true a b × IsTold e e' (code_text (codes "search") SizeLimitExceeded) Refused s)
+    ⊎ IsStopped s

@@ -1,5 +1,13 @@
 //! What searches are asked for, read under a configuration.
 
+ghost use Rattle.std.specs.Prelude.{◌≡◌, ◌⊎◌, IfOk, IfErr};
+ghost use Rattle.std.specs.Option.{option_copied};
+ghost use Rattle.filter_text.specs.Spells.{view};
+ghost use Rattle.commands.specs.Asked.{IsFilter, IsNoFilter, base_of, IsBase};
+ghost use Rattle.commands.specs.Statuses.{status_of_fault};
+ghost use Rattle.commands.specs.Stops.{Refuses, refusal_fault};
+ghost use Rattle.commands.specs.declared.messages.Status.TheVariants.{Usage, Failed};
+
 use crate::messages::CommandFault;
 use filter_text::{Filter, FilterFault, read_filter};
 use schema::{Conf, Path, PathFault};
@@ -9,22 +17,32 @@ use tree::Refusal;
 /// A filter that is True of every entry, since each has an object class (RFC 4512, 2.4).
 const ANY_ENTRY: &str = "(objectClass=*)";
 
-/// The filter of this text (RFC 4515); without one, a filter that is True of every entry.
-pub fn filter_of(alloc: Global, text: Option<&str>) -> Result<Filter, CommandFault> {
+/// The filter of this text (RFC 4515); without one, a filter that is True of every entry. The fault is `Filter` where the text spells none,
+/// or one that is too deep, and else `OutOfMemory`.
+pub fn filter_of(alloc: Global, text: Option<&str>) -> Result<Filter, CommandFault>
+    ensures found { IfOk result (λ f. IsFilter (option_copied text.entry) (view f)) }
+    ensures fault { IfErr result (λ e. ((status_of_fault e ≡ Usage) × IsNoFilter (option_copied text.entry)) ⊎ (status_of_fault e ≡ Failed)) }
+{
     match read_filter(alloc, text.unwrap_or(ANY_ENTRY).as_bytes()) {
         Ok(filter) => Ok(filter),
+        Err(FilterFault::At { at, kind }) => {
+            Err(CommandFault::Filter(FilterFault::At { at, kind }))
+        }
         Err(FilterFault::OutOfMemory) => Err(CommandFault::OutOfMemory),
-        Err(fault) => Err(CommandFault::Filter(fault)),
     }
 }
 
-/// The path of the entry with this name (RFC 4514); without one, that of the suffix's entry. `command` is who asks.
+/// The path of the entry with this name (RFC 4514); without one, that of the suffix's entry. `command` is who asks: its fault is the code
+/// of a name that has no path under the configuration, or `OutOfMemory`.
 pub fn path_of(
     alloc: Global,
     conf: &Conf,
     name: Option<&str>,
     command: &'static str,
-) -> Result<Path, CommandFault> {
+) -> Result<Path, CommandFault>
+    ensures found { IfOk result (IsBase conf.now (option_copied name.entry)) }
+    ensures fault { IfErr result (Refuses command.entry.now (base_of conf.now (option_copied name.entry))) }
+{
     let Some(name) = name else {
         return Ok(Path::root(alloc));
     };
@@ -36,7 +54,9 @@ pub fn path_of(
 }
 
 /// The fault of a search that is refused.
-pub fn refused(refusal: Refusal, command: &'static str) -> CommandFault {
+pub fn refused(refusal: Refusal, command: &'static str) -> CommandFault
+    ensures { result ≡ refusal_fault command.entry refusal }
+{
     match refusal {
         Refusal::Code(code) => CommandFault::Code { command, code },
         Refusal::OutOfMemory => CommandFault::OutOfMemory,

@@ -1,7 +1,7 @@
 //! How a command ends, and what it says on standard error.
-ghost use Rattle.std.specs.Prelude.{◌≡◌, ◌≤◌, ◌<◌, ◌-◌, ◌^◌, ◌⊎◌};
+ghost use Rattle.std.specs.Prelude.{◌≡◌, ◌≤◌, ◌<◌, ◌-◌, ◌^◌, ◌⊎◌, Some, IfOk, string_bytes};
 ghost use Rattle.commands.specs.declared.messages.CommandFault.TheVariants.{OutOfMemory};
-ghost use Rattle.commands.specs.Messages.{IsSaid};
+ghost use Rattle.commands.specs.Messages.{IsSaid, IsTold, fault_text, line_of};
 ghost use Rattle.commands.specs.Statuses.{status_number, status_of_fault, status_of_tally};
 
 use device::{Sink, push_all};
@@ -105,6 +105,8 @@ impl CommandFault {
 }
 
 impl fmt::Display for CommandFault {
+    ghost output = { λ f. Some (fault_text f) };
+
     fn fmt<W: fmt::Write>(&self, f: &mut fmt::Formatter<W>) -> fmt::Result {
         match self {
             CommandFault::Words => write!(f, "command line: not UTF-8"),
@@ -137,7 +139,9 @@ impl<T: Drop> From<AllocFailed<T>> for CommandFault {
     }
 }
 
-fn line_of(alloc: Global, fault: &CommandFault) -> Result<String, AllocError> {
+fn line_of(alloc: Global, fault: &CommandFault) -> Result<String, AllocError>
+    ensures { IfOk result (λ s. string_bytes s ≡ line_of (fault_text fault.now)) }
+{
     format!(in alloc; "{fault}\n")
 }
 
@@ -156,7 +160,8 @@ pub fn say<W: Sink>(sink: &mut W, text: &str, status: Status) -> Status
 /// written.
 pub fn tell<E: Sink>(alloc: Global, err: &mut E, fault: &CommandFault) -> Status
     requires { (E.written err.old).failed < 2 ^ 64 - 1 }
-    ensures { (result ≡ status_of_fault fault.now) ⊎ (result ≡ Status.Failed) }
+    ensures status { (result ≡ status_of_fault fault.now) ⊎ (result ≡ Status.Failed) }
+    ensures told { IsTold (E.written err.old) (E.written err.new) (fault_text fault.now) (status_of_fault fault.now) result }
 {
     match line_of(alloc, fault) {
         Ok(line) => say(err, line.as_str(), fault.status()),

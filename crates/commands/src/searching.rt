@@ -1,5 +1,8 @@
 //! search: the entries that a filter finds are printed as LDIF.
-ghost use Rattle.std.specs.Prelude.{◌≡◌, ◌<◌, ◌-◌, ◌^◌, IfOk};
+ghost use Rattle.std.specs.Prelude.{◌≡◌, ◌<◌, ◌-◌, ◌^◌, IfOk, codes};
+ghost use Rattle.schema.specs.declared.code.Code.TheVariants.{SizeLimitExceeded};
+ghost use Rattle.filter_text.specs.Spells.{view};
+ghost use Rattle.commands.specs.Messages.{code_text, fault_text};
 ghost use Rattle.commands.specs.Statuses.{status_of_fault};
 ghost use Rattle.commands.specs.Prints.{HasFound, IsSearched, SearchEnds};
 
@@ -22,7 +25,8 @@ const NAME: &str = "search";
 
 /// What a search ends with where more entries match than it may print (RFC 4511, 4.5.1.4).
 fn past_limit() -> CommandFault
-    ensures { status_of_fault result ≡ Status.Refused }
+    ensures status { status_of_fault result ≡ Status.Refused }
+    ensures text { fault_text result ≡ code_text (codes "search") SizeLimitExceeded }
 {
     CommandFault::Code {
         command: NAME,
@@ -39,7 +43,7 @@ fn print_found<O: Sink>(
     out: &mut O,
 ) -> Result<bool, CommandFault>
     requires { (O.written out.old).failed < 2 ^ 64 - 1 }
-    ensures { IfOk result (λ past. HasFound dir.now.conf dir.now.entries asked.now.scope asked.now.limit past (O.written out.old) (O.written out.new)) }
+    ensures { IfOk result (λ past. HasFound asked.now dir.now.conf dir.now.entries (view filter.now) past (O.written out.old) (O.written out.new)) }
 {
     let base = path_of(alloc, dir.conf(), asked.base, NAME)?;
     let selection = Selection::of(alloc, dir.conf(), asked.attributes.as_slice())?;

@@ -2,6 +2,7 @@
 ghost use Rattle.std.specs.Prelude.{◌≡◌, ◌<◌, ◌-◌, ◌^◌, false, OnOk, OnErr};
 ghost use Rattle.std.specs.Option.{option_copied};
 ghost use Rattle.device.specs.Device.{Took};
+ghost use Rattle.filter_text.specs.Spells.{view};
 ghost use Rattle.commands.specs.Prints.{is_whole, Puts, HasPut, IsPrinted, CatEnds};
 
 use crate::database::{load_directory, store};
@@ -61,7 +62,7 @@ fn put_part<F: Folder, O: Sink>(
 ) -> Result<(), CommandFault>
     requires { (O.written out.old).failed < 2 ^ 64 - 1 }
     ensures same { OnErr result (F.files folder.new ≡ F.files folder.old) }
-    ensures put { OnOk result (HasPut false (option_copied asked.now.file) dir.now.conf dir.now.entries (F.files folder.old) (F.files folder.new) (O.written out.old) (O.written out.new)) }
+    ensures put { OnOk result (HasPut false asked.now (view filter.now) dir.now.conf dir.now.entries (F.files folder.old) (F.files folder.new) (O.written out.old) (O.written out.new)) }
 {
     let base = path_of(alloc, dir.conf(), asked.base, NAME)?;
     if asked.base.is_some() && dir.tree().get(&base).is_none() {
@@ -85,7 +86,7 @@ fn put_entries<F: Folder, O: Sink>(
 ) -> Result<(), CommandFault>
     requires { (O.written out.old).failed < 2 ^ 64 - 1 }
     ensures same { OnErr result (F.files folder.new ≡ F.files folder.old) }
-    ensures put { OnOk result (HasPut (is_whole asked.now) (option_copied asked.now.file) dir.now.conf dir.now.entries (F.files folder.old) (F.files folder.new) (O.written out.old) (O.written out.new)) }
+    ensures put { OnOk result (HasPut (is_whole asked.now) asked.now (view filter.now) dir.now.conf dir.now.entries (F.files folder.old) (F.files folder.new) (O.written out.old) (O.written out.new)) }
 {
     if asked.filter.is_none() && asked.base.is_none() {
         return put(alloc, dir, asked.file, folder, out);

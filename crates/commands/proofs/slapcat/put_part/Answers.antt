@@ -1,13 +1,15 @@
-use Rattle.std.proofs.Common.{subst, false}
-use Rattle.std.specs.Prelude.{OnOk}
+use Rattle.std.proofs.Common.{subst, ◌∙◌}
 use Rattle.std.specs.Option.{option_copied}
-use Rattle.tree.specs.Trees.{Tree}
+use Rattle.schema.specs.Conf.{Conf}
 use Rattle.filter_text.specs.Spells.{view}
-use Rattle.commands.specs.Prints.{HasPut}
-use Rattle.commands.proofs.Ends.{part_put}
+use Rattle.commands.specs.Asked.{IsBase}
+use Rattle.commands.specs.Parts.{part_text}
+use Rattle.commands.proofs.Ends.{part_put, part_same}
 use Rattle.commands.proofs.slapcat.put_part.Goals as goal
 
 pub returns-clause-put : goal.returns-clause-put
 returns-clause-put g c =
-    subst (λ (t : Tree). OnOk c.put.result (HasPut false (option_copied c.args.asked.now.file) t.conf t.entries (g.F.Folder.files c.args.folder.now) (g.F.Folder.files c.put.new.folder) (g.O.Sink.written c.args.out.now) (g.O.Sink.written c.put.new.out))) c.new-part.ensures.dir
-    (part_put c.put.result _ c.new-part.result.dir.now.conf c.new-part.result.dir.now.entries c.new-part.result.base.now (view c.new-part.result.filter.now.filter) _ _ _ _ c.put.ensures.put)
+    let based = subst (λ (conf : Conf). IsBase conf (option_copied c.args.asked.now.base) c.in_ok-base.base) c.conf.ensures c.in_ok-base.ensures.found in
+    let same = part_same c.args.dir.now _ c.in_ok-base.base _ _ c.new-part.result.filter.now c.new-part.ensures.dir c.new-part.ensures.base (c.new-part.ensures.filter ∙ c.in_ok-prepared.ensures) in
+    let text = part_text c.new-part.result.dir.now.conf c.new-part.result.dir.now.entries c.new-part.result.base.now (view c.new-part.result.filter.now.filter) in
+    part_put c.put.result c.args.asked.now (view c.args.filter.now) c.args.dir.now.conf c.args.dir.now.entries c.in_ok-base.base text _ _ _ _ based same c.put.ensures.put
