@@ -1,17 +1,22 @@
 -- What slapadd and ldapmodify come to over files that are known.
 use Rattle.std.proofs.Common.{◌≡◌, Bool, true, false, ℕ, List, Option, None, Some, inl, inr, refl, subst, ◌∙◌}
-use Rattle.std.specs.Prelude.{IfSome, if◌then◌else◌}
+use Rattle.std.specs.Prelude.{if◌then◌else◌}
 use Rattle.std.specs.Option.{option_map}
 use Rattle.std.specs.FinMap as finite
 use Rattle.device.specs.Device.{Written}
+use Rattle.ldif_lines.specs.Records.{RawRecord, records}
 use Rattle.schema.specs.Conf.{Conf}
 use Rattle.tree.specs.Directories.{Entries}
-use Rattle.directory.specs.Runs.{Loads}
-use Rattle.directory.specs.Faults.{Went}
+use Rattle.directory.specs.Runs.{LoadsRecords}
+use Rattle.directory.specs.Folds.{Over, Ran}
 use Rattle.commands.specs.declared.messages.Status.{Status}
 use Rattle.commands.specs.Folders.{Files}
 use Rattle.commands.specs.Loaded.{IsLoaded, LoadsFiles, LoadsFound, LoadsFile}
-use Rattle.commands.specs.Changes.{Task, IsInput, input_of, LoadedAndRan, ChangeEnds, Changes, ChangesKnown}
+use Rattle.commands.specs.Changes.{Task, IsInput, KnowsInput, input_of, LoadedAndRan, ChangeEnds, Changes, ChangesKnown}
+
+-- the records of a source are those of its text
+of_text : {P : List RawRecord → Type 0} (bytes : List ℕ) → Over (Some (records bytes)) P → P (records bytes)
+of_text {P} bytes h = subst P h.are h.so
 
 -- what was found is what is there
 opened : (there left : Option (List ℕ)) → Some left ≡ option_map (λ b. Some b) there → there ≡ left
@@ -24,7 +29,7 @@ loads_file conf None (Some text) d e l = cc
 loads_file conf (Some bytes) None d e l = cc
 loads_file conf (Some bytes) (Some text) d e l =
     let is : text ≡ Some bytes = cc in
-    subst (λ (t : Option (List ℕ)). IfSome t (λ bs. Loads conf bs d)) is l.known
+    of_text bytes (subst (λ (t : Option (List ℕ)). Over (option_map records t) (λ given. LoadsRecords conf finite.empty given d)) is l)
 
 record HasText (input text : Option (List ℕ)) : Type 0 where
   bytes : List ℕ
@@ -35,9 +40,10 @@ of_file : (there text : Option (List ℕ)) → Some text ≡ option_map (λ b. S
 of_file None text e = cc
 of_file (Some bytes) text e = record { bytes = bytes; input_is = refl; text_is = cc }
 
-has_text : (m : Files) (name : Option (List ℕ)) (stream : List ℕ) (text : Option (List ℕ)) → IsInput (Some m) name (Some stream) text → HasText (input_of m name (Some stream)) text
-has_text m None stream text e = record { bytes = stream; input_is = refl; text_is = e }
-has_text m (Some name) stream text e = of_file (finite.get m name) text e
+has_text : (m : Files) (name stream text : Option (List ℕ)) → KnowsInput name stream → IsInput (Some m) name stream text → HasText (input_of m name stream) text
+has_text m None None text knows e = absurd knows
+has_text m None (Some stream) text knows e = record { bytes = stream; input_is = refl; text_is = e }
+has_text m (Some name) stream text knows e = of_file (finite.get m name) text e
 
 stored_same : (dry : Bool) (m n : Files) → (if dry then Some m else Some n) ≡ Some (if dry then m else n)
 stored_same true m n = refl
@@ -51,9 +57,9 @@ loads_files m db conf d l = record {
   loads = loads_file _ _ _ _ l.there l.loads;
 }
 
-changes : (task : Task) (m : Files) (files' : Option Files) (stream : List ℕ) (a b : Written) (s : Status) → LoadedAndRan task (Some m) files' (Some stream) a b s → Changes task m files' (Some stream) a b s
-changes task m files' stream a b s did =
-    let has = has_text m task.file stream did.ran.records.text did.ran.records.input in
+changes : (task : Task) (m : Files) (files' : Option Files) (stream : Option (List ℕ)) (a b : Written) (s : Status) → KnowsInput task.file stream → LoadedAndRan task (Some m) files' stream a b s → Changes task m files' stream a b s
+changes task m files' stream a b s knows did =
+    let has = has_text m task.file stream did.ran.records.text knows did.ran.records.input in
     record {
       conf = did.conf;
       old = did.old;
@@ -62,13 +68,12 @@ changes task m files' stream a b s did =
       input = has.input_is;
       new = did.ran.new;
       tally = did.ran.tally;
-      went = subst (λ (t : Option (List ℕ)). IfSome t (λ bytes. Went did.conf task.mode task.go_on did.old did.ran.new bytes did.ran.tally a b)) has.text_is did.ran.records.known;
+      ran = of_text has.bytes (subst (λ (t : Option (List ℕ)). Over (option_map records t) (λ given. Ran did.conf task.mode task.go_on did.old did.ran.new given did.ran.tally a b)) has.text_is did.ran.records.ran);
       status = did.ran.status;
       stored_is = did.ran.stored_is ∙ stored_same task.dry_run m _;
     }
 
 pub known : (task : Task) (files files' : Option Files) (stream : Option (List ℕ)) (a b : Written) (s : Status) → ChangeEnds task files files' stream a b s → ChangesKnown task files files' stream a b s
-known task files files' None a b s ends = tt
-known task None files' (Some bytes) a b s ends = tt
-known task (Some m) files' (Some bytes) a b s (inl did) = inl (changes task m files' bytes a b s did)
-known task (Some m) files' (Some bytes) a b s (inr same) = inr same
+known task None files' stream a b s ends = tt
+known task (Some m) files' stream a b s (inl did) = λ knows. inl (changes task m files' stream a b s knows did)
+known task (Some m) files' stream a b s (inr same) = λ knows. inr same

@@ -1,12 +1,12 @@
 -- The directory in a folder, by what was found there.
 use Rattle.std.proofs.Common.{◌≡◌, ℕ, List, Option, None, Some, sym, subst}
-use Rattle.std.specs.Prelude.{IfSome}
 use Rattle.std.specs.Option.{option_map}
 use Rattle.std.specs.FinMap as finite
+use Rattle.ldif_lines.specs.Records.{records}
 use Rattle.schema.specs.Conf.{Conf}
 use Rattle.tree.specs.Directories.{Entries}
-use Rattle.directory.specs.Runs.{Loads}
-use Rattle.directory.specs.Folds.{LoadsOver}
+use Rattle.directory.specs.Runs.{LoadsRecords}
+use Rattle.directory.specs.Folds.{Over}
 use Rattle.commands.specs.Folders.{Files, Finds, conf_name, data_name}
 use Rattle.commands.specs.Loaded.{IsConfigured, IsLoaded}
 
@@ -29,13 +29,10 @@ module _ (files : Option Files) (db : List ℕ) (conf conf' : Conf) (d : Entries
   }
 
   -- a file of which no record is refused
-  pub some_there : (text : Option (List ℕ)) → Finds files name (Some text) → LoadsOver conf text d → IfSome text (λ bytes. Loads conf bytes d) → IsLoaded files db conf' d
-  some_there text finds over known = record {
+  pub some_there : (text : Option (List ℕ)) → Finds files name (Some text) → Over (option_map records text) (λ given. LoadsRecords conf finite.empty given d) → IsLoaded files db conf' d
+  some_there text finds loads = record {
     configured = configured_so;
     found = Some text;
     there = subst (λ (n : List ℕ). Finds files n (Some text)) named finds;
-    loads = record {
-      over = subst (λ (c : Conf). LoadsOver c text d) (sym same) over;
-      known = subst (λ (c : Conf). IfSome text (λ bytes. Loads c bytes d)) (sym same) known;
-    };
+    loads = subst (λ (c : Conf). Over (option_map records text) (λ given. LoadsRecords c finite.empty given d)) (sym same) loads;
   }

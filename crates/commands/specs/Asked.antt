@@ -1,12 +1,9 @@
 -- What the words of search and slapcat ask for: a filter, a base and attributes.
-use Rattle.std.specs.Prelude.{◌≡◌, ℕ, ◌<◌, List, [], length, Option, None, Some, Result, Ok, Err, codes, unwrap_or, if◌then◌else◌}
-use Rattle.std.specs.FinMap as finite
+use Rattle.std.specs.Prelude.{◌≡◌, ℕ, ◌<◌, List, [], length, Option, None, Some, Result, Ok, Err, codes, unwrap_or}
 use Rattle.base.specs.Answers.{◌>>=◌}
 use Rattle.paths.specs.Paths.{Path}
 use Rattle.schema.specs.Conf.{Conf, located, path_of}
 use Rattle.schema.specs.declared.code.Code.{Code}
-use Rattle.schema.specs.declared.code.Code.TheVariants.{NoSuchObject}
-use Rattle.tree.specs.Directories.{Entries}
 use Rattle.filter_text.specs.Depth.{IsShallow}
 use Rattle.filter_text.specs.Spells.{Tree, FilterText}
 use Rattle.directory.specs.Selections.{Selection, selects, is_selected}
@@ -34,10 +31,6 @@ base_of conf (Some name) = located conf name >>= λ rs. Ok (path_of conf rs)
 
 abbrev pub IsBase : Conf → Option (List ℕ) → Path → Type 0
 IsBase conf name base = base_of conf name ≡ Ok base
-
--- the path of an entry of the directory, or the code where there is none
-abbrev pub base_in : Conf → Entries → Option (List ℕ) → Result Path Code
-base_in conf d name = base_of conf name >>= λ base. if finite.contains_key d base then Ok base else Err NoSuchObject
 
 -- ---- the attributes (RFC 4511, 4.5.1.8)
 

@@ -1,15 +1,15 @@
 -- What slapadd and ldapmodify come to: the files that they leave, the report and the status.
-use Rattle.std.specs.Prelude.{◌≡◌, ℕ, ◌⊎◌, Bool, List, Option, None, Some, IfSome, if◌then◌else◌}
-use Rattle.std.specs.Option.{option_copied}
+use Rattle.std.specs.Prelude.{◌≡◌, ℕ, ◌⊎◌, Bool, List, Option, None, Some, ⊤, IfSome, if◌then◌else◌}
+use Rattle.std.specs.Option.{option_copied, option_map}
 use Rattle.std.specs.FinMap as finite
 use Rattle.device.specs.Device.{Written}
+use Rattle.ldif_lines.specs.Records.{records}
 use Rattle.ldif.specs.declared.record.Mode.{Mode}
 use Rattle.ldif.specs.declared.record.Mode.TheVariants as modes
 use Rattle.schema.specs.Conf.{Conf}
 use Rattle.tree.specs.Directories.{Entries}
 use Rattle.directory.specs.Runs.{dump}
-use Rattle.directory.specs.Faults.{Went}
-use Rattle.directory.specs.Folds.{RanOver}
+use Rattle.directory.specs.Folds.{Over, Ran}
 use Rattle.directory.specs.declared.runs.Tally.{Tally}
 use Rattle.command_line.specs.declared.request.AddOptions.{AddOptions}
 use Rattle.command_line.specs.declared.request.ModifyOptions.{ModifyOptions}
@@ -41,8 +41,7 @@ IsInput files (Some name) stream text = Finds files name (Some text)
 pub record HaveRun (task : Task) (files : Option Files) (stream : Option (List ℕ)) (conf : Conf) (old new : Entries) (t : Tally) (a b : Written) : Type 0 where
   pub text : Option (List ℕ)
   pub input : IsInput files task.file stream text
-  pub ran : RanOver conf task.mode task.go_on old new text t a b
-  pub known : IfSome text (λ bytes. Went conf task.mode task.go_on old new bytes t a b)
+  pub ran : Over (option_map records text) (λ given. Ran conf task.mode task.go_on old new given t a b)
 
 -- data.ldif is the dump of the directory, and no other file changed; in a dry run none did
 abbrev pub stored : Task → Conf → Entries → Option Files → Option Files
@@ -84,7 +83,7 @@ pub record Changes (task : Task) (m : Files) (files' : Option Files) (stream : O
   pub input : input_of m task.file stream ≡ Some text
   pub new : Entries
   pub tally : Tally
-  pub went : Went conf task.mode task.go_on old new text tally a b
+  pub ran : Ran conf task.mode task.go_on old new (records text) tally a b
   pub status : s ≡ status_of_tally tally
   pub stored_is : files' ≡ Some (if task.dry_run then m else finite.insert m (data_name task.db) (dump conf new))
 
@@ -92,6 +91,12 @@ pub record Changes (task : Task) (m : Files) (files' : Option Files) (stream : O
 abbrev pub ChangesOrNot : Task → Files → Option Files → Option (List ℕ) → Written → Written → Status → Type 0
 ChangesOrNot task m files' stream a b s = Changes task m files' stream a b s ⊎ (Explains (Some m) task.db s × (files' ≡ Some m))
 
--- where the folder tells its files, and the stream its bytes
+-- the bytes of the input are known, where the files are: those of the stream are asked for only where no file is named
+abbrev pub KnowsInput : Option (List ℕ) → Option (List ℕ) → Type 0
+KnowsInput None None = ⊥
+KnowsInput None (Some bytes) = ⊤
+KnowsInput (Some name) stream = ⊤
+
+-- where the folder tells its files, and the stream its bytes, if it is the input
 abbrev pub ChangesKnown : Task → Option Files → Option Files → Option (List ℕ) → Written → Written → Status → Type 0
-ChangesKnown task files files' stream a b s = IfSome stream (λ bytes. IfSome files (λ m. ChangesOrNot task m files' (Some bytes) a b s))
+ChangesKnown task files files' stream a b s = IfSome files (λ m. KnowsInput task.file stream → ChangesOrNot task m files' stream a b s)

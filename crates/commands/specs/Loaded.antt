@@ -1,13 +1,15 @@
 -- The directory that dir.conf and data.ldif in a folder stand for. Where the folder tells its files, the texts are theirs; where it
 -- doesn't, as the system's, they are some texts.
-use Rattle.std.specs.Prelude.{◌≡◌, ℕ, List, Option, None, Some, Ok, Err, ⊤, IfSome}
+use Rattle.std.specs.Prelude.{◌≡◌, ℕ, List, Option, None, Some, Ok, Err, ⊤}
+use Rattle.std.specs.Option.{option_map}
 use Rattle.std.specs.FinMap as finite
+use Rattle.ldif_lines.specs.Records.{records}
 use Rattle.schema.specs.Conf.{Conf}
 use Rattle.schema.specs.Configurations.{conf_of}
 use Rattle.schema.specs.declared.conf_fault.ConfFaultKind.{ConfFaultKind}
 use Rattle.tree.specs.Directories.{Entries}
-use Rattle.directory.specs.Runs.{Loads}
-use Rattle.directory.specs.Folds.{LoadsOver}
+use Rattle.directory.specs.Runs.{LoadsRecords, Loads}
+use Rattle.directory.specs.Folds.{Over}
 use Rattle.commands.specs.Folders.{Files, Finds, conf_name, data_name}
 use Rattle.commands.specs.declared.messages.Status.{Status}
 use Rattle.commands.specs.declared.messages.Status.TheVariants.{Done, Refused, Usage, Failed}
@@ -18,15 +20,10 @@ pub record IsConfigured (files : Option Files) (name : List ℕ) (conf : Conf) :
   pub there : Finds files name (Some (Some text))
   pub says : conf_of text ≡ Ok conf
 
--- no record of a file is refused, and these are the entries
-pub record LoadsText (conf : Conf) (text : Option (List ℕ)) (d : Entries) : Type 0 where
-  pub over : LoadsOver conf text d
-  pub known : IfSome text (λ bytes. Loads conf bytes d)
-
--- no file is no entry
+-- no file is no entry; no record of a file is refused
 abbrev pub LoadsFound : Conf → Option (Option (List ℕ)) → Entries → Type 0
 LoadsFound conf None d = d ≡ finite.empty
-LoadsFound conf (Some text) d = LoadsText conf text d
+LoadsFound conf (Some text) d = Over (option_map records text) (λ given. LoadsRecords conf finite.empty given d)
 
 -- the configuration and the entries of the directory in this folder
 pub record IsLoaded (files : Option Files) (db : List ℕ) (conf : Conf) (d : Entries) : Type 0 where

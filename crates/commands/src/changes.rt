@@ -1,7 +1,8 @@
 //! slapadd and ldapmodify: the records of an LDIF text are carried out on a directory in a folder.
-ghost use Rattle.std.specs.Prelude.{◌≡◌, ◌<◌, ◌-◌, ◌^◌, OnOk, IfOk, IfErr, IfSome};
-ghost use Rattle.directory.specs.Faults.{Went};
-ghost use Rattle.directory.specs.Folds.{RanOver};
+ghost use Rattle.std.specs.Prelude.{◌≡◌, ◌<◌, ◌-◌, ◌^◌, OnOk, IfOk, IfErr};
+ghost use Rattle.std.specs.Option.{option_map};
+ghost use Rattle.ldif_lines.specs.Records.{records};
+ghost use Rattle.directory.specs.Folds.{Over, Ran};
 ghost use Rattle.commands.specs.Changes.{add_task, modify_task, HaveRun, ChangeEnds, ChangesKnown};
 ghost use Rattle.commands.specs.inner.Tasks.{task_of, RunEnds};
 
@@ -38,8 +39,7 @@ fn run_source<S: Source, E: Sink>(
     requires source { (S.seen source.old).failed < 2 ^ 64 - 1 }
     requires err { (E.written err.old).failed < 2 ^ 64 - 1 }
     ensures same_conf { dir.new.conf ≡ dir.old.conf }
-    ensures went { IfOk result (λ t. IfSome (S.seen source.old).left (λ text. Went dir.old.conf asked.now.mode asked.now.go_on dir.old.entries dir.new.entries text t (E.written err.old) (E.written err.new))) }
-    ensures ran { IfOk result (λ t. RanOver dir.old.conf asked.now.mode asked.now.go_on dir.old.entries dir.new.entries (S.seen source.old).left t (E.written err.old) (E.written err.new)) }
+    ensures ran { IfOk result (λ t. Over (option_map records (S.seen source.old).left) (λ given. Ran dir.old.conf asked.now.mode asked.now.go_on dir.old.entries dir.new.entries given t (E.written err.old) (E.written err.new))) }
     ensures ok { OnOk result ((E.written err.new).failed ≡ (E.written err.old).failed) }
     ensures err { IfErr result (λ s. s ≡ Status.Failed) }
 {

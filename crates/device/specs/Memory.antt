@@ -1,5 +1,6 @@
 -- What is seen of the sources and sinks in memory.
-use Rattle.std.specs.Prelude.{ℕ, Option, Some, nat_le, length, drop, vec_len}
+use Rattle.std.specs.Prelude.{ℕ, ◌≤◌, Option, None, Some, nat_le, length, drop, vec_len}
+use Rattle.std.specs.Vec.{vec_capacity}
 use Rattle.device.specs.Device.{Seen, Written}
 use Rattle.device.specs.declared.memory.TrySource.{TrySource}
 use Rattle.device.specs.declared.memory.TrySink.{TrySink}
@@ -23,3 +24,12 @@ source_limit s = s.fails_after
 
 abbrev pub sink_limit : TrySink → Option ℕ
 sink_limit s = s.fails_after
+
+-- for how many bytes in all there is room without more memory
+abbrev pub sink_room : TrySink → ℕ
+sink_room s = vec_capacity s.bytes
+
+-- so many bytes came or went that each call fails
+abbrev pub IsSpent : Option ℕ → ℕ → Type 0
+IsSpent None count = ⊥
+IsSpent (Some limit) count = limit ≤ count

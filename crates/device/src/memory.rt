@@ -1,6 +1,6 @@
 //! A source and a sink over bytes in memory, which can fail: for tests of what uses a device.
 
-ghost use Rattle.std.specs.Prelude.{◌≡◌, ◌+◌, ◌-◌, ◌^◌, ◌<◌, ◌≤◌, ◌↔◌, true, nat_le, length, take, Some, [], IfSome, IsSome, MatchOption, IfOk, IsOk, IsErr, OnOk, OnErr};
+ghost use Rattle.std.specs.Prelude.{◌≡◌, ◌+◌, ◌-◌, ◌^◌, ◌<◌, ◌≤◌, ◌↔◌, ◌⊎◌, true, nat_le, length, take, Some, [], IfSome, IsSome, MatchOption, IfOk, IsOk, IsErr, OnOk, OnErr};
 ghost use Rattle.std.specs.Io.KnownBytes.{IsAtEnd};
 ghost use Rattle.device.specs.Device.{Gave, PullFailed, Took, PushFailed};
 
@@ -133,7 +133,7 @@ impl TrySink {
 }
 
 impl Sink for TrySink {
-    ghost use Rattle.device.specs.Memory.{sink_written, sink_most, sink_limit};
+    ghost use Rattle.device.specs.Memory.{sink_written, sink_most, sink_limit, sink_room, IsSpent};
 
     ghost written = { sink_written };
 
@@ -148,11 +148,12 @@ impl Sink for TrySink {
         ensures took { IfOk result (λ n. Took (sink_written self.old) (sink_written self.new) (take n bytes.now)) }
         ensures device { OnErr result (PushFailed (sink_written self.old) (sink_written self.new)) }
 
-        // Beside what the trait says: how few bytes go, and when it fails, but for want of memory.
+        // Beside what the trait says: how few bytes go, and when it fails: at its limit, or where it wants more memory.
         ensures most { sink_most self.new ≡ sink_most self.old }
         ensures few { IfOk result (λ n. n ≤ sink_most self.old) }
         ensures limit { sink_limit self.new ≡ sink_limit self.old }
-        ensures fails { IfSome (sink_limit self.old) (λ limit. limit ≤ (sink_written self.old).count → IsErr result) }
+        ensures fails { IsSpent (sink_limit self.old) (sink_written self.old).count → IsErr result }
+        ensures only { OnErr result (IsSpent (sink_limit self.old) (sink_written self.old).count ⊎ (sink_room self.old < (sink_written self.old).count + length bytes.now)) }
         ensures within { IfSome (sink_limit self.old) (λ limit. OnOk result ((sink_written self.new).count ≤ limit)) }
     {
         let Some(most) = allowed(self.most, self.fails_after, self.bytes.len()) else {

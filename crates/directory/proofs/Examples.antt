@@ -7,11 +7,11 @@ use Rattle.std.specs.Cmp.{IsTotalOrder}
 use Rattle.std.specs.FinMap as finite
 use Rattle.std.specs.Str.{is_utf8, chars}
 use lib.Utf8.{encode}
-use Rattle.ldif_lines.specs.Records.{continuation, joined, joined_block, body_of, body_of_block, with_first, records_from}
+use Rattle.ldif_lines.specs.Records.{records, continuation, joined, joined_block, body_of, body_of_block, with_first, records_from}
 use Rattle.ldif_lines.specs.Folding.{folded}
 use Rattle.ldif.specs.Line.{form_of, value_of, value_line}
 use Rattle.ldif.specs.Reading as reading
-use Rattle.ldif.specs.Contents.{readings, write_content}
+use Rattle.ldif.specs.Contents.{write_content}
 use Rattle.ldif.specs.Writing.{is_plain, line_text}
 use Rattle.ldif.specs.declared.fault.LdifFaultKind.TheVariants as faults
 use Rattle.ldif.specs.Attrs.{Attr}
@@ -51,7 +51,7 @@ use Rattle.directory.specs.declared.reason.Reason.TheVariants as reasons
 
 -- what a text is read by
 unfoldable on_texts : ⊤
-unfolding continuation joined joined_block body_of body_of_block with_first records_from form_of value_of value_line each reading.content_line reading.body reading.entry reading.after_version reading.first_of_text readings after_records step outcome
+unfolding continuation joined joined_block body_of body_of_block with_first records_from form_of value_of value_line each reading.content_line reading.body reading.entry reading.after_version reading.first_of_text after_records step outcome
 on_texts = tt
 
 -- what a name and attribute lines come to
@@ -194,8 +194,8 @@ module _ (total : IsTotalOrder path_cmp) where
   two_load : Loads conf two_records with_both
   two_load = record { entries = ap (λ (s : State). s.entries) (sym two_are_added); all = ap (λ (s : State). s.refused) two_are_added }
 
-loading_stops : StopsAt (loads.Refused 1 (reasons.Code result.NoSuchObject)) conf two_refused
-loading_stops = ap (λ (s : State). s.refused) (stops_at_the_first finite.empty)
+loading_stops : StopsAt (loads.Refused 1 (reasons.Code result.NoSuchObject)) conf finite.empty (Some (records two_refused))
+loading_stops = record { given = records two_refused; are = refl; so = ap (λ (s : State). s.refused) (stops_at_the_first finite.empty) }
 
 -- ---- a dump, parents first
 

@@ -183,7 +183,7 @@ pub loads_back : ((cs : List ContentRecord) → AllByRecursion IsWritableContent
     → ((conf : Conf) (d m : Entries) (p : Path) (e : EntryContent) → IsConf conf → IsDirectory conf d → finite.get d p ≡ Some e → MayCome m p → add conf Content m (record_at conf d p e).dn (record_at conf d p e).attrs ≡ added p e)
     → IsTotalOrder path_cmp → finite.IsAntisymmetric path_cmp → ((p : Path) (s : RdnKey) → path_cmp p (p ++ s ∷ []) ≡ Less)
     → (conf : Conf) (d : Entries) → IsConf conf → IsDirectory conf d → LoadsBack conf d
-unfolding dump after_records
+unfolding dump after_records readings
 loads_back reads own adds total exact first conf d c h =
     let es : Pairs = finite.entries d in
     let all = all_written conf d (λ p e there. own conf d p e c h there) es (all_there total conf d h) in

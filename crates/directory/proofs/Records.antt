@@ -1,6 +1,6 @@
 -- One record after the other: from where a run stands to where it stands next.
 use Rattle.std.proofs.Common.{◌≡◌, ℕ, ◌+◌, ◌≤◌, Bool, true, false, cond, List, [], ◌∷◌, ◌++◌, length, map, Option, Some, None, refl, sym, ◌∙◌, ap, subst, arith, append_assoc, length-append, inl, inr}
-use Rattle.std.specs.Prelude.{Result}
+use Rattle.std.specs.Prelude.{Result, Ok, Err}
 use Rattle.std.specs.List.{fold}
 use Rattle.std.proofs.lemmas.List.{append-nil, map-append}
 use Rattle.std.proofs.lemmas.List.Sums.{fold_push}
@@ -15,12 +15,13 @@ use Rattle.ldif.specs.declared.record.Mode.{Mode}
 use Rattle.ldif.specs.Reading.{reading}
 use Rattle.schema.specs.Conf.{Conf}
 use Rattle.tree.specs.Directories.{Entries}
-use Rattle.directory.specs.Runs.{State, start, outcome, counted, take_up, step, after_records}
+use Rattle.directory.specs.Runs.{State, start, outcome, counted, take_up, step, after_records, read_as, state_after}
 use Rattle.directory.specs.Reports.{report, report_line}
-use Rattle.directory.specs.inner.Steps.{counts_after, reported, ends, IsTaken, IsBrokenOff}
-use Rattle.directory.specs.Stands.{read_as, state_after}
-use Rattle.directory.specs.inner.Stands.{IsReached, Stands, Ran, BrokeOff}
-use Rattle.directory.specs.Faults.{Failures, AllButLast}
+use Rattle.directory.specs.inner.Steps.{counts_after, reported, ends, IsTaken, IsCounted, IsBrokenOff}
+use Rattle.directory.specs.inner.Stands.{IsReached, Stands}
+use Rattle.directory.specs.Faults.{Failures, AllButLast, WrittenAt, tally_of}
+use Rattle.directory.specs.Folds.{Over, Ran, BrokeOff, Runs}
+use Rattle.directory.proofs.Whole as whole
 use Rattle.directory.specs.declared.reason.Reason.{Reason}
 use Rattle.directory.specs.declared.reason.Outcome.{Outcome}
 use Rattle.directory.specs.declared.reason.Outcome.TheVariants.{Nothing, Accepted, Refused}
@@ -128,14 +129,11 @@ module _ (conf : Conf) (mode : Mode) (go_on : Bool) (old : Entries) where
       written = written_more now h.front r h.going h.reached.entries a b c h.written k.written;
     }
 
-    pub ends_there : (ended : Bool) → IsTaken (outcome conf mode now (reading mode r.first r.lines)) go_on r.line new t t' b c ended → ended ≡ true → Ran conf mode go_on old new all t' a c
-    ends_there ended k on = record {
-      front = h.front ++ r ∷ [];
-      left = left;
-      reached = reached_more now h.front r h.going h.reached.entries all mid left t t' new h.reached taken k.entries k.counts;
-      over = inr (ended_is now h.front r h.going h.reached.entries ∙ sym k.ended_is ∙ on);
-      written = written_more now h.front r h.going h.reached.entries a b c h.written k.written;
-    }
+    pub ends_there : (ended : Bool) → IsTaken (outcome conf mode now (reading mode r.first r.lines)) go_on r.line new t t' b c ended → ended ≡ true → Runs conf mode go_on old new all (Ok t') a c
+    ends_there ended k on = whole.ran conf mode go_on old new a c left (h.front ++ r ∷ []) all t'
+        (reached_more now h.front r h.going h.reached.entries all mid left t t' new h.reached taken k.entries k.counts)
+        (inr (ended_is now h.front r h.going h.reached.entries ∙ sym k.ended_is ∙ on))
+        (written_more now h.front r h.going h.reached.entries a b c h.written k.written)
 
     all_but_last : (why : Reason) → (outcome conf mode now (reading mode r.first r.lines)).1 ≡ Refused why → AllButLast (at (h.front ++ r ∷ [])).refused a b (r.line, why)
     all_but_last why is = record {
@@ -144,41 +142,34 @@ module _ (conf : Conf) (mode : Mode) (go_on : Bool) (old : Entries) where
       written = h.written;
     }
 
-    pub breaks_off : (f : RunFault) → IsBrokenOff (outcome conf mode now (reading mode r.first r.lines)) r.line now new t b c f → BrokeOff conf mode go_on old new all f a c
+    -- behind the record that was refused
+    counts_it : (f : RunFault) → (why : Reason) → IsCounted (outcome conf mode now (reading mode r.first r.lines)) new t (tally_of f) why → WrittenAt f (at (h.front ++ r ∷ [])).refused a c → Runs conf mode go_on old new all (Err f) a c
+    counts_it f why k written = whole.broke_off conf mode go_on old new a c left (h.front ++ r ∷ []) f all
+        (reached_more now h.front r h.going h.reached.entries all mid left t (tally_of f) new h.reached taken k.entries k.counts) written
+
+    pub breaks_off : (f : RunFault) → IsBrokenOff (outcome conf mode now (reading mode r.first r.lines)) r.line now new t b c f → Runs conf mode go_on old new all (Err f) a c
     breaks_off (faults.Read u) k = absurd k
-    breaks_off (faults.Write u) (why, k, broke) = record {
-      front = h.front ++ r ∷ [];
-      left = left;
-      reached = reached_more now h.front r h.going h.reached.entries all mid left t u new h.reached taken k.entries k.counts;
-      written = record { last = (r.line, why); mid = b; others = all_but_last why k.is; broke = broke };
-    }
-    breaks_off (faults.OutOfMemory u) (inl k) = record {
-      front = h.front;
-      left = mid;
-      reached = record {
-        parts = h.reached.parts;
-        entries = k.entries ∙ h.reached.entries;
-        accepted = ap (λ (x : Tally). x.accepted) k.counts ∙ h.reached.accepted;
-        refused = ap (λ (x : Tally). x.refused) k.counts ∙ h.reached.refused;
-      };
-      written = inl (subst (λ w. Took a w (report (at h.front).refused)) (sym k.written) h.written);
-    }
-    breaks_off (faults.OutOfMemory u) (inr (why, k, same)) = record {
-      front = h.front ++ r ∷ [];
-      left = left;
-      reached = reached_more now h.front r h.going h.reached.entries all mid left t u new h.reached taken k.entries k.counts;
-      written = inr (record { last = (r.line, why); others = subst (λ w. AllButLast (at (h.front ++ r ∷ [])).refused a w (r.line, why)) (sym same) (all_but_last why k.is) });
-    }
+    breaks_off (faults.Write u) (why, k, broke) = counts_it (faults.Write u) why k (record { last = (r.line, why); mid = b; others = all_but_last why k.is; broke = broke })
+    breaks_off (faults.OutOfMemory u) (inl k) = whole.broke_off conf mode go_on old new a c mid h.front (faults.OutOfMemory u) all
+        (record {
+          parts = h.reached.parts;
+          entries = k.entries ∙ h.reached.entries;
+          accepted = ap (λ (x : Tally). x.accepted) k.counts ∙ h.reached.accepted;
+          refused = ap (λ (x : Tally). x.refused) k.counts ∙ h.reached.refused;
+        })
+        (inl (subst (λ w. Took a w (report (at h.front).refused)) (sym k.written) h.written))
+    breaks_off (faults.OutOfMemory u) (inr (why, k, same)) = counts_it (faults.OutOfMemory u) why k
+        (inr (record { last = (r.line, why); others = subst (λ w. AllButLast (at (h.front ++ r ∷ [])).refused a w (r.line, why)) (sym same) (all_but_last why k.is) }))
 
   module _ (now : Entries) (all left : Option (List RawRecord)) (t : Tally) (a b : Written) (h : Stands conf mode go_on old now all left t a b) where
-    pub stops : IsEnd left → Ran conf mode go_on old now all t a b
-    stops over = record { front = h.front; left = left; reached = h.reached; over = inl over; written = h.written }
+    pub stops : IsEnd left → Runs conf mode go_on old now all (Ok t) a b
+    stops over = whole.ran conf mode go_on old now a b left h.front all t h.reached (inl over) h.written
 
-    pub stops_reading : BrokeOff conf mode go_on old now all (faults.Read t) a b
-    stops_reading = record { front = h.front; left = left; reached = h.reached; written = h.written }
+    pub stops_reading : Runs conf mode go_on old now all (Err (faults.Read t)) a b
+    stops_reading = whole.broke_off conf mode go_on old now a b left h.front (faults.Read t) all h.reached h.written
 
-    pub stops_wanting : BrokeOff conf mode go_on old now all (faults.OutOfMemory t) a b
-    stops_wanting = record { front = h.front; left = left; reached = h.reached; written = inl h.written }
+    pub stops_wanting : Runs conf mode go_on old now all (Err (faults.OutOfMemory t)) a b
+    stops_wanting = whole.broke_off conf mode go_on old now a b left h.front (faults.OutOfMemory t) all h.reached (inl h.written)
 
 -- ---- counts
 
@@ -190,7 +181,7 @@ counts_few (Refused why) t = omega arith
 pub took_failed : (line : ℕ) (o : Entries × Outcome) (go_on : Bool) (new : Entries) (t t' : Tally) (a b : Written) (ended : Bool) → IsTaken o go_on line new t t' a b ended → b.failed ≡ a.failed
 took_failed line o go_on new t t' a b ended k = k.written.failed
 
-pub broke_failed : (f : RunFault) (o : Entries × Outcome) (line : ℕ) (old new : Entries) (t : Tally) (a b : Written) (s s' w : ℕ) → IsBrokenOff o line old new t a b f → s' ≡ s → a.failed ≡ w → Failures f s s' w b.failed
+pub broke_failed : (f : RunFault) (o : Entries × Outcome) (line : ℕ) (old new : Entries) (t : Tally) (a b : Written) (s s' w : ℕ) → IsBrokenOff o line old new t a b f → s' ≡ s → a.failed ≡ w → Failures (Err f) s s' w b.failed
 broke_failed (faults.Read u) o line old new t a b s s' w k same here = absurd k
 broke_failed (faults.Write u) o line old new t a b s s' w (why, k, broke) same here = (same, broke.failed ∙ ap (λ n. n + 1) here)
 broke_failed (faults.OutOfMemory u) o line old new t a b s s' w (inl k) same here = (same, ap (λ (x : Written). x.failed) k.written ∙ here)

@@ -1,7 +1,6 @@
 pub mod Reports
 pub mod Runs
 pub mod Faults
-pub mod Stands
 pub mod Dumps
 pub mod Loading
 pub mod Folds

@@ -1,13 +1,16 @@
 -- What the records of a text leave of a directory: each is carried out in turn, and one that is refused changes nothing.
-use Rattle.std.specs.Prelude.{◌≡◌, ℕ, ◌+◌, Bool, true, false, not, List, [], ◌∷◌, ◌++◌, Result, Ok, Err, if◌then◌else◌}
+use Rattle.std.specs.Prelude.{◌≡◌, ℕ, ◌+◌, Bool, true, false, not, List, [], ◌∷◌, ◌++◌, map, Result, Ok, Err, if◌then◌else◌}
 use Rattle.std.specs.List.{fold, flat_map}
 use Rattle.std.specs.FinMap as finite
+use Rattle.ldif_lines.specs.Records as lines
+use Rattle.ldif_lines.specs.Records.{RawRecord}
 use Rattle.ldif.specs.declared.fault.LdifFaultKind.{LdifFaultKind}
 use Rattle.ldif.specs.declared.record.Record.{Record}
 use Rattle.ldif.specs.declared.record.Record.TheVariants as records
 use Rattle.ldif.specs.declared.record.Mode.{Mode}
 use Rattle.ldif.specs.declared.record.Mode.TheVariants.{Content}
-use Rattle.ldif.specs.Contents.{ContentRecord, readings, write_content}
+use Rattle.ldif.specs.Reading.{reading}
+use Rattle.ldif.specs.Contents.{ContentRecord, write_content}
 use Rattle.schema.specs.declared.code.Code.{Code}
 use Rattle.paths.specs.Paths.{Path}
 use Rattle.schema.specs.Conf.{Conf}
@@ -63,13 +66,21 @@ take_up go_on s line o = counted go_on s line o.0 o.1
 unfoldable pub step : Conf → Mode → Bool → State → ℕ × Result Record LdifFaultKind → State
 step conf mode go_on s r = if s.ended then s else take_up go_on s r.0 (outcome conf mode s.entries r.1)
 
--- of the first records of a text
+-- of records, by what was read of them
 unfoldable pub after_records : Conf → Mode → Bool → Entries → List (ℕ × Result Record LdifFaultKind) → State
 after_records conf mode go_on d rs = fold (step conf mode go_on) (start d) rs
 
--- of a whole text
+-- a record's line, and what it reads as
+abbrev pub read_as : Mode → RawRecord → ℕ × Result Record LdifFaultKind
+read_as mode r = (r.line, reading mode r.first r.lines)
+
+-- of records, one after the other
+abbrev pub state_after : Conf → Mode → Bool → Entries → List RawRecord → State
+state_after conf mode go_on d given = after_records conf mode go_on d (map (read_as mode) given)
+
+-- of the records of a text
 abbrev pub after : Conf → Mode → Bool → Entries → List ℕ → State
-after conf mode go_on d text = after_records conf mode go_on d (readings mode text)
+after conf mode go_on d text = state_after conf mode go_on d (lines.records text)
 
 -- ---- the dump
 
@@ -82,14 +93,18 @@ dump conf d = flat_map (λ x. write_content (record_of conf d x)) (finite.entrie
 
 -- ---- loading
 
--- a text of content records, from the directory with no entry
-abbrev pub loading : Conf → List ℕ → State
-loading conf text = after conf Content false finite.empty text
+-- content records, from a directory on
+abbrev pub loaded_after : Conf → Entries → List RawRecord → State
+loaded_after conf d given = state_after conf Content false d given
 
 -- no record is refused, and these are the entries
-pub record Loads (conf : Conf) (text : List ℕ) (d : Entries) : Type 0 where
-  pub entries : d ≡ (loading conf text).entries
-  pub all : (loading conf text).refused ≡ []
+pub record LoadsRecords (conf : Conf) (old : Entries) (given : List RawRecord) (d : Entries) : Type 0 where
+  pub entries : d ≡ (loaded_after conf old given).entries
+  pub all : (loaded_after conf old given).refused ≡ []
+
+-- a text of content records, from the directory with no entry
+abbrev pub Loads : Conf → List ℕ → Entries → Type 0
+Loads conf text d = LoadsRecords conf finite.empty (lines.records text) d
 
 -- the records of a dump leave the entries that were dumped, and none is refused
 abbrev pub LoadsBack : Conf → Entries → Type 0

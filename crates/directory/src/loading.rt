@@ -1,14 +1,17 @@
 //! Loading: a directory of the content records of a source.
 
-ghost use Rattle.std.specs.Prelude.{◌≡◌, ◌<◌, ◌-◌, ◌^◌, false, IfOk, IfErr, IfSome, OnOk};
+ghost use Rattle.std.specs.Prelude.{◌≡◌, ◌<◌, ◌-◌, ◌^◌, false, IfOk, IfErr, OnOk, option_map};
+ghost use Rattle.std.specs.FinMap as finite;
+ghost use Rattle.device.specs.Device.{GaveSome};
 ghost use Rattle.ldif.specs.declared.record.Mode.TheVariants.{Content};
 ghost use Rattle.ldif.specs.Reading.{reading};
-ghost use Rattle.ldif_lines.specs.Reader.{source_of, is_failed, records_left};
+ghost use Rattle.ldif_lines.specs.Records.{records};
+ghost use Rattle.ldif_lines.specs.Reader.{source_of, loan_of, is_failed, records_left};
 ghost use Rattle.ldif_lines.specs.View.{texts};
-ghost use Rattle.directory.specs.Runs.{outcome, Loads};
+ghost use Rattle.directory.specs.Runs.{outcome, LoadsRecords};
+ghost use Rattle.directory.specs.Folds.{Over};
 ghost use Rattle.directory.specs.Loading.{StopsAt, PullFailures};
-ghost use Rattle.directory.specs.inner.Loading.{IsLoaded, Explains, LoadsAll, LoadsUpTo};
-ghost use Rattle.directory.specs.Folds.{LoadsOver, StopsOver};
+ghost use Rattle.directory.specs.inner.Loading.{IsLoaded, Explains};
 
 use crate::applying::carry_out;
 use crate::directory::Directory;
@@ -61,12 +64,12 @@ fn load_rest<S: Source>(
     requires made { tree.old.conf ≡ conf.now }
     requires source { (S.seen (source_of reader.old)).failed < 2 ^ 64 - 1 }
     requires going { is_failed reader.old ≡ false }
-    ensures same_reference { reader.new.source.ghost_name ≡ reader.old.source.ghost_name }
+    ensures same_loan { loan_of reader.new ≡ loan_of reader.old }
     ensures same_conf { tree.new.conf ≡ tree.old.conf }
-    ensures loaded { OnOk result (LoadsAll tree.old.conf tree.old.entries tree.new.entries (records_left S.seen reader.old)) }
-    ensures stopped { IfErr result (λ f. LoadsUpTo f tree.old.conf tree.old.entries (records_left S.seen reader.old)) }
-    ensures pulls { OnOk result ((S.seen (source_of reader.new)).failed ≡ (S.seen (source_of reader.old)).failed) }
-    ensures failures { IfErr result (λ f. PullFailures f (S.seen (source_of reader.old)).failed (S.seen (source_of reader.new)).failed) }
+    ensures loads { OnOk result (Over (records_left S.seen reader.old) (λ given. LoadsRecords tree.old.conf tree.old.entries given tree.new.entries)) }
+    ensures stops { IfErr result (λ f. StopsAt f tree.old.conf tree.old.entries (records_left S.seen reader.old)) }
+    ensures failures { PullFailures result (S.seen (source_of reader.old)).failed (S.seen (source_of reader.new)).failed }
+    ensures gave { GaveSome (S.seen (source_of reader.old)) (S.seen (source_of reader.new)) }
 {
     'records: loop {
         match reader.next() {
@@ -86,12 +89,10 @@ fn load_rest<S: Source>(
 pub fn load_tree<S: Source>(alloc: Global, conf: &Conf, source: &mut S) -> Result<Tree, LoadFault>
     requires { (S.seen source.old).failed < 2 ^ 64 - 1 }
     ensures same_conf { IfOk result (λ t. t.conf ≡ conf.now) }
-    ensures fold { IfOk result (λ t. LoadsOver conf.now (S.seen source.old).left t.entries) }
-    ensures refused_fold { IfErr result (λ f. StopsOver f conf.now (S.seen source.old).left) }
-    ensures loads { IfOk result (λ t. IfSome (S.seen source.old).left (λ text. Loads conf.now text t.entries)) }
-    ensures stops { IfErr result (λ f. IfSome (S.seen source.old).left (λ text. StopsAt f conf.now text)) }
-    ensures pulls { OnOk result ((S.seen source.new).failed ≡ (S.seen source.old).failed) }
-    ensures failures { IfErr result (λ f. PullFailures f (S.seen source.old).failed (S.seen source.new).failed) }
+    ensures loads { IfOk result (λ t. Over (option_map records (S.seen source.old).left) (λ given. LoadsRecords conf.now finite.empty given t.entries)) }
+    ensures stops { IfErr result (λ f. StopsAt f conf.now finite.empty (option_map records (S.seen source.old).left)) }
+    ensures failures { PullFailures result (S.seen source.old).failed (S.seen source.new).failed }
+    ensures gave { GaveSome (S.seen source.old) (S.seen source.new) }
 {
     let mut tree = Tree::new(alloc, conf);
     let mut reader = Reader::new(alloc, source);
@@ -106,12 +107,10 @@ pub fn load_tree<S: Source>(alloc: Global, conf: &Conf, source: &mut S) -> Resul
 pub fn load<S: Source>(alloc: Global, conf: Conf, source: &mut S) -> Result<Directory, LoadFault>
     requires { (S.seen source.old).failed < 2 ^ 64 - 1 }
     ensures same_conf { IfOk result (λ d. d.conf ≡ conf) }
-    ensures fold { IfOk result (λ d. LoadsOver conf (S.seen source.old).left d.entries) }
-    ensures refused_fold { IfErr result (λ f. StopsOver f conf (S.seen source.old).left) }
-    ensures loads { IfOk result (λ d. IfSome (S.seen source.old).left (λ text. Loads conf text d.entries)) }
-    ensures stops { IfErr result (λ f. IfSome (S.seen source.old).left (λ text. StopsAt f conf text)) }
-    ensures pulls { OnOk result ((S.seen source.new).failed ≡ (S.seen source.old).failed) }
-    ensures failures { IfErr result (λ f. PullFailures f (S.seen source.old).failed (S.seen source.new).failed) }
+    ensures loads { IfOk result (λ d. Over (option_map records (S.seen source.old).left) (λ given. LoadsRecords conf finite.empty given d.entries)) }
+    ensures stops { IfErr result (λ f. StopsAt f conf finite.empty (option_map records (S.seen source.old).left)) }
+    ensures failures { PullFailures result (S.seen source.old).failed (S.seen source.new).failed }
+    ensures gave { GaveSome (S.seen source.old) (S.seen source.new) }
 {
     let tree = load_tree(alloc, &conf, source)?;
     match Directory::from_tree(alloc, conf, tree) {

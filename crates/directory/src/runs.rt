@@ -1,16 +1,16 @@
 //! Runs: the records of a source, carried out in turn, with a report of those that are refused.
 
-ghost use Rattle.std.specs.Prelude.{◌≡◌, ◌<◌, ◌≤◌, ◌+◌, ◌-◌, ◌^◌, ◌∷◌, [], false, IfOk, IfErr, IfSome, OnOk, OnErr, string_bytes, Err, ⊤};
-ghost use Rattle.device.specs.Device.{Took, Broke};
+ghost use Rattle.std.specs.Prelude.{◌≡◌, ◌<◌, ◌≤◌, ◌+◌, ◌-◌, ◌^◌, false, IfOk, IfErr, OnOk, Err, option_map};
+ghost use Rattle.device.specs.Device.{Took, Broke, GaveSome};
+ghost use Rattle.ldif_lines.specs.Records.{records};
 ghost use Rattle.ldif_lines.specs.View.{texts};
 ghost use Rattle.ldif.specs.Reading.{reading};
 ghost use Rattle.directory.specs.Runs.{outcome};
 ghost use Rattle.directory.specs.Reports.{report_line};
+ghost use Rattle.directory.specs.Faults.{Failures};
+ghost use Rattle.directory.specs.Folds.{Runs};
 ghost use Rattle.directory.specs.inner.Steps.{IsTaken, IsBrokenOff};
-ghost use Rattle.directory.specs.inner.Stands.{Ran, BrokeOff};
-ghost use Rattle.directory.specs.Faults.{Went, BrokenOff, Failures};
-ghost use Rattle.directory.specs.Folds.{RanOver, BrokeOver};
-ghost use Rattle.ldif_lines.specs.Reader.{source_of, is_failed, records_left, bytes_left};
+ghost use Rattle.ldif_lines.specs.Reader.{source_of, loan_of, is_failed, records_left, bytes_left};
 
 use crate::directory::Directory;
 use crate::reason::{Outcome, Reason, report_line};
@@ -105,13 +105,11 @@ fn run_rest<S: Source, W: Sink>(
     requires sink { (W.written sink.old).failed < 2 ^ 64 - 1 }
     requires going { is_failed reader.old ≡ false }
     requires bound { bytes_left S.seen reader.old ≤ 2 ^ 64 }
-    ensures same_reference { reader.new.source.ghost_name ≡ reader.old.source.ghost_name }
+    ensures same_loan { loan_of reader.new ≡ loan_of reader.old }
     ensures same_conf { dir.new.conf ≡ dir.old.conf }
-    ensures ran { IfOk result (λ t. Ran dir.old.conf mode go_on dir.old.entries dir.new.entries (records_left S.seen reader.old) t (W.written sink.old) (W.written sink.new)) }
-    ensures broke { IfErr result (λ f. BrokeOff dir.old.conf mode go_on dir.old.entries dir.new.entries (records_left S.seen reader.old) f (W.written sink.old) (W.written sink.new)) }
-    ensures pulls { OnOk result ((S.seen (source_of reader.new)).failed ≡ (S.seen (source_of reader.old)).failed) }
-    ensures pushes { OnOk result ((W.written sink.new).failed ≡ (W.written sink.old).failed) }
-    ensures failures { IfErr result (λ f. Failures f (S.seen (source_of reader.old)).failed (S.seen (source_of reader.new)).failed (W.written sink.old).failed (W.written sink.new).failed) }
+    ensures runs { Runs dir.old.conf mode go_on dir.old.entries dir.new.entries (records_left S.seen reader.old) result (W.written sink.old) (W.written sink.new) }
+    ensures failures { Failures result (S.seen (source_of reader.old)).failed (S.seen (source_of reader.new)).failed (W.written sink.old).failed (W.written sink.new).failed }
+    ensures gave { GaveSome (S.seen (source_of reader.old)) (S.seen (source_of reader.new)) }
 {
     let mut tally = Tally {
         accepted: 0,
@@ -147,13 +145,9 @@ pub fn run<S: Source, W: Sink>(
     requires source { (S.seen source.old).failed < 2 ^ 64 - 1 }
     requires sink { (W.written sink.old).failed < 2 ^ 64 - 1 }
     ensures same_conf { dir.new.conf ≡ dir.old.conf }
-    ensures fold { IfOk result (λ t. RanOver dir.old.conf mode go_on dir.old.entries dir.new.entries (S.seen source.old).left t (W.written sink.old) (W.written sink.new)) }
-    ensures broken_fold { IfErr result (λ f. BrokeOver dir.old.conf mode go_on dir.old.entries dir.new.entries (S.seen source.old).left f (W.written sink.old) (W.written sink.new)) }
-    ensures went { IfOk result (λ t. IfSome (S.seen source.old).left (λ text. Went dir.old.conf mode go_on dir.old.entries dir.new.entries text t (W.written sink.old) (W.written sink.new))) }
-    ensures broken { IfErr result (λ f. IfSome (S.seen source.old).left (λ text. BrokenOff dir.old.conf mode go_on dir.old.entries dir.new.entries text f (W.written sink.old) (W.written sink.new))) }
-    ensures pulls { OnOk result ((S.seen source.new).failed ≡ (S.seen source.old).failed) }
-    ensures pushes { OnOk result ((W.written sink.new).failed ≡ (W.written sink.old).failed) }
-    ensures failures { IfErr result (λ f. Failures f (S.seen source.old).failed (S.seen source.new).failed (W.written sink.old).failed (W.written sink.new).failed) }
+    ensures runs { Runs dir.old.conf mode go_on dir.old.entries dir.new.entries (option_map records (S.seen source.old).left) result (W.written sink.old) (W.written sink.new) }
+    ensures failures { Failures result (S.seen source.old).failed (S.seen source.new).failed (W.written sink.old).failed (W.written sink.new).failed }
+    ensures gave { GaveSome (S.seen source.old) (S.seen source.new) }
 {
     let mut reader = Reader::new(alloc, source);
     run_rest(alloc, dir, &mut reader, sink, mode, go_on)

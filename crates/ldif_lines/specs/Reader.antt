@@ -24,6 +24,10 @@ text_records t = records_from t.first (t.before + 1) (drop t.at t.bytes.items)
 abbrev pub source_of : {S : Type 0} {g : Ghosts S} → Reader S TextCursor g → S
 source_of r = r.source.now
 
+-- the name of the loan of the source: by it a caller knows the source again when the reader is dropped
+abbrev pub loan_of : {S : Type 0} {g : Ghosts S} → Reader S TextCursor g → ℕ
+loan_of r = r.source.ghost_name
+
 abbrev pub is_failed : {S : Type 0} {g : Ghosts S} → Reader S TextCursor g → Bool
 is_failed r = r.failed
 

@@ -1,6 +1,7 @@
 //! The records of a source, one a call.
 
 ghost use Rattle.std.specs.Prelude.{◌≡◌, ◌<◌, ◌≤◌, ◌+◌, ◌-◌, ◌^◌, ◌∷◌, ◌↔◌, [], true, false, length, IfOk, OnOk, OnErr, IfSome, Ok, Err, None, option_map};
+ghost use Rattle.device.specs.Device.{GaveSome};
 ghost use Rattle.ldif_lines.specs.Records.{records};
 ghost use Rattle.ldif_lines.specs.View.{view};
 
@@ -27,6 +28,7 @@ pub enum ReadFault {
 }
 
 /// All bytes of a source.
+#[tactic(auto, using(device::proofs::Pulls::gave_then, device::proofs::Pulls::gave_then_failed))]
 fn pull_all<S: Source>(alloc: Global, source: &mut S) -> Result<Vec<u8>, ReadFault>
     requires { (S.seen source.old).failed < 2 ^ 64 - 1 }
     ensures bytes { IfOk result (λ v. IfSome (S.seen source.old).left (λ bs. v.items ≡ bs)) }
@@ -36,6 +38,7 @@ fn pull_all<S: Source>(alloc: Global, source: &mut S) -> Result<Vec<u8>, ReadFau
     ensures counted { IfOk result (λ v. (S.seen source.new).pulled ≡ (S.seen source.old).pulled + length v.items) }
     ensures fits { OnOk result ((S.seen source.new).pulled < 2 ^ 64) }
     ensures never { result ≡ Err ReadFault.Failed → ⊥ }
+    ensures gave { GaveSome (S.seen source.old) (S.seen source.new) }
 {
     let mut bytes = Vec::new(alloc);
     let mut piece = [0; PIECE];
@@ -83,12 +86,12 @@ impl<S: Source, T: Drop> Drop for Reader<'_, S, T> {
 }
 
 impl<'a, S: Source> Reader<'a, S> {
-    ghost use Rattle.ldif_lines.specs.Reader.{Takes, IsEnd, source_of, is_failed, records_left, bytes_left};
+    ghost use Rattle.ldif_lines.specs.Reader.{Takes, IsEnd, source_of, loan_of, is_failed, records_left, bytes_left};
 
     /// A reader of the records of what is left of `source`.
     #[tactic(auto, unfolding(crate::specs::Reader::records_left, crate::specs::Reader::bytes_left))]
     pub fn new(alloc: Global, source: &'a mut S) -> Reader<'a, S>
-        ensures same_reference { result.source.ghost_name ≡ source.entry.ghost_name }
+        ensures same_loan { loan_of result ≡ source.entry.ghost_name }
         ensures source { source_of result ≡ source.old }
         ensures records { records_left S.seen result ≡ option_map records (S.seen source.old).left }
         ensures fresh { is_failed result ≡ false }
@@ -110,7 +113,7 @@ impl<'a, S: Source> Reader<'a, S> {
     #[tactic(auto, unfolding(crate::specs::Reader::records_left, crate::specs::Reader::bytes_left))]
     pub fn next(&mut self) -> Result<Option<RawRecord>, ReadFault>
         requires { (S.seen (source_of self.old)).failed < 2 ^ 64 - 1 }
-        ensures same_reference { self.new.source.ghost_name ≡ self.old.source.ghost_name }
+        ensures same_loan { loan_of self.new ≡ loan_of self.old }
         ensures record { IfOk result (λ o. IfSome o (λ r. Takes (records_left S.seen self.old) (records_left S.seen self.new) (view r ∷ []))) }
         ensures end { result ≡ Ok None → IsEnd (records_left S.seen self.old) × IsEnd (records_left S.seen self.new) }
         ensures falls { IfOk result (λ o. IfSome o (λ _. bytes_left S.seen self.new < bytes_left S.seen self.old)) }
@@ -119,7 +122,8 @@ impl<'a, S: Source> Reader<'a, S> {
         ensures device { result ≡ Err ReadFault.Device → (S.seen (source_of self.new)).failed ≡ (S.seen (source_of self.old)).failed + 1 }
         ensures memory { result ≡ Err ReadFault.OutOfMemory → (S.seen (source_of self.new)).failed ≡ (S.seen (source_of self.old)).failed }
         ensures failed { (result ≡ Err ReadFault.Failed) ↔ (is_failed self.old ≡ true) }
-        ensures untouched { result ≡ Err ReadFault.Failed → (S.seen (source_of self.new)).failed ≡ (S.seen (source_of self.old)).failed }
+        ensures untouched { result ≡ Err ReadFault.Failed → source_of self.new ≡ source_of self.old }
+        ensures gave { GaveSome (S.seen (source_of self.old)) (S.seen (source_of self.new)) }
         ensures for_good { OnErr result (is_failed self.new ≡ true) }
         ensures still_good { OnOk result (is_failed self.new ≡ false) }
     {
@@ -150,7 +154,7 @@ impl<'a, S: Source> Reader<'a, S> {
     /// Takes back a record that was read, so that a later one can use its memory.
     #[tactic(auto, unfolding(crate::specs::Reader::records_left, crate::specs::Reader::bytes_left))]
     pub fn reuse(&mut self, record: RawRecord)
-        ensures same_reference { self.new.source.ghost_name ≡ self.old.source.ghost_name }
+        ensures same_loan { loan_of self.new ≡ loan_of self.old }
         ensures source { source_of self.new ≡ source_of self.old }
         ensures records { records_left S.seen self.new ≡ records_left S.seen self.old }
         ensures bytes { bytes_left S.seen self.new ≡ bytes_left S.seen self.old }

@@ -1,8 +1,9 @@
 //! The records of a text.
 
-ghost use Rattle.std.specs.Prelude.{◌≡◌, ◌<◌, ◌≤◌, ◌+◌, ◌-◌, ◌^◌, ◌∷◌, [], true, false, length, drop, IfOk, IfSome, MatchOption};
+ghost use Rattle.std.specs.Prelude.{◌≡◌, ◌<◌, ◌≤◌, ◌+◌, ◌-◌, ◌^◌, ◌∷◌, ◌&&◌, ◌⊎◌, nat_le, nat_lt, [], true, false, length, drop, IfOk, IfSome, MatchOption};
 ghost use Rattle.ldif_lines.specs.Records.{records_from};
 ghost use Rattle.ldif_lines.specs.View.{view, texts};
+ghost use Rattle.ldif_lines.specs.declared.text.TheConstants.{MANY};
 
 use crate::draft::RecordDraft;
 use crate::line::split_line;
@@ -109,7 +110,9 @@ impl TextCursor {
     }
 
     /// Whether more was read than is left, and much.
-    fn is_mostly_read(&self) -> bool {
+    fn is_mostly_read(&self) -> bool
+        ensures { result ≡ (nat_le MANY self.now.at && nat_lt (length self.now.bytes.items - self.now.at) self.now.at) }
+    {
         self.at >= MANY && self.at > self.bytes.len() - self.at
     }
 
@@ -117,6 +120,7 @@ impl TextCursor {
     fn give_back(&mut self)
         ensures records { text_records self.new ≡ text_records self.old }
         ensures left { length self.new.bytes.items - self.new.at ≡ length self.old.bytes.items - self.old.at }
+        ensures little { (self.new.at < MANY) ⊎ (self.new.at ≤ length self.new.bytes.items - self.new.at) }
     {
         if !self.is_mostly_read() {
             return;

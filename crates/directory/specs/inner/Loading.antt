@@ -1,7 +1,7 @@
 -- What loading comes to.
 use Rattle.std.specs.Prelude.{◌≡◌, ℕ, Bool, true, false, List, [], ◌∷◌, ⊤, Option}
 use Rattle.ldif_lines.specs.Records.{RawRecord}
-use Rattle.ldif_lines.specs.Reader.{Takes, IsEnd}
+use Rattle.ldif_lines.specs.Reader.{Takes}
 use Rattle.schema.specs.Conf.{Conf}
 use Rattle.tree.specs.Directories.{Entries}
 use Rattle.directory.specs.declared.loading.LoadFault.{LoadFault}
@@ -9,7 +9,7 @@ use Rattle.directory.specs.declared.loading.LoadFault.TheVariants as faults
 use Rattle.directory.specs.declared.reason.Reason.{Reason}
 use Rattle.directory.specs.declared.reason.Outcome.{Outcome}
 use Rattle.directory.specs.declared.reason.Outcome.TheVariants.{Nothing, Accepted, Refused}
-use Rattle.directory.specs.Loading.{loaded_after}
+use Rattle.directory.specs.Runs.{loaded_after}
 
 abbrev pub is_refused : Outcome → Bool
 is_refused Nothing = false
@@ -32,20 +32,3 @@ pub record IsUnderWay (conf : Conf) (old now : Entries) (all left : Option (List
   pub entries : now ≡ (loaded_after conf old front).entries
   pub refused : (loaded_after conf old front).refused ≡ []
   pub going : (loaded_after conf old front).ended ≡ false
-
-pub record LoadsAll (conf : Conf) (old now : Entries) (all : Option (List RawRecord)) : Type 0 where
-  pub left : Option (List RawRecord)
-  pub under_way : IsUnderWay conf old now all left
-  pub over : IsEnd left
-
-pub record RefusesNext (conf : Conf) (old : Entries) (all : Option (List RawRecord)) (line : ℕ) (why : Reason) : Type 0 where
-  pub front : List RawRecord
-  pub left : Option (List RawRecord)
-  pub parts : Takes all left front
-  pub refused : (loaded_after conf old front).refused ≡ (line, why) ∷ []
-  pub ended : (loaded_after conf old front).ended ≡ true
-
-abbrev pub LoadsUpTo : LoadFault → Conf → Entries → Option (List RawRecord) → Type 0
-LoadsUpTo faults.Read conf old all = ⊤
-LoadsUpTo faults.OutOfMemory conf old all = ⊤
-LoadsUpTo (faults.Refused line why) conf old all = RefusesNext conf old all line why

@@ -1,16 +1,14 @@
--- Where a run stands between two records, and where it ends.
-use Rattle.std.specs.Prelude.{◌≡◌, ◌⊎◌, Bool, true, false, List, length, Option}
+-- Where a run stands between two records.
+use Rattle.std.specs.Prelude.{◌≡◌, Bool, false, List, length, Option}
 use Rattle.device.specs.Device.{Written, Took}
 use Rattle.ldif_lines.specs.Records.{RawRecord}
-use Rattle.ldif_lines.specs.Reader.{Takes, IsEnd}
+use Rattle.ldif_lines.specs.Reader.{Takes}
 use Rattle.ldif.specs.declared.record.Mode.{Mode}
 use Rattle.schema.specs.Conf.{Conf}
 use Rattle.tree.specs.Directories.{Entries}
 use Rattle.directory.specs.Reports.{report}
-use Rattle.directory.specs.Faults.{WrittenAt, tally_of}
 use Rattle.directory.specs.declared.runs.Tally.{Tally}
-use Rattle.directory.specs.declared.runs.RunFault.{RunFault}
-use Rattle.directory.specs.Stands.{state_after}
+use Rattle.directory.specs.Runs.{state_after}
 
 -- these records were carried out, and the entries and the counts are those that they leave
 pub record IsReached (conf : Conf) (mode : Mode) (go_on : Bool) (old now : Entries) (all left : Option (List RawRecord)) (t : Tally) (front : List RawRecord) : Type 0 where
@@ -24,18 +22,3 @@ pub record Stands (conf : Conf) (mode : Mode) (go_on : Bool) (old now : Entries)
   pub reached : IsReached conf mode go_on old now all left t front
   pub going : (state_after conf mode go_on old front).ended ≡ false
   pub written : Took a b (report (state_after conf mode go_on old front).refused)
-
--- all records were carried out, or those up to the one that ended the run
-pub record Ran (conf : Conf) (mode : Mode) (go_on : Bool) (old now : Entries) (all : Option (List RawRecord)) (t : Tally) (a b : Written) : Type 0 where
-  pub front : List RawRecord
-  pub left : Option (List RawRecord)
-  pub reached : IsReached conf mode go_on old now all left t front
-  pub over : IsEnd left ⊎ ((state_after conf mode go_on old front).ended ≡ true)
-  pub written : Took a b (report (state_after conf mode go_on old front).refused)
-
--- some were, and then something failed
-pub record BrokeOff (conf : Conf) (mode : Mode) (go_on : Bool) (old now : Entries) (all : Option (List RawRecord)) (f : RunFault) (a b : Written) : Type 0 where
-  pub front : List RawRecord
-  pub left : Option (List RawRecord)
-  pub reached : IsReached conf mode go_on old now all left (tally_of f) front
-  pub written : WrittenAt f (state_after conf mode go_on old front).refused a b

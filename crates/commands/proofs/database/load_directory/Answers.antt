@@ -11,4 +11,4 @@ returns-in_default-clause-loaded g c =
 pub returns-in-Ok-clause-loaded : goal.returns-in-Ok-clause-loaded
 returns-in-Ok-clause-loaded g c =
     some_there _ _ _ _ _ _ c.in_ok-conf.ensures.ok c.in-Ok.ensures.same_conf (c.as_str.ensures.value ∙ c.in_ok-name.ensures)
-    _ (opened_so _ _ _ _ _ c.in_ok-source.ensures.finds c.in-Some.is) c.in-Ok.ensures.fold c.in-Ok.ensures.loads
+    _ (opened_so _ _ _ _ _ c.in_ok-source.ensures.finds c.in-Some.is) c.in-Ok.ensures.loads

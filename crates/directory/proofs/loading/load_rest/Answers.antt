@@ -1,9 +1,11 @@
-use Rattle.std.proofs.Common.{IfSome, [], ◌∷◌, refl, ◌∙◌, ap, subst}
+use Rattle.std.proofs.Common.{IfSome, [], ◌∷◌, refl, sym, ◌∙◌, ap, subst, rules}
 use Rattle.std.proofs.lemmas.Result.{err_from_is_err_and}
+use Rattle.device.specs.Device.{GaveSome}
+use Rattle.device.proofs.Pulls.{gave_none, gave_more}
 use Rattle.ldif.specs.declared.record.Mode.TheVariants.{Content}
 use Rattle.ldif.specs.Reading.{reading}
 use Rattle.ldif_lines.specs.View.{view, texts}
-use Rattle.ldif_lines.specs.Reader.{Takes, records_left}
+use Rattle.ldif_lines.specs.Reader.{Takes, source_of, records_left}
 use Rattle.schema.specs.Conf.{Conf}
 use Rattle.directory.specs.Runs.{outcome}
 use Rattle.directory.specs.inner.Loading.{IsLoaded, Explains}
@@ -14,14 +16,15 @@ pub records-init : goal.records-init
 records-init g c = record {
   source_failures = refl;
   going = c.requires.going;
-  same_reference = refl;
+  same_loan = refl;
+  gave = gave_none _;
   conf = refl;
   under_way = begins c.args.tree.now.conf c.args.tree.now.entries (records_left g.S.Source.seen c.args.reader.now);
 }
 
-pub returns-in_err-load_record-in-Ok-Some-clause-stopped :
-    goal.returns-in_err-load_record-in-Ok-Some-clause-stopped
-returns-in_err-load_record-in-Ok-Some-clause-stopped g c =
+pub returns-in_err-load_record-in-Ok-Some-clause-stops :
+    goal.returns-in_err-load_record-in-Ok-Some-clause-stops
+returns-in_err-load_record-in-Ok-Some-clause-stops g c =
     let p = err_from_is_err_and c.from_residual.result c.from_residual.ensures.1 in
     rw (p.1, p.2) (stops c.args.tree.now.conf c.args.tree.now.entries c.records.tree.entries c.load_record.new.tree.entries
     (records_left g.S.Source.seen c.args.reader.now) (records_left g.S.Source.seen c.records.reader) (records_left g.S.Source.seen c.next.new.self)
@@ -34,11 +37,31 @@ pub records-preserved : goal.records-preserved
 records-preserved g c = record {
   source_failures = ap (λ s. (g.S.Source.seen s).failed) c.reuse.ensures.source ∙ c.in-Ok-Some.ensures.going ∙ c.records.invariant.source_failures;
   going = c.reuse.ensures.failed ∙ c.in-Ok-Some.ensures.still_good;
-  same_reference = c.reuse.ensures.same_reference ∙ c.in-Ok-Some.ensures.same_reference ∙ c.records.invariant.same_reference;
+  same_loan = c.reuse.ensures.same_loan ∙ c.in-Ok-Some.ensures.same_loan ∙ c.records.invariant.same_loan;
+  gave = subst (λ s. GaveSome (g.S.Source.seen (source_of c.args.reader.now)) (g.S.Source.seen s)) (sym c.reuse.ensures.source) (gave_more _ _ _ c.records.invariant.gave c.in-Ok-Some.ensures.gave);
   conf = c.in_ok-load_record-in-Ok-Some.ensures.same_conf ∙ c.records.invariant.conf;
   under_way = rw c.reuse.ensures.records (goes_on c.args.tree.now.conf c.args.tree.now.entries c.records.tree.entries c.load_record.new.tree.entries
       (records_left g.S.Source.seen c.args.reader.now) (records_left g.S.Source.seen c.records.reader) (records_left g.S.Source.seen c.next.new.self)
       (view c.in-Ok-Some.raw) c.records.invariant.under_way
       (subst (λ o. IfSome o (λ r. Takes (records_left g.S.Source.seen c.records.reader) (records_left g.S.Source.seen c.next.new.self) (view r ∷ []))) c.in-Ok-Some.field-0-is c.in-Ok-Some.ensures.record)
       (subst (λ (conf : Conf). IsLoaded (outcome conf Content c.records.tree.entries (reading Content c.in-Ok-Some.raw.first (texts c.in-Ok-Some.raw.lines.items))) c.load_record.new.tree.entries) c.records.invariant.conf c.in_ok-load_record-in-Ok-Some.ensures.loaded));
+}
+
+pub returns-in_err-load_record-in-Ok-Some-clause-gave : goal.returns-in_err-load_record-in-Ok-Some-clause-gave
+returns-in_err-load_record-in-Ok-Some-clause-gave g c = gave_more _ _ _ c.records.invariant.gave c.in-Ok-Some.ensures.gave
+
+pub returns-in-Ok-None-clause-gave : goal.returns-in-Ok-None-clause-gave
+returns-in-Ok-None-clause-gave g c = gave_more _ _ _ c.records.invariant.gave c.in-Ok-None.ensures.gave
+
+pub returns-in-Err-OutOfMemory-clause-gave : goal.returns-in-Err-OutOfMemory-clause-gave
+returns-in-Err-OutOfMemory-clause-gave g c = gave_more _ _ _ c.records.invariant.gave c.in-Err-OutOfMemory.ensures.gave
+
+pub returns-in-Err : goal.returns-in-Err
+returns-in-Err g c = record {
+  same_loan = c.in-Err.ensures.same_loan ∙ c.records.invariant.same_loan;
+  same_conf = c.records.invariant.conf;
+  loads = tt;
+  stops = tt;
+  failures = search rules;
+  gave = gave_more _ _ _ c.records.invariant.gave c.in-Err.ensures.gave;
 }

@@ -1,26 +1,26 @@
-use Rattle.std.proofs.Common.{subst}
+use Rattle.std.proofs.Common.{◌≡◌, List, Option, subst}
 use Rattle.std.specs.FinMap as finite
+use Rattle.ldif_lines.specs.Records.{RawRecord}
 use Rattle.ldif_lines.specs.Reader.{records_left}
 use Rattle.schema.specs.Conf.{Conf}
 use Rattle.tree.specs.Directories.{Entries}
-use Rattle.directory.specs.inner.Loading.{LoadsAll, LoadsUpTo}
-use Rattle.directory.proofs.LoadSteps.{loads_over, stops_over, loads_of, stops_of}
+use Rattle.directory.specs.Runs.{LoadsRecords}
+use Rattle.directory.specs.Folds.{Over}
+use Rattle.directory.specs.Loading.{StopsAt}
+use Rattle.directory.specs.declared.loading.LoadFault.{LoadFault}
 use Rattle.directory.proofs.loading.load_tree.Goals as goal
 
-pub returns-in-Ok-clause-fold : goal.returns-in-Ok-clause-fold
-returns-in-Ok-clause-fold g c =
-    loads_over c.args.conf.now (g.S.Source.seen c.args.source.now).left (records_left g.S.Source.seen c.new-reader.result) c.new-reader.ensures.records c.load_rest.new.tree.entries
-    (subst (λ (conf : Conf). LoadsAll conf finite.empty c.load_rest.new.tree.entries (records_left g.S.Source.seen c.new-reader.result)) c.new-tree.ensures.same_conf
-    (subst (λ (d : Entries). LoadsAll c.new-tree.result.conf d c.load_rest.new.tree.entries (records_left g.S.Source.seen c.new-reader.result)) c.new-tree.ensures.empty c.in-Ok.ensures.loaded))
+-- from the empty tree of this configuration, of the records of this source
+loads : (conf conf' : Conf) (old new : Entries) (all all' : Option (List RawRecord)) → conf' ≡ conf → old ≡ finite.empty → all ≡ all' → Over all (λ given. LoadsRecords conf' old given new) → Over all' (λ given. LoadsRecords conf finite.empty given new)
+loads conf conf' old new all all' is empty same h = subst (λ (c : Conf). Over all' (λ given. LoadsRecords c finite.empty given new)) is (subst (λ (d : Entries). Over all' (λ given. LoadsRecords conf' d given new)) empty (subst (λ o. Over o (λ given. LoadsRecords conf' old given new)) same h))
 
-pub returns-in-Err-clause-refused_fold : goal.returns-in-Err-clause-refused_fold
-returns-in-Err-clause-refused_fold g c =
-    stops_over c.args.conf.now (g.S.Source.seen c.args.source.now).left (records_left g.S.Source.seen c.new-reader.result) c.new-reader.ensures.records c.in-Err.fault
-    (subst (λ (conf : Conf). LoadsUpTo c.in-Err.fault conf finite.empty (records_left g.S.Source.seen c.new-reader.result)) c.new-tree.ensures.same_conf
-    (subst (λ (d : Entries). LoadsUpTo c.in-Err.fault c.new-tree.result.conf d (records_left g.S.Source.seen c.new-reader.result)) c.new-tree.ensures.empty c.in-Err.ensures.stopped))
+stops : (f : LoadFault) (conf conf' : Conf) (old : Entries) (all all' : Option (List RawRecord)) → conf' ≡ conf → old ≡ finite.empty → all ≡ all' → StopsAt f conf' old all → StopsAt f conf finite.empty all'
+stops f conf conf' old all all' is empty same h = subst (λ (c : Conf). StopsAt f c finite.empty all') is (subst (λ (d : Entries). StopsAt f conf' d all') empty (subst (StopsAt f conf' old) same h))
 
 pub returns-in-Ok-clause-loads : goal.returns-in-Ok-clause-loads
-returns-in-Ok-clause-loads g c = loads_of c.args.conf.now (g.S.Source.seen c.args.source.now).left c.load_rest.new.tree.entries (returns-in-Ok-clause-fold g c)
+returns-in-Ok-clause-loads g c =
+    loads c.args.conf.now c.new-tree.result.conf c.new-tree.result.entries c.load_rest.new.tree.entries (records_left g.S.Source.seen c.new-reader.result) _ c.new-tree.ensures.same_conf c.new-tree.ensures.empty c.new-reader.ensures.records c.in-Ok.ensures.loads
 
 pub returns-in-Err-clause-stops : goal.returns-in-Err-clause-stops
-returns-in-Err-clause-stops g c = stops_of c.args.conf.now (g.S.Source.seen c.args.source.now).left c.in-Err.fault (returns-in-Err-clause-refused_fold g c)
+returns-in-Err-clause-stops g c =
+    stops c.in-Err.fault c.args.conf.now c.new-tree.result.conf c.new-tree.result.entries (records_left g.S.Source.seen c.new-reader.result) _ c.new-tree.ensures.same_conf c.new-tree.ensures.empty c.new-reader.ensures.records c.in-Err.ensures.stops

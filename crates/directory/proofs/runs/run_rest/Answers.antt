@@ -1,11 +1,13 @@
-use Rattle.std.proofs.Common.{IfSome, [], ◌∷◌, ◌<◌, refl, ◌∙◌, ap, subst, arith}
+use Rattle.std.proofs.Common.{IfSome, [], ◌∷◌, ◌<◌, refl, sym, ◌∙◌, ap, subst, arith, rules}
 use Rattle.std.proofs.lemmas.Result.{err_from_is_err_and}
+use Rattle.device.specs.Device.{GaveSome}
+use Rattle.device.proofs.Pulls.{gave_none, gave_more}
 use Rattle.ldif_lines.specs.View.{view, texts}
 use Rattle.ldif.specs.Reading.{reading}
-use Rattle.ldif_lines.specs.Reader.{Takes, records_left, bytes_left}
+use Rattle.ldif_lines.specs.Reader.{Takes, source_of, records_left, bytes_left}
 use Rattle.directory.specs.Runs.{outcome}
 use Rattle.directory.specs.inner.Steps.{counts_after}
-use Rattle.directory.proofs.Records.{begins, goes_on, ends_there, breaks_off, counts_few}
+use Rattle.directory.proofs.Records.{begins, goes_on, ends_there, breaks_off, stops_reading, stops_wanting, counts_few}
 use Rattle.directory.proofs.runs.run_rest.Goals as goal
 
 pub records-init : goal.records-init
@@ -13,15 +15,16 @@ records-init g c = record {
   source_failures = refl;
   sink_failures = refl;
   going = c.requires.going;
-  same_reference = refl;
+  same_loan = refl;
+  gave = gave_none _;
   conf = refl;
   stands = begins c.args.dir.now.conf c.args.mode c.args.go_on c.args.dir.now.entries (records_left g.S.Source.seen c.args.reader.now) (g.W.Sink.written c.args.sink.now);
   few = let few = c.requires.bound in omega (arith, few);
 }
 
-pub returns-in_err-take_record-in-Ok-Some-clause-broke :
-    goal.returns-in_err-take_record-in-Ok-Some-clause-broke
-returns-in_err-take_record-in-Ok-Some-clause-broke g c =
+pub returns-in_err-take_record-in-Ok-Some-clause-runs :
+    goal.returns-in_err-take_record-in-Ok-Some-clause-runs
+returns-in_err-take_record-in-Ok-Some-clause-runs g c =
     let p = err_from_is_err_and c.from_residual.result c.from_residual.ensures.1 in
     rw (p.1, p.2) (breaks_off c.args.dir.now.conf c.args.mode c.args.go_on c.args.dir.now.entries
     c.records.dir.entries c.take_record.new.dir.entries
@@ -32,8 +35,8 @@ returns-in_err-take_record-in-Ok-Some-clause-broke g c =
     c.in_err-take_record-in-Ok-Some.field-0.0
     (subst (λ r. Rattle.directory.specs.inner.Steps.IsBrokenOff (outcome r c.args.mode c.records.dir.entries (reading c.args.mode c.in-Ok-Some.raw.first (texts c.in-Ok-Some.raw.lines.items))) c.in-Ok-Some.raw.line c.records.dir.entries c.take_record.new.dir.entries c.records.tally (g.W.Sink.written c.records.sink) (g.W.Sink.written c.take_record.new.sink) c.in_err-take_record-in-Ok-Some.field-0.0) c.records.invariant.conf c.in_err-take_record-in-Ok-Some.ensures.broken))
 
-pub returns-then-branch-clause-ran : goal.returns-then-branch-clause-ran
-returns-then-branch-clause-ran g c =
+pub returns-then-branch-clause-runs : goal.returns-then-branch-clause-runs
+returns-then-branch-clause-runs g c =
     ends_there c.args.dir.now.conf c.args.mode c.args.go_on c.args.dir.now.entries
     c.records.dir.entries c.take_record.new.dir.entries
     (records_left g.S.Source.seen c.args.reader.now) (records_left g.S.Source.seen c.records.reader) (records_left g.S.Source.seen c.next.new.self)
@@ -49,7 +52,8 @@ records-preserved g c = record {
   source_failures = ap (λ s. (g.S.Source.seen s).failed) c.reuse.ensures.source ∙ c.in-Ok-Some.ensures.going ∙ c.records.invariant.source_failures;
   sink_failures = c.in_ok-take_record-in-Ok-Some.ensures.taken.written.failed ∙ c.records.invariant.sink_failures;
   going = c.reuse.ensures.failed ∙ c.in-Ok-Some.ensures.still_good;
-  same_reference = c.reuse.ensures.same_reference ∙ c.in-Ok-Some.ensures.same_reference ∙ c.records.invariant.same_reference;
+  same_loan = c.reuse.ensures.same_loan ∙ c.in-Ok-Some.ensures.same_loan ∙ c.records.invariant.same_loan;
+  gave = subst (λ s. GaveSome (g.S.Source.seen (source_of c.args.reader.now)) (g.S.Source.seen s)) (sym c.reuse.ensures.source) (gave_more _ _ _ c.records.invariant.gave c.in-Ok-Some.ensures.gave);
   conf = c.in_ok-take_record-in-Ok-Some.ensures.same_conf ∙ c.records.invariant.conf;
   stands = rw c.reuse.ensures.records (goes_on c.args.dir.now.conf c.args.mode c.args.go_on c.args.dir.now.entries
       c.records.dir.entries c.take_record.new.dir.entries
@@ -68,4 +72,29 @@ records-preserved g c = record {
       let same = c.reuse.ensures.bytes in
       let few = c.records.invariant.few in
       omega (arith, one, accepted, refused, falls, same, few);
+}
+
+pub returns-in_err-take_record-in-Ok-Some-clause-gave : goal.returns-in_err-take_record-in-Ok-Some-clause-gave
+returns-in_err-take_record-in-Ok-Some-clause-gave g c = gave_more _ _ _ c.records.invariant.gave c.in-Ok-Some.ensures.gave
+
+pub returns-then-branch-clause-gave : goal.returns-then-branch-clause-gave
+returns-then-branch-clause-gave g c = gave_more _ _ _ c.records.invariant.gave c.in-Ok-Some.ensures.gave
+
+pub returns-in-Ok-None-clause-gave : goal.returns-in-Ok-None-clause-gave
+returns-in-Ok-None-clause-gave g c = gave_more _ _ _ c.records.invariant.gave c.in-Ok-None.ensures.gave
+
+pub returns-in-Err-OutOfMemory-clause-gave : goal.returns-in-Err-OutOfMemory-clause-gave
+returns-in-Err-OutOfMemory-clause-gave g c = gave_more _ _ _ c.records.invariant.gave c.in-Err-OutOfMemory.ensures.gave
+
+pub returns-in-Err-OutOfMemory-clause-runs : goal.returns-in-Err-OutOfMemory-clause-runs
+returns-in-Err-OutOfMemory-clause-runs g c =
+    stops_wanting c.args.dir.now.conf c.args.mode c.args.go_on c.args.dir.now.entries c.records.dir.entries (records_left g.S.Source.seen c.args.reader.now) (records_left g.S.Source.seen c.records.reader) c.records.tally (g.W.Sink.written c.args.sink.now) (g.W.Sink.written c.records.sink) c.records.invariant.stands
+
+pub returns-in-Err : goal.returns-in-Err
+returns-in-Err g c = record {
+  same_loan = c.in-Err.ensures.same_loan ∙ c.records.invariant.same_loan;
+  same_conf = c.records.invariant.conf;
+  runs = stops_reading c.args.dir.now.conf c.args.mode c.args.go_on c.args.dir.now.entries c.records.dir.entries (records_left g.S.Source.seen c.args.reader.now) (records_left g.S.Source.seen c.records.reader) c.records.tally (g.W.Sink.written c.args.sink.now) (g.W.Sink.written c.records.sink) c.records.invariant.stands;
+  failures = search rules;
+  gave = gave_more _ _ _ c.records.invariant.gave c.in-Err.ensures.gave;
 }

@@ -1,5 +1,6 @@
 use Rattle.std.proofs.Common.{◌≡◌, ◌+◌, ◌^◌, ◌≤◌, false}
-use Rattle.ldif_lines.specs.Reader.{source_of, is_failed, records_left, bytes_left}
+use Rattle.device.specs.Device.{GaveSome}
+use Rattle.ldif_lines.specs.Reader.{source_of, loan_of, is_failed, records_left, bytes_left}
 use Rattle.directory.specs.inner.Stands.{Stands}
 use Rattle.directory.proofs.runs.run_rest.Given as goal
 
@@ -8,7 +9,8 @@ invariant-records g l = record {
   source_failures : (g.S.Source.seen (source_of l.reader)).failed ≡ (g.S.Source.seen (source_of l.fn.reader)).failed;
   sink_failures : (g.W.Sink.written l.sink).failed ≡ (g.W.Sink.written l.fn.sink).failed;
   going : is_failed l.reader ≡ false;
-  same_reference : l.reader.source.ghost_name ≡ l.fn.reader.source.ghost_name;
+  same_loan : loan_of l.reader ≡ loan_of l.fn.reader;
+  gave : GaveSome (g.S.Source.seen (source_of l.fn.reader)) (g.S.Source.seen (source_of l.reader));
   conf : l.dir.conf ≡ l.fn.dir.conf;
   stands : Stands l.fn.dir.conf l.mode l.go_on l.fn.dir.entries l.dir.entries (records_left g.S.Source.seen l.fn.reader) (records_left g.S.Source.seen l.reader) l.tally (g.W.Sink.written l.fn.sink) (g.W.Sink.written l.sink);
   few : l.tally.accepted + l.tally.refused + bytes_left g.S.Source.seen l.reader ≤ 2 ^ 64;
