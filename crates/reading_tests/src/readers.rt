@@ -1,9 +1,9 @@
 //! Records of a source that fails.
 
 ghost use Rattle.std.specs.Prelude.{◌≡◌};
-ghost use Rattle.ldif_lines.specs.Reader.{source_of};
+ghost use Rattle.ldif_lines.specs.Reader.{source_of, loan_of};
 
-use device::{Source, TrySource};
+use device::{Device, Source, TrySource};
 use ldif::{ReadFault, Reader};
 use std::alloc::{AllocError, Global};
 use std::test::Fail;
@@ -11,7 +11,7 @@ use std::test::Fail;
 /// What a reader answers, until three calls after its first end or fault: `record` for each record, and its faults.
 fn answers<S: Source>(alloc: Global, reader: &mut Reader<'_, S>) -> Result<Vec<u8>, AllocError>
     requires { (S.seen (source_of reader.old)).failed ≡ 0 }
-    ensures { reader.new.source.ghost_name ≡ reader.old.source.ghost_name }
+    ensures { loan_of reader.new ≡ loan_of reader.old }
 {
     let mut out = Vec::new(alloc);
     let mut ended = 0u32;
@@ -22,9 +22,11 @@ fn answers<S: Source>(alloc: Global, reader: &mut Reader<'_, S>) -> Result<Vec<u
                 continue;
             }
             Ok(None) => {}
-            Err(ReadFault::Device) => out.extend_from_slice(b"device;")?,
             Err(ReadFault::OutOfMemory) => return Err(AllocError),
-            Err(ReadFault::Failed) => out.extend_from_slice(b"failed;")?,
+            Err(fault) => {
+                let text = format!(in alloc; "{fault};")?;
+                out.extend_from_slice(text.as_bytes())?;
+            }
         }
         if ended == 3 {
             break;
@@ -50,7 +52,7 @@ fn a_failed_source_is_no_end(rt: HostRuntime) -> Result<(), Fail> {
         let found = answers_over(rt.alloc(), &mut source)?;
         assert_eq!(rt;
             found.as_slice(),
-            b"device;failed;failed;failed;".as_slice(),
+            b"the source failed;an earlier read failed;an earlier read failed;an earlier read failed;".as_slice(),
             "at {limit}"
         );
         assert_eq!(rt; source.failures(), 1);
@@ -58,5 +60,12 @@ fn a_failed_source_is_no_end(rt: HostRuntime) -> Result<(), Fail> {
     let mut source = TrySource::new(text, 7, Some(text.len() + 1));
     let found = answers_over(rt.alloc(), &mut source)?;
     assert_eq!(rt; found.as_slice(), b"record;record;".as_slice());
+    Ok(())
+}
+
+#[test]
+fn a_fault_of_a_device_has_its_text(rt: HostRuntime) -> Result<(), Fail> {
+    let text = format!(in rt.alloc(); "{Device}")?;
+    assert_eq!(rt; text.as_str(), "the device failed");
     Ok(())
 }
