@@ -1,10 +1,10 @@
 //! A case: files, and commands that run over them in turn.
 
 use crate::fault::CaseFault;
-use crate::files::{Change, Files};
 use crate::mark::Mark;
 use crate::pattern::{bytes_of, put_lines};
 use crate::trouble::Troubles;
+use memory_folder::{Change, MemoryFiles};
 use std::alloc::{AllocError, Global};
 
 /// What a stream of a command is to hold.
@@ -60,7 +60,7 @@ pub struct Step {
     pub output: Wanted,
     pub messages: Wanted,
     /// All files that are there afterwards.
-    pub files: Files,
+    pub files: MemoryFiles,
 }
 
 fn words_of(alloc: Global, command: &str) -> Result<Option<Vec<String>>, CaseFault> {
@@ -80,7 +80,7 @@ fn words_of(alloc: Global, command: &str) -> Result<Option<Vec<String>>, CaseFau
 
 impl Step {
     /// A command of which nothing is said as yet: so nothing fails, it prints nothing and leaves the files as they were.
-    fn new(alloc: Global, command: &str, files: Files) -> Result<Step, CaseFault> {
+    fn new(alloc: Global, command: &str, files: MemoryFiles) -> Result<Step, CaseFault> {
         Ok(Step {
             alloc,
             command: String::from_str(alloc, command)?,
@@ -132,13 +132,18 @@ pub struct Case {
     /// The line with its title.
     pub line: usize,
     /// The files that it begins with.
-    pub files: Files,
+    pub files: MemoryFiles,
     pub steps: Vec<Step>,
 }
 
 impl Case {
     /// A case without a command as yet.
-    pub fn new(alloc: Global, title: &str, line: usize, files: Files) -> Result<Case, AllocError> {
+    pub fn new(
+        alloc: Global,
+        title: &str,
+        line: usize,
+        files: MemoryFiles,
+    ) -> Result<Case, AllocError> {
         Ok(Case {
             alloc,
             title: String::from_str(alloc, title)?,
@@ -156,7 +161,7 @@ impl Case {
         }
     }
 
-    fn last_files(&self) -> Result<Files, AllocError> {
+    fn last_files(&self) -> Result<MemoryFiles, AllocError> {
         match self.steps.last() {
             Some(step) => step.files.copy(),
             None => self.files.copy(),

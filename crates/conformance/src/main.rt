@@ -5,7 +5,6 @@
 
 mod case;
 mod fault;
-mod files;
 mod mark;
 mod pattern;
 mod reader;

@@ -2,9 +2,9 @@
 
 use crate::case::Case;
 use crate::fault::{CaseFault, LineFault};
-use crate::files::{Change, Files};
 use crate::mark::Mark;
 use crate::pattern::{put_lines, text_of};
+use memory_folder::{Change, MemoryFiles};
 use std::alloc::{AllocError, Global};
 
 /// What was read of a case file.
@@ -12,7 +12,7 @@ use std::alloc::{AllocError, Global};
 struct Reader {
     alloc: Global,
     /// The files that each case begins with.
-    files: Files,
+    files: MemoryFiles,
     cases: Vec<Case>,
     /// The file whose lines are being read.
     name: Option<String>,
@@ -22,7 +22,7 @@ impl Reader {
     fn new(alloc: Global) -> Reader {
         Reader {
             alloc,
-            files: Files::new(alloc),
+            files: MemoryFiles::new(alloc),
             cases: Vec::new(alloc),
             name: None,
         }
@@ -44,7 +44,7 @@ impl Reader {
 
     fn begin_file(&mut self, text: &str) -> Result<(), CaseFault> {
         let name = text_of(self.alloc, text)?;
-        self.change(name.as_str(), Change::Make)?;
+        self.change(name.as_str(), Change::Put(b""))?;
         self.name = Some(name);
         Ok(())
     }

@@ -1,7 +1,7 @@
 //! Says what is otherwise than a case wants, as a case spells it.
 
 use crate::case::Wanted;
-use crate::files::Files;
+use memory_folder::MemoryFiles;
 use std::alloc::{AllocError, Global};
 
 fn put_byte(alloc: Global, byte: u8, into: &mut String) -> Result<(), AllocError> {
@@ -93,8 +93,8 @@ fn put_file(
 /// Says which files aren't as they are wanted.
 pub fn put_files(
     alloc: Global,
-    found: &Files,
-    wanted: &Files,
+    found: &MemoryFiles,
+    wanted: &MemoryFiles,
     into: &mut String,
 ) -> Result<(), AllocError> {
     for (name, bytes) in wanted.all() {

@@ -1,24 +1,30 @@
 //! Runs a case.
 
 use crate::case::{Case, Step};
-use crate::files::{FailingFiles, Files, PIECE};
 use crate::report::{put_files, put_stream};
-use commands::{CommandFault, command, tell};
+use commands::{CommandFault, tell};
 use device::{TrySink, TrySource};
+use memory_folder::{MemoryFolder, run_command};
 use std::alloc::{AllocError, Global};
 
-/// Runs a command over files, and answers what is otherwise than the case says, or nothing.
-fn run_step(alloc: Global, step: &Step, files: &mut Files) -> Result<String, AllocError> {
+/// How many bytes a stream gives or takes at a time: few, so that most texts come and go in several pieces.
+const PIECE: usize = 7;
+
+/// Runs a command over a folder, and answers what is otherwise than the case says, or nothing.
+fn run_step(
+    alloc: Global,
+    step: &Step,
+    folder: &mut MemoryFolder<'_>,
+) -> Result<String, AllocError> {
     let troubles = &step.troubles;
     let mut input = TrySource::new(step.input.as_slice(), PIECE, troubles.input);
     let mut output = TrySink::new(alloc, PIECE, troubles.output);
     let mut messages = TrySink::new(alloc, PIECE, troubles.messages);
-    let mut folder = FailingFiles::new(files, troubles);
     let status = match &step.words {
-        Some(words) => command(
+        Some(words) => run_command(
             alloc,
             words.as_slice(),
-            &mut folder,
+            folder,
             &mut input,
             &mut output,
             &mut messages,
@@ -46,15 +52,16 @@ fn run_step(alloc: Global, step: &Step, files: &mut Files) -> Result<String, All
         &step.messages,
         &mut report,
     )?;
-    put_files(alloc, files, &step.files, &mut report)?;
+    put_files(alloc, folder.files(), &step.files, &mut report)?;
     Ok(report)
 }
 
 /// Runs a case up to the first command that does otherwise than it says, and answers what that did, or nothing.
 pub fn run(alloc: Global, case: &Case) -> Result<String, AllocError> {
-    let mut files = case.files.copy()?;
+    let mut folder = MemoryFolder::new(alloc, case.files.copy()?);
     for step in case.steps.iter() {
-        let report = run_step(alloc, step, &mut files)?;
+        folder.set_trouble(step.troubles.file());
+        let report = run_step(alloc, step, &mut folder)?;
         if !report.is_empty() {
             return format!(in alloc;
                 "line {}: {}\n $ {}\n{report}",

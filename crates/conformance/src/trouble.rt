@@ -2,22 +2,8 @@
 
 use crate::fault::CaseFault;
 use crate::pattern::text_of;
+use memory_folder::FileTrouble;
 use std::alloc::Global;
-
-/// How a file fails.
-#[derive(Clone, Copy)]
-pub enum FileTrouble {
-    /// It can't be opened.
-    Open,
-    /// There is no memory to open it.
-    OpenMemory,
-    /// Reading it fails behind so many bytes.
-    Read(usize),
-    /// Storing it fails behind so many bytes.
-    Store(usize),
-    /// There is no memory to store it.
-    StoreMemory,
-}
 
 /// One file that fails, and after how many bytes each stream does, if they do.
 #[derive(Drop)]
@@ -47,11 +33,11 @@ impl Troubles {
         }
     }
 
-    /// How the file of this name fails, if it does.
-    pub fn of_file(&self, name: &str) -> Option<FileTrouble> {
+    /// The name of the file that fails, and how it does, if one does.
+    pub fn file(&self) -> Option<(&str, FileTrouble)> {
         match &self.file {
-            Some((troubled, trouble)) if troubled.as_str() == name => Some(*trouble),
-            _ => None,
+            Some((name, trouble)) => Some((name.as_str(), *trouble)),
+            None => None,
         }
     }
 

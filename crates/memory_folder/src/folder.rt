@@ -1,0 +1,140 @@
+//! A folder of files in memory, of which one can fail.
+ghost use Rattle.std.specs.Prelude.{◌≡◌, ℕ, List, Option, None, Some, Err, IfOk, IfSome, OnOk, OnErr};
+ghost use Rattle.std.specs.Option.{option_map};
+ghost use Rattle.device.specs.Adapters.{read_seen};
+ghost use Rattle.commands.specs.Folders.{Finds, with_file};
+ghost use Rattle.commands.specs.declared.folder.FolderFault.{FolderFault};
+ghost use Rattle.memory_folder.specs.Memory.{files_of, folder_files, folder_trouble, trouble_at, left_of, reading_limit, storing_limit};
+
+use crate::contents::Contents;
+use crate::files::MemoryFiles;
+use commands::{FileText, Folder, FolderFault};
+use device::{OfRead, TrySink};
+use std::alloc::Global;
+
+/// How many bytes of a file are stored at a time: few, so that most texts go in several pieces.
+const PIECE: usize = 7;
+
+/// How a file fails.
+#[derive(Clone, Copy)]
+pub enum FileTrouble {
+    /// It can't be opened.
+    Open,
+    /// There is no memory to open it.
+    OpenMemory,
+    /// Reading it fails behind so many bytes.
+    Read(usize),
+    /// Storing it fails behind so many bytes.
+    Store(usize),
+    /// There is no memory to store it.
+    StoreMemory,
+}
+
+/// How many bytes of a file are read before reading fails, where it does; or why it isn't opened.
+fn reading_limit(trouble: Option<FileTrouble>) -> Result<Option<usize>, FolderFault>
+    ensures { result ≡ reading_limit trouble }
+{
+    match trouble {
+        Some(FileTrouble::Open) => Err(FolderFault::Device),
+        Some(FileTrouble::OpenMemory) => Err(FolderFault::OutOfMemory),
+        Some(FileTrouble::Read(limit)) => Ok(Some(limit)),
+        _ => Ok(None),
+    }
+}
+
+/// How many bytes of a file are stored before storing fails, where it does; or why it isn't stored.
+fn storing_limit(trouble: Option<FileTrouble>) -> Result<Option<usize>, FolderFault>
+    ensures { result ≡ storing_limit trouble }
+{
+    match trouble {
+        Some(FileTrouble::StoreMemory) => Err(FolderFault::OutOfMemory),
+        Some(FileTrouble::Store(limit)) => Ok(Some(limit)),
+        _ => Ok(None),
+    }
+}
+
+/// A folder of files in memory, of which one can fail.
+#[derive(Drop)]
+pub struct MemoryFolder<'t> {
+    alloc: Global,
+    files: MemoryFiles,
+    trouble: Option<(&'t str, FileTrouble)>,
+}
+
+impl<'t> MemoryFolder<'t> {
+    /// A folder of these files, in which none fails.
+    pub fn new(alloc: Global, files: MemoryFiles) -> MemoryFolder<'t>
+        ensures files { folder_files result ≡ files_of files }
+        ensures trouble { (name : List ℕ) → folder_trouble result name ≡ None }
+    {
+        MemoryFolder {
+            alloc,
+            files,
+            trouble: None,
+        }
+    }
+
+    /// Its files.
+    pub fn files(&self) -> &MemoryFiles
+        ensures { files_of result.now ≡ folder_files self.now }
+    {
+        &self.files
+    }
+
+    /// From now on the file of this name fails so, and no other, or none does. The files stay as they are.
+    pub fn set_trouble(&mut self, trouble: Option<(&'t str, FileTrouble)>)
+        ensures files { folder_files self.new ≡ folder_files self.old }
+        ensures trouble { (name : List ℕ) → folder_trouble self.new name ≡ trouble_at trouble.entry name }
+    {
+        self.trouble = trouble;
+    }
+
+    fn trouble_of(&self, name: &str) -> Option<FileTrouble>
+        ensures { result ≡ folder_trouble self.now name.now }
+    {
+        match self.trouble {
+            Some((troubled, trouble)) if troubled == name => Some(trouble),
+            _ => None,
+        }
+    }
+}
+
+impl<'t> Folder for MemoryFolder<'t> {
+    type In = OfRead<Contents>;
+
+    ghost use Rattle.memory_folder.specs.Memory.{folder_files};
+
+    ghost files = { λ f. Some (folder_files f) };
+
+    fn open(&self, name: &str) -> Result<Option<OfRead<Contents>>, FolderFault>
+        ensures finds { IfOk result (λ o. Finds (Some (folder_files self.now)) name.now (option_map (λ s. (read_seen left_of s).left) o)) }
+        ensures failed { IfOk result (λ o. IfSome o (λ s. (read_seen left_of s).failed ≡ 0)) }
+
+        // Beside what the trait says: how a file can't be opened.
+        ensures fault { (fault : FolderFault) → reading_limit (folder_trouble self.now name.now) ≡ Err fault → result ≡ Err fault }
+    {
+        let limit = reading_limit(self.trouble_of(name))?;
+        match self.files.get(name) {
+            Some(bytes) => {
+                let bytes = Vec::from_slice(self.alloc, bytes)?;
+                Ok(Some(OfRead::new(Contents::new(bytes, limit))))
+            }
+            None => Ok(None),
+        }
+    }
+
+    fn store<T: FileText>(&mut self, name: &str, text: &T) -> Result<(), FolderFault>
+        ensures ok { OnOk result (Some (folder_files self.new) ≡ with_file (Some (folder_files self.old)) name.now (T.text text.now)) }
+        ensures err { OnErr result (Some (folder_files self.new) ≡ Some (folder_files self.old)) }
+
+        // Beside what the trait says: how a file can't be stored, and that it still can't.
+        ensures trouble { (q : List ℕ) → folder_trouble self.new q ≡ folder_trouble self.old q }
+        ensures fault { (fault : FolderFault) → storing_limit (folder_trouble self.old name.now) ≡ Err fault → result ≡ Err fault }
+    {
+        let limit = storing_limit(self.trouble_of(name))?;
+        let mut sink = TrySink::new(self.alloc, PIECE, limit);
+        text.write(self.alloc, &mut sink)?;
+        self.files.put(name, sink.bytes())?;
+        Ok(())
+    }
+}

@@ -1,0 +1,29 @@
+//! A command over a folder in memory.
+ghost use Rattle.std.specs.Prelude.{◌<◌, ◌-◌, ◌^◌, Some};
+ghost use Rattle.device.specs.Memory.{source_seen, sink_written};
+ghost use Rattle.commands.specs.Commands.{CommandEnds};
+ghost use Rattle.memory_folder.specs.Memory.{folder_files};
+
+use crate::folder::MemoryFolder;
+use commands::command;
+use device::{TrySink, TrySource};
+use std::alloc::Global;
+use std::convert::AsStr;
+
+/// Carries out the command that the words spell over a folder and streams in memory, and answers its exit status, as `command` does.
+pub fn run_command<W: AsStr>(
+    alloc: Global,
+    words: &[W],
+    folder: &mut MemoryFolder<'_>,
+    input: &mut TrySource<'_>,
+    out: &mut TrySink,
+    err: &mut TrySink,
+) -> u8
+    requires input { (source_seen input.old).failed < 2 ^ 64 - 1 }
+    requires out { (sink_written out.old).failed < 2 ^ 64 - 1 }
+    requires err { (sink_written err.old).failed < 2 ^ 64 - 1 }
+    // What is asked for is done, and it says of all files what they are then.
+    ensures { CommandEnds (Some (folder_files folder.old)) (Some (folder_files folder.new)) (record { input = (source_seen input.old).left; input' = (source_seen input.new).left; out = sink_written out.old; out' = sink_written out.new; err = sink_written err.old; err' = sink_written err.new }) result }
+{
+    command(alloc, words, folder, input, out, err)
+}
