@@ -17,9 +17,9 @@ use Rattle.definitions.specs.Naming.{is_oid, is_type_name}
 use Rattle.definitions.specs.Words.{◌>>>◌, Cut, sign_at, word_at, quoted_at, plain_or_quoted_at}
 use Rattle.definitions.specs.Texts.{quoted_texts_at}
 use Rattle.definitions.specs.Elements as elements
-use Rattle.definitions.specs.Elements.{is_word, is_extension, is_allowed, names_field, description_field, extension_field, element_field, unless, with_element_field, is_some_list, is_extended, ends_there, fields_to_end, numeric, head_at}
+use Rattle.definitions.specs.Elements.{is_word, is_extension, is_allowed, names_field, description_field, extension_field, element_field, with_element_field, is_some_list, is_extended, ends_there, fields_to_end, numeric, head_at}
 use Rattle.definitions.specs.TypeFields as types
-use Rattle.definitions.specs.TypeFields.{reference_of, flag_of, refer, reference_field, referred, usage_of, usage_field, of_element, other_field, or_flag, or_reference, field_of, field_at}
+use Rattle.definitions.specs.TypeFields.{reference_of, flag_of, refer, referred, usage_of, usage_field, of_element, other_field, or_flag, or_reference, field_of, field_at}
 use Rattle.definitions.specs.TypeDefinitions.{with_flag, with_reference, with_element, with_field, empty_definition, with_syntax, type_with, type_definition_of}
 
 -- what holds where there is something

@@ -20,7 +20,7 @@ use Rattle.directory.specs.Reports.{report, report_line}
 use Rattle.directory.specs.inner.Steps.{counts_after, reported, ends, IsTaken, IsCounted, IsBrokenOff}
 use Rattle.directory.specs.inner.Stands.{IsReached, Stands}
 use Rattle.directory.specs.Faults.{Failures, AllButLast, WrittenAt, tally_of}
-use Rattle.directory.specs.Folds.{Over, Ran, BrokeOff, Runs}
+use Rattle.directory.specs.Folds.{Runs}
 use Rattle.directory.proofs.Whole as whole
 use Rattle.directory.specs.declared.reason.Reason.{Reason}
 use Rattle.directory.specs.declared.reason.Outcome.{Outcome}

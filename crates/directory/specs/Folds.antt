@@ -1,5 +1,5 @@
 -- What the records of a source leave of a directory, whether contracts know its bytes or not.
-use Rattle.std.specs.Prelude.{◌≡◌, ℕ, Bool, List, ◌++◌, length, Option, Result, Ok, Err, IfSome}
+use Rattle.std.specs.Prelude.{◌≡◌, Bool, List, ◌++◌, length, Option, Result, Ok, Err, IfSome}
 use Rattle.device.specs.Device.{Written, Took}
 use Rattle.ldif_lines.specs.Records.{RawRecord}
 use Rattle.ldif.specs.declared.record.Mode.{Mode}

@@ -4,9 +4,9 @@ use Rattle.std.proofs.lemmas.List.{take-append-le, take_all, length_push, drop_m
 use Rattle.dn.specs.declared.faults.NameFaultKind.{NameFaultKind}
 use Rattle.dn.specs.declared.faults.NameFaultKind.TheVariants.{Escape}
 use Rattle.dn.specs.Spelling.{Octet, may_stand, may_follow, is_hex, is_raw_space, byte_of}
-use Rattle.dn.specs.Reading.{State, Plain, Backslash, HalfPair, with_octet, octets_from, step, keep, trimmed, value_from}
+use Rattle.dn.specs.Reading.{State, Plain, Backslash, HalfPair, with_octet, octets_from, keep, trimmed, value_from}
 use Rattle.dn.specs.inner.Drafts.{draft_after}
-use Rattle.dn.specs.inner.Octets.{state_seen}
+use Rattle.dn.specs.inner.Octets.{state_seen, step}
 use Rattle.dn.specs.declared.value.State as states
 use Rattle.dn.specs.declared.value.State.TheVariants as variants
 

@@ -1,5 +1,5 @@
 -- The name that a text spells, or the first fault from the left.
-use Rattle.std.specs.Prelude.{ℕ, ◌+◌, ◌*◌, Bool, true, false, not, ◌&&◌, ◌||◌, ◌==◌, if◌then◌else◌, List, [], ◌∷◌, map, take, drop, length, Option, Some, None, Result, Ok, Err}
+use Rattle.std.specs.Prelude.{ℕ, ◌+◌, ◌*◌, Bool, true, false, not, ◌&&◌, ◌||◌, ◌==◌, if◌then◌else◌, List, [], ◌∷◌, map, take, drop, length, Result, Ok, Err}
 use Rattle.std.specs.List.{list_all, onto_first, prefix_len}
 use Rattle.base.specs.Ascii.{quotation_mark, number_sign, plus_sign, comma, semicolon, equals_sign, backslash}
 use Rattle.base.specs.Answers.{◌>>=◌, each}
@@ -33,12 +33,6 @@ octets_from (HalfPair high) [] = Err Escape
 octets_from Plain (b ∷ bs) = if may_stand b then with_octet true b (octets_from Plain bs) else (if b == backslash then octets_from Backslash bs else Err (raw_fault b))
 octets_from Backslash (b ∷ bs) = if may_follow b then with_octet false b (octets_from Plain bs) else (if is_hex b then octets_from (HalfPair (hex b)) bs else Err Escape)
 octets_from (HalfPair high) (b ∷ bs) = if is_hex b then with_octet false (16 * high + hex b) (octets_from Plain bs) else Err Escape
-
--- the same, one byte at a time
-unfoldable pub step : State → ℕ → Result (State × Option Octet) NameFaultKind
-step Plain b = if may_stand b then Ok (Plain, Some (record { raw = true; byte = b })) else (if b == backslash then Ok (Backslash, None) else Err (raw_fault b))
-step Backslash b = if may_follow b then Ok (Plain, Some (record { raw = false; byte = b })) else (if is_hex b then Ok (HalfPair (hex b), None) else Err Escape)
-step (HalfPair high) b = if is_hex b then Ok (Plain, Some (record { raw = false; byte = 16 * high + hex b })) else Err Escape
 
 abbrev pub keep : Octet → List Octet → List Octet
 keep o [] = if is_raw_space o then [] else o ∷ []

@@ -5,10 +5,10 @@ ghost use Rattle.std.specs.List.{list_all, prefix_len};
 ghost use Rattle.dn.specs.Spelling.{may_stand, may_follow, is_hex, hex};
 ghost use Rattle.base.specs.Ascii.{space};
 ghost use Rattle.base.specs.Ends.{is_space};
-ghost use Rattle.dn.specs.Reading.{raw_fault, octets_from, step, begins_form, value_from, value_of};
+ghost use Rattle.dn.specs.Reading.{raw_fault, octets_from, begins_form, value_from, value_of};
 ghost use Rattle.dn.specs.inner.Cuts.{first_value, ends_in_space};
 ghost use Rattle.dn.specs.inner.Drafts.{draft_after, IsInRange};
-ghost use Rattle.dn.specs.inner.Octets.{octet_seen, any_seen, state_seen, step_seen};
+ghost use Rattle.dn.specs.inner.Octets.{octet_seen, any_seen, state_seen, step, step_seen};
 ghost use Rattle.dn.specs.Gives.{Gives};
 ghost use Rattle.dn.specs.Reading as reading;
 
@@ -73,7 +73,7 @@ fn raw_fault(b: u8) -> NameFaultKind
     }
 }
 
-#[tactic(auto, unfolding(crate::specs::Reading::step))]
+#[tactic(auto, unfolding(crate::specs::inner::Octets::step))]
 fn step(state: State, byte: u8) -> Result<(State, Option<Octet>), NameFaultKind>
     requires { IsInRange (state_seen state) }
     ensures next { step_seen result ≡ step (state_seen state) byte }

@@ -1,5 +1,5 @@
 -- What a walk lends is what a scan finds.
-use Rattle.std.proofs.Common.{◌≡◌, ℕ, ◌+◌, Bool, true, false, cond, List, [], ◌∷◌, map, length, refl, sym, ap, ◌∙◌, arith}
+use Rattle.std.proofs.Common.{◌≡◌, ℕ, ◌+◌, Bool, true, false, cond, List, [], ◌∷◌, map, length, refl, ap, ◌∙◌, arith}
 use Rattle.std.specs.Prelude.{filter, ◌&&◌}
 use Rattle.paths.specs.Paths.{Path, begins}
 use Rattle.values.specs.declared.types.AttributeType.{AttributeType}
@@ -11,7 +11,7 @@ use Rattle.filter.specs.Truths.{is_true}
 use Rattle.filter.specs.Filters.{truth}
 use Rattle.search.specs.declared.scope.Scope.{Scope}
 use Rattle.search.specs.Scopes.{depth_fits, is_in_scope}
-use Rattle.search.specs.Walks.{Lent, seen, lent, tested_in_all}
+use Rattle.search.specs.Walks.{seen, lent, tested_in_all}
 
 both_filters : {A : Type 0} (p q : A → Bool) (xs : List A) → filter q (filter p xs) ≡ filter (λ x. p x && q x) xs
 both_filters p q [] = refl

@@ -1,12 +1,11 @@
 -- What loading comes to.
-use Rattle.std.specs.Prelude.{◌≡◌, ℕ, Bool, true, false, List, [], ◌∷◌, ⊤, Option}
+use Rattle.std.specs.Prelude.{◌≡◌, ℕ, Bool, true, false, List, [], ⊤, Option}
 use Rattle.ldif_lines.specs.Records.{RawRecord}
 use Rattle.ldif_lines.specs.Reader.{Takes}
 use Rattle.schema.specs.Conf.{Conf}
 use Rattle.tree.specs.Directories.{Entries}
 use Rattle.directory.specs.declared.loading.LoadFault.{LoadFault}
 use Rattle.directory.specs.declared.loading.LoadFault.TheVariants as faults
-use Rattle.directory.specs.declared.reason.Reason.{Reason}
 use Rattle.directory.specs.declared.reason.Outcome.{Outcome}
 use Rattle.directory.specs.declared.reason.Outcome.TheVariants.{Nothing, Accepted, Refused}
 use Rattle.directory.specs.Runs.{loaded_after}

@@ -6,7 +6,7 @@ use Rattle.ldif_lines.specs.View.{view, texts}
 use Rattle.ldif.specs.Reading.{reading}
 use Rattle.ldif_lines.specs.Reader.{Takes, source_of, records_left, bytes_left}
 use Rattle.directory.specs.Runs.{outcome}
-use Rattle.directory.specs.inner.Steps.{counts_after}
+use Rattle.directory.specs.inner.Steps.{IsBrokenOff}
 use Rattle.directory.proofs.Records.{begins, goes_on, ends_there, breaks_off, stops_reading, stops_wanting, counts_few}
 use Rattle.directory.proofs.runs.run_rest.Goals as goal
 
@@ -33,7 +33,7 @@ returns-in_err-take_record-in-Ok-Some-clause-runs g c =
     (g.W.Sink.written c.args.sink.now) (g.W.Sink.written c.records.sink) (g.W.Sink.written c.take_record.new.sink)
     (view c.in-Ok-Some.raw) c.records.invariant.stands (subst (λ o. IfSome o (λ r. Takes (records_left g.S.Source.seen c.records.reader) (records_left g.S.Source.seen c.next.new.self) (view r ∷ []))) c.in-Ok-Some.field-0-is c.in-Ok-Some.ensures.record)
     c.in_err-take_record-in-Ok-Some.field-0.0
-    (subst (λ r. Rattle.directory.specs.inner.Steps.IsBrokenOff (outcome r c.args.mode c.records.dir.entries (reading c.args.mode c.in-Ok-Some.raw.first (texts c.in-Ok-Some.raw.lines.items))) c.in-Ok-Some.raw.line c.records.dir.entries c.take_record.new.dir.entries c.records.tally (g.W.Sink.written c.records.sink) (g.W.Sink.written c.take_record.new.sink) c.in_err-take_record-in-Ok-Some.field-0.0) c.records.invariant.conf c.in_err-take_record-in-Ok-Some.ensures.broken))
+    (subst (λ r. IsBrokenOff (outcome r c.args.mode c.records.dir.entries (reading c.args.mode c.in-Ok-Some.raw.first (texts c.in-Ok-Some.raw.lines.items))) c.in-Ok-Some.raw.line c.records.dir.entries c.take_record.new.dir.entries c.records.tally (g.W.Sink.written c.records.sink) (g.W.Sink.written c.take_record.new.sink) c.in_err-take_record-in-Ok-Some.field-0.0) c.records.invariant.conf c.in_err-take_record-in-Ok-Some.ensures.broken))
 
 pub returns-then-branch-clause-runs : goal.returns-then-branch-clause-runs
 returns-then-branch-clause-runs g c =
