@@ -1,7 +1,7 @@
 -- How commands end over a directory that was loaded.
-use Rattle.std.proofs.Common.{◌≡◌, ℕ, Bool, true, false, ◌⊎◌, inl, inr, List, map, Option, Some, None, refl, sym, ap, ◌∙◌, subst, Bor}
-use Rattle.std.specs.Prelude.{Result, Ok, Err, OnOk, IfOk, nat_lt}
-use Rattle.std.specs.Option.{option_copied}
+use Rattle.std.proofs.Common.{◌≡◌, ℕ, Bool, true, false, inl, inr, List, map, Option, Some, None, refl, sym, ap, ◌∙◌, subst, Bor}
+use Rattle.std.specs.Prelude.{Result, Ok, Err, OnOk, IfOk, is_some, nat_lt}
+use Rattle.std.specs.Option.{option_copied, option_map}
 use Rattle.std.specs.FinMap as finite
 use Rattle.std.proofs.lemmas.List.{length-map}
 use Rattle.device.specs.Device.{Written, Took}
@@ -16,33 +16,22 @@ use Rattle.search.specs.Searches.{scan}
 use Rattle.search.specs.Walks.{Lent, seen}
 use Rattle.directory.specs.Selections.{Selection}
 use Rattle.directory.specs.Found.{Answers, found_text, up_to, goes_past}
-use Rattle.commands.specs.Messages.{IsTold}
 use Rattle.commands.specs.Parts.{part_text}
 use Rattle.commands.specs.declared.messages.Status.{Status}
-use Rattle.commands.specs.declared.messages.Status.TheVariants.{Failed}
 use Rattle.commands.specs.declared.messages.CommandFault.{CommandFault}
 use Rattle.command_line.specs.declared.request.CatOptions.{CatOptions}
 use Rattle.command_line.specs.declared.request.SearchOptions.{SearchOptions}
 use Rattle.commands.specs.Asked.{IsFilter, IsBase, IsSelection}
 use Rattle.commands.specs.Folders.{Files}
-use Rattle.commands.specs.Loaded.{IsLoaded, Explains}
+use Rattle.commands.specs.Loaded.{IsLoaded}
 use Rattle.commands.specs.Changes.{Task, ChangeEnds}
 use Rattle.commands.specs.inner.Tasks.{RunEnds}
 use Rattle.commands.specs.Prints.{is_whole, Puts, HasPut, IsPrinted, HasFound, IsSearched}
 
--- of a failure nothing is said
-pub failed_explains : (files : Option Files) (db : List ℕ) (s : Status) → s ≡ Failed → Explains files db s
-failed_explains files db s is = rw is tt
-
--- nor where its line can't be written
-pub told_explains : (files : Option Files) (db : List ℕ) (s wanted : Status) → Explains files db wanted → (s ≡ wanted) ⊎ (s ≡ Failed) → Explains files db s
-told_explains files db s wanted why (inl is) = rw is why
-told_explains files db s wanted why (inr is) = rw is tt
-
 -- how a run over it ends
 pub loaded_and_ran : (task : Task) (files files' : Option Files) (stream : Option (List ℕ)) (conf : Conf) (old : Entries) (a b : Written) (s : Status) → IsLoaded files task.db conf old → RunEnds task files files' stream conf old a b s → ChangeEnds task files files' stream a b s
 loaded_and_ran task files files' stream conf old a b s loaded (inl ran) = inl (record { conf = conf; old = old; loaded = loaded; ran = ran })
-loaded_and_ran task files files' stream conf old a b s loaded (inr failed) = inr (failed_explains files task.db s failed.0, failed.1)
+loaded_and_ran task files files' stream conf old a b s loaded (inr failed) = inr (inr failed.0, failed.1)
 
 -- how it is printed
 pub loaded_and_printed : (answer : Result (Unit {0}) CommandFault) (asked : CatOptions) (f : Tree) (files files' : Option Files) (conf : Conf) (d : Entries) (a b : Written)
@@ -51,9 +40,14 @@ loaded_and_printed (Ok u) asked f files files' conf d a b spelled loaded put = r
 loaded_and_printed (Err e) asked f files files' conf d a b spelled loaded put = tt
 
 pub part_put : (answer : Result (Unit {0}) CommandFault) (asked : CatOptions) (f : Tree) (conf : Conf) (d : Entries) (base : Path) (text : List ℕ) (files files' : Option Files) (a b : Written)
-    → IsBase conf (option_copied asked.base) base → text ≡ part_text conf d base f → OnOk answer (Puts (option_copied asked.file) files files' a b text) → OnOk answer (HasPut false asked f conf d files files' a b)
-part_put (Ok u) asked f conf d base text files files' a b based is put = record { text = text; is = record { base = base; base_is = based; text_is = is }; put = put }
-part_put (Err e) asked f conf d base text files files' a b based is put = tt
+    → IsBase conf (option_copied asked.base) base → (is_some asked.base ≡ true → finite.contains_key d base ≡ true) → text ≡ part_text conf d base f → OnOk answer (Puts (option_copied asked.file) files files' a b text) → OnOk answer (HasPut false asked f conf d files files' a b)
+part_put (Ok u) asked f conf d base text files files' a b based there is put = record { text = text; is = record { base = base; base_is = based; there = there; text_is = is }; put = put }
+part_put (Err e) asked f conf d base text files files' a b based there is put = tt
+
+-- what was found at the base stands there
+pub found_there : {A : Type 0} (dir dir' : Directory) (base : Path) (as_content : A → EntryContent) (found : Option A) → dir' ≡ dir → option_map as_content found ≡ finite.get dir'.entries base → is_some found ≡ true → finite.contains_key dir.entries base ≡ true
+found_there {A} dir dir' base as_content None same is some = cc
+found_there {A} dir dir' base as_content (Some x) same is some = subst (λ (d : Directory). finite.contains_key d.entries base ≡ true) same (ap is_some (sym is))
 
 -- the text of a part of the same directory, by the same base and filter
 pub part_same : (dir dir' : Directory) (base base' : Path) (made made' : Made) → dir' ≡ dir → base' ≡ base → made' ≡ made → part_text dir'.conf dir'.entries base' (view made'.filter) ≡ part_text dir.conf dir.entries base (view made.filter)
@@ -86,8 +80,3 @@ has_found asked conf d base f s ls past a b based selects there found answers = 
   past_is = answers.past_is ∙ past_seen asked.limit ls ∙ ap (goes_past asked.limit) found;
   written = subst (λ (es : List (Path × EntryContent)). Took a b (found_text conf d s (up_to asked.limit es))) found answers.written;
 }
-
--- the line of a fault that is another's was told
-pub told_so : (a b : Written) (text text' : List ℕ) (wanted wanted' s : Status) → text ≡ text' → wanted ≡ wanted' → IsTold a b text wanted s → IsTold a b text' wanted' s
-told_so a b text text' wanted wanted' s same_text same_status told =
-    subst (λ (w : Status). IsTold a b text' w s) same_status (subst (λ (t : List ℕ). IsTold a b t wanted s) same_text told)

@@ -1,3 +1,4 @@
 pub mod Ends
 pub mod Known
 pub mod Loading
+pub mod Stopping

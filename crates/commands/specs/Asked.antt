@@ -1,5 +1,5 @@
 -- What the words of search and slapcat ask for: a filter, a base and attributes.
-use Rattle.std.specs.Prelude.{◌≡◌, ℕ, ◌<◌, List, [], length, Option, None, Some, Result, Ok, Err, codes, unwrap_or}
+use Rattle.std.specs.Prelude.{◌≡◌, ℕ, ◌<◌, List, [], length, Option, None, Some, Result, Ok, codes, unwrap_or}
 use Rattle.base.specs.Answers.{◌>>=◌}
 use Rattle.paths.specs.Paths.{Path}
 use Rattle.schema.specs.Conf.{Conf, located, path_of}

@@ -14,9 +14,10 @@ use Rattle.directory.specs.declared.runs.Tally.{Tally}
 use Rattle.command_line.specs.declared.request.AddOptions.{AddOptions}
 use Rattle.command_line.specs.declared.request.ModifyOptions.{ModifyOptions}
 use Rattle.commands.specs.Folders.{Files, Finds, with_file, data_name}
-use Rattle.commands.specs.Loaded.{IsLoaded, LoadsFiles, Explains}
+use Rattle.commands.specs.Loaded.{IsLoaded, LoadsFiles, IsNotLoaded}
 use Rattle.commands.specs.Statuses.{status_of_tally}
 use Rattle.commands.specs.declared.messages.Status.{Status}
+use Rattle.commands.specs.declared.messages.Status.TheVariants.{Failed}
 
 -- which records are to run over which directory, and how; the file is none for the input
 pub record Task : Type 0 where
@@ -62,9 +63,13 @@ pub record LoadedAndRan (task : Task) (files files' : Option Files) (stream : Op
   pub loaded : IsLoaded files task.db conf old
   pub ran : WentThrough task files files' stream conf old a b s
 
+-- no directory was loaded, or something failed
+abbrev pub DoesNotRun : Task → Option Files → Written → Written → Status → Type 0
+DoesNotRun task files a b s = IsNotLoaded files task.db a b s ⊎ (s ≡ Failed)
+
 -- where the command doesn't go through, no file changed
 abbrev pub ChangeEnds : Task → Option Files → Option Files → Option (List ℕ) → Written → Written → Status → Type 0
-ChangeEnds task files files' stream a b s = LoadedAndRan task files files' stream a b s ⊎ (Explains files task.db s × (files' ≡ files))
+ChangeEnds task files files' stream a b s = LoadedAndRan task files files' stream a b s ⊎ (DoesNotRun task files a b s × (files' ≡ files))
 
 -- ---- over files that are known, and an input that is
 
@@ -89,7 +94,7 @@ pub record Changes (task : Task) (m : Files) (files' : Option Files) (stream : O
 
 -- either the records ran, or no file changed
 abbrev pub ChangesOrNot : Task → Files → Option Files → Option (List ℕ) → Written → Written → Status → Type 0
-ChangesOrNot task m files' stream a b s = Changes task m files' stream a b s ⊎ (Explains (Some m) task.db s × (files' ≡ Some m))
+ChangesOrNot task m files' stream a b s = Changes task m files' stream a b s ⊎ (DoesNotRun task (Some m) a b s × (files' ≡ Some m))
 
 -- the bytes of the input are known, where the files are: those of the stream are asked for only where no file is named
 abbrev pub KnowsInput : Option (List ℕ) → Option (List ℕ) → Type 0

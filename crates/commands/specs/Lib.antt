@@ -1,10 +1,10 @@
 pub mod Statuses
 pub mod Messages
 pub mod Asked
-pub mod Stops
 pub mod Parts
 pub mod Folders
 pub mod Loaded
+pub mod Stops
 pub mod Changes
 pub mod Prints
 pub mod Commands

@@ -1,18 +1,23 @@
 -- The directory that dir.conf and data.ldif in a folder stand for. Where the folder tells its files, the texts are theirs; where it
 -- doesn't, as the system's, they are some texts.
-use Rattle.std.specs.Prelude.{◌≡◌, ℕ, List, Option, None, Some, Ok, Err, ⊤}
+use Rattle.std.specs.Prelude.{◌≡◌, ℕ, List, [], ◌∷◌, Option, None, Some, Ok, Err}
 use Rattle.std.specs.Option.{option_map}
 use Rattle.std.specs.FinMap as finite
+use Rattle.device.specs.Device.{Written}
 use Rattle.ldif_lines.specs.Records.{records}
 use Rattle.schema.specs.Conf.{Conf}
 use Rattle.schema.specs.Configurations.{conf_of}
 use Rattle.schema.specs.declared.conf_fault.ConfFaultKind.{ConfFaultKind}
 use Rattle.tree.specs.Directories.{Entries}
-use Rattle.directory.specs.Runs.{LoadsRecords, Loads}
+use Rattle.directory.specs.Runs.{LoadsRecords, Loads, loaded_after}
 use Rattle.directory.specs.Folds.{Over}
+use Rattle.directory.specs.declared.reason.Reason.{Reason}
 use Rattle.commands.specs.Folders.{Files, Finds, conf_name, data_name}
+use Rattle.commands.specs.Messages.{IsTold, fault_text}
+use Rattle.commands.specs.Statuses.{status_of_fault, IsFailure}
+use Rattle.commands.specs.declared.messages.CommandFault.{CommandFault}
+use Rattle.commands.specs.declared.messages.CommandFault.TheVariants as faults
 use Rattle.commands.specs.declared.messages.Status.{Status}
-use Rattle.commands.specs.declared.messages.Status.TheVariants.{Done, Refused, Usage, Failed}
 
 -- the text of this file says this configuration
 pub record IsConfigured (files : Option Files) (name : List ℕ) (conf : Conf) : Type 0 where
@@ -32,20 +37,31 @@ pub record IsLoaded (files : Option Files) (db : List ℕ) (conf : Conf) (d : En
   pub there : Finds files (data_name db) found
   pub loads : LoadsFound conf found d
 
--- the text of dir.conf is at fault
-pub record ConfFails (files : Option Files) (db : List ℕ) : Type 0 where
+-- this is the fault of the text of dir.conf, and its line
+pub record ConfFails (files : Option Files) (db : List ℕ) (line : ℕ) (kind : ConfFaultKind) : Type 0 where
   pub text : List ℕ
   pub there : Finds files (conf_name db) (Some (Some text))
-  pub line : ℕ
-  pub kind : ConfFaultKind
   pub says : conf_of text ≡ Err (line, kind)
 
--- why no directory was loaded, by the status: of a failure nothing is said
-abbrev pub Explains : Option Files → List ℕ → Status → Type 0
-Explains files db Done = ⊥
-Explains files db Refused = ⊥
-Explains files db Usage = ConfFails files db
-Explains files db Failed = ⊤
+-- the first record of data.ldif that is refused, by its line, and why
+pub record DataFails (files : Option Files) (db : List ℕ) (line : ℕ) (why : Reason) : Type 0 where
+  pub conf : Conf
+  pub configured : IsConfigured files (conf_name db) conf
+  pub text : Option (List ℕ)
+  pub there : Finds files (data_name db) (Some text)
+  pub refused : Over (option_map records text) (λ given. (loaded_after conf finite.empty given).refused ≡ (line, why) ∷ [])
+
+-- why no directory was loaded; of what failed nothing is said
+abbrev pub LoadFails : Option Files → List ℕ → CommandFault → Type 0
+LoadFails files db (faults.Configuration line kind) = ConfFails files db line kind
+LoadFails files db (faults.Data line why) = DataFails files db line why
+LoadFails files db fault = IsFailure fault
+
+-- no directory was loaded: the line of why was said, with its status
+pub record IsNotLoaded (files : Option Files) (db : List ℕ) (a b : Written) (s : Status) : Type 0 where
+  pub fault : CommandFault
+  pub why : LoadFails files db fault
+  pub told : IsTold a b (fault_text fault) (status_of_fault fault) s
 
 -- ---- over files that are known
 

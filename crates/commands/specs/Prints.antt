@@ -1,10 +1,11 @@
 -- How slapcat and search end, and what they did by then.
-use Rattle.std.specs.Prelude.{◌≡◌, ℕ, ◌⊎◌, Bool, true, false, ◌&&◌, List, Option, None, Some, is_none, map, codes}
+use Rattle.std.specs.Prelude.{◌≡◌, ℕ, ◌⊎◌, Bool, true, false, ◌&&◌, List, Option, None, Some, is_none, is_some, map, codes}
 use Rattle.std.specs.Option.{option_copied}
 use Rattle.std.specs.FinMap as finite
 use Rattle.device.specs.Device.{Written, Took}
 use Rattle.paths.specs.Paths.{Path}
 use Rattle.schema.specs.Conf.{Conf}
+use Rattle.schema.specs.declared.code.Code.{Code}
 use Rattle.schema.specs.declared.code.Code.TheVariants.{SizeLimitExceeded}
 use Rattle.tree.specs.Directories.{Entries}
 use Rattle.filter_text.specs.Spells.{Tree}
@@ -20,7 +21,9 @@ use Rattle.commands.specs.Loaded.{IsLoaded}
 use Rattle.commands.specs.declared.messages.Status.{Status}
 use Rattle.commands.specs.Messages.{IsTold, code_text}
 use Rattle.commands.specs.Parts.{part_text}
-use Rattle.commands.specs.declared.messages.Status.TheVariants.{Done, Refused, Usage, Failed}
+use Rattle.commands.specs.Stops.{HasNoBase, Stops, IsStopped}
+use Rattle.commands.specs.declared.messages.CommandFault.{CommandFault}
+use Rattle.commands.specs.declared.messages.Status.TheVariants.{Done, Refused}
 
 -- a text goes to the output, or to the file of this name, and then the output stays as it was; no other file changes
 abbrev pub Puts : Option (List ℕ) → Option Files → Option Files → Written → Written → List ℕ → Type 0
@@ -31,10 +34,11 @@ Puts (Some name) files files' a b text = (files' ≡ with_file files name text) 
 abbrev pub is_whole : CatOptions → Bool
 is_whole asked = is_none asked.filter && is_none asked.base
 
--- the entries at the base that is asked for and below it, of which the filter is True
+-- the entries at the base that is asked for, which is there, and below it, of which the filter is True
 pub record IsPartText (asked : CatOptions) (filter : Tree) (conf : Conf) (d : Entries) (text : List ℕ) : Type 0 where
   pub base : Path
   pub base_is : IsBase conf (option_copied asked.base) base
+  pub there : is_some asked.base ≡ true → finite.contains_key d base ≡ true
   pub text_is : text ≡ part_text conf d base filter
 
 -- the text of a directory, or of the part that is asked for
@@ -57,13 +61,16 @@ pub record IsPrinted (asked : CatOptions) (files files' : Option Files) (a b : W
   pub loaded : IsLoaded files asked.db.now conf entries
   pub printed : HasPut (is_whole asked) asked filter conf entries files files' a b
 
--- it ended before its work was done
-abbrev pub IsStopped : Status → Type 0
-IsStopped s = (s ≡ Refused) ⊎ (s ≡ Usage) ⊎ (s ≡ Failed)
+-- where slapcat refuses: a base is asked for, and there is none
+abbrev pub CatRefuses : CatOptions → Conf → Entries → Code → Type 0
+CatRefuses asked conf d code = (is_some asked.base ≡ true) × HasNoBase conf d (option_copied asked.base) code
+
+abbrev pub CatStops : CatOptions → Option Files → CommandFault → Type 0
+CatStops asked files = Stops (codes "slapcat") (option_copied asked.filter) files asked.db.now (CatRefuses asked)
 
 -- slapcat, by its output and its messages: where it goes through, it says nothing; where it doesn't, no file changed
 abbrev pub CatEnds : CatOptions → Option Files → Option Files → Written → Written → Written → Written → Status → Type 0
-CatEnds asked files files' a b e e' s = ((s ≡ Done) × IsPrinted asked files files' a b × (e' ≡ e)) ⊎ (IsStopped s × (files' ≡ files))
+CatEnds asked files files' a b e e' s = ((s ≡ Done) × IsPrinted asked files files' a b × (e' ≡ e)) ⊎ (IsStopped (CatStops asked files) a b e e' s × (files' ≡ files))
 
 -- ---- search
 
@@ -87,8 +94,15 @@ pub record IsSearched (asked : SearchOptions) (files : Option Files) (past : Boo
   pub loaded : IsLoaded files asked.db.now conf entries
   pub found : HasFound asked conf entries filter past a b
 
+-- where search refuses: there is no base
+abbrev pub SearchRefuses : SearchOptions → Conf → Entries → Code → Type 0
+SearchRefuses asked conf d code = HasNoBase conf d (option_copied asked.base) code
+
+abbrev pub SearchStops : SearchOptions → Option Files → CommandFault → Type 0
+SearchStops asked files = Stops (codes "search") (option_copied asked.filter) files asked.db.now (SearchRefuses asked)
+
 -- search, likewise; it changes no file. Where there is more than the limit, the first entries are printed, and the code is 4
 abbrev pub SearchEnds : SearchOptions → Option Files → Written → Written → Written → Written → Status → Type 0
 SearchEnds asked files a b e e' s = ((s ≡ Done) × IsSearched asked files false a b × (e' ≡ e))
     ⊎ (IsSearched asked files true a b × IsTold e e' (code_text (codes "search") SizeLimitExceeded) Refused s)
-    ⊎ IsStopped s
+    ⊎ IsStopped (SearchStops asked files) a b e e' s

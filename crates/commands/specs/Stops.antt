@@ -1,12 +1,21 @@
 -- Why search and slapcat stop before their work is done.
-use Rattle.std.specs.Prelude.{◌≡◌, List, ℕ, Result, Err}
+use Rattle.std.specs.Prelude.{◌≡◌, ℕ, ◌⊎◌, false, List, Option, Err}
+use Rattle.std.specs.FinMap as finite
 use Rattle.std.specs.Borrow.{Bor}
+use Rattle.device.specs.Device.{Written}
 use Rattle.paths.specs.Paths.{Path}
+use Rattle.schema.specs.Conf.{Conf}
 use Rattle.schema.specs.declared.code.Code.{Code}
+use Rattle.schema.specs.declared.code.Code.TheVariants.{NoSuchObject}
+use Rattle.tree.specs.Directories.{Entries}
 use Rattle.tree.specs.declared.refusal.Refusal.{Refusal}
 use Rattle.tree.specs.declared.refusal.Refusal.TheVariants as refusals
-use Rattle.commands.specs.Statuses.{status_of_fault}
-use Rattle.commands.specs.declared.messages.Status.TheVariants.{Failed}
+use Rattle.commands.specs.Asked.{IsNoFilter, base_of, IsBase}
+use Rattle.commands.specs.Folders.{Files}
+use Rattle.commands.specs.Loaded.{IsLoaded, LoadFails}
+use Rattle.commands.specs.Messages.{IsTold, fault_text}
+use Rattle.commands.specs.Statuses.{status_of_fault, IsFailure}
+use Rattle.commands.specs.declared.messages.Status.{Status}
 use Rattle.commands.specs.declared.messages.CommandFault.{CommandFault}
 use Rattle.commands.specs.declared.messages.CommandFault.TheVariants as faults
 
@@ -15,7 +24,43 @@ abbrev pub refusal_fault : Bor (List ℕ) → Refusal → CommandFault
 refusal_fault command (refusals.Code code) = faults.Code command code
 refusal_fault command refusals.OutOfMemory = faults.OutOfMemory
 
--- the command has no base: it ends with the code that is said, or something failed
-abbrev pub Refuses : List ℕ → Result Path Code → CommandFault → Type 0
-Refuses command said (faults.Code by code) = (by.now ≡ command) × (said ≡ Err code)
-Refuses command said fault = status_of_fault fault ≡ Failed
+-- the text spells no filter that isn't too deep, or something failed
+abbrev pub FilterFails : Option (List ℕ) → CommandFault → Type 0
+FilterFails text (faults.Filter fault) = IsNoFilter text
+FilterFails text fault = IsFailure fault
+
+-- the command of this name ends with a code of which this holds, or something failed
+abbrev pub Refuses : List ℕ → (Code → Type 0) → CommandFault → Type 0
+Refuses command Holds (faults.Code by code) = (by.now ≡ command) × Holds code
+Refuses command Holds fault = IsFailure fault
+
+-- no entry stands where the name leads to
+pub record IsNotThere (conf : Conf) (d : Entries) (name : Option (List ℕ)) : Type 0 where
+  pub base : Path
+  pub base_is : IsBase conf name base
+  pub missing : finite.contains_key d base ≡ false
+
+-- the code where there is no base: that of a name that leads nowhere under the configuration, or 32 where no entry stands
+abbrev pub HasNoBase : Conf → Entries → Option (List ℕ) → Code → Type 0
+HasNoBase conf d name code = (base_of conf name ≡ Err code) ⊎ (IsNotThere conf d name × (code ≡ NoSuchObject))
+
+-- of the directory in the folder this holds
+pub record IsRefused (files : Option Files) (db : List ℕ) (Holds : Conf → Entries → Type 0) : Type 0 where
+  pub conf : Conf
+  pub entries : Entries
+  pub loaded : IsLoaded files db conf entries
+  pub refused : Holds conf entries
+
+-- the fault that the command of this name stops with, by its filter, the directory, and where it refuses which
+abbrev pub Stops : List ℕ → Option (List ℕ) → Option Files → List ℕ → (Conf → Entries → Code → Type 0) → CommandFault → Type 0
+Stops command filter files db Holds faults.Words = ⊥
+Stops command filter files db Holds (faults.Filter fault) = IsNoFilter filter
+Stops command filter files db Holds (faults.Code by code) = (by.now ≡ command) × IsRefused files db (λ conf d. Holds conf d code)
+Stops command filter files db Holds fault = LoadFails files db fault
+
+-- the line of such a fault was said, with its status; unless something failed, nothing else was written
+pub record IsStopped (Why : CommandFault → Type 0) (a b e e' : Written) (s : Status) : Type 0 where
+  pub fault : CommandFault
+  pub why : Why fault
+  pub kept : IsFailure fault ⊎ (b ≡ a)
+  pub told : IsTold e e' (fault_text fault) (status_of_fault fault) s

@@ -1,1 +1,2 @@
+pub mod LoadFaults
 pub mod Tasks

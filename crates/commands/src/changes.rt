@@ -28,6 +28,7 @@ struct Changes<'a> {
 }
 
 /// Runs the records of a source that has this name, or answers how the command ends.
+#[tactic(auto, using(crate::proofs::Stopping::failure_status))]
 fn run_source<S: Source, E: Sink>(
     alloc: Global,
     dir: &mut Directory,
@@ -51,6 +52,7 @@ fn run_source<S: Source, E: Sink>(
     }
 }
 
+#[tactic(auto, using(crate::proofs::Stopping::failure_status))]
 fn run_records<F: Folder, S: Source, E: Sink>(
     alloc: Global,
     asked: &Changes<'_>,
@@ -75,6 +77,7 @@ fn run_records<F: Folder, S: Source, E: Sink>(
     }
 }
 
+#[tactic(auto, using(crate::proofs::Stopping::failure_status))]
 fn run_and_store<F: Folder, S: Source, E: Sink>(
     alloc: Global,
     asked: &Changes<'_>,
@@ -103,7 +106,7 @@ fn run_and_store<F: Folder, S: Source, E: Sink>(
     }
 }
 
-#[tactic(auto, using(crate::proofs::Ends::told_explains))]
+#[tactic(auto, using(crate::proofs::Stopping::not_loaded))]
 fn carry_out<F: Folder, S: Source, E: Sink>(
     alloc: Global,
     asked: &Changes<'_>,

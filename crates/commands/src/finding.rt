@@ -1,12 +1,10 @@
 //! What searches are asked for, read under a configuration.
 
-ghost use Rattle.std.specs.Prelude.{◌≡◌, ◌⊎◌, IfOk, IfErr};
+ghost use Rattle.std.specs.Prelude.{◌≡◌, IfOk, IfErr, Err};
 ghost use Rattle.std.specs.Option.{option_copied};
 ghost use Rattle.filter_text.specs.Spells.{view};
-ghost use Rattle.commands.specs.Asked.{IsFilter, IsNoFilter, base_of, IsBase};
-ghost use Rattle.commands.specs.Statuses.{status_of_fault};
-ghost use Rattle.commands.specs.Stops.{Refuses, refusal_fault};
-ghost use Rattle.commands.specs.declared.messages.Status.TheVariants.{Usage, Failed};
+ghost use Rattle.commands.specs.Asked.{IsFilter, base_of, IsBase};
+ghost use Rattle.commands.specs.Stops.{FilterFails, Refuses, refusal_fault};
 
 use crate::messages::CommandFault;
 use filter_text::{Filter, FilterFault, read_filter};
@@ -21,7 +19,7 @@ const ANY_ENTRY: &str = "(objectClass=*)";
 /// or one that is too deep, and else `OutOfMemory`.
 pub fn filter_of(alloc: Global, text: Option<&str>) -> Result<Filter, CommandFault>
     ensures found { IfOk result (λ f. IsFilter (option_copied text.entry) (view f)) }
-    ensures fault { IfErr result (λ e. ((status_of_fault e ≡ Usage) × IsNoFilter (option_copied text.entry)) ⊎ (status_of_fault e ≡ Failed)) }
+    ensures fault { IfErr result (FilterFails (option_copied text.entry)) }
 {
     match read_filter(alloc, text.unwrap_or(ANY_ENTRY).as_bytes()) {
         Ok(filter) => Ok(filter),
@@ -41,7 +39,7 @@ pub fn path_of(
     command: &'static str,
 ) -> Result<Path, CommandFault>
     ensures found { IfOk result (IsBase conf.now (option_copied name.entry)) }
-    ensures fault { IfErr result (Refuses command.entry.now (base_of conf.now (option_copied name.entry))) }
+    ensures fault { IfErr result (Refuses command.entry.now (λ code. base_of conf.now (option_copied name.entry) ≡ Err code)) }
 {
     let Some(name) = name else {
         return Ok(Path::root(alloc));

@@ -2,7 +2,7 @@
 ghost use Rattle.std.specs.Prelude.{◌≡◌, ◌≤◌, ◌<◌, ◌-◌, ◌^◌, ◌⊎◌, Some, IfOk, string_bytes};
 ghost use Rattle.commands.specs.declared.messages.CommandFault.TheVariants.{OutOfMemory};
 ghost use Rattle.commands.specs.Messages.{IsSaid, IsTold, fault_text, line_of};
-ghost use Rattle.commands.specs.Statuses.{status_number, status_of_fault, status_of_tally};
+ghost use Rattle.commands.specs.Statuses.{status_number, status_of_fault, status_of_tally, IsFailure};
 
 use device::{Sink, push_all};
 use directory::{Reason, Tally};
@@ -85,7 +85,7 @@ impl CommandFault {
 
     /// The fault of a read of what has this name.
     pub fn cannot_read(alloc: Global, name: &str) -> CommandFault
-        ensures { status_of_fault result ≡ Status.Failed }
+        ensures { IsFailure result }
     {
         match String::from_str(alloc, name) {
             Ok(name) => CommandFault::CannotRead(name),
@@ -95,7 +95,7 @@ impl CommandFault {
 
     /// The fault of a write of what has this name.
     pub fn cannot_write(alloc: Global, name: &str) -> CommandFault
-        ensures { status_of_fault result ≡ Status.Failed }
+        ensures { IsFailure result }
     {
         match String::from_str(alloc, name) {
             Ok(name) => CommandFault::CannotWrite(name),

@@ -1,10 +1,11 @@
 //! search: the entries that a filter finds are printed as LDIF.
-ghost use Rattle.std.specs.Prelude.{◌≡◌, ◌<◌, ◌-◌, ◌^◌, IfOk, codes};
+ghost use Rattle.std.specs.Prelude.{◌≡◌, ◌<◌, ◌-◌, ◌^◌, ◌⊎◌, IfOk, IfErr, codes};
 ghost use Rattle.schema.specs.declared.code.Code.TheVariants.{SizeLimitExceeded};
 ghost use Rattle.filter_text.specs.Spells.{view};
 ghost use Rattle.commands.specs.Messages.{code_text, fault_text};
-ghost use Rattle.commands.specs.Statuses.{status_of_fault};
-ghost use Rattle.commands.specs.Prints.{HasFound, IsSearched, SearchEnds};
+ghost use Rattle.commands.specs.Statuses.{status_of_fault, IsFailure};
+ghost use Rattle.commands.specs.Stops.{Refuses};
+ghost use Rattle.commands.specs.Prints.{HasFound, IsSearched, SearchRefuses, SearchStops, SearchEnds};
 
 use crate::database::load_directory;
 use crate::finding::{filter_of, path_of, refused};
@@ -43,7 +44,8 @@ fn print_found<O: Sink>(
     out: &mut O,
 ) -> Result<bool, CommandFault>
     requires { (O.written out.old).failed < 2 ^ 64 - 1 }
-    ensures { IfOk result (λ past. HasFound asked.now dir.now.conf dir.now.entries (view filter.now) past (O.written out.old) (O.written out.new)) }
+    ensures found { IfOk result (λ past. HasFound asked.now dir.now.conf dir.now.entries (view filter.now) past (O.written out.old) (O.written out.new)) }
+    ensures fault { IfErr result (Refuses (codes "search") (λ code. SearchRefuses asked.now dir.now.conf dir.now.entries code × (O.written out.new ≡ O.written out.old))) }
 {
     let base = path_of(alloc, dir.conf(), asked.base, NAME)?;
     let selection = Selection::of(alloc, dir.conf(), asked.attributes.as_slice())?;
@@ -59,6 +61,7 @@ fn print_found<O: Sink>(
     }
 }
 
+#[tactic(auto, using(crate::proofs::Stopping::filter_stops, crate::proofs::Stopping::load_stops))]
 fn load_and_print<F: Folder, O: Sink>(
     alloc: Global,
     asked: &SearchOptions<'_>,
@@ -66,7 +69,9 @@ fn load_and_print<F: Folder, O: Sink>(
     out: &mut O,
 ) -> Result<bool, CommandFault>
     requires { (O.written out.old).failed < 2 ^ 64 - 1 }
-    ensures { IfOk result (λ past. IsSearched asked.now (F.files folder.now) past (O.written out.old) (O.written out.new)) }
+    ensures searched { IfOk result (λ past. IsSearched asked.now (F.files folder.now) past (O.written out.old) (O.written out.new)) }
+    ensures stops { IfErr result (SearchStops asked.now (F.files folder.now)) }
+    ensures kept { IfErr result (λ f. IsFailure f ⊎ (O.written out.new ≡ O.written out.old)) }
 {
     let filter = filter_of(alloc, asked.filter)?;
     let dir = load_directory(alloc, folder, asked.db)?;
@@ -79,6 +84,7 @@ fn load_and_print<F: Folder, O: Sink>(
 /// Prints the entries of the directory in a folder that are in scope of the base and that the filter is True of, with the attributes that
 /// are asked for (RFC 4511, 4.5.1). Where more than the limit match, the first ones are printed, and the code is 4 sizeLimitExceeded; where
 /// the base isn't there, it is 32 noSuchObject.
+#[tactic(auto, using(crate::proofs::Stopping::stopped))]
 pub fn search<F: Folder, O: Sink, E: Sink>(
     alloc: Global,
     asked: &SearchOptions<'_>,

@@ -1,9 +1,11 @@
 //! slapcat: a directory, or a part of it, is printed as LDIF.
-ghost use Rattle.std.specs.Prelude.{◌≡◌, ◌<◌, ◌-◌, ◌^◌, false, OnOk, OnErr};
+ghost use Rattle.std.specs.Prelude.{◌≡◌, ◌<◌, ◌-◌, ◌^◌, ◌⊎◌, false, IfErr, OnOk, OnErr, codes};
 ghost use Rattle.std.specs.Option.{option_copied};
 ghost use Rattle.device.specs.Device.{Took};
 ghost use Rattle.filter_text.specs.Spells.{view};
-ghost use Rattle.commands.specs.Prints.{is_whole, Puts, HasPut, IsPrinted, CatEnds};
+ghost use Rattle.commands.specs.Statuses.{IsFailure};
+ghost use Rattle.commands.specs.Stops.{Refuses};
+ghost use Rattle.commands.specs.Prints.{is_whole, Puts, HasPut, IsPrinted, CatRefuses, CatStops, CatEnds};
 
 use crate::database::{load_directory, store};
 use crate::finding::{filter_of, path_of};
@@ -25,7 +27,8 @@ const NAME: &str = "slapcat";
 
 fn print<T: FileText, O: Sink>(alloc: Global, text: &T, out: &mut O) -> Result<(), CommandFault>
     requires { (O.written out.old).failed < 2 ^ 64 - 1 }
-    ensures { OnOk result (Took (O.written out.old) (O.written out.new) (T.text text.now)) }
+    ensures put { OnOk result (Took (O.written out.old) (O.written out.new) (T.text text.now)) }
+    ensures err { IfErr result IsFailure }
 {
     match text.write(alloc, out) {
         Ok(()) => Ok(()),
@@ -45,6 +48,7 @@ fn put<T: FileText, F: Folder, O: Sink>(
     requires { (O.written out.old).failed < 2 ^ 64 - 1 }
     ensures same { OnErr result (F.files folder.new ≡ F.files folder.old) }
     ensures put { OnOk result (Puts (option_copied file.entry) (F.files folder.old) (F.files folder.new) (O.written out.old) (O.written out.new) (T.text text.now)) }
+    ensures err { IfErr result IsFailure }
 {
     match file {
         Some(name) => store(alloc, folder, name, text),
@@ -63,6 +67,7 @@ fn put_part<F: Folder, O: Sink>(
     requires { (O.written out.old).failed < 2 ^ 64 - 1 }
     ensures same { OnErr result (F.files folder.new ≡ F.files folder.old) }
     ensures put { OnOk result (HasPut false asked.now (view filter.now) dir.now.conf dir.now.entries (F.files folder.old) (F.files folder.new) (O.written out.old) (O.written out.new)) }
+    ensures fault { IfErr result (Refuses (codes "slapcat") (λ code. CatRefuses asked.now dir.now.conf dir.now.entries code × (O.written out.new ≡ O.written out.old))) }
 {
     let base = path_of(alloc, dir.conf(), asked.base, NAME)?;
     if asked.base.is_some() && dir.tree().get(&base).is_none() {
@@ -87,6 +92,7 @@ fn put_entries<F: Folder, O: Sink>(
     requires { (O.written out.old).failed < 2 ^ 64 - 1 }
     ensures same { OnErr result (F.files folder.new ≡ F.files folder.old) }
     ensures put { OnOk result (HasPut (is_whole asked.now) asked.now (view filter.now) dir.now.conf dir.now.entries (F.files folder.old) (F.files folder.new) (O.written out.old) (O.written out.new)) }
+    ensures fault { IfErr result (Refuses (codes "slapcat") (λ code. CatRefuses asked.now dir.now.conf dir.now.entries code × (O.written out.new ≡ O.written out.old))) }
 {
     if asked.filter.is_none() && asked.base.is_none() {
         return put(alloc, dir, asked.file, folder, out);
@@ -94,6 +100,7 @@ fn put_entries<F: Folder, O: Sink>(
     put_part(alloc, asked, filter, dir, folder, out)
 }
 
+#[tactic(auto, using(crate::proofs::Stopping::filter_stops, crate::proofs::Stopping::load_stops))]
 fn load_and_put<F: Folder, O: Sink>(
     alloc: Global,
     asked: &CatOptions<'_>,
@@ -103,6 +110,8 @@ fn load_and_put<F: Folder, O: Sink>(
     requires { (O.written out.old).failed < 2 ^ 64 - 1 }
     ensures same { OnErr result (F.files folder.new ≡ F.files folder.old) }
     ensures printed { OnOk result (IsPrinted asked.now (F.files folder.old) (F.files folder.new) (O.written out.old) (O.written out.new)) }
+    ensures stops { IfErr result (CatStops asked.now (F.files folder.old)) }
+    ensures kept { IfErr result (λ f. IsFailure f ⊎ (O.written out.new ≡ O.written out.old)) }
 {
     let filter = filter_of(alloc, asked.filter)?;
     let dir = load_directory(alloc, folder, asked.db)?;
@@ -114,6 +123,7 @@ fn load_and_put<F: Folder, O: Sink>(
 
 /// Writes the directory in a folder to the file, or to `out`: all entries, or those at the base and below it that the filter is True of.
 /// Where the base isn't there, the code is 32 noSuchObject.
+#[tactic(auto, using(crate::proofs::Stopping::stopped))]
 pub fn slapcat<F: Folder, O: Sink, E: Sink>(
     alloc: Global,
     asked: &CatOptions<'_>,

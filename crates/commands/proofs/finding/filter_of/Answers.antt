@@ -1,4 +1,4 @@
-use Rattle.std.proofs.Common.{◌≡◌, ℕ, List, Option, None, Some, inl, refl, sym, ap, subst, ◌∙◌, Bor}
+use Rattle.std.proofs.Common.{◌≡◌, ℕ, List, Option, None, Some, refl, sym, ap, subst, ◌∙◌, Bor}
 use Rattle.std.specs.Prelude.{unwrap_or}
 use Rattle.std.specs.Option.{option_copied}
 use Rattle.filter_text.specs.Depth.{IsShallow}
@@ -15,4 +15,4 @@ no_filter : (text : Option (List ℕ)) (bytes : List ℕ) → bytes ≡ unwrap_o
 no_filter text bytes is none f spelled = none f (subst (FilterText f) (sym is) spelled.0) (subst IsShallow (sym is) spelled.1)
 
 pub returns-in-Err-At-clause-fault : goal.returns-in-Err-At-clause-fault
-returns-in-Err-At-clause-fault c = inl (refl, no_filter (option_copied c.args.text) _ (c.as_bytes.ensures.value ∙ ap (λ (t : Bor (List ℕ)). t.now) c.unwrap_or.ensures ∙ copied c.args.text _) (λ f spelled shallow. subst IsOutOfMemory c.in-Err-At.field-0-is (c.in-Err-At.ensures.only f spelled shallow)))
+returns-in-Err-At-clause-fault c = no_filter (option_copied c.args.text) _ (c.as_bytes.ensures.value ∙ ap (λ (t : Bor (List ℕ)). t.now) c.unwrap_or.ensures ∙ copied c.args.text _) (λ f spelled shallow. subst IsOutOfMemory c.in-Err-At.field-0-is (c.in-Err-At.ensures.only f spelled shallow))
