@@ -18,3 +18,14 @@ pub mod ValueExamples
 pub mod SlotExamples
 pub mod ClassExamples
 pub mod RulePrefix
+pub mod FirstFlaws
+pub mod FirstStops
+pub mod LineWords
+pub mod TypeFlaws
+pub mod FlawsTold
+pub mod ClassFlaws
+pub mod DefinitionFaults
+pub mod Unkept
+pub mod IndexFlaws
+pub mod LaterFaults
+pub mod ConfFaultsStand

@@ -13,5 +13,6 @@ pub mod ConfFaults
 pub mod NamesInLines
 pub mod Slots
 pub mod Configurations
+pub mod FaultyLines
 pub mod Reads
 pub mod inner

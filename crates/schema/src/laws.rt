@@ -1,6 +1,6 @@
-//! Laws of names, for the crates above.
+//! Laws of names and configurations, for the crates above.
 
-ghost use Rattle.std.specs.Prelude.{◌≡◌, ℕ, true, false, Ok, Some, nat_lt, List};
+ghost use Rattle.std.specs.Prelude.{◌≡◌, ◌↔◌, ℕ, true, false, Ok, Err, Some, nat_lt, List};
 ghost use Rattle.std.specs.List.{list_all, AllByRecursion};
 ghost use Rattle.values.specs.Types.{type_of, name_of, is_known};
 ghost use Rattle.definitions.specs.Naming.{is_reserved};
@@ -10,7 +10,11 @@ ghost use Rattle.schema.specs.GoodRdns.{IsRdn};
 ghost use Rattle.schema.specs.Values.{is_valid_at};
 ghost use Rattle.dn.specs.Names.{is_type};
 ghost use Rattle.schema.specs.Conf.{Conf, IsConf, located, name_text, located_at};
+ghost use Rattle.schema.specs.declared.conf_fault.ConfFaultKind.{ConfFaultKind};
+ghost use Rattle.schema.specs.Configurations.{conf_of};
+ghost use Rattle.schema.specs.FaultyLines.{IsConfFault};
 
+use definitions::{spelled_classes_are_read, spelled_types_are_read};
 use dn::{spelled_names_are_read, written_names_are_read};
 
 /// The name that a type is printed by names it, and no other type before it; it is made of letters, digits, `-`, `_` and
@@ -42,4 +46,14 @@ pub fn located_rdns_are_good()
     ensures { (conf : Conf) (text : List ℕ) (rs : List Rdn) → located conf text ≡ located_at rs → AllByRecursion (IsRdn conf.types) rs }
 {
     spelled_names_are_read();
+}
+
+/// Which fault a configuration has: that of the first line that is at fault beside what is defined above it; where none is, that of the
+/// first suffix or index that is; and last, that no suffix stands. It has one such fault at most.
+pub fn conf_faults_stand_at_lines()
+    ensures fault { (text : List ℕ) (line : ℕ) (kind : ConfFaultKind) → (conf_of text ≡ Err (line, kind)) ↔ IsConfFault text line kind }
+    ensures one { (text : List ℕ) (a b : ℕ) (j k : ConfFaultKind) → IsConfFault text a j → IsConfFault text b k → (a ≡ b) × (j ≡ k) }
+{
+    spelled_types_are_read();
+    spelled_classes_are_read();
 }
