@@ -1,11 +1,15 @@
 -- What the words of search and slapcat ask for: a filter, a base and attributes.
-use Rattle.std.specs.Prelude.{◌≡◌, ℕ, ◌<◌, List, [], length, Option, None, Some, Result, Ok, codes, unwrap_or}
+use Rattle.std.specs.Prelude.{◌≡◌, ◌↔◌, ℕ, ◌<◌, List, [], length, Option, None, Some, Result, Ok, codes, unwrap_or}
 use Rattle.base.specs.Answers.{◌>>=◌}
 use Rattle.paths.specs.Paths.{Path}
 use Rattle.schema.specs.Conf.{Conf, located, path_of}
 use Rattle.schema.specs.declared.code.Code.{Code}
-use Rattle.filter_text.specs.Depth.{IsShallow}
+use Rattle.filter_text.specs.Depth.{IsShallow, IsDeepAt}
+use Rattle.filter_text.specs.Faults.{BeginsAt}
 use Rattle.filter_text.specs.Spells.{Tree, FilterText}
+use Rattle.filter_text.specs.declared.filter_fault.FilterFault.{FilterFault}
+use Rattle.filter_text.specs.declared.filter_fault.FilterFault.TheVariants.{At}
+use Rattle.filter_text.specs.declared.filter_fault.FilterFaultKind.TheVariants.{Deep}
 use Rattle.directory.specs.Selections.{Selection, selects, is_selected}
 
 -- ---- the filter (RFC 4515)
@@ -21,6 +25,12 @@ IsFilter text f = FilterText f (unwrap_or text any_entry) × IsShallow (unwrap_o
 -- there is none
 abbrev pub IsNoFilter : Option (List ℕ) → Type 0
 IsNoFilter text = (f : Tree) → ¬ (IsFilter text f)
+
+-- what is told of a text that spells none: where it is too deep, exactly that; else a place, and the bytes before it begin one
+pub record IsNoFilterFor (text : Option (List ℕ)) (fault : FilterFault) : Type 0 where
+  pub none : IsNoFilter text
+  pub deep : (at : ℕ) → IsDeepAt (unwrap_or text any_entry) at ↔ (fault ≡ At at Deep)
+  pub front : BeginsAt (unwrap_or text any_entry) fault
 
 -- ---- the base (RFC 4514)
 

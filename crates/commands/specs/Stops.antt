@@ -10,7 +10,7 @@ use Rattle.schema.specs.declared.code.Code.TheVariants.{NoSuchObject}
 use Rattle.tree.specs.Directories.{Entries}
 use Rattle.tree.specs.declared.refusal.Refusal.{Refusal}
 use Rattle.tree.specs.declared.refusal.Refusal.TheVariants as refusals
-use Rattle.commands.specs.Asked.{IsNoFilter, base_of, IsBase}
+use Rattle.commands.specs.Asked.{IsNoFilterFor, base_of, IsBase}
 use Rattle.commands.specs.Folders.{Files}
 use Rattle.commands.specs.Loaded.{IsLoaded, LoadFails}
 use Rattle.commands.specs.Messages.{IsTold, fault_text}
@@ -24,9 +24,9 @@ abbrev pub refusal_fault : Bor (List ℕ) → Refusal → CommandFault
 refusal_fault command (refusals.Code code) = faults.Code command code
 refusal_fault command refusals.OutOfMemory = faults.OutOfMemory
 
--- the text spells no filter that isn't too deep, or something failed
+-- this is told of a text that spells no filter, or something failed
 abbrev pub FilterFails : Option (List ℕ) → CommandFault → Type 0
-FilterFails text (faults.Filter fault) = IsNoFilter text
+FilterFails text (faults.Filter fault) = IsNoFilterFor text fault
 FilterFails text fault = IsFailure fault
 
 -- the command of this name ends with a code of which this holds, or something failed
@@ -54,7 +54,7 @@ pub record IsRefused (files : Option Files) (db : List ℕ) (Holds : Conf → En
 -- the fault that the command of this name stops with, by its filter, the directory, and where it refuses which
 abbrev pub Stops : List ℕ → Option (List ℕ) → Option Files → List ℕ → (Conf → Entries → Code → Type 0) → CommandFault → Type 0
 Stops command filter files db Holds faults.Words = ⊥
-Stops command filter files db Holds (faults.Filter fault) = IsNoFilter filter
+Stops command filter files db Holds (faults.Filter fault) = IsNoFilterFor filter fault
 Stops command filter files db Holds (faults.Code by code) = (by.now ≡ command) × IsRefused files db (λ conf d. Holds conf d code)
 Stops command filter files db Holds fault = LoadFails files db fault
 
