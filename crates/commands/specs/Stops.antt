@@ -44,14 +44,14 @@ pub record IsNotThere (conf : Conf) (d : Entries) (name : Option (List ℕ)) : T
 abbrev pub HasNoBase : Conf → Entries → Option (List ℕ) → Code → Type 0
 HasNoBase conf d name code = (base_of conf name ≡ Err code) ⊎ (IsNotThere conf d name × (code ≡ NoSuchObject))
 
--- of the directory in the folder this holds
+-- a directory was loaded, and this holds of it
 pub record IsRefused (files : Option Files) (db : List ℕ) (Holds : Conf → Entries → Type 0) : Type 0 where
   pub conf : Conf
   pub entries : Entries
   pub loaded : IsLoaded files db conf entries
   pub refused : Holds conf entries
 
--- the fault that the command of this name stops with, by its filter, the directory, and where it refuses which
+-- why the command of this name stops: its filter is none, no directory was loaded, or it ends with a code of which this holds there
 abbrev pub Stops : List ℕ → Option (List ℕ) → Option Files → List ℕ → (Conf → Entries → Code → Type 0) → CommandFault → Type 0
 Stops command filter files db Holds faults.Words = ⊥
 Stops command filter files db Holds (faults.Filter fault) = IsNoFilterFor filter fault
