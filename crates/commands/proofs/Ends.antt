@@ -1,6 +1,6 @@
 -- How commands end over a directory that was loaded.
 use Rattle.std.proofs.Common.{◌≡◌, ℕ, Bool, true, false, inl, inr, List, map, Option, Some, None, refl, sym, ap, ◌∙◌, subst, Bor}
-use Rattle.std.specs.Prelude.{Result, Ok, Err, OnOk, IfOk, is_some, nat_lt}
+use Rattle.std.specs.Prelude.{Result, Ok, Err, OnOk, OnErr, IfOk, IfErr, is_some, nat_lt}
 use Rattle.std.specs.Option.{option_copied, option_map}
 use Rattle.std.specs.FinMap as finite
 use Rattle.std.proofs.lemmas.List.{length-map}
@@ -15,7 +15,7 @@ use Rattle.filter.specs.Made.{Made}
 use Rattle.search.specs.Searches.{scan}
 use Rattle.search.specs.Walks.{Lent, seen}
 use Rattle.directory.specs.Selections.{Selection}
-use Rattle.directory.specs.Found.{Answers, found_text, up_to, goes_past}
+use Rattle.directory.specs.Found.{found_text, up_to, goes_past}
 use Rattle.commands.specs.Parts.{part_text}
 use Rattle.commands.specs.declared.messages.Status.{Status}
 use Rattle.commands.specs.declared.messages.CommandFault.{CommandFault}
@@ -26,12 +26,15 @@ use Rattle.commands.specs.Folders.{Files}
 use Rattle.commands.specs.Loaded.{IsLoaded}
 use Rattle.commands.specs.Changes.{Task, ChangeEnds}
 use Rattle.commands.specs.inner.Tasks.{RunEnds}
-use Rattle.commands.specs.Prints.{is_whole, Puts, HasPut, IsPrinted, HasFound, IsSearched}
+use Rattle.commands.specs.Failures.{FailsToWrite}
+use Rattle.commands.specs.Stops.{PrintsPartly}
+use Rattle.commands.proofs.Stopping.{unwritten_printed}
+use Rattle.commands.specs.Prints.{is_whole, IsPartText, Puts, PutsPartly, HasPut, HasPutPartly, IsPrinted, IsPrintedPartly, HasFound, HasFoundPartly, IsSearched, IsSearchedPartly}
 
 -- how a run over it ends
 pub loaded_and_ran : (task : Task) (files files' : Option Files) (stream : Option (List ℕ)) (conf : Conf) (old : Entries) (a b : Written) (s : Status) → IsLoaded files task.db conf old → RunEnds task files files' stream conf old a b s → ChangeEnds task files files' stream a b s
 loaded_and_ran task files files' stream conf old a b s loaded (inl ran) = inl (record { conf = conf; old = old; loaded = loaded; ran = ran })
-loaded_and_ran task files files' stream conf old a b s loaded (inr failed) = inr (inr failed.0, failed.1)
+loaded_and_ran task files files' stream conf old a b s loaded (inr failed) = inr (inr (record { conf = conf; old = old; loaded = loaded; fails = failed.0 }), failed.1)
 
 -- how it is printed
 pub loaded_and_printed : (answer : Result (Unit {0}) CommandFault) (asked : CatOptions) (f : Tree) (files files' : Option Files) (conf : Conf) (d : Entries) (a b : Written)
@@ -39,10 +42,16 @@ pub loaded_and_printed : (answer : Result (Unit {0}) CommandFault) (asked : CatO
 loaded_and_printed (Ok u) asked f files files' conf d a b spelled loaded put = record { filter = f; filter_is = spelled; conf = conf; entries = d; loaded = loaded; printed = put }
 loaded_and_printed (Err e) asked f files files' conf d a b spelled loaded put = tt
 
-pub part_put : (answer : Result (Unit {0}) CommandFault) (asked : CatOptions) (f : Tree) (conf : Conf) (d : Entries) (base : Path) (text : List ℕ) (files files' : Option Files) (a b : Written)
-    → IsBase conf (option_copied asked.base) base → (is_some asked.base ≡ true → finite.contains_key d base ≡ true) → text ≡ part_text conf d base f → OnOk answer (Puts (option_copied asked.file) files files' a b text) → OnOk answer (HasPut false asked f conf d files files' a b)
-part_put (Ok u) asked f conf d base text files files' a b based there is put = record { text = text; is = record { base = base; base_is = based; there = there; text_is = is }; put = put }
-part_put (Err e) asked f conf d base text files files' a b based there is put = tt
+pub part_put : (answer : Result (Unit {0}) CommandFault) (asked : CatOptions) (f : Tree) (conf : Conf) (d : Entries) (text : List ℕ) (files files' : Option Files) (a b : Written)
+    → IsPartText asked f conf d text → OnOk answer (Puts (option_copied asked.file) files files' a b text) → OnOk answer (HasPut false asked f conf d files files' a b)
+part_put (Ok u) asked f conf d text files files' a b is put = record { text = text; is = is; put = put }
+part_put (Err e) asked f conf d text files files' a b is put = tt
+
+-- how it is printed where that fails
+pub part_partly : (answer : Result (Unit {0}) CommandFault) (asked : CatOptions) (f : Tree) (conf : Conf) (d : Entries) (target text : List ℕ) (a b : Written)
+    → IsPartText asked f conf d text → IfErr answer (FailsToWrite target) → OnErr answer (PutsPartly (option_copied asked.file) a b text) → IfErr answer (PrintsPartly (HasPutPartly false asked f conf d) a b)
+part_partly (Ok u) asked f conf d target text a b is fails put = tt
+part_partly (Err e) asked f conf d target text a b is fails put = inr (unwritten_printed target e fails, record { text = text; is = is; put = put })
 
 -- what was found at the base stands there
 pub found_there : {A : Type 0} (dir dir' : Directory) (base : Path) (as_content : A → EntryContent) (found : Option A) → dir' ≡ dir → option_map as_content found ≡ finite.get dir'.entries base → is_some found ≡ true → finite.contains_key dir.entries base ≡ true
@@ -55,9 +64,23 @@ part_same dir dir' base base' made made' same_dir same_base same_made = rw (same
 
 -- how it is searched
 pub loaded_and_searched : (answer : Result Bool CommandFault) (asked : SearchOptions) (f : Tree) (files : Option Files) (conf : Conf) (d : Entries) (a b : Written)
-    → IsFilter (option_copied asked.filter) f → IsLoaded files asked.db.now conf d → IfOk answer (λ past. HasFound asked conf d f past a b) → IfOk answer (λ past. IsSearched asked files past a b)
+    → IsFilter (option_copied asked.filter) f → IsLoaded files asked.db.now conf d → IfOk answer (λ past. HasFound Took asked conf d f past a b) → IfOk answer (λ past. IsSearched asked files past a b)
 loaded_and_searched (Ok past) asked f files conf d a b spelled loaded found = record { filter = f; filter_is = spelled; conf = conf; entries = d; loaded = loaded; found = found }
 loaded_and_searched (Err e) asked f files conf d a b spelled loaded found = tt
+
+-- how it is searched where printing fails
+pub searched_partly : (answer : Result Bool CommandFault) (asked : SearchOptions) (f : Tree) (files : Option Files) (conf : Conf) (d : Entries) (a b : Written)
+    → IsFilter (option_copied asked.filter) f → IsLoaded files asked.db.now conf d → IfErr answer (PrintsPartly (HasFoundPartly asked conf d f) a b) → IfErr answer (PrintsPartly (IsSearchedPartly asked files) a b)
+searched_partly (Ok past) asked f files conf d a b spelled loaded printed = tt
+searched_partly (Err e) asked f files conf d a b spelled loaded (inl same) = inl same
+searched_partly (Err e) asked f files conf d a b spelled loaded (inr printed) = inr (printed.0, record { filter = f; filter_is = spelled; conf = conf; entries = d; loaded = loaded; found = printed.1 })
+
+-- how it is printed where that fails
+pub printed_partly : (answer : Result (Unit {0}) CommandFault) (asked : CatOptions) (f : Tree) (files : Option Files) (conf : Conf) (d : Entries) (a b : Written)
+    → IsFilter (option_copied asked.filter) f → IsLoaded files asked.db.now conf d → IfErr answer (PrintsPartly (HasPutPartly (is_whole asked) asked f conf d) a b) → IfErr answer (PrintsPartly (IsPrintedPartly asked files) a b)
+printed_partly (Ok u) asked f files conf d a b spelled loaded printed = tt
+printed_partly (Err e) asked f files conf d a b spelled loaded (inl same) = inl same
+printed_partly (Err e) asked f files conf d a b spelled loaded (inr printed) = inr (printed.0, record { filter = f; filter_is = spelled; conf = conf; entries = d; loaded = loaded; printed = printed.1 })
 
 past_seen : (limit : Option ℕ) (ls : List Lent) → goes_past limit ls ≡ goes_past limit (map seen ls)
 past_seen None ls = refl
@@ -68,15 +91,15 @@ selection_so conf conf' words words' s same same_words selects =
     subst (λ (ws : List (Bor (List ℕ))). IsSelection conf (map (λ w. w.now) ws) s) same_words (subst (λ (k : Conf). IsSelection k (map (λ w. w.now) words') s) same selects)
 
 -- what was written of what was found
-pub has_found : (asked : SearchOptions) (conf : Conf) (d : Entries) (base : Path) (f : Tree) (s : Selection) (ls : List Lent) (past : Bool) (a b : Written)
-    → IsBase conf (option_copied asked.base) base → IsSelection conf (map (λ w. w.now) asked.attributes.items) s → finite.contains_key d base ≡ true → map seen ls ≡ scan conf d base asked.scope f
-    → Answers past (goes_past asked.limit ls) a b (found_text conf d s (up_to asked.limit (map seen ls))) → HasFound asked conf d f past a b
-has_found asked conf d base f s ls past a b based selects there found answers = record {
-  base = base;
-  selection = s;
-  base_is = based;
-  there = there;
-  selects = selects;
-  past_is = answers.past_is ∙ past_seen asked.limit ls ∙ ap (goes_past asked.limit) found;
-  written = subst (λ (es : List (Path × EntryContent)). Took a b (found_text conf d s (up_to asked.limit es))) found answers.written;
-}
+module _ (IsWritten : Written → Written → List ℕ → Type 0) (asked : SearchOptions) (conf : Conf) (d : Entries) (base : Path) (f : Tree) (s : Selection) (ls : List Lent) (a b : Written)
+    (based : IsBase conf (option_copied asked.base) base) (selects : IsSelection conf (map (λ w. w.now) asked.attributes.items) s) (there : finite.contains_key d base ≡ true) (found : map seen ls ≡ scan conf d base asked.scope f) where
+  pub has_found : (past : Bool) → past ≡ goes_past asked.limit ls → IsWritten a b (found_text conf d s (up_to asked.limit (map seen ls))) → HasFound IsWritten asked conf d f past a b
+  has_found past is written = record {
+    base = base;
+    selection = s;
+    base_is = based;
+    there = there;
+    selects = selects;
+    past_is = is ∙ past_seen asked.limit ls ∙ ap (goes_past asked.limit) found;
+    written = subst (λ (es : List (Path × EntryContent)). IsWritten a b (found_text conf d s (up_to asked.limit es))) found written;
+  }

@@ -1,17 +1,18 @@
 -- What a command comes to, by what its words ask for. Which words ask for what, contracts don't say, but for the help.
-use Rattle.std.specs.Prelude.{◌≡◌, ℕ, ◌⊎◌, List, Option, Result, Ok, Err, string_bytes}
-use Rattle.device.specs.Device.{Written, Took}
+use Rattle.std.specs.Prelude.{◌≡◌, ℕ, ◌⊎◌, List, Option, Result, Ok, Err, string_bytes, codes}
+use Rattle.device.specs.Device.{Written, Took, Broke}
 use Rattle.command_line.specs.declared.request.Request.{Request}
 use Rattle.command_line.specs.declared.request.Request.TheVariants.{Help, Add, Modify, Search, Cat}
 use Rattle.command_line.specs.declared.request.UsageFault.{UsageFault}
 use Rattle.command_line.specs.declared.request.UsageFault.TheVariants.{Words, OutOfMemory}
 use Rattle.commands.specs.Folders.{Files}
 use Rattle.commands.specs.Messages.{IsSaid}
+use Rattle.commands.specs.Failures.{IsToldUnwritten, IsToldMemory}
 use Rattle.commands.specs.Changes.{add_task, modify_task, ChangeEnds, ChangesKnown}
 use Rattle.commands.specs.Prints.{CatEnds, SearchEnds}
 use Rattle.commands.specs.Statuses.{status_number}
 use Rattle.commands.specs.declared.messages.Status.{Status}
-use Rattle.commands.specs.declared.messages.Status.TheVariants.{Done, Usage, Failed}
+use Rattle.commands.specs.declared.messages.Status.TheVariants.{Done, Usage}
 
 -- the streams before and after: what is left of the input, and what the output and the messages hold
 pub record Streams : Type 0 where
@@ -22,9 +23,13 @@ pub record Streams : Type 0 where
   pub err : Written
   pub err' : Written
 
+-- a text was printed, and nothing said; or it was broken off, and that is said
+abbrev pub IsPrintedText : List ℕ → Written → Written → Written → Written → Status → Type 0
+IsPrintedText text a b e e' s = ((s ≡ Done) × Took a b text × (e' ≡ e)) ⊎ (Broke a b text × IsToldUnwritten (codes "output") e e' s)
+
 -- what is asked for was done to the files and the streams, and this is the status
 abbrev pub RequestEnds : Result Request UsageFault → Option Files → Option Files → Streams → Status → Type 0
-RequestEnds (Ok (Help text)) files files' t s = (files' ≡ files) × (t.input' ≡ t.input) × (((s ≡ Done) × Took t.out t.out' (string_bytes text) × (t.err' ≡ t.err)) ⊎ (s ≡ Failed))
+RequestEnds (Ok (Help text)) files files' t s = (files' ≡ files) × (t.input' ≡ t.input) × IsPrintedText (string_bytes text) t.out t.out' t.err t.err' s
 RequestEnds (Ok (Add asked)) files files' t s =
     (t.out' ≡ t.out) × ChangesKnown (add_task asked) files files' t.input t.err t.err' s × ChangeEnds (add_task asked) files files' t.input t.err t.err' s
 RequestEnds (Ok (Modify asked)) files files' t s =
@@ -32,7 +37,7 @@ RequestEnds (Ok (Modify asked)) files files' t s =
 RequestEnds (Ok (Search asked)) files files' t s = (files' ≡ files) × (t.input' ≡ t.input) × SearchEnds asked files t.out t.out' t.err t.err' s
 RequestEnds (Ok (Cat asked)) files files' t s = (t.input' ≡ t.input) × CatEnds asked files files' t.out t.out' t.err t.err' s
 RequestEnds (Err (Words text)) files files' t s = (files' ≡ files) × (t.input' ≡ t.input) × (t.out' ≡ t.out) × IsSaid t.err t.err' (string_bytes text) Usage s
-RequestEnds (Err OutOfMemory) files files' t s = (files' ≡ files) × (t.input' ≡ t.input) × (t.out' ≡ t.out) × (s ≡ Failed)
+RequestEnds (Err OutOfMemory) files files' t s = (files' ≡ files) × (t.input' ≡ t.input) × (t.out' ≡ t.out) × IsToldMemory t.err t.err' s
 
 -- the words asked for something, it was done, and this is the number of its status
 pub record CommandEnds (files files' : Option Files) (t : Streams) (number : ℕ) : Type 0 where

@@ -1,5 +1,6 @@
 pub mod Statuses
 pub mod Messages
+pub mod Failures
 pub mod Asked
 pub mod Parts
 pub mod Folders

@@ -1,6 +1,6 @@
 -- The directory that dir.conf and data.ldif in a folder stand for. Where the folder tells its files, the texts are theirs; where it
 -- doesn't, as the system's, they are some texts.
-use Rattle.std.specs.Prelude.{◌≡◌, ℕ, List, [], ◌∷◌, Option, None, Some, Ok, Err}
+use Rattle.std.specs.Prelude.{◌≡◌, ℕ, ◌⊎◌, List, [], ◌∷◌, Option, None, Some, Ok, Err, string_bytes}
 use Rattle.std.specs.Option.{option_map}
 use Rattle.std.specs.FinMap as finite
 use Rattle.device.specs.Device.{Written}
@@ -14,7 +14,8 @@ use Rattle.directory.specs.Folds.{Over}
 use Rattle.directory.specs.declared.reason.Reason.{Reason}
 use Rattle.commands.specs.Folders.{Files, Finds, conf_name, data_name}
 use Rattle.commands.specs.Messages.{IsTold, fault_text}
-use Rattle.commands.specs.Statuses.{status_of_fault, IsFailure}
+use Rattle.commands.specs.Failures.{IsMemory}
+use Rattle.commands.specs.Statuses.{status_of_fault}
 use Rattle.commands.specs.declared.messages.CommandFault.{CommandFault}
 use Rattle.commands.specs.declared.messages.CommandFault.TheVariants as faults
 use Rattle.commands.specs.declared.messages.Status.{Status}
@@ -51,11 +52,12 @@ pub record DataFails (files : Option Files) (db : List ℕ) (line : ℕ) (why : 
   pub there : Finds files (data_name db) (Some text)
   pub refused : Over (option_map records text) (λ given. (loaded_after conf finite.empty given).refused ≡ (line, why) ∷ [])
 
--- why no directory was loaded; of what failed nothing is said
+-- why no directory was loaded: a fault of one of its two files, or one that can't be read, or want of memory
 abbrev pub LoadFails : Option Files → List ℕ → CommandFault → Type 0
 LoadFails files db (faults.Configuration line kind) = ConfFails files db line kind
 LoadFails files db (faults.Data line why) = DataFails files db line why
-LoadFails files db fault = IsFailure fault
+LoadFails files db (faults.CannotRead name) = (string_bytes name ≡ conf_name db) ⊎ (string_bytes name ≡ data_name db)
+LoadFails files db fault = IsMemory fault
 
 -- no directory was loaded: the line of why was said, with its status
 pub record IsNotLoaded (files : Option Files) (db : List ℕ) (a b : Written) (s : Status) : Type 0 where

@@ -1,5 +1,5 @@
 -- How slapcat and search end, and what they did by then.
-use Rattle.std.specs.Prelude.{◌≡◌, ℕ, ◌⊎◌, Bool, true, false, ◌&&◌, List, Option, None, Some, is_none, is_some, map, codes}
+use Rattle.std.specs.Prelude.{◌≡◌, ℕ, ◌⊎◌, Bool, true, false, ◌&&◌, List, Option, None, Some, is_none, is_some, map, codes, unwrap_or, Err}
 use Rattle.std.specs.Option.{option_copied}
 use Rattle.std.specs.FinMap as finite
 use Rattle.device.specs.Device.{Written, Took}
@@ -8,11 +8,13 @@ use Rattle.schema.specs.Conf.{Conf}
 use Rattle.schema.specs.declared.code.Code.{Code}
 use Rattle.schema.specs.declared.code.Code.TheVariants.{SizeLimitExceeded}
 use Rattle.tree.specs.Directories.{Entries}
+use Rattle.ldif.specs.declared.write.WriteFault.{WriteFault}
 use Rattle.filter_text.specs.Spells.{Tree}
 use Rattle.search.specs.Searches.{scan}
 use Rattle.directory.specs.Selections.{Selection}
 use Rattle.directory.specs.Found.{found_text, up_to, goes_past}
 use Rattle.directory.specs.Runs.{dump}
+use Rattle.directory.specs.Dumps.{Writes}
 use Rattle.command_line.specs.declared.request.CatOptions.{CatOptions}
 use Rattle.command_line.specs.declared.request.SearchOptions.{SearchOptions}
 use Rattle.commands.specs.Asked.{IsFilter, IsBase, IsSelection}
@@ -25,10 +27,21 @@ use Rattle.commands.specs.Stops.{HasNoBase, Stops, IsStopped}
 use Rattle.commands.specs.declared.messages.CommandFault.{CommandFault}
 use Rattle.commands.specs.declared.messages.Status.TheVariants.{Done, Refused}
 
+-- a beginning of the text was written when this fault came
+abbrev pub IsBegun : Written → Written → List ℕ → Type 0
+IsBegun a b text = (fault : WriteFault) × Writes (Err fault) a b text
+
+-- ---- slapcat
+
 -- a text goes to the output, or to the file of this name, and then the output stays as it was; no other file changes
 abbrev pub Puts : Option (List ℕ) → Option Files → Option Files → Written → Written → List ℕ → Type 0
 Puts None files files' a b text = (files' ≡ files) × Took a b text
 Puts (Some name) files files' a b text = (files' ≡ with_file files name text) × (b ≡ a)
+
+-- likewise, where that fails: the output has a beginning of it, or stays as it was
+abbrev pub PutsPartly : Option (List ℕ) → Written → Written → List ℕ → Type 0
+PutsPartly None a b text = IsBegun a b text
+PutsPartly (Some name) a b text = b ≡ a
 
 -- whether all entries are asked for
 abbrev pub is_whole : CatOptions → Bool
@@ -61,29 +74,48 @@ pub record IsPrinted (asked : CatOptions) (files files' : Option Files) (a b : W
   pub loaded : IsLoaded files asked.db.now conf entries
   pub printed : HasPut (is_whole asked) asked filter conf entries files files' a b
 
+-- the text of these entries was to be put where it goes, and that failed
+pub record HasPutPartly (whole : Bool) (asked : CatOptions) (filter : Tree) (conf : Conf) (d : Entries) (a b : Written) : Type 0 where
+  pub text : List ℕ
+  pub is : IsCatText whole asked filter conf d text
+  pub put : PutsPartly (option_copied asked.file) a b text
+
+-- likewise, of a directory that was loaded
+pub record IsPrintedPartly (asked : CatOptions) (files : Option Files) (a b : Written) : Type 0 where
+  pub filter : Tree
+  pub filter_is : IsFilter (option_copied asked.filter) filter
+  pub conf : Conf
+  pub entries : Entries
+  pub loaded : IsLoaded files asked.db.now conf entries
+  pub printed : HasPutPartly (is_whole asked) asked filter conf entries a b
+
 -- where slapcat refuses: a base is asked for, and there is none
 abbrev pub CatRefuses : CatOptions → Conf → Entries → Code → Type 0
 CatRefuses asked conf d code = (is_some asked.base ≡ true) × HasNoBase conf d (option_copied asked.base) code
 
+-- the name of what it prints to
+abbrev pub target_of : Option (List ℕ) → List ℕ
+target_of file = unwrap_or file (codes "output")
+
 abbrev pub CatStops : CatOptions → Option Files → CommandFault → Type 0
-CatStops asked files = Stops (codes "slapcat") (option_copied asked.filter) files asked.db.now (CatRefuses asked)
+CatStops asked files = Stops (codes "slapcat") (target_of (option_copied asked.file)) (option_copied asked.filter) files asked.db.now (CatRefuses asked)
 
 -- slapcat, by its output and its messages: where it goes through, it says nothing; where it doesn't, no file changed
 abbrev pub CatEnds : CatOptions → Option Files → Option Files → Written → Written → Written → Written → Status → Type 0
-CatEnds asked files files' a b e e' s = ((s ≡ Done) × IsPrinted asked files files' a b × (e' ≡ e)) ⊎ (IsStopped (CatStops asked files) a b e e' s × (files' ≡ files))
+CatEnds asked files files' a b e e' s = ((s ≡ Done) × IsPrinted asked files files' a b × (e' ≡ e)) ⊎ (IsStopped (CatStops asked files) (IsPrintedPartly asked files) a b e e' s × (files' ≡ files))
 
 -- ---- search
 
--- what the filter finds from the base on was printed up to the limit, with the attributes that are asked for, and whether there is more
--- is told
-pub record HasFound (asked : SearchOptions) (conf : Conf) (d : Entries) (filter : Tree) (past : Bool) (a b : Written) : Type 0 where
+-- What the filter finds from the base on, up to the limit, with the attributes that are asked for, was written in this way; and whether
+-- there is more.
+pub record HasFound (IsWritten : Written → Written → List ℕ → Type 0) (asked : SearchOptions) (conf : Conf) (d : Entries) (filter : Tree) (past : Bool) (a b : Written) : Type 0 where
   pub base : Path
   pub selection : Selection
   pub base_is : IsBase conf (option_copied asked.base) base
   pub there : finite.contains_key d base ≡ true
   pub selects : IsSelection conf (map (λ w. w.now) asked.attributes.items) selection
   pub past_is : past ≡ goes_past asked.limit (scan conf d base asked.scope filter)
-  pub written : Took a b (found_text conf d selection (up_to asked.limit (scan conf d base asked.scope filter)))
+  pub written : IsWritten a b (found_text conf d selection (up_to asked.limit (scan conf d base asked.scope filter)))
 
 -- a directory was loaded, and searched by the filter that is asked for
 pub record IsSearched (asked : SearchOptions) (files : Option Files) (past : Bool) (a b : Written) : Type 0 where
@@ -92,17 +124,30 @@ pub record IsSearched (asked : SearchOptions) (files : Option Files) (past : Boo
   pub conf : Conf
   pub entries : Entries
   pub loaded : IsLoaded files asked.db.now conf entries
-  pub found : HasFound asked conf entries filter past a b
+  pub found : HasFound Took asked conf entries filter past a b
+
+-- a beginning of what the filter finds was printed when that failed
+abbrev pub HasFoundPartly : SearchOptions → Conf → Entries → Tree → Written → Written → Type 0
+HasFoundPartly asked conf d filter a b = (past : Bool) × HasFound IsBegun asked conf d filter past a b
+
+-- likewise, in a directory that was loaded
+pub record IsSearchedPartly (asked : SearchOptions) (files : Option Files) (a b : Written) : Type 0 where
+  pub filter : Tree
+  pub filter_is : IsFilter (option_copied asked.filter) filter
+  pub conf : Conf
+  pub entries : Entries
+  pub loaded : IsLoaded files asked.db.now conf entries
+  pub found : HasFoundPartly asked conf entries filter a b
 
 -- where search refuses: there is no base
 abbrev pub SearchRefuses : SearchOptions → Conf → Entries → Code → Type 0
 SearchRefuses asked conf d code = HasNoBase conf d (option_copied asked.base) code
 
 abbrev pub SearchStops : SearchOptions → Option Files → CommandFault → Type 0
-SearchStops asked files = Stops (codes "search") (option_copied asked.filter) files asked.db.now (SearchRefuses asked)
+SearchStops asked files = Stops (codes "search") (codes "output") (option_copied asked.filter) files asked.db.now (SearchRefuses asked)
 
 -- search, likewise; it changes no file. Where there is more than the limit, the first entries are printed, and the code is 4
 abbrev pub SearchEnds : SearchOptions → Option Files → Written → Written → Written → Written → Status → Type 0
 SearchEnds asked files a b e e' s = ((s ≡ Done) × IsSearched asked files false a b × (e' ≡ e))
     ⊎ (IsSearched asked files true a b × IsTold e e' (code_text (codes "search") SizeLimitExceeded) Refused s)
-    ⊎ IsStopped (SearchStops asked files) a b e e' s
+    ⊎ IsStopped (SearchStops asked files) (IsSearchedPartly asked files) a b e e' s

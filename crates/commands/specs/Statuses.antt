@@ -1,5 +1,5 @@
 -- How a command ends.
-use Rattle.std.specs.Prelude.{ℕ, zero, suc, ⊤}
+use Rattle.std.specs.Prelude.{ℕ, zero, suc}
 use Rattle.directory.specs.declared.runs.Tally.{Tally}
 use Rattle.commands.specs.declared.messages.Status.{Status}
 use Rattle.commands.specs.declared.messages.Status.TheVariants as statuses
@@ -31,10 +31,3 @@ status_of_fault (faults.Data line reason) = statuses.Failed
 status_of_fault (faults.CannotRead name) = statuses.Failed
 status_of_fault (faults.CannotWrite name) = statuses.Failed
 status_of_fault faults.OutOfMemory = statuses.Failed
-
--- a file, a stream or memory failed
-abbrev pub IsFailure : CommandFault → Type 0
-IsFailure (faults.CannotRead name) = ⊤
-IsFailure (faults.CannotWrite name) = ⊤
-IsFailure faults.OutOfMemory = ⊤
-IsFailure fault = ⊥

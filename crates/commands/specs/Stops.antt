@@ -1,5 +1,5 @@
 -- Why search and slapcat stop before their work is done.
-use Rattle.std.specs.Prelude.{◌≡◌, ℕ, ◌⊎◌, false, List, Option, Err}
+use Rattle.std.specs.Prelude.{◌≡◌, ℕ, ◌⊎◌, false, List, Option, Err, ⊤, string_bytes}
 use Rattle.std.specs.FinMap as finite
 use Rattle.std.specs.Borrow.{Bor}
 use Rattle.device.specs.Device.{Written}
@@ -14,7 +14,8 @@ use Rattle.commands.specs.Asked.{IsNoFilterFor, base_of, IsBase}
 use Rattle.commands.specs.Folders.{Files}
 use Rattle.commands.specs.Loaded.{IsLoaded, LoadFails}
 use Rattle.commands.specs.Messages.{IsTold, fault_text}
-use Rattle.commands.specs.Statuses.{status_of_fault, IsFailure}
+use Rattle.commands.specs.Failures.{IsMemory, FailsToWrite}
+use Rattle.commands.specs.Statuses.{status_of_fault}
 use Rattle.commands.specs.declared.messages.Status.{Status}
 use Rattle.commands.specs.declared.messages.CommandFault.{CommandFault}
 use Rattle.commands.specs.declared.messages.CommandFault.TheVariants as faults
@@ -24,15 +25,19 @@ abbrev pub refusal_fault : Bor (List ℕ) → Refusal → CommandFault
 refusal_fault command (refusals.Code code) = faults.Code command code
 refusal_fault command refusals.OutOfMemory = faults.OutOfMemory
 
--- this is told of a text that spells no filter, or something failed
+-- this is told of a text that spells no filter, or memory ran out
 abbrev pub FilterFails : Option (List ℕ) → CommandFault → Type 0
 FilterFails text (faults.Filter fault) = IsNoFilterFor text fault
-FilterFails text fault = IsFailure fault
+FilterFails text fault = IsMemory fault
 
--- the command of this name ends with a code of which this holds, or something failed
+-- the command of this name ends with a code of which this holds, or memory ran out
 abbrev pub Refuses : List ℕ → (Code → Type 0) → CommandFault → Type 0
 Refuses command Holds (faults.Code by code) = (by.now ≡ command) × Holds code
-Refuses command Holds fault = IsFailure fault
+Refuses command Holds fault = IsMemory fault
+
+-- likewise, or what has this name can't be written
+abbrev pub RefusesOrBreaks : List ℕ → List ℕ → (Code → Type 0) → CommandFault → Type 0
+RefusesOrBreaks command target Holds fault = Refuses command Holds fault ⊎ FailsToWrite target fault
 
 -- no entry stands where the name leads to
 pub record IsNotThere (conf : Conf) (d : Entries) (name : Option (List ℕ)) : Type 0 where
@@ -51,16 +56,27 @@ pub record IsRefused (files : Option Files) (db : List ℕ) (Holds : Conf → En
   pub loaded : IsLoaded files db conf entries
   pub refused : Holds conf entries
 
--- why the command of this name stops: its filter is none, no directory was loaded, or it ends with a code of which this holds there
-abbrev pub Stops : List ℕ → Option (List ℕ) → Option Files → List ℕ → (Conf → Entries → Code → Type 0) → CommandFault → Type 0
-Stops command filter files db Holds faults.Words = ⊥
-Stops command filter files db Holds (faults.Filter fault) = IsNoFilterFor filter fault
-Stops command filter files db Holds (faults.Code by code) = (by.now ≡ command) × IsRefused files db (λ conf d. Holds conf d code)
-Stops command filter files db Holds fault = LoadFails files db fault
+-- Why the command of this name stops: its filter is none, no directory was loaded, it ends with a code of which this holds there, or what it
+-- prints to can't be written.
+abbrev pub Stops : List ℕ → List ℕ → Option (List ℕ) → Option Files → List ℕ → (Conf → Entries → Code → Type 0) → CommandFault → Type 0
+Stops command target filter files db Holds faults.Words = ⊥
+Stops command target filter files db Holds (faults.Filter fault) = IsNoFilterFor filter fault
+Stops command target filter files db Holds (faults.Code by code) = (by.now ≡ command) × IsRefused files db (λ conf d. Holds conf d code)
+Stops command target filter files db Holds (faults.CannotWrite name) = string_bytes name ≡ target
+Stops command target filter files db Holds fault = LoadFails files db fault
 
--- the line of such a fault was said, with its status; unless something failed, nothing else was written
-pub record IsStopped (Why : CommandFault → Type 0) (a b e e' : Written) (s : Status) : Type 0 where
+-- the faults of printing
+abbrev pub MayHavePrinted : CommandFault → Type 0
+MayHavePrinted (faults.CannotWrite name) = ⊤
+MayHavePrinted fault = IsMemory fault
+
+-- nothing was printed, or it failed while it printed, and by then this was so
+abbrev pub PrintsPartly : (Written → Written → Type 0) → Written → Written → CommandFault → Type 0
+PrintsPartly Partly a b fault = (b ≡ a) ⊎ (MayHavePrinted fault × Partly a b)
+
+-- The line of such a fault was said, with its status. But for a failure while it printed, nothing was printed.
+pub record IsStopped (Why : CommandFault → Type 0) (Partly : Written → Written → Type 0) (a b e e' : Written) (s : Status) : Type 0 where
   pub fault : CommandFault
   pub why : Why fault
-  pub kept : IsFailure fault ⊎ (b ≡ a)
+  pub printed : PrintsPartly Partly a b fault
   pub told : IsTold e e' (fault_text fault) (status_of_fault fault) s

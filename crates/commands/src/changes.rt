@@ -3,8 +3,8 @@ ghost use Rattle.std.specs.Prelude.{◌≡◌, ◌<◌, ◌-◌, ◌^◌, OnOk, 
 ghost use Rattle.std.specs.Option.{option_map};
 ghost use Rattle.ldif_lines.specs.Records.{records};
 ghost use Rattle.directory.specs.Folds.{Over, Ran};
-ghost use Rattle.commands.specs.Changes.{add_task, modify_task, HaveRun, ChangeEnds, ChangesKnown};
-ghost use Rattle.commands.specs.inner.Tasks.{task_of, RunEnds};
+ghost use Rattle.commands.specs.Changes.{add_task, modify_task, HaveRun, TellsBreak, BreaksOff, InputFails, ChangeEnds, ChangesKnown};
+ghost use Rattle.commands.specs.inner.Tasks.{task_of, CanTell, RunEnds};
 
 use crate::database::{load_directory, open_present, store_directory};
 use crate::folder::Folder;
@@ -27,8 +27,21 @@ struct Changes<'a> {
     dry_run: bool,
 }
 
+/// Says why a run over a source that has this name was broken off, unless it is `err` that failed, and answers how the command ends.
+#[tactic(auto, using(crate::proofs::Stopping::told_memory, crate::proofs::Stopping::told_unread))]
+fn tell_break<E: Sink>(alloc: Global, err: &mut E, fault: RunFault, name: &str) -> Status
+    requires { CanTell fault (E.written err.old).failed }
+    ensures { TellsBreak fault name.now (E.written err.old) (E.written err.new) result }
+{
+    match fault {
+        RunFault::Write(_) => Status::Failed,
+        RunFault::Read(_) => tell(alloc, err, &CommandFault::cannot_read(alloc, name)),
+        RunFault::OutOfMemory(_) => tell(alloc, err, &CommandFault::OutOfMemory),
+    }
+}
+
 /// Runs the records of a source that has this name, or answers how the command ends.
-#[tactic(auto, using(crate::proofs::Stopping::failure_status))]
+#[tactic(auto, using(crate::proofs::Stopping::can_tell))]
 fn run_source<S: Source, E: Sink>(
     alloc: Global,
     dir: &mut Directory,
@@ -42,17 +55,15 @@ fn run_source<S: Source, E: Sink>(
     ensures same_conf { dir.new.conf ≡ dir.old.conf }
     ensures ran { IfOk result (λ t. Over (option_map records (S.seen source.old).left) (λ given. Ran dir.old.conf asked.now.mode asked.now.go_on dir.old.entries dir.new.entries given t (E.written err.old) (E.written err.new))) }
     ensures ok { OnOk result ((E.written err.new).failed ≡ (E.written err.old).failed) }
-    ensures err { IfErr result (λ s. s ≡ Status.Failed) }
+    ensures err { IfErr result (BreaksOff (task_of asked.now) name.now dir.old.conf dir.old.entries (option_map records (S.seen source.old).left) (E.written err.old) (E.written err.new)) }
 {
     match run(alloc, dir, source, err, asked.mode, asked.go_on) {
         Ok(tally) => Ok(tally),
-        Err(RunFault::Write(_)) => Err(Status::Failed),
-        Err(RunFault::Read(_)) => Err(tell(alloc, err, &CommandFault::cannot_read(alloc, name))),
-        Err(RunFault::OutOfMemory(_)) => Err(tell(alloc, err, &CommandFault::OutOfMemory)),
+        Err(fault) => Err(tell_break(alloc, err, fault, name)),
     }
 }
 
-#[tactic(auto, using(crate::proofs::Stopping::failure_status))]
+#[tactic(auto, using(crate::proofs::Stopping::told_unread))]
 fn run_records<F: Folder, S: Source, E: Sink>(
     alloc: Global,
     asked: &Changes<'_>,
@@ -66,7 +77,7 @@ fn run_records<F: Folder, S: Source, E: Sink>(
     ensures same_conf { dir.new.conf ≡ dir.old.conf }
     ensures ran { IfOk result (λ t. HaveRun (task_of asked.now) (F.files folder.now) (S.seen input.old).left dir.old.conf dir.old.entries dir.new.entries t (E.written err.old) (E.written err.new)) }
     ensures ok { OnOk result ((E.written err.new).failed ≡ (E.written err.old).failed) }
-    ensures err { IfErr result (λ s. s ≡ Status.Failed) }
+    ensures err { IfErr result (InputFails (task_of asked.now) (F.files folder.now) (S.seen input.old).left dir.old.conf dir.old.entries (E.written err.old) (E.written err.new)) }
 {
     let Some(name) = asked.file else {
         return run_source(alloc, dir, input, "input", asked, err);
@@ -77,7 +88,7 @@ fn run_records<F: Folder, S: Source, E: Sink>(
     }
 }
 
-#[tactic(auto, using(crate::proofs::Stopping::failure_status))]
+#[tactic(auto, using(crate::proofs::Stopping::told_unwritten))]
 fn run_and_store<F: Folder, S: Source, E: Sink>(
     alloc: Global,
     asked: &Changes<'_>,

@@ -4,7 +4,7 @@ ghost use Rattle.std.specs.Option.{option_map};
 ghost use Rattle.directory.specs.Runs.{dump};
 ghost use Rattle.commands.specs.Folders.{Finds, with_file, file_in, conf_name, data_name};
 ghost use Rattle.commands.specs.Loaded.{IsConfigured, IsLoaded, LoadFails};
-ghost use Rattle.commands.specs.Statuses.{IsFailure};
+ghost use Rattle.commands.specs.Failures.{FailsToRead, FailsToWrite};
 ghost use Rattle.commands.specs.inner.LoadFaults.{TellsLoadFault};
 
 use crate::folder::{FileText, Folder, FolderFault};
@@ -35,7 +35,7 @@ fn path(alloc: Global, db: &str, name: &str) -> Result<String, AllocError>
 /// Opens the file of this name.
 fn open<F: Folder>(alloc: Global, folder: &F, name: &str) -> Result<Option<F::In>, CommandFault>
     ensures finds { IfOk result (λ o. Finds (F.files folder.now) name.now (option_map (λ s. (F.In.seen s).left) o)) }
-    ensures err { IfErr result IsFailure }
+    ensures err { IfErr result (FailsToRead name.now) }
     ensures ok { IfOk result (λ o. IfSome o (λ s. (F.In.seen s).failed ≡ 0)) }
 {
     match folder.open(name) {
@@ -48,7 +48,7 @@ fn open<F: Folder>(alloc: Global, folder: &F, name: &str) -> Result<Option<F::In
 /// Opens the file of this name, which has to be there.
 pub fn open_present<F: Folder>(alloc: Global, folder: &F, name: &str) -> Result<F::In, CommandFault>
     ensures finds { IfOk result (λ s. Finds (F.files folder.now) name.now (Some (F.In.seen s).left)) }
-    ensures err { IfErr result IsFailure }
+    ensures err { IfErr result (FailsToRead name.now) }
     ensures ok { IfOk result (λ s. (F.In.seen s).failed ≡ 0) }
 {
     match open(alloc, folder, name)? {
@@ -66,7 +66,7 @@ pub fn store<F: Folder, T: FileText>(
 ) -> Result<(), CommandFault>
     ensures ok { OnOk result (F.files folder.new ≡ with_file (F.files folder.old) name.now (T.text text.now)) }
     ensures same { OnErr result (F.files folder.new ≡ F.files folder.old) }
-    ensures err { IfErr result IsFailure }
+    ensures err { IfErr result (FailsToWrite name.now) }
 {
     match folder.store(name, text) {
         Ok(()) => Ok(()),
@@ -79,7 +79,7 @@ pub fn store<F: Folder, T: FileText>(
 fn contents<S: Source>(alloc: Global, source: &mut S, name: &str) -> Result<Vec<u8>, CommandFault>
     requires { (S.seen source.old).failed < 2 ^ 64 - 1 }
     ensures bytes { IfOk result (λ v. IfSome (S.seen source.old).left (λ bs. v.items ≡ bs)) }
-    ensures err { IfErr result IsFailure }
+    ensures err { IfErr result (FailsToRead name.now) }
 {
     let mut bytes = Vec::new(alloc);
     let mut piece = [0; PIECE];
@@ -92,7 +92,7 @@ fn contents<S: Source>(alloc: Global, source: &mut S, name: &str) -> Result<Vec<
     }
 }
 
-#[tactic(auto, using(crate::proofs::Stopping::failed_loads))]
+#[tactic(auto, using(crate::proofs::Stopping::conf_unread))]
 fn configuration<F: Folder>(alloc: Global, folder: &F, db: &str) -> Result<Conf, CommandFault>
     ensures err { IfErr result (LoadFails (F.files folder.now) db.now) }
     ensures ok { IfOk result (λ c. IsConfigured (F.files folder.now) (conf_name db.now) c) }
@@ -108,7 +108,7 @@ fn configuration<F: Folder>(alloc: Global, folder: &F, db: &str) -> Result<Conf,
 }
 
 fn fault_of(alloc: Global, name: &str, fault: LoadFault) -> CommandFault
-    ensures { TellsLoadFault fault result }
+    ensures { TellsLoadFault name.now fault result }
 {
     match fault {
         LoadFault::Read => CommandFault::cannot_read(alloc, name),
@@ -118,7 +118,7 @@ fn fault_of(alloc: Global, name: &str, fault: LoadFault) -> CommandFault
 }
 
 /// The directory in the folder `db`. Where it has no data.ldif, the directory has no entry.
-#[tactic(auto, using(crate::proofs::Stopping::failed_loads))]
+#[tactic(auto, using(crate::proofs::Stopping::data_unread))]
 pub fn load_directory<F: Folder>(
     alloc: Global,
     folder: &F,
@@ -147,7 +147,7 @@ pub fn store_directory<F: Folder>(
 ) -> Result<(), CommandFault>
     ensures ok { OnOk result (F.files folder.new ≡ with_file (F.files folder.old) (data_name db.now) (dump dir.now.conf dir.now.entries)) }
     ensures same { OnErr result (F.files folder.new ≡ F.files folder.old) }
-    ensures err { IfErr result IsFailure }
+    ensures err { IfErr result (FailsToWrite (data_name db.now)) }
 {
     let name = path(alloc, db, "data.ldif")?;
     store(alloc, folder, name.as_str(), dir)

@@ -1,7 +1,6 @@
 //! One command, from its words to its status.
 ghost use Rattle.std.specs.Prelude.{◌≡◌, ◌<◌, ◌≤◌, ◌-◌, ◌^◌, ◌⊎◌, length};
-ghost use Rattle.device.specs.Device.{Took};
-ghost use Rattle.commands.specs.Commands.{RequestEnds, CommandEnds};
+ghost use Rattle.commands.specs.Commands.{IsPrintedText, RequestEnds, CommandEnds};
 
 use crate::changes::{ldapmodify, slapadd};
 use crate::folder::Folder;
@@ -14,10 +13,11 @@ use std::alloc::Global;
 use std::convert::AsStr;
 
 /// Prints a text on standard output.
+#[tactic(auto, using(crate::proofs::Stopping::told_unwritten))]
 fn print<O: Sink, E: Sink>(alloc: Global, text: &str, out: &mut O, err: &mut E) -> Status
     requires out { (O.written out.old).failed < 2 ^ 64 - 1 }
     requires err { (E.written err.old).failed < 2 ^ 64 - 1 }
-    ensures { ((result ≡ Status.Done) × Took (O.written out.old) (O.written out.new) text.now × (E.written err.new ≡ E.written err.old)) ⊎ (result ≡ Status.Failed) }
+    ensures { IsPrintedText text.now (O.written out.old) (O.written out.new) (E.written err.old) (E.written err.new) result }
 {
     match push_all(out, text.as_bytes()) {
         Ok(()) => Status::Done,

@@ -1,12 +1,14 @@
 //! How a command ends, and what it says on standard error.
-ghost use Rattle.std.specs.Prelude.{◌≡◌, ◌≤◌, ◌<◌, ◌-◌, ◌^◌, ◌⊎◌, Some, IfOk, string_bytes};
+ghost use Rattle.std.specs.Prelude.{◌≡◌, ◌≤◌, ◌<◌, ◌-◌, ◌^◌, ◌⊎◌, Some, IfOk, string_bytes, codes};
 ghost use Rattle.commands.specs.declared.messages.CommandFault.TheVariants.{OutOfMemory};
 ghost use Rattle.commands.specs.Messages.{IsSaid, IsTold, fault_text, line_of};
-ghost use Rattle.commands.specs.Statuses.{status_number, status_of_fault, status_of_tally, IsFailure};
+ghost use Rattle.commands.specs.Failures.{FailsToRead, FailsToWrite};
+ghost use Rattle.commands.specs.Statuses.{status_number, status_of_fault, status_of_tally};
 
 use device::{Sink, push_all};
 use directory::{Reason, Tally};
 use filter_text::FilterFault;
+use ldif::WriteFault;
 use schema::{Code, ConfFaultKind};
 use std::alloc::{AllocError, AllocFailed, Global};
 use std::error::Error;
@@ -85,7 +87,7 @@ impl CommandFault {
 
     /// The fault of a read of what has this name.
     pub fn cannot_read(alloc: Global, name: &str) -> CommandFault
-        ensures { IsFailure result }
+        ensures { FailsToRead name.now result }
     {
         match String::from_str(alloc, name) {
             Ok(name) => CommandFault::CannotRead(name),
@@ -95,11 +97,21 @@ impl CommandFault {
 
     /// The fault of a write of what has this name.
     pub fn cannot_write(alloc: Global, name: &str) -> CommandFault
-        ensures { IsFailure result }
+        ensures { FailsToWrite name.now result }
     {
         match String::from_str(alloc, name) {
             Ok(name) => CommandFault::CannotWrite(name),
             Err(_) => CommandFault::OutOfMemory,
+        }
+    }
+
+    /// The fault of a write to standard output.
+    pub fn of_output(alloc: Global, fault: WriteFault) -> CommandFault
+        ensures { FailsToWrite (codes "output") result }
+    {
+        match fault {
+            WriteFault::Device => CommandFault::cannot_write(alloc, "output"),
+            WriteFault::OutOfMemory => CommandFault::OutOfMemory,
         }
     }
 }

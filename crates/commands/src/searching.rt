@@ -1,11 +1,12 @@
 //! search: the entries that a filter finds are printed as LDIF.
-ghost use Rattle.std.specs.Prelude.{◌≡◌, ◌<◌, ◌-◌, ◌^◌, ◌⊎◌, IfOk, IfErr, codes};
+ghost use Rattle.std.specs.Prelude.{◌≡◌, ◌<◌, ◌-◌, ◌^◌, IfOk, IfErr, codes};
+ghost use Rattle.device.specs.Device.{Took};
 ghost use Rattle.schema.specs.declared.code.Code.TheVariants.{SizeLimitExceeded};
 ghost use Rattle.filter_text.specs.Spells.{view};
 ghost use Rattle.commands.specs.Messages.{code_text, fault_text};
-ghost use Rattle.commands.specs.Statuses.{status_of_fault, IsFailure};
-ghost use Rattle.commands.specs.Stops.{Refuses};
-ghost use Rattle.commands.specs.Prints.{HasFound, IsSearched, SearchRefuses, SearchStops, SearchEnds};
+ghost use Rattle.commands.specs.Statuses.{status_of_fault};
+ghost use Rattle.commands.specs.Stops.{RefusesOrBreaks, PrintsPartly};
+ghost use Rattle.commands.specs.Prints.{HasFound, HasFoundPartly, IsSearched, IsSearchedPartly, SearchRefuses, SearchStops, SearchEnds};
 
 use crate::database::load_directory;
 use crate::finding::{filter_of, path_of, refused};
@@ -16,7 +17,6 @@ use device::Sink;
 use directory::{Directory, Selection};
 use filter::prepare;
 use filter_text::Filter;
-use ldif::WriteFault;
 use schema::Code;
 use std::alloc::Global;
 use std::mem;
@@ -44,8 +44,9 @@ fn print_found<O: Sink>(
     out: &mut O,
 ) -> Result<bool, CommandFault>
     requires { (O.written out.old).failed < 2 ^ 64 - 1 }
-    ensures found { IfOk result (λ past. HasFound asked.now dir.now.conf dir.now.entries (view filter.now) past (O.written out.old) (O.written out.new)) }
-    ensures fault { IfErr result (Refuses (codes "search") (λ code. SearchRefuses asked.now dir.now.conf dir.now.entries code × (O.written out.new ≡ O.written out.old))) }
+    ensures found { IfOk result (λ past. HasFound Took asked.now dir.now.conf dir.now.entries (view filter.now) past (O.written out.old) (O.written out.new)) }
+    ensures fault { IfErr result (RefusesOrBreaks (codes "search") (codes "output") (SearchRefuses asked.now dir.now.conf dir.now.entries)) }
+    ensures partly { IfErr result (PrintsPartly (HasFoundPartly asked.now dir.now.conf dir.now.entries (view filter.now)) (O.written out.old) (O.written out.new)) }
 {
     let base = path_of(alloc, dir.conf(), asked.base, NAME)?;
     let selection = Selection::of(alloc, dir.conf(), asked.attributes.as_slice())?;
@@ -56,8 +57,7 @@ fn print_found<O: Sink>(
     };
     match dir.write_found(alloc, out, hits, asked.limit, &selection) {
         Ok(past) => Ok(past),
-        Err(WriteFault::Device) => Err(CommandFault::cannot_write(alloc, "output")),
-        Err(WriteFault::OutOfMemory) => Err(CommandFault::OutOfMemory),
+        Err(fault) => Err(CommandFault::of_output(alloc, fault)),
     }
 }
 
@@ -71,7 +71,7 @@ fn load_and_print<F: Folder, O: Sink>(
     requires { (O.written out.old).failed < 2 ^ 64 - 1 }
     ensures searched { IfOk result (λ past. IsSearched asked.now (F.files folder.now) past (O.written out.old) (O.written out.new)) }
     ensures stops { IfErr result (SearchStops asked.now (F.files folder.now)) }
-    ensures kept { IfErr result (λ f. IsFailure f ⊎ (O.written out.new ≡ O.written out.old)) }
+    ensures partly { IfErr result (PrintsPartly (IsSearchedPartly asked.now (F.files folder.now)) (O.written out.old) (O.written out.new)) }
 {
     let filter = filter_of(alloc, asked.filter)?;
     let dir = load_directory(alloc, folder, asked.db)?;

@@ -1,11 +1,13 @@
 //! slapcat: a directory, or a part of it, is printed as LDIF.
-ghost use Rattle.std.specs.Prelude.{◌≡◌, ◌<◌, ◌-◌, ◌^◌, ◌⊎◌, false, IfErr, OnOk, OnErr, codes};
+ghost use Rattle.std.specs.Prelude.{◌≡◌, ◌<◌, ◌-◌, ◌^◌, true, false, is_some, IfOk, IfErr, OnOk, OnErr, codes};
+ghost use Rattle.std.specs.FinMap as finite;
 ghost use Rattle.std.specs.Option.{option_copied};
 ghost use Rattle.device.specs.Device.{Took};
 ghost use Rattle.filter_text.specs.Spells.{view};
-ghost use Rattle.commands.specs.Statuses.{IsFailure};
-ghost use Rattle.commands.specs.Stops.{Refuses};
-ghost use Rattle.commands.specs.Prints.{is_whole, Puts, HasPut, IsPrinted, CatRefuses, CatStops, CatEnds};
+ghost use Rattle.commands.specs.Asked.{IsBase};
+ghost use Rattle.commands.specs.Failures.{FailsToWrite};
+ghost use Rattle.commands.specs.Stops.{Refuses, RefusesOrBreaks, PrintsPartly};
+ghost use Rattle.commands.specs.Prints.{IsBegun, is_whole, target_of, Puts, PutsPartly, HasPut, HasPutPartly, IsPrinted, IsPrintedPartly, CatRefuses, CatStops, CatEnds};
 
 use crate::database::{load_directory, store};
 use crate::finding::{filter_of, path_of};
@@ -17,8 +19,7 @@ use device::Sink;
 use directory::Directory;
 use filter::prepare;
 use filter_text::Filter;
-use ldif::WriteFault;
-use schema::Code;
+use schema::{Code, Path};
 use std::alloc::Global;
 use std::mem;
 
@@ -28,12 +29,12 @@ const NAME: &str = "slapcat";
 fn print<T: FileText, O: Sink>(alloc: Global, text: &T, out: &mut O) -> Result<(), CommandFault>
     requires { (O.written out.old).failed < 2 ^ 64 - 1 }
     ensures put { OnOk result (Took (O.written out.old) (O.written out.new) (T.text text.now)) }
-    ensures err { IfErr result IsFailure }
+    ensures err { IfErr result (FailsToWrite (codes "output")) }
+    ensures begun { OnErr result (IsBegun (O.written out.old) (O.written out.new) (T.text text.now)) }
 {
     match text.write(alloc, out) {
         Ok(()) => Ok(()),
-        Err(WriteFault::Device) => Err(CommandFault::cannot_write(alloc, "output")),
-        Err(WriteFault::OutOfMemory) => Err(CommandFault::OutOfMemory),
+        Err(fault) => Err(CommandFault::of_output(alloc, fault)),
     }
 }
 
@@ -48,12 +49,29 @@ fn put<T: FileText, F: Folder, O: Sink>(
     requires { (O.written out.old).failed < 2 ^ 64 - 1 }
     ensures same { OnErr result (F.files folder.new ≡ F.files folder.old) }
     ensures put { OnOk result (Puts (option_copied file.entry) (F.files folder.old) (F.files folder.new) (O.written out.old) (O.written out.new) (T.text text.now)) }
-    ensures err { IfErr result IsFailure }
+    ensures err { IfErr result (FailsToWrite (target_of (option_copied file.entry))) }
+    ensures partly { OnErr result (PutsPartly (option_copied file.entry) (O.written out.old) (O.written out.new) (T.text text.now)) }
 {
     match file {
         Some(name) => store(alloc, folder, name, text),
         None => print(alloc, text, out),
     }
+}
+
+/// The path of the entry that is asked for, which has to be there; where none is, that of the suffix's entry.
+fn base_of(alloc: Global, asked: &CatOptions<'_>, dir: &Directory) -> Result<Path, CommandFault>
+    ensures found { IfOk result (IsBase dir.now.conf (option_copied asked.now.base)) }
+    ensures there { IfOk result (λ base. is_some asked.now.base ≡ true → finite.contains_key dir.now.entries base ≡ true) }
+    ensures fault { IfErr result (Refuses (codes "slapcat") (CatRefuses asked.now dir.now.conf dir.now.entries)) }
+{
+    let base = path_of(alloc, dir.conf(), asked.base, NAME)?;
+    if asked.base.is_some() && dir.tree().get(&base).is_none() {
+        return Err(CommandFault::Code {
+            command: NAME,
+            code: Code::NoSuchObject,
+        });
+    }
+    Ok(base)
 }
 
 fn put_part<F: Folder, O: Sink>(
@@ -67,15 +85,10 @@ fn put_part<F: Folder, O: Sink>(
     requires { (O.written out.old).failed < 2 ^ 64 - 1 }
     ensures same { OnErr result (F.files folder.new ≡ F.files folder.old) }
     ensures put { OnOk result (HasPut false asked.now (view filter.now) dir.now.conf dir.now.entries (F.files folder.old) (F.files folder.new) (O.written out.old) (O.written out.new)) }
-    ensures fault { IfErr result (Refuses (codes "slapcat") (λ code. CatRefuses asked.now dir.now.conf dir.now.entries code × (O.written out.new ≡ O.written out.old))) }
+    ensures fault { IfErr result (RefusesOrBreaks (codes "slapcat") (target_of (option_copied asked.now.file)) (CatRefuses asked.now dir.now.conf dir.now.entries)) }
+    ensures partly { IfErr result (PrintsPartly (HasPutPartly false asked.now (view filter.now) dir.now.conf dir.now.entries) (O.written out.old) (O.written out.new)) }
 {
-    let base = path_of(alloc, dir.conf(), asked.base, NAME)?;
-    if asked.base.is_some() && dir.tree().get(&base).is_none() {
-        return Err(CommandFault::Code {
-            command: NAME,
-            code: Code::NoSuchObject,
-        });
-    }
+    let base = base_of(alloc, asked, dir)?;
     let prepared = prepare(alloc, filter, dir.conf())?;
     let part = Part::new(dir, &base, &prepared);
     put(alloc, &part, asked.file, folder, out)
@@ -92,7 +105,8 @@ fn put_entries<F: Folder, O: Sink>(
     requires { (O.written out.old).failed < 2 ^ 64 - 1 }
     ensures same { OnErr result (F.files folder.new ≡ F.files folder.old) }
     ensures put { OnOk result (HasPut (is_whole asked.now) asked.now (view filter.now) dir.now.conf dir.now.entries (F.files folder.old) (F.files folder.new) (O.written out.old) (O.written out.new)) }
-    ensures fault { IfErr result (Refuses (codes "slapcat") (λ code. CatRefuses asked.now dir.now.conf dir.now.entries code × (O.written out.new ≡ O.written out.old))) }
+    ensures fault { IfErr result (RefusesOrBreaks (codes "slapcat") (target_of (option_copied asked.now.file)) (CatRefuses asked.now dir.now.conf dir.now.entries)) }
+    ensures partly { IfErr result (PrintsPartly (HasPutPartly (is_whole asked.now) asked.now (view filter.now) dir.now.conf dir.now.entries) (O.written out.old) (O.written out.new)) }
 {
     if asked.filter.is_none() && asked.base.is_none() {
         return put(alloc, dir, asked.file, folder, out);
@@ -111,7 +125,7 @@ fn load_and_put<F: Folder, O: Sink>(
     ensures same { OnErr result (F.files folder.new ≡ F.files folder.old) }
     ensures printed { OnOk result (IsPrinted asked.now (F.files folder.old) (F.files folder.new) (O.written out.old) (O.written out.new)) }
     ensures stops { IfErr result (CatStops asked.now (F.files folder.old)) }
-    ensures kept { IfErr result (λ f. IsFailure f ⊎ (O.written out.new ≡ O.written out.old)) }
+    ensures partly { IfErr result (PrintsPartly (IsPrintedPartly asked.now (F.files folder.old)) (O.written out.old) (O.written out.new)) }
 {
     let filter = filter_of(alloc, asked.filter)?;
     let dir = load_directory(alloc, folder, asked.db)?;

@@ -16,5 +16,5 @@ returns-in-Ok-clause-loaded g c =
 
 pub returns-clause-err : goal.returns-clause-err
 returns-clause-err g c =
-    load_told _ _ c.in_ok-conf.conf _ _ c.in-Err.fault c.fault_of.result c.fault_of.ensures c.in_ok-conf.ensures.ok (c.as_str.ensures.value ∙ c.in_ok-name.ensures)
+    load_told _ _ c.in_ok-conf.conf _ _ _ c.in-Err.fault c.fault_of.result c.fault_of.ensures (c.as_str-in-Err.ensures.value ∙ c.in_ok-name.ensures) c.in_ok-conf.ensures.ok (c.as_str.ensures.value ∙ c.in_ok-name.ensures)
     (opened_so _ _ _ _ _ c.in_ok-source.ensures.finds c.in-Some.is) c.in-Err.ensures.stops

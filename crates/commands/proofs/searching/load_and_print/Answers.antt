@@ -1,9 +1,8 @@
-use Rattle.std.proofs.Common.{◌≡◌}
 use Rattle.std.specs.Prelude.{codes}
 use Rattle.std.specs.Option.{option_copied}
 use Rattle.commands.specs.Prints.{SearchRefuses}
-use Rattle.commands.proofs.Ends.{loaded_and_searched}
-use Rattle.commands.proofs.Stopping.{of_faults, refused_stops, refused_kept}
+use Rattle.commands.proofs.Ends.{loaded_and_searched, searched_partly}
+use Rattle.commands.proofs.Stopping.{of_faults, refused_stops}
 use Rattle.commands.proofs.searching.load_and_print.Goals as goal
 
 pub returns-clause-searched : goal.returns-clause-searched
@@ -11,8 +10,8 @@ returns-clause-searched g c = loaded_and_searched c.print_found-printed.result _
 
 pub returns-clause-stops : goal.returns-clause-stops
 returns-clause-stops g c = of_faults c.print_found-printed.result
-    (refused_stops (codes "search") (option_copied c.args.asked.now.filter) (g.F.Folder.files c.args.folder.now) c.args.asked.now.db.now (SearchRefuses c.args.asked.now) (g.O.Sink.written c.print_found-printed.new.out ≡ g.O.Sink.written c.args.out.now) _ _ c.in_ok-dir.ensures.loaded)
+    (refused_stops (codes "search") (codes "output") (option_copied c.args.asked.now.filter) (g.F.Folder.files c.args.folder.now) c.args.asked.now.db.now (SearchRefuses c.args.asked.now) _ _ c.in_ok-dir.ensures.loaded)
     c.print_found-printed.ensures.fault
 
-pub returns-clause-kept : goal.returns-clause-kept
-returns-clause-kept g c = of_faults c.print_found-printed.result (refused_kept _ (SearchRefuses c.args.asked.now _ _) _) c.print_found-printed.ensures.fault
+pub returns-clause-partly : goal.returns-clause-partly
+returns-clause-partly g c = searched_partly c.print_found-printed.result _ _ _ _ _ _ _ c.in_ok-filter.ensures.found c.in_ok-dir.ensures.loaded c.print_found-printed.ensures.partly
