@@ -1,10 +1,10 @@
 -- How commands end over a directory that was loaded.
 use Rattle.std.proofs.Common.{◌≡◌, ℕ, Bool, true, false, inl, inr, List, map, Option, Some, None, refl, sym, ap, ◌∙◌, subst, Bor}
-use Rattle.std.specs.Prelude.{Result, Ok, Err, OnOk, OnErr, IfOk, IfErr, is_some, nat_lt}
+use Rattle.std.specs.Prelude.{Result, Ok, Err, OnOk, IfOk, IfErr, is_some, nat_lt}
 use Rattle.std.specs.Option.{option_copied, option_map}
 use Rattle.std.specs.FinMap as finite
 use Rattle.std.proofs.lemmas.List.{length-map}
-use Rattle.device.specs.Device.{Written, Took}
+use Rattle.device.specs.Device.{Seen, Written, Took}
 use Rattle.paths.specs.Paths.{Path}
 use Rattle.schema.specs.Conf.{Conf}
 use Rattle.tree.specs.Entries.{EntryContent}
@@ -24,17 +24,28 @@ use Rattle.command_line.specs.declared.request.SearchOptions.{SearchOptions}
 use Rattle.commands.specs.Asked.{IsFilter, IsBase, IsSelection}
 use Rattle.commands.specs.Folders.{Files}
 use Rattle.commands.specs.Loaded.{IsLoaded}
-use Rattle.commands.specs.Changes.{Task, ChangeEnds}
+use Rattle.directory.specs.declared.runs.Tally.{Tally}
+use Rattle.commands.specs.Changes.{Task, IsSource, source_name, SourceRan, HaveRun, SourceBreaksOff, SourceFails, ChangeEnds}
 use Rattle.commands.specs.inner.Tasks.{RunEnds}
 use Rattle.commands.specs.Failures.{FailsToWrite}
 use Rattle.commands.specs.Stops.{PrintsPartly}
-use Rattle.commands.proofs.Stopping.{unwritten_printed}
-use Rattle.commands.specs.Prints.{is_whole, IsPartText, Puts, PutsPartly, HasPut, HasPutPartly, IsPrinted, IsPrintedPartly, HasFound, HasFoundPartly, IsSearched, IsSearchedPartly}
+use Rattle.commands.proofs.Stopping.{of_faults, unwritten_prints, prints_more}
+use Rattle.commands.specs.Prints.{is_whole, IsPartText, IsCatText, Puts, PutsPartly, HasPut, HasPutPartly, IsPrinted, IsPrintedPartly, HasFound, HasFoundPartly, IsSearched, IsSearchedPartly}
 
 -- how a run over it ends
-pub loaded_and_ran : (task : Task) (files files' : Option Files) (stream : Option (List ℕ)) (conf : Conf) (old : Entries) (a b : Written) (s : Status) → IsLoaded files task.db conf old → RunEnds task files files' stream conf old a b s → ChangeEnds task files files' stream a b s
-loaded_and_ran task files files' stream conf old a b s loaded (inl ran) = inl (record { conf = conf; old = old; loaded = loaded; ran = ran })
-loaded_and_ran task files files' stream conf old a b s loaded (inr failed) = inr (inr (record { conf = conf; old = old; loaded = loaded; fails = failed.0 }), failed.1)
+pub loaded_and_ran : (task : Task) (files files' : Option Files) (input input' : Seen) (conf : Conf) (old : Entries) (a b : Written) (s : Status) → IsLoaded files task.db conf old → RunEnds task files files' input input' conf old a b s → ChangeEnds task files files' input input' a b s
+loaded_and_ran task files files' input input' conf old a b s loaded (inl ran) = inl (record { conf = conf; old = old; loaded = loaded; ran = ran })
+loaded_and_ran task files files' input input' conf old a b s loaded (inr failed) = inr (inr (record { conf = conf; old = old; loaded = loaded; fails = failed.0 }), failed.1)
+
+-- how one over the source that is asked for does
+module _ (task : Task) (files : Option Files) (input input' source source' : Seen) (conf : Conf) (old : Entries) (a b : Written) (is : IsSource files task.file input input' source source') where
+  pub have_run : (answer : Result Tally Status) (new : Entries) → IfOk answer (λ t. SourceRan task conf old new source source' t a b) → IfOk answer (λ t. HaveRun task files input input' conf old new t a b)
+  have_run (Ok t) new ran = record { source = source; source' = source'; source_is = is; ran = ran }
+  have_run (Err s) new ran = tt
+
+  pub broke_off : (answer : Result Tally Status) (name : List ℕ) → name ≡ source_name task.file → IfErr answer (SourceBreaksOff task name conf old source source' a b) → IfErr answer (SourceFails task files input input' conf old a b)
+  broke_off (Ok t) name named breaks = tt
+  broke_off (Err s) name named breaks = inr (record { source = source; source' = source'; source_is = is; breaks = subst (λ (n : List ℕ). SourceBreaksOff task n conf old source source' a b s) named breaks })
 
 -- how it is printed
 pub loaded_and_printed : (answer : Result (Unit {0}) CommandFault) (asked : CatOptions) (f : Tree) (files files' : Option Files) (conf : Conf) (d : Entries) (a b : Written)
@@ -48,10 +59,10 @@ part_put (Ok u) asked f conf d text files files' a b is put = record { text = te
 part_put (Err e) asked f conf d text files files' a b is put = tt
 
 -- how it is printed where that fails
-pub part_partly : (answer : Result (Unit {0}) CommandFault) (asked : CatOptions) (f : Tree) (conf : Conf) (d : Entries) (target text : List ℕ) (a b : Written)
-    → IsPartText asked f conf d text → IfErr answer (FailsToWrite target) → OnErr answer (PutsPartly (option_copied asked.file) a b text) → IfErr answer (PrintsPartly (HasPutPartly false asked f conf d) a b)
-part_partly (Ok u) asked f conf d target text a b is fails put = tt
-part_partly (Err e) asked f conf d target text a b is fails put = inr (unwritten_printed target e fails, record { text = text; is = is; put = put })
+pub put_partly : (answer : Result (Unit {0}) CommandFault) (whole : Bool) (asked : CatOptions) (f : Tree) (conf : Conf) (d : Entries) (target text : List ℕ) (a b : Written)
+    → IsCatText whole asked f conf d text → IfErr answer (FailsToWrite target) → IfErr answer (λ e. PutsPartly e (option_copied asked.file) a b text) → IfErr answer (PrintsPartly (HasPutPartly whole asked f conf d) a b)
+put_partly (Ok u) whole asked f conf d target text a b is fails put = tt
+put_partly (Err e) whole asked f conf d target text a b is fails put = unwritten_prints (HasPutPartly whole asked f conf d) a b target e fails (record { text = text; is = is; put = put })
 
 -- what was found at the base stands there
 pub found_there : {A : Type 0} (dir dir' : Directory) (base : Path) (as_content : A → EntryContent) (found : Option A) → dir' ≡ dir → option_map as_content found ≡ finite.get dir'.entries base → is_some found ≡ true → finite.contains_key dir.entries base ≡ true
@@ -71,16 +82,14 @@ loaded_and_searched (Err e) asked f files conf d a b spelled loaded found = tt
 -- how it is searched where printing fails
 pub searched_partly : (answer : Result Bool CommandFault) (asked : SearchOptions) (f : Tree) (files : Option Files) (conf : Conf) (d : Entries) (a b : Written)
     → IsFilter (option_copied asked.filter) f → IsLoaded files asked.db.now conf d → IfErr answer (PrintsPartly (HasFoundPartly asked conf d f) a b) → IfErr answer (PrintsPartly (IsSearchedPartly asked files) a b)
-searched_partly (Ok past) asked f files conf d a b spelled loaded printed = tt
-searched_partly (Err e) asked f files conf d a b spelled loaded (inl same) = inl same
-searched_partly (Err e) asked f files conf d a b spelled loaded (inr printed) = inr (printed.0, record { filter = f; filter_is = spelled; conf = conf; entries = d; loaded = loaded; found = printed.1 })
+searched_partly answer asked f files conf d a b spelled loaded =
+    of_faults answer (prints_more (HasFoundPartly asked conf d f) (IsSearchedPartly asked files) a b (λ e found. record { filter = f; filter_is = spelled; conf = conf; entries = d; loaded = loaded; found = found }))
 
 -- how it is printed where that fails
 pub printed_partly : (answer : Result (Unit {0}) CommandFault) (asked : CatOptions) (f : Tree) (files : Option Files) (conf : Conf) (d : Entries) (a b : Written)
     → IsFilter (option_copied asked.filter) f → IsLoaded files asked.db.now conf d → IfErr answer (PrintsPartly (HasPutPartly (is_whole asked) asked f conf d) a b) → IfErr answer (PrintsPartly (IsPrintedPartly asked files) a b)
-printed_partly (Ok u) asked f files conf d a b spelled loaded printed = tt
-printed_partly (Err e) asked f files conf d a b spelled loaded (inl same) = inl same
-printed_partly (Err e) asked f files conf d a b spelled loaded (inr printed) = inr (printed.0, record { filter = f; filter_is = spelled; conf = conf; entries = d; loaded = loaded; printed = printed.1 })
+printed_partly answer asked f files conf d a b spelled loaded =
+    of_faults answer (prints_more (HasPutPartly (is_whole asked) asked f conf d) (IsPrintedPartly asked files) a b (λ e printed. record { filter = f; filter_is = spelled; conf = conf; entries = d; loaded = loaded; printed = printed }))
 
 past_seen : (limit : Option ℕ) (ls : List Lent) → goes_past limit ls ≡ goes_past limit (map seen ls)
 past_seen None ls = refl

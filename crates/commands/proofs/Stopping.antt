@@ -1,13 +1,16 @@
 -- Why a command stops, from what its parts say.
 use Rattle.std.proofs.Common.{◌≡◌, ℕ, ◌<◌, ◌-◌, ◌^◌, inl, inr, List, Option, Some, IfErr, sym, subst, ◌∙◌}
-use Rattle.std.specs.Prelude.{Result, Ok, Err, codes}
+use Rattle.std.specs.Prelude.{Result, Ok, Err, codes, string_bytes}
 use Rattle.std.specs.Option.{option_map}
 use Rattle.std.specs.FinMap as finite
 use Rattle.device.specs.Device.{Written}
 use Rattle.ldif_lines.specs.Records.{records}
+use Rattle.ldif.specs.declared.write.WriteFault.{WriteFault}
+use Rattle.ldif.specs.declared.write.WriteFault.TheVariants as writes
 use Rattle.schema.specs.Conf.{Conf}
 use Rattle.schema.specs.declared.code.Code.{Code}
 use Rattle.tree.specs.Directories.{Entries}
+use Rattle.directory.specs.Dumps.{Writes}
 use Rattle.directory.specs.Faults.{Failures}
 use Rattle.directory.specs.Loading.{StopsAt}
 use Rattle.directory.specs.declared.runs.RunFault.{RunFault}
@@ -19,44 +22,70 @@ use Rattle.commands.specs.Loaded.{IsConfigured, IsLoaded, LoadFails, IsNotLoaded
 use Rattle.commands.specs.Statuses.{status_of_fault}
 use Rattle.commands.specs.Messages.{IsSaid, IsTold, fault_text}
 use Rattle.commands.specs.Failures.{IsMemory, FailsToRead, FailsToWrite, IsToldUnread, IsToldUnwritten, IsToldMemory}
-use Rattle.commands.specs.Stops.{FilterFails, Refuses, RefusesOrBreaks, MayHavePrinted, PrintsPartly, Stops, IsStopped}
+use Rattle.commands.specs.Stops.{FilterFails, Refuses, RefusesOrBreaks, PrintsPartly, Stops, IsStopped}
+use Rattle.commands.specs.Prints.{IsBegun}
 use Rattle.commands.specs.inner.LoadFaults.{TellsLoadFault}
+use Rattle.commands.specs.inner.WriteFaults.{TellsWriteFault}
 use Rattle.commands.specs.inner.Tasks.{CanTell}
 use Rattle.commands.specs.declared.messages.Status.{Status}
 use Rattle.commands.specs.declared.messages.Status.TheVariants.{Failed}
 use Rattle.commands.specs.declared.messages.CommandFault.{CommandFault}
 use Rattle.commands.specs.declared.messages.CommandFault.TheVariants as faults
 
+-- ---- the faults that a failure becomes
+
+-- memory ran out
+of_memory : (P : CommandFault → Type 0) → P faults.OutOfMemory → (f : CommandFault) → IsMemory f → P f
+of_memory P p faults.Words h = absurd h
+of_memory P p (faults.Filter fault) h = absurd h
+of_memory P p (faults.Code by code) h = absurd h
+of_memory P p (faults.Configuration line kind) h = absurd h
+of_memory P p (faults.Data line why) h = absurd h
+of_memory P p (faults.CannotRead n) h = absurd h
+of_memory P p (faults.CannotWrite n) h = absurd h
+of_memory P p faults.OutOfMemory h = p
+
+-- what has this name can't be read, or memory ran out
+of_unread : (P : CommandFault → Type 0) (name : List ℕ) → ((n : _) → string_bytes n ≡ name → P (faults.CannotRead n)) → P faults.OutOfMemory → (f : CommandFault) → FailsToRead name f → P f
+of_unread P name unread p faults.Words h = absurd h
+of_unread P name unread p (faults.Filter fault) h = absurd h
+of_unread P name unread p (faults.Code by code) h = absurd h
+of_unread P name unread p (faults.Configuration line kind) h = absurd h
+of_unread P name unread p (faults.Data line why) h = absurd h
+of_unread P name unread p (faults.CannotRead n) h = unread n h
+of_unread P name unread p (faults.CannotWrite n) h = absurd h
+of_unread P name unread p faults.OutOfMemory h = p
+
+-- what has this name can't be written, or memory ran out
+of_unwritten : (P : CommandFault → Type 0) (name : List ℕ) → ((n : _) → string_bytes n ≡ name → P (faults.CannotWrite n)) → P faults.OutOfMemory → (f : CommandFault) → FailsToWrite name f → P f
+of_unwritten P name unwritten p faults.Words h = absurd h
+of_unwritten P name unwritten p (faults.Filter fault) h = absurd h
+of_unwritten P name unwritten p (faults.Code by code) h = absurd h
+of_unwritten P name unwritten p (faults.Configuration line kind) h = absurd h
+of_unwritten P name unwritten p (faults.Data line why) h = absurd h
+of_unwritten P name unwritten p (faults.CannotRead n) h = absurd h
+of_unwritten P name unwritten p (faults.CannotWrite n) h = unwritten n h
+of_unwritten P name unwritten p faults.OutOfMemory h = p
+
 -- ---- what is said of a failure
 
 module _ (a b : Written) (s : Status) where
+  abbrev Told : CommandFault → Type 0
+  Told f = IsTold a b (fault_text f) (status_of_fault f) s
+
   -- want of memory is said in the same words, wherever it comes
   memory_told : IsTold a b (codes "out of memory") Failed s → IsSaid a b (codes "out of memory\n") Failed s
   memory_told (inl said) = said
   memory_told (inr said) = said
 
-  pub told_memory : (f : CommandFault) → f ≡ faults.OutOfMemory → IsTold a b (fault_text f) (status_of_fault f) s → IsToldMemory a b s
-  told_memory f is told = subst (λ (f : CommandFault). IsTold a b (fault_text f) (status_of_fault f) s) is told
+  pub told_memory : (f : CommandFault) → f ≡ faults.OutOfMemory → Told f → IsToldMemory a b s
+  told_memory f is told = subst Told is told
 
-  pub told_unread : (name : List ℕ) (f : CommandFault) → FailsToRead name f → IsTold a b (fault_text f) (status_of_fault f) s → IsToldUnread name a b s
-  told_unread name faults.Words h told = absurd h
-  told_unread name (faults.Filter fault) h told = absurd h
-  told_unread name (faults.Code by code) h told = absurd h
-  told_unread name (faults.Configuration line kind) h told = absurd h
-  told_unread name (faults.Data line why) h told = absurd h
-  told_unread name (faults.CannotRead n) h told = subst (λ (n : List ℕ). IsToldUnread n a b s) h told
-  told_unread name (faults.CannotWrite n) h told = absurd h
-  told_unread name faults.OutOfMemory h told = inr (memory_told told)
+  pub told_unread : (name : List ℕ) (f : CommandFault) → FailsToRead name f → Told f → IsToldUnread name a b s
+  told_unread name = of_unread (λ f. Told f → IsToldUnread name a b s) name (λ n is told. subst (λ (n : List ℕ). IsToldUnread n a b s) is told) (λ told. inr (memory_told told))
 
-  pub told_unwritten : (name : List ℕ) (f : CommandFault) → FailsToWrite name f → IsTold a b (fault_text f) (status_of_fault f) s → IsToldUnwritten name a b s
-  told_unwritten name faults.Words h told = absurd h
-  told_unwritten name (faults.Filter fault) h told = absurd h
-  told_unwritten name (faults.Code by code) h told = absurd h
-  told_unwritten name (faults.Configuration line kind) h told = absurd h
-  told_unwritten name (faults.Data line why) h told = absurd h
-  told_unwritten name (faults.CannotRead n) h told = absurd h
-  told_unwritten name (faults.CannotWrite n) h told = subst (λ (n : List ℕ). IsToldUnwritten n a b s) h told
-  told_unwritten name faults.OutOfMemory h told = inr (memory_told told)
+  pub told_unwritten : (name : List ℕ) (f : CommandFault) → FailsToWrite name f → Told f → IsToldUnwritten name a b s
+  told_unwritten name = of_unwritten (λ f. Told f → IsToldUnwritten name a b s) name (λ n is told. subst (λ (n : List ℕ). IsToldUnwritten n a b s) is told) (λ told. inr (memory_told told))
 
 -- where standard error can fail once more before a run, it can afterwards, unless it is what failed
 pub can_tell : (f : RunFault) (s s' w w' : ℕ) → w < 2 ^ 64 - 1 → Failures (Err f) s s' w w' → CanTell f w'
@@ -68,34 +97,13 @@ can_tell (run_faults.OutOfMemory t) s s' w w' fits h = subst (λ (n : ℕ). n < 
 
 module _ (files : Option Files) (db : List ℕ) where
   pub conf_unread : (name : List ℕ) (f : CommandFault) → name ≡ conf_name db → FailsToRead name f → LoadFails files db f
-  conf_unread name faults.Words is h = absurd h
-  conf_unread name (faults.Filter fault) is h = absurd h
-  conf_unread name (faults.Code by code) is h = absurd h
-  conf_unread name (faults.Configuration line kind) is h = absurd h
-  conf_unread name (faults.Data line why) is h = absurd h
-  conf_unread name (faults.CannotRead n) is h = inl (h ∙ is)
-  conf_unread name (faults.CannotWrite n) is h = absurd h
-  conf_unread name faults.OutOfMemory is h = h
+  conf_unread name f is = of_unread (LoadFails files db) name (λ n named. inl (named ∙ is)) tt f
 
   pub data_unread : (name : List ℕ) (f : CommandFault) → name ≡ data_name db → FailsToRead name f → LoadFails files db f
-  data_unread name faults.Words is h = absurd h
-  data_unread name (faults.Filter fault) is h = absurd h
-  data_unread name (faults.Code by code) is h = absurd h
-  data_unread name (faults.Configuration line kind) is h = absurd h
-  data_unread name (faults.Data line why) is h = absurd h
-  data_unread name (faults.CannotRead n) is h = inr (h ∙ is)
-  data_unread name (faults.CannotWrite n) is h = absurd h
-  data_unread name faults.OutOfMemory is h = h
+  data_unread name f is = of_unread (LoadFails files db) name (λ n named. inr (named ∙ is)) tt f
 
   pub memory_loads : (f : CommandFault) → IsMemory f → LoadFails files db f
-  memory_loads faults.Words h = h
-  memory_loads (faults.Filter fault) h = h
-  memory_loads (faults.Code by code) h = h
-  memory_loads (faults.Configuration line kind) h = absurd h
-  memory_loads (faults.Data line why) h = absurd h
-  memory_loads (faults.CannotRead name) h = absurd h
-  memory_loads (faults.CannotWrite name) h = h
-  memory_loads faults.OutOfMemory h = h
+  memory_loads = of_memory (LoadFails files db) tt
 
   -- a fault of loading the file, told as the command's
   pub load_told : (conf : Conf) (named name : List ℕ) (text : Option (List ℕ)) (fault : LoadFault) (f : CommandFault)
@@ -149,14 +157,7 @@ module _ (command target : List ℕ) (filter : Option (List ℕ)) (files : Optio
   refused_so conf d loaded faults.OutOfMemory h = h
 
   unwritten_stops : (f : CommandFault) → FailsToWrite target f → Stops command target filter files db Holds f
-  unwritten_stops faults.Words h = h
-  unwritten_stops (faults.Filter fault) h = absurd h
-  unwritten_stops (faults.Code by code) h = absurd h
-  unwritten_stops (faults.Configuration line kind) h = absurd h
-  unwritten_stops (faults.Data line why) h = absurd h
-  unwritten_stops (faults.CannotRead name) h = absurd h
-  unwritten_stops (faults.CannotWrite name) h = h
-  unwritten_stops faults.OutOfMemory h = h
+  unwritten_stops = of_unwritten (Stops command target filter files db Holds) target (λ n named. named) tt
 
   pub refused_stops : (conf : Conf) (d : Entries) → IsLoaded files db conf d → (f : CommandFault) → RefusesOrBreaks command target (Holds conf d) f → Stops command target filter files db Holds f
   refused_stops conf d loaded f (inl refuses) = refused_so conf d loaded f refuses
@@ -164,18 +165,64 @@ module _ (command target : List ℕ) (filter : Option (List ℕ)) (files : Optio
 
 -- ---- what was printed by then
 
-pub unwritten_printed : (target : List ℕ) (f : CommandFault) → FailsToWrite target f → MayHavePrinted f
-unwritten_printed target faults.Words h = h
-unwritten_printed target (faults.Filter fault) h = h
-unwritten_printed target (faults.Code by code) h = h
-unwritten_printed target (faults.Configuration line kind) h = h
-unwritten_printed target (faults.Data line why) h = h
-unwritten_printed target (faults.CannotRead name) h = h
-unwritten_printed target (faults.CannotWrite name) h = tt
-unwritten_printed target faults.OutOfMemory h = h
+module _ (Partly : CommandFault → Written → Written → Type 0) (a b : Written) (same : b ≡ a) where
+  pub filter_prints : (text : Option (List ℕ)) (f : CommandFault) → FilterFails text f → PrintsPartly Partly a b f
+  filter_prints text faults.Words h = same
+  filter_prints text (faults.Filter fault) h = same
+  filter_prints text (faults.Code by code) h = same
+  filter_prints text (faults.Configuration line kind) h = same
+  filter_prints text (faults.Data line why) h = same
+  filter_prints text (faults.CannotRead name) h = same
+  filter_prints text (faults.CannotWrite name) h = absurd h
+  filter_prints text faults.OutOfMemory h = inl same
+
+  pub load_prints : (files : Option Files) (db : List ℕ) (f : CommandFault) → LoadFails files db f → PrintsPartly Partly a b f
+  load_prints files db faults.Words h = same
+  load_prints files db (faults.Filter fault) h = same
+  load_prints files db (faults.Code by code) h = same
+  load_prints files db (faults.Configuration line kind) h = same
+  load_prints files db (faults.Data line why) h = same
+  load_prints files db (faults.CannotRead name) h = same
+  load_prints files db (faults.CannotWrite name) h = absurd h
+  load_prints files db faults.OutOfMemory h = inl same
+
+  pub refused_prints : (command : List ℕ) (Holds : Code → Type 0) (f : CommandFault) → Refuses command Holds f → PrintsPartly Partly a b f
+  refused_prints command Holds faults.Words h = same
+  refused_prints command Holds (faults.Filter fault) h = same
+  refused_prints command Holds (faults.Code by code) h = same
+  refused_prints command Holds (faults.Configuration line kind) h = same
+  refused_prints command Holds (faults.Data line why) h = same
+  refused_prints command Holds (faults.CannotRead name) h = same
+  refused_prints command Holds (faults.CannotWrite name) h = absurd h
+  refused_prints command Holds faults.OutOfMemory h = inl same
+
+-- while it was printed, that failed
+pub unwritten_prints : (Partly : CommandFault → Written → Written → Type 0) (a b : Written) (target : List ℕ) (f : CommandFault) → FailsToWrite target f → Partly f a b → PrintsPartly Partly a b f
+unwritten_prints Partly a b target = of_unwritten (λ f. Partly f a b → PrintsPartly Partly a b f) target (λ n named partly. partly) inr
+
+-- what was printed by then, said of more
+pub prints_more : (Less More : CommandFault → Written → Written → Type 0) (a b : Written) → ((f : CommandFault) → Less f a b → More f a b) → (f : CommandFault) → PrintsPartly Less a b f → PrintsPartly More a b f
+prints_more Less More a b goes faults.Words same = same
+prints_more Less More a b goes (faults.Filter fault) same = same
+prints_more Less More a b goes (faults.Code by code) same = same
+prints_more Less More a b goes (faults.Configuration line kind) same = same
+prints_more Less More a b goes (faults.Data line why) same = same
+prints_more Less More a b goes (faults.CannotRead name) same = same
+prints_more Less More a b goes (faults.CannotWrite name) partly = goes (faults.CannotWrite name) partly
+prints_more Less More a b goes faults.OutOfMemory (inl same) = inl same
+prints_more Less More a b goes faults.OutOfMemory (inr partly) = inr (goes faults.OutOfMemory partly)
+
+-- a text was begun, with the fault that the output's becomes
+pub begun_told : (fault : WriteFault) (f : CommandFault) (a b : Written) (text : List ℕ) → TellsWriteFault fault f → Writes (Err fault) a b text → IsBegun f a b text
+begun_told writes.Device f a b text told broke = of_unwritten (λ f. IsBegun f a b text) (codes "output") (λ n named. broke) (inl broke) f told
+begun_told writes.OutOfMemory f a b text told begun = of_memory (λ f. IsBegun f a b text) (inr begun) f told
+
+pub write_told : (fault : WriteFault) (f : CommandFault) → TellsWriteFault fault f → FailsToWrite (codes "output") f
+write_told writes.Device f told = told
+write_told writes.OutOfMemory f told = of_memory (FailsToWrite (codes "output")) tt f told
 
 -- the line of why was said
-pub stopped : (Why : CommandFault → Type 0) (Partly : Written → Written → Type 0) (a b e e' : Written) (s : Status) (f : CommandFault) → Why f → PrintsPartly Partly a b f → IsTold e e' (fault_text f) (status_of_fault f) s → IsStopped Why Partly a b e e' s
+pub stopped : (Why : CommandFault → Type 0) (Partly : CommandFault → Written → Written → Type 0) (a b e e' : Written) (s : Status) (f : CommandFault) → Why f → PrintsPartly Partly a b f → IsTold e e' (fault_text f) (status_of_fault f) s → IsStopped Why Partly a b e e' s
 stopped Why Partly a b e e' s f why printed told = record { fault = f; why = why; printed = printed; told = told }
 
 pub not_loaded : (files : Option Files) (db : List ℕ) (a b : Written) (s : Status) (f : CommandFault) → LoadFails files db f → IsTold a b (fault_text f) (status_of_fault f) s → IsNotLoaded files db a b s

@@ -1,6 +1,6 @@
 -- What a command comes to, by what its words ask for. Which words ask for what, contracts don't say, but for the help.
 use Rattle.std.specs.Prelude.{◌≡◌, ℕ, ◌⊎◌, List, Option, Result, Ok, Err, string_bytes, codes}
-use Rattle.device.specs.Device.{Written, Took, Broke}
+use Rattle.device.specs.Device.{Seen, Written, Took, Broke}
 use Rattle.command_line.specs.declared.request.Request.{Request}
 use Rattle.command_line.specs.declared.request.Request.TheVariants.{Help, Add, Modify, Search, Cat}
 use Rattle.command_line.specs.declared.request.UsageFault.{UsageFault}
@@ -14,10 +14,10 @@ use Rattle.commands.specs.Statuses.{status_number}
 use Rattle.commands.specs.declared.messages.Status.{Status}
 use Rattle.commands.specs.declared.messages.Status.TheVariants.{Done, Usage}
 
--- the streams before and after: what is left of the input, and what the output and the messages hold
+-- the streams before and after: what is seen of the input, and what the output and the messages hold
 pub record Streams : Type 0 where
-  pub input : Option (List ℕ)
-  pub input' : Option (List ℕ)
+  pub input : Seen
+  pub input' : Seen
   pub out : Written
   pub out' : Written
   pub err : Written
@@ -31,9 +31,9 @@ IsPrintedText text a b e e' s = ((s ≡ Done) × Took a b text × (e' ≡ e)) �
 abbrev pub RequestEnds : Result Request UsageFault → Option Files → Option Files → Streams → Status → Type 0
 RequestEnds (Ok (Help text)) files files' t s = (files' ≡ files) × (t.input' ≡ t.input) × IsPrintedText (string_bytes text) t.out t.out' t.err t.err' s
 RequestEnds (Ok (Add asked)) files files' t s =
-    (t.out' ≡ t.out) × ChangesKnown (add_task asked) files files' t.input t.err t.err' s × ChangeEnds (add_task asked) files files' t.input t.err t.err' s
+    (t.out' ≡ t.out) × ChangesKnown (add_task asked) files files' t.input t.input' t.err t.err' s × ChangeEnds (add_task asked) files files' t.input t.input' t.err t.err' s
 RequestEnds (Ok (Modify asked)) files files' t s =
-    (t.out' ≡ t.out) × ChangesKnown (modify_task asked) files files' t.input t.err t.err' s × ChangeEnds (modify_task asked) files files' t.input t.err t.err' s
+    (t.out' ≡ t.out) × ChangesKnown (modify_task asked) files files' t.input t.input' t.err t.err' s × ChangeEnds (modify_task asked) files files' t.input t.input' t.err t.err' s
 RequestEnds (Ok (Search asked)) files files' t s = (files' ≡ files) × (t.input' ≡ t.input) × SearchEnds asked files t.out t.out' t.err t.err' s
 RequestEnds (Ok (Cat asked)) files files' t s = (t.input' ≡ t.input) × CatEnds asked files files' t.out t.out' t.err t.err' s
 RequestEnds (Err (Words text)) files files' t s = (files' ≡ files) × (t.input' ≡ t.input) × (t.out' ≡ t.out) × IsSaid t.err t.err' (string_bytes text) Usage s

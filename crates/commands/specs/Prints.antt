@@ -1,20 +1,19 @@
 -- How slapcat and search end, and what they did by then.
-use Rattle.std.specs.Prelude.{◌≡◌, ℕ, ◌⊎◌, Bool, true, false, ◌&&◌, List, Option, None, Some, is_none, is_some, map, codes, unwrap_or, Err}
+use Rattle.std.specs.Prelude.{◌≡◌, ℕ, ◌⊎◌, Bool, true, false, ◌&&◌, List, Option, None, Some, is_none, is_some, map, codes, unwrap_or}
 use Rattle.std.specs.Option.{option_copied}
 use Rattle.std.specs.FinMap as finite
-use Rattle.device.specs.Device.{Written, Took}
+use Rattle.device.specs.Device.{Written, Took, Broke}
 use Rattle.paths.specs.Paths.{Path}
 use Rattle.schema.specs.Conf.{Conf}
 use Rattle.schema.specs.declared.code.Code.{Code}
 use Rattle.schema.specs.declared.code.Code.TheVariants.{SizeLimitExceeded}
 use Rattle.tree.specs.Directories.{Entries}
-use Rattle.ldif.specs.declared.write.WriteFault.{WriteFault}
 use Rattle.filter_text.specs.Spells.{Tree}
 use Rattle.search.specs.Searches.{scan}
 use Rattle.directory.specs.Selections.{Selection}
 use Rattle.directory.specs.Found.{found_text, up_to, goes_past}
 use Rattle.directory.specs.Runs.{dump}
-use Rattle.directory.specs.Dumps.{Writes}
+use Rattle.directory.specs.Dumps.{Begun}
 use Rattle.command_line.specs.declared.request.CatOptions.{CatOptions}
 use Rattle.command_line.specs.declared.request.SearchOptions.{SearchOptions}
 use Rattle.commands.specs.Asked.{IsFilter, IsBase, IsSelection}
@@ -25,11 +24,14 @@ use Rattle.commands.specs.Messages.{IsTold, code_text}
 use Rattle.commands.specs.Parts.{part_text}
 use Rattle.commands.specs.Stops.{HasNoBase, Stops, IsStopped}
 use Rattle.commands.specs.declared.messages.CommandFault.{CommandFault}
+use Rattle.commands.specs.declared.messages.CommandFault.TheVariants as faults
 use Rattle.commands.specs.declared.messages.Status.TheVariants.{Done, Refused}
 
--- a beginning of the text was written when this fault came
-abbrev pub IsBegun : Written → Written → List ℕ → Type 0
-IsBegun a b text = (fault : WriteFault) × Writes (Err fault) a b text
+-- a beginning of the text was written, and then the output failed, or memory ran out, be it for the text or for the name of what failed
+abbrev pub IsBegun : CommandFault → Written → Written → List ℕ → Type 0
+IsBegun (faults.CannotWrite name) a b text = Broke a b text
+IsBegun faults.OutOfMemory a b text = Broke a b text ⊎ Begun a b text
+IsBegun fault a b text = ⊥
 
 -- ---- slapcat
 
@@ -39,9 +41,9 @@ Puts None files files' a b text = (files' ≡ files) × Took a b text
 Puts (Some name) files files' a b text = (files' ≡ with_file files name text) × (b ≡ a)
 
 -- likewise, where that fails: the output has a beginning of it, or stays as it was
-abbrev pub PutsPartly : Option (List ℕ) → Written → Written → List ℕ → Type 0
-PutsPartly None a b text = IsBegun a b text
-PutsPartly (Some name) a b text = b ≡ a
+abbrev pub PutsPartly : CommandFault → Option (List ℕ) → Written → Written → List ℕ → Type 0
+PutsPartly fault None a b text = IsBegun fault a b text
+PutsPartly fault (Some name) a b text = b ≡ a
 
 -- whether all entries are asked for
 abbrev pub is_whole : CatOptions → Bool
@@ -75,19 +77,19 @@ pub record IsPrinted (asked : CatOptions) (files files' : Option Files) (a b : W
   pub printed : HasPut (is_whole asked) asked filter conf entries files files' a b
 
 -- the text of these entries was to be put where it goes, and that failed
-pub record HasPutPartly (whole : Bool) (asked : CatOptions) (filter : Tree) (conf : Conf) (d : Entries) (a b : Written) : Type 0 where
+pub record HasPutPartly (whole : Bool) (asked : CatOptions) (filter : Tree) (conf : Conf) (d : Entries) (fault : CommandFault) (a b : Written) : Type 0 where
   pub text : List ℕ
   pub is : IsCatText whole asked filter conf d text
-  pub put : PutsPartly (option_copied asked.file) a b text
+  pub put : PutsPartly fault (option_copied asked.file) a b text
 
 -- likewise, of a directory that was loaded
-pub record IsPrintedPartly (asked : CatOptions) (files : Option Files) (a b : Written) : Type 0 where
+pub record IsPrintedPartly (asked : CatOptions) (files : Option Files) (fault : CommandFault) (a b : Written) : Type 0 where
   pub filter : Tree
   pub filter_is : IsFilter (option_copied asked.filter) filter
   pub conf : Conf
   pub entries : Entries
   pub loaded : IsLoaded files asked.db.now conf entries
-  pub printed : HasPutPartly (is_whole asked) asked filter conf entries a b
+  pub printed : HasPutPartly (is_whole asked) asked filter conf entries fault a b
 
 -- where slapcat refuses: a base is asked for, and there is none
 abbrev pub CatRefuses : CatOptions → Conf → Entries → Code → Type 0
@@ -127,17 +129,17 @@ pub record IsSearched (asked : SearchOptions) (files : Option Files) (past : Boo
   pub found : HasFound Took asked conf entries filter past a b
 
 -- a beginning of what the filter finds was printed when that failed
-abbrev pub HasFoundPartly : SearchOptions → Conf → Entries → Tree → Written → Written → Type 0
-HasFoundPartly asked conf d filter a b = (past : Bool) × HasFound IsBegun asked conf d filter past a b
+abbrev pub HasFoundPartly : SearchOptions → Conf → Entries → Tree → CommandFault → Written → Written → Type 0
+HasFoundPartly asked conf d filter fault a b = (past : Bool) × HasFound (IsBegun fault) asked conf d filter past a b
 
 -- likewise, in a directory that was loaded
-pub record IsSearchedPartly (asked : SearchOptions) (files : Option Files) (a b : Written) : Type 0 where
+pub record IsSearchedPartly (asked : SearchOptions) (files : Option Files) (fault : CommandFault) (a b : Written) : Type 0 where
   pub filter : Tree
   pub filter_is : IsFilter (option_copied asked.filter) filter
   pub conf : Conf
   pub entries : Entries
   pub loaded : IsLoaded files asked.db.now conf entries
-  pub found : HasFoundPartly asked conf entries filter a b
+  pub found : HasFoundPartly asked conf entries filter fault a b
 
 -- where search refuses: there is no base
 abbrev pub SearchRefuses : SearchOptions → Conf → Entries → Code → Type 0

@@ -1,5 +1,5 @@
 -- Why search and slapcat stop before their work is done.
-use Rattle.std.specs.Prelude.{◌≡◌, ℕ, ◌⊎◌, false, List, Option, Err, ⊤, string_bytes}
+use Rattle.std.specs.Prelude.{◌≡◌, ℕ, ◌⊎◌, false, List, Option, Err, string_bytes}
 use Rattle.std.specs.FinMap as finite
 use Rattle.std.specs.Borrow.{Bor}
 use Rattle.device.specs.Device.{Written}
@@ -65,17 +65,14 @@ Stops command target filter files db Holds (faults.Code by code) = (by.now ≡ c
 Stops command target filter files db Holds (faults.CannotWrite name) = string_bytes name ≡ target
 Stops command target filter files db Holds fault = LoadFails files db fault
 
--- the faults of printing
-abbrev pub MayHavePrinted : CommandFault → Type 0
-MayHavePrinted (faults.CannotWrite name) = ⊤
-MayHavePrinted fault = IsMemory fault
+-- what was printed by then: where that failed, this holds of it; where memory ran out, it does or nothing was printed; else nothing was
+abbrev pub PrintsPartly : (CommandFault → Written → Written → Type 0) → Written → Written → CommandFault → Type 0
+PrintsPartly Partly a b (faults.CannotWrite name) = Partly (faults.CannotWrite name) a b
+PrintsPartly Partly a b faults.OutOfMemory = (b ≡ a) ⊎ Partly faults.OutOfMemory a b
+PrintsPartly Partly a b fault = b ≡ a
 
--- nothing was printed, or it failed while it printed, and by then this was so
-abbrev pub PrintsPartly : (Written → Written → Type 0) → Written → Written → CommandFault → Type 0
-PrintsPartly Partly a b fault = (b ≡ a) ⊎ (MayHavePrinted fault × Partly a b)
-
--- The line of such a fault was said, with its status. But for a failure while it printed, nothing was printed.
-pub record IsStopped (Why : CommandFault → Type 0) (Partly : Written → Written → Type 0) (a b e e' : Written) (s : Status) : Type 0 where
+-- the line of such a fault was said, with its status
+pub record IsStopped (Why : CommandFault → Type 0) (Partly : CommandFault → Written → Written → Type 0) (a b e e' : Written) (s : Status) : Type 0 where
   pub fault : CommandFault
   pub why : Why fault
   pub printed : PrintsPartly Partly a b fault

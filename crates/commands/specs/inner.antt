@@ -1,2 +1,3 @@
 pub mod LoadFaults
+pub mod WriteFaults
 pub mod Tasks

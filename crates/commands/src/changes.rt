@@ -1,9 +1,6 @@
 //! slapadd and ldapmodify: the records of an LDIF text are carried out on a directory in a folder.
 ghost use Rattle.std.specs.Prelude.{◌≡◌, ◌<◌, ◌-◌, ◌^◌, OnOk, IfOk, IfErr};
-ghost use Rattle.std.specs.Option.{option_map};
-ghost use Rattle.ldif_lines.specs.Records.{records};
-ghost use Rattle.directory.specs.Folds.{Over, Ran};
-ghost use Rattle.commands.specs.Changes.{add_task, modify_task, HaveRun, TellsBreak, BreaksOff, InputFails, ChangeEnds, ChangesKnown};
+ghost use Rattle.commands.specs.Changes.{add_task, modify_task, SourceRan, HaveRun, TellsBreak, SourceBreaksOff, SourceFails, ChangeEnds, ChangesKnown};
 ghost use Rattle.commands.specs.inner.Tasks.{task_of, CanTell, RunEnds};
 
 use crate::database::{load_directory, open_present, store_directory};
@@ -53,9 +50,9 @@ fn run_source<S: Source, E: Sink>(
     requires source { (S.seen source.old).failed < 2 ^ 64 - 1 }
     requires err { (E.written err.old).failed < 2 ^ 64 - 1 }
     ensures same_conf { dir.new.conf ≡ dir.old.conf }
-    ensures ran { IfOk result (λ t. Over (option_map records (S.seen source.old).left) (λ given. Ran dir.old.conf asked.now.mode asked.now.go_on dir.old.entries dir.new.entries given t (E.written err.old) (E.written err.new))) }
+    ensures ran { IfOk result (λ t. SourceRan (task_of asked.now) dir.old.conf dir.old.entries dir.new.entries (S.seen source.old) (S.seen source.new) t (E.written err.old) (E.written err.new)) }
     ensures ok { OnOk result ((E.written err.new).failed ≡ (E.written err.old).failed) }
-    ensures err { IfErr result (BreaksOff (task_of asked.now) name.now dir.old.conf dir.old.entries (option_map records (S.seen source.old).left) (E.written err.old) (E.written err.new)) }
+    ensures err { IfErr result (SourceBreaksOff (task_of asked.now) name.now dir.old.conf dir.old.entries (S.seen source.old) (S.seen source.new) (E.written err.old) (E.written err.new)) }
 {
     match run(alloc, dir, source, err, asked.mode, asked.go_on) {
         Ok(tally) => Ok(tally),
@@ -75,9 +72,9 @@ fn run_records<F: Folder, S: Source, E: Sink>(
     requires input { (S.seen input.old).failed < 2 ^ 64 - 1 }
     requires err { (E.written err.old).failed < 2 ^ 64 - 1 }
     ensures same_conf { dir.new.conf ≡ dir.old.conf }
-    ensures ran { IfOk result (λ t. HaveRun (task_of asked.now) (F.files folder.now) (S.seen input.old).left dir.old.conf dir.old.entries dir.new.entries t (E.written err.old) (E.written err.new)) }
+    ensures ran { IfOk result (λ t. HaveRun (task_of asked.now) (F.files folder.now) (S.seen input.old) (S.seen input.new) dir.old.conf dir.old.entries dir.new.entries t (E.written err.old) (E.written err.new)) }
     ensures ok { OnOk result ((E.written err.new).failed ≡ (E.written err.old).failed) }
-    ensures err { IfErr result (InputFails (task_of asked.now) (F.files folder.now) (S.seen input.old).left dir.old.conf dir.old.entries (E.written err.old) (E.written err.new)) }
+    ensures err { IfErr result (SourceFails (task_of asked.now) (F.files folder.now) (S.seen input.old) (S.seen input.new) dir.old.conf dir.old.entries (E.written err.old) (E.written err.new)) }
 {
     let Some(name) = asked.file else {
         return run_source(alloc, dir, input, "input", asked, err);
@@ -99,7 +96,7 @@ fn run_and_store<F: Folder, S: Source, E: Sink>(
 ) -> Status
     requires input { (S.seen input.old).failed < 2 ^ 64 - 1 }
     requires err { (E.written err.old).failed < 2 ^ 64 - 1 }
-    ensures { RunEnds (task_of asked.now) (F.files folder.old) (F.files folder.new) (S.seen input.old).left dir.conf dir.entries (E.written err.old) (E.written err.new) result }
+    ensures { RunEnds (task_of asked.now) (F.files folder.old) (F.files folder.new) (S.seen input.old) (S.seen input.new) dir.conf dir.entries (E.written err.old) (E.written err.new) result }
 {
     let tally = match run_records(alloc, asked, &mut dir, folder, input, err) {
         Ok(tally) => tally,
@@ -127,7 +124,7 @@ fn carry_out<F: Folder, S: Source, E: Sink>(
 ) -> Status
     requires input { (S.seen input.old).failed < 2 ^ 64 - 1 }
     requires err { (E.written err.old).failed < 2 ^ 64 - 1 }
-    ensures { ChangeEnds (task_of asked.now) (F.files folder.old) (F.files folder.new) (S.seen input.old).left (E.written err.old) (E.written err.new) result }
+    ensures { ChangeEnds (task_of asked.now) (F.files folder.old) (F.files folder.new) (S.seen input.old) (S.seen input.new) (E.written err.old) (E.written err.new) result }
 {
     match load_directory(alloc, folder, asked.db) {
         Ok(dir) => run_and_store(alloc, asked, dir, folder, input, err),
@@ -146,8 +143,8 @@ pub fn slapadd<F: Folder, S: Source, E: Sink>(
 ) -> Status
     requires input { (S.seen input.old).failed < 2 ^ 64 - 1 }
     requires err { (E.written err.old).failed < 2 ^ 64 - 1 }
-    ensures known { ChangesKnown (add_task asked.now) (F.files folder.old) (F.files folder.new) (S.seen input.old).left (E.written err.old) (E.written err.new) result }
-    ensures ends { ChangeEnds (add_task asked.now) (F.files folder.old) (F.files folder.new) (S.seen input.old).left (E.written err.old) (E.written err.new) result }
+    ensures known { ChangesKnown (add_task asked.now) (F.files folder.old) (F.files folder.new) (S.seen input.old) (S.seen input.new) (E.written err.old) (E.written err.new) result }
+    ensures ends { ChangeEnds (add_task asked.now) (F.files folder.old) (F.files folder.new) (S.seen input.old) (S.seen input.new) (E.written err.old) (E.written err.new) result }
 {
     let changes = Changes {
         db: asked.db,
@@ -170,8 +167,8 @@ pub fn ldapmodify<F: Folder, S: Source, E: Sink>(
 ) -> Status
     requires input { (S.seen input.old).failed < 2 ^ 64 - 1 }
     requires err { (E.written err.old).failed < 2 ^ 64 - 1 }
-    ensures known { ChangesKnown (modify_task asked.now) (F.files folder.old) (F.files folder.new) (S.seen input.old).left (E.written err.old) (E.written err.new) result }
-    ensures ends { ChangeEnds (modify_task asked.now) (F.files folder.old) (F.files folder.new) (S.seen input.old).left (E.written err.old) (E.written err.new) result }
+    ensures known { ChangesKnown (modify_task asked.now) (F.files folder.old) (F.files folder.new) (S.seen input.old) (S.seen input.new) (E.written err.old) (E.written err.new) result }
+    ensures ends { ChangeEnds (modify_task asked.now) (F.files folder.old) (F.files folder.new) (S.seen input.old) (S.seen input.new) (E.written err.old) (E.written err.new) result }
 {
     let changes = Changes {
         db: asked.db,

@@ -37,7 +37,7 @@ fn carry_out<F: Folder, S: Source, O: Sink, E: Sink>(
     requires input { (S.seen input.old).failed < 2 ^ 64 - 1 }
     requires out { (O.written out.old).failed < 2 ^ 64 - 1 }
     requires err { (E.written err.old).failed < 2 ^ 64 - 1 }
-    ensures { RequestEnds asked.entry (F.files folder.old) (F.files folder.new) (record { input = (S.seen input.old).left; input' = (S.seen input.new).left; out = O.written out.old; out' = O.written out.new; err = E.written err.old; err' = E.written err.new }) result }
+    ensures { RequestEnds asked.entry (F.files folder.old) (F.files folder.new) (record { input = S.seen input.old; input' = S.seen input.new; out = O.written out.old; out' = O.written out.new; err = E.written err.old; err' = E.written err.new }) result }
 {
     match asked {
         Ok(Request::Help(text)) => print(alloc, text.as_str(), out, err),
@@ -67,7 +67,7 @@ pub fn command<W: AsStr, F: Folder, S: Source, O: Sink, E: Sink>(
     ensures range { result ≤ 3 }
     ensures help { length words.now ≤ 1 → (result ≡ 0) ⊎ (result ≡ 3) }
     // What is asked for is done, to the files as well.
-    ensures ends { CommandEnds (F.files folder.old) (F.files folder.new) (record { input = (S.seen input.old).left; input' = (S.seen input.new).left; out = O.written out.old; out' = O.written out.new; err = E.written err.old; err' = E.written err.new }) result }
+    ensures ends { CommandEnds (F.files folder.old) (F.files folder.new) (record { input = S.seen input.old; input' = S.seen input.new; out = O.written out.old; out' = O.written out.new; err = E.written err.old; err' = E.written err.new }) result }
 {
     let asked = read(alloc, words);
     carry_out(alloc, asked, folder, input, out, err).number()

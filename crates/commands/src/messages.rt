@@ -1,9 +1,10 @@
 //! How a command ends, and what it says on standard error.
-ghost use Rattle.std.specs.Prelude.{◌≡◌, ◌≤◌, ◌<◌, ◌-◌, ◌^◌, ◌⊎◌, Some, IfOk, string_bytes, codes};
+ghost use Rattle.std.specs.Prelude.{◌≡◌, ◌≤◌, ◌<◌, ◌-◌, ◌^◌, ◌⊎◌, Some, IfOk, string_bytes};
 ghost use Rattle.commands.specs.declared.messages.CommandFault.TheVariants.{OutOfMemory};
 ghost use Rattle.commands.specs.Messages.{IsSaid, IsTold, fault_text, line_of};
 ghost use Rattle.commands.specs.Failures.{FailsToRead, FailsToWrite};
 ghost use Rattle.commands.specs.Statuses.{status_number, status_of_fault, status_of_tally};
+ghost use Rattle.commands.specs.inner.WriteFaults.{TellsWriteFault};
 
 use device::{Sink, push_all};
 use directory::{Reason, Tally};
@@ -107,7 +108,7 @@ impl CommandFault {
 
     /// The fault of a write to standard output.
     pub fn of_output(alloc: Global, fault: WriteFault) -> CommandFault
-        ensures { FailsToWrite (codes "output") result }
+        ensures { TellsWriteFault fault result }
     {
         match fault {
             WriteFault::Device => CommandFault::cannot_write(alloc, "output"),

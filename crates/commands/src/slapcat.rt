@@ -30,7 +30,7 @@ fn print<T: FileText, O: Sink>(alloc: Global, text: &T, out: &mut O) -> Result<(
     requires { (O.written out.old).failed < 2 ^ 64 - 1 }
     ensures put { OnOk result (Took (O.written out.old) (O.written out.new) (T.text text.now)) }
     ensures err { IfErr result (FailsToWrite (codes "output")) }
-    ensures begun { OnErr result (IsBegun (O.written out.old) (O.written out.new) (T.text text.now)) }
+    ensures begun { IfErr result (λ f. IsBegun f (O.written out.old) (O.written out.new) (T.text text.now)) }
 {
     match text.write(alloc, out) {
         Ok(()) => Ok(()),
@@ -50,7 +50,7 @@ fn put<T: FileText, F: Folder, O: Sink>(
     ensures same { OnErr result (F.files folder.new ≡ F.files folder.old) }
     ensures put { OnOk result (Puts (option_copied file.entry) (F.files folder.old) (F.files folder.new) (O.written out.old) (O.written out.new) (T.text text.now)) }
     ensures err { IfErr result (FailsToWrite (target_of (option_copied file.entry))) }
-    ensures partly { OnErr result (PutsPartly (option_copied file.entry) (O.written out.old) (O.written out.new) (T.text text.now)) }
+    ensures partly { IfErr result (λ f. PutsPartly f (option_copied file.entry) (O.written out.old) (O.written out.new) (T.text text.now)) }
 {
     match file {
         Some(name) => store(alloc, folder, name, text),

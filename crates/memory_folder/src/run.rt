@@ -23,7 +23,7 @@ pub fn run_command<W: AsStr>(
     requires out { (sink_written out.old).failed < 2 ^ 64 - 1 }
     requires err { (sink_written err.old).failed < 2 ^ 64 - 1 }
     // What is asked for is done, and it says of all files what they are then.
-    ensures { CommandEnds (Some (folder_files folder.old)) (Some (folder_files folder.new)) (record { input = (source_seen input.old).left; input' = (source_seen input.new).left; out = sink_written out.old; out' = sink_written out.new; err = sink_written err.old; err' = sink_written err.new }) result }
+    ensures { CommandEnds (Some (folder_files folder.old)) (Some (folder_files folder.new)) (record { input = source_seen input.old; input' = source_seen input.new; out = sink_written out.old; out' = sink_written out.new; err = sink_written err.old; err' = sink_written err.new }) result }
 {
     command(alloc, words, folder, input, out, err)
 }

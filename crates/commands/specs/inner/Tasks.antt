@@ -1,7 +1,7 @@
 -- The task that the code's stands for, and how its run ends.
-use Rattle.std.specs.Prelude.{◌≡◌, ℕ, ◌<◌, ◌-◌, ◌^◌, ◌⊎◌, List, Option, ⊤}
+use Rattle.std.specs.Prelude.{◌≡◌, ℕ, ◌<◌, ◌-◌, ◌^◌, ◌⊎◌, Option, ⊤}
 use Rattle.std.specs.Option.{option_copied}
-use Rattle.device.specs.Device.{Written}
+use Rattle.device.specs.Device.{Seen, Written}
 use Rattle.schema.specs.Conf.{Conf}
 use Rattle.tree.specs.Directories.{Entries}
 use Rattle.directory.specs.declared.runs.RunFault.{RunFault}
@@ -21,5 +21,5 @@ CanTell (run_faults.Write t) failed = ⊤
 CanTell (run_faults.OutOfMemory t) failed = failed < 2 ^ 64 - 1
 
 -- where the run doesn't go through, no file changed
-abbrev pub RunEnds : Task → Option Files → Option Files → Option (List ℕ) → Conf → Entries → Written → Written → Status → Type 0
-RunEnds task files files' stream conf old a b s = WentThrough task files files' stream conf old a b s ⊎ (RunFails task files stream conf old a b s × (files' ≡ files))
+abbrev pub RunEnds : Task → (files files' : Option Files) → (input input' : Seen) → Conf → Entries → Written → Written → Status → Type 0
+RunEnds task files files' input input' conf old a b s = WentThrough task files files' input input' conf old a b s ⊎ (RunFails task files input input' conf old a b s × (files' ≡ files))
