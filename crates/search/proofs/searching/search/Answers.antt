@@ -1,11 +1,10 @@
-use Rattle.std.proofs.Common.{ℕ, ◌≡◌, ◌<◌, ◌≤◌, sym, ◌∙◌, ap, map, length, arith}
+use Rattle.std.proofs.Common.{ℕ, ◌∙◌, ap, map, length, arith}
 use Rattle.std.specs.FinMap as finite
 use Rattle.paths.specs.Paths.{Path, begins}
 use Rattle.schema.specs.Conf.{Conf}
 use Rattle.tree.specs.Entries.{EntryContent}
-use Rattle.tree.specs.StoredEntries.{Entry}
 use Rattle.filter_text.specs.Spells.{view}
-use Rattle.search.specs.Searches.{scan, count_in_scope}
+use Rattle.search.specs.Searches.{scan}
 use Rattle.search.specs.Walks.{Walk, seen, walk}
 use Rattle.search.proofs.Scans.{found_is, tested_is, filter_shorter, seen_length}
 use Rattle.search.proofs.searching.search.Goals as goal

@@ -1,4 +1,4 @@
-use Rattle.std.proofs.Common.{◌≡◌, ◌++◌, ◌∷◌, [], refl, ap, ◌∙◌}
+use Rattle.std.proofs.Common.{◌≡◌, ◌++◌, ◌∷◌, [], ap}
 use Rattle.paths.specs.Packed.{step_code, pack}
 use Rattle.paths.proofs.Unpacked.{bytes_of, reads_as, is_packed}
 use Rattle.paths.proofs.PackedPaths.{packed_more}
