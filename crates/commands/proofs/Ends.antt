@@ -24,37 +24,26 @@ use Rattle.command_line.specs.declared.request.SearchOptions.{SearchOptions}
 use Rattle.commands.specs.Asked.{IsFilter, IsBase, IsSelection}
 use Rattle.commands.specs.Folders.{Files}
 use Rattle.commands.specs.Loaded.{IsLoaded}
-use Rattle.directory.specs.declared.runs.Tally.{Tally}
-use Rattle.commands.specs.Changes.{Task, IsSource, source_name, SourceRan, HaveRun, SourceBreaksOff, SourceFails, ChangeEnds}
+use Rattle.commands.specs.Changes.{Task, ChangeEnds}
 use Rattle.commands.specs.inner.Tasks.{RunEnds}
 use Rattle.commands.specs.Failures.{FailsToWrite}
 use Rattle.commands.specs.Stops.{PrintsPartly}
 use Rattle.commands.proofs.Stopping.{of_faults, unwritten_prints, prints_more}
-use Rattle.commands.specs.Prints.{is_whole, IsPartText, IsCatText, Puts, PutsPartly, HasPut, HasPutPartly, IsPrinted, IsPrintedPartly, HasFound, HasFoundPartly, IsSearched, IsSearchedPartly}
+use Rattle.commands.specs.Prints.{is_whole, IsPartText, IsCatText, Puts, PutsPartly, HasPutAll, HasPutPartly, IsPrinted, IsPrintedPartly, HasFound, HasFoundPartly, IsSearched, IsSearchedPartly}
 
 -- how a run over it ends
 pub loaded_and_ran : (task : Task) (files files' : Option Files) (input input' : Seen) (conf : Conf) (old : Entries) (a b : Written) (s : Status) → IsLoaded files task.db conf old → RunEnds task files files' input input' conf old a b s → ChangeEnds task files files' input input' a b s
 loaded_and_ran task files files' input input' conf old a b s loaded (inl ran) = inl (record { conf = conf; old = old; loaded = loaded; ran = ran })
 loaded_and_ran task files files' input input' conf old a b s loaded (inr failed) = inr (inr (record { conf = conf; old = old; loaded = loaded; fails = failed.0 }), failed.1)
 
--- how one over the source that is asked for does
-module _ (task : Task) (files : Option Files) (input input' source source' : Seen) (conf : Conf) (old : Entries) (a b : Written) (is : IsSource files task.file input input' source source') where
-  pub have_run : (answer : Result Tally Status) (new : Entries) → IfOk answer (λ t. SourceRan task conf old new source source' t a b) → IfOk answer (λ t. HaveRun task files input input' conf old new t a b)
-  have_run (Ok t) new ran = record { source = source; source' = source'; source_is = is; ran = ran }
-  have_run (Err s) new ran = tt
-
-  pub broke_off : (answer : Result Tally Status) (name : List ℕ) → name ≡ source_name task.file → IfErr answer (SourceBreaksOff task name conf old source source' a b) → IfErr answer (SourceFails task files input input' conf old a b)
-  broke_off (Ok t) name named breaks = tt
-  broke_off (Err s) name named breaks = inr (record { source = source; source' = source'; source_is = is; breaks = subst (λ (n : List ℕ). SourceBreaksOff task n conf old source source' a b s) named breaks })
-
 -- how it is printed
 pub loaded_and_printed : (answer : Result (Unit {0}) CommandFault) (asked : CatOptions) (f : Tree) (files files' : Option Files) (conf : Conf) (d : Entries) (a b : Written)
-    → IsFilter (option_copied asked.filter) f → IsLoaded files asked.db.now conf d → OnOk answer (HasPut (is_whole asked) asked f conf d files files' a b) → OnOk answer (IsPrinted asked files files' a b)
-loaded_and_printed (Ok u) asked f files files' conf d a b spelled loaded put = record { filter = f; filter_is = spelled; conf = conf; entries = d; loaded = loaded; printed = put }
+    → IsFilter (option_copied asked.filter) f → IsLoaded files asked.db.now conf d → OnOk answer (HasPutAll (is_whole asked) asked f conf d files files' a b) → OnOk answer (IsPrinted asked files files' a b)
+loaded_and_printed (Ok u) asked f files files' conf d a b spelled loaded put = record { filter = f; filter_is = spelled; conf = conf; entries = d; loaded = loaded; so = put }
 loaded_and_printed (Err e) asked f files files' conf d a b spelled loaded put = tt
 
 pub part_put : (answer : Result (Unit {0}) CommandFault) (asked : CatOptions) (f : Tree) (conf : Conf) (d : Entries) (text : List ℕ) (files files' : Option Files) (a b : Written)
-    → IsPartText asked f conf d text → OnOk answer (Puts (option_copied asked.file) files files' a b text) → OnOk answer (HasPut false asked f conf d files files' a b)
+    → IsPartText asked f conf d text → OnOk answer (Puts (option_copied asked.file) files files' a b text) → OnOk answer (HasPutAll false asked f conf d files files' a b)
 part_put (Ok u) asked f conf d text files files' a b is put = record { text = text; is = is; put = put }
 part_put (Err e) asked f conf d text files files' a b is put = tt
 
@@ -76,20 +65,20 @@ part_same dir dir' base base' made made' same_dir same_base same_made = rw (same
 -- how it is searched
 pub loaded_and_searched : (answer : Result Bool CommandFault) (asked : SearchOptions) (f : Tree) (files : Option Files) (conf : Conf) (d : Entries) (a b : Written)
     → IsFilter (option_copied asked.filter) f → IsLoaded files asked.db.now conf d → IfOk answer (λ past. HasFound Took asked conf d f past a b) → IfOk answer (λ past. IsSearched asked files past a b)
-loaded_and_searched (Ok past) asked f files conf d a b spelled loaded found = record { filter = f; filter_is = spelled; conf = conf; entries = d; loaded = loaded; found = found }
+loaded_and_searched (Ok past) asked f files conf d a b spelled loaded found = record { filter = f; filter_is = spelled; conf = conf; entries = d; loaded = loaded; so = found }
 loaded_and_searched (Err e) asked f files conf d a b spelled loaded found = tt
 
 -- how it is searched where printing fails
 pub searched_partly : (answer : Result Bool CommandFault) (asked : SearchOptions) (f : Tree) (files : Option Files) (conf : Conf) (d : Entries) (a b : Written)
     → IsFilter (option_copied asked.filter) f → IsLoaded files asked.db.now conf d → IfErr answer (PrintsPartly (HasFoundPartly asked conf d f) a b) → IfErr answer (PrintsPartly (IsSearchedPartly asked files) a b)
 searched_partly answer asked f files conf d a b spelled loaded =
-    of_faults answer (prints_more (HasFoundPartly asked conf d f) (IsSearchedPartly asked files) a b (λ e found. record { filter = f; filter_is = spelled; conf = conf; entries = d; loaded = loaded; found = found }))
+    of_faults answer (prints_more (HasFoundPartly asked conf d f) (IsSearchedPartly asked files) a b (λ e found. record { filter = f; filter_is = spelled; conf = conf; entries = d; loaded = loaded; so = found }))
 
 -- how it is printed where that fails
 pub printed_partly : (answer : Result (Unit {0}) CommandFault) (asked : CatOptions) (f : Tree) (files : Option Files) (conf : Conf) (d : Entries) (a b : Written)
     → IsFilter (option_copied asked.filter) f → IsLoaded files asked.db.now conf d → IfErr answer (PrintsPartly (HasPutPartly (is_whole asked) asked f conf d) a b) → IfErr answer (PrintsPartly (IsPrintedPartly asked files) a b)
 printed_partly answer asked f files conf d a b spelled loaded =
-    of_faults answer (prints_more (HasPutPartly (is_whole asked) asked f conf d) (IsPrintedPartly asked files) a b (λ e printed. record { filter = f; filter_is = spelled; conf = conf; entries = d; loaded = loaded; printed = printed }))
+    of_faults answer (prints_more (HasPutPartly (is_whole asked) asked f conf d) (IsPrintedPartly asked files) a b (λ e printed. record { filter = f; filter_is = spelled; conf = conf; entries = d; loaded = loaded; so = printed }))
 
 past_seen : (limit : Option ℕ) (ls : List Lent) → goes_past limit ls ≡ goes_past limit (map seen ls)
 past_seen None ls = refl

@@ -166,35 +166,25 @@ module _ (command target : List ℕ) (filter : Option (List ℕ)) (files : Optio
 -- ---- what was printed by then
 
 module _ (Partly : CommandFault → Written → Written → Type 0) (a b : Written) (same : b ≡ a) where
+  -- nothing was, where the fault isn't one of writing
+  nothing_prints : (P : CommandFault → Type 0) → ((n : _) → P (faults.CannotWrite n) → ⊥) → (f : CommandFault) → P f → PrintsPartly Partly a b f
+  nothing_prints P none faults.Words h = same
+  nothing_prints P none (faults.Filter fault) h = same
+  nothing_prints P none (faults.Code by code) h = same
+  nothing_prints P none (faults.Configuration line kind) h = same
+  nothing_prints P none (faults.Data line why) h = same
+  nothing_prints P none (faults.CannotRead name) h = same
+  nothing_prints P none (faults.CannotWrite name) h = absurd (none name h)
+  nothing_prints P none faults.OutOfMemory h = inl same
+
   pub filter_prints : (text : Option (List ℕ)) (f : CommandFault) → FilterFails text f → PrintsPartly Partly a b f
-  filter_prints text faults.Words h = same
-  filter_prints text (faults.Filter fault) h = same
-  filter_prints text (faults.Code by code) h = same
-  filter_prints text (faults.Configuration line kind) h = same
-  filter_prints text (faults.Data line why) h = same
-  filter_prints text (faults.CannotRead name) h = same
-  filter_prints text (faults.CannotWrite name) h = absurd h
-  filter_prints text faults.OutOfMemory h = inl same
+  filter_prints text = nothing_prints (FilterFails text) (λ n h. h)
 
   pub load_prints : (files : Option Files) (db : List ℕ) (f : CommandFault) → LoadFails files db f → PrintsPartly Partly a b f
-  load_prints files db faults.Words h = same
-  load_prints files db (faults.Filter fault) h = same
-  load_prints files db (faults.Code by code) h = same
-  load_prints files db (faults.Configuration line kind) h = same
-  load_prints files db (faults.Data line why) h = same
-  load_prints files db (faults.CannotRead name) h = same
-  load_prints files db (faults.CannotWrite name) h = absurd h
-  load_prints files db faults.OutOfMemory h = inl same
+  load_prints files db = nothing_prints (LoadFails files db) (λ n h. h)
 
   pub refused_prints : (command : List ℕ) (Holds : Code → Type 0) (f : CommandFault) → Refuses command Holds f → PrintsPartly Partly a b f
-  refused_prints command Holds faults.Words h = same
-  refused_prints command Holds (faults.Filter fault) h = same
-  refused_prints command Holds (faults.Code by code) h = same
-  refused_prints command Holds (faults.Configuration line kind) h = same
-  refused_prints command Holds (faults.Data line why) h = same
-  refused_prints command Holds (faults.CannotRead name) h = same
-  refused_prints command Holds (faults.CannotWrite name) h = absurd h
-  refused_prints command Holds faults.OutOfMemory h = inl same
+  refused_prints command Holds = nothing_prints (Refuses command Holds) (λ n h. h)
 
 -- while it was printed, that failed
 pub unwritten_prints : (Partly : CommandFault → Written → Written → Type 0) (a b : Written) (target : List ℕ) (f : CommandFault) → FailsToWrite target f → Partly f a b → PrintsPartly Partly a b f

@@ -27,6 +27,15 @@ use Rattle.commands.specs.declared.messages.CommandFault.{CommandFault}
 use Rattle.commands.specs.declared.messages.CommandFault.TheVariants as faults
 use Rattle.commands.specs.declared.messages.Status.TheVariants.{Done, Refused}
 
+-- a directory was loaded, and this holds of it and of the filter that is asked for
+pub record IsLoadedFor (text : Option (List ℕ)) (files : Option Files) (db : List ℕ) (Holds : Tree → Conf → Entries → Type 0) : Type 0 where
+  pub filter : Tree
+  pub filter_is : IsFilter text filter
+  pub conf : Conf
+  pub entries : Entries
+  pub loaded : IsLoaded files db conf entries
+  pub so : Holds filter conf entries
+
 -- a beginning of the text was written, and then the output failed, or memory ran out, be it for the text or for the name of what failed
 abbrev pub IsBegun : CommandFault → Written → Written → List ℕ → Type 0
 IsBegun (faults.CannotWrite name) a b text = Broke a b text
@@ -61,35 +70,26 @@ abbrev pub IsCatText : Bool → CatOptions → Tree → Conf → Entries → Lis
 IsCatText true asked filter conf d text = text ≡ dump conf d
 IsCatText false asked filter conf d text = IsPartText asked filter conf d text
 
--- the text of these entries was put where it goes
-pub record HasPut (whole : Bool) (asked : CatOptions) (filter : Tree) (conf : Conf) (d : Entries) (files files' : Option Files) (a b : Written) : Type 0 where
+-- the text of these entries was put in this way
+pub record HasPut (IsPut : List ℕ → Type 0) (whole : Bool) (asked : CatOptions) (filter : Tree) (conf : Conf) (d : Entries) : Type 0 where
   pub text : List ℕ
   pub is : IsCatText whole asked filter conf d text
-  pub put : Puts (option_copied asked.file) files files' a b text
+  pub put : IsPut text
 
--- a directory was loaded, and its text put where it goes, by the filter that is asked for
-pub record IsPrinted (asked : CatOptions) (files files' : Option Files) (a b : Written) : Type 0 where
-  pub filter : Tree
-  pub filter_is : IsFilter (option_copied asked.filter) filter
-  pub conf : Conf
-  pub entries : Entries
-  pub loaded : IsLoaded files asked.db.now conf entries
-  pub printed : HasPut (is_whole asked) asked filter conf entries files files' a b
+-- it was put where it goes
+abbrev pub HasPutAll : Bool → CatOptions → Tree → Conf → Entries → Option Files → Option Files → Written → Written → Type 0
+HasPutAll whole asked filter conf d files files' a b = HasPut (Puts (option_copied asked.file) files files' a b) whole asked filter conf d
 
--- the text of these entries was to be put where it goes, and that failed
-pub record HasPutPartly (whole : Bool) (asked : CatOptions) (filter : Tree) (conf : Conf) (d : Entries) (fault : CommandFault) (a b : Written) : Type 0 where
-  pub text : List ℕ
-  pub is : IsCatText whole asked filter conf d text
-  pub put : PutsPartly fault (option_copied asked.file) a b text
+-- it was to be put there, and that failed
+abbrev pub HasPutPartly : Bool → CatOptions → Tree → Conf → Entries → CommandFault → Written → Written → Type 0
+HasPutPartly whole asked filter conf d fault a b = HasPut (PutsPartly fault (option_copied asked.file) a b) whole asked filter conf d
 
--- likewise, of a directory that was loaded
-pub record IsPrintedPartly (asked : CatOptions) (files : Option Files) (fault : CommandFault) (a b : Written) : Type 0 where
-  pub filter : Tree
-  pub filter_is : IsFilter (option_copied asked.filter) filter
-  pub conf : Conf
-  pub entries : Entries
-  pub loaded : IsLoaded files asked.db.now conf entries
-  pub printed : HasPutPartly (is_whole asked) asked filter conf entries fault a b
+-- of a directory that was loaded, what is asked for was put where it goes; or that failed
+abbrev pub IsPrinted : CatOptions → Option Files → Option Files → Written → Written → Type 0
+IsPrinted asked files files' a b = IsLoadedFor (option_copied asked.filter) files asked.db.now (λ filter conf d. HasPutAll (is_whole asked) asked filter conf d files files' a b)
+
+abbrev pub IsPrintedPartly : CatOptions → Option Files → CommandFault → Written → Written → Type 0
+IsPrintedPartly asked files fault a b = IsLoadedFor (option_copied asked.filter) files asked.db.now (λ filter conf d. HasPutPartly (is_whole asked) asked filter conf d fault a b)
 
 -- where slapcat refuses: a base is asked for, and there is none
 abbrev pub CatRefuses : CatOptions → Conf → Entries → Code → Type 0
@@ -120,26 +120,16 @@ pub record HasFound (IsWritten : Written → Written → List ℕ → Type 0) (a
   pub written : IsWritten a b (found_text conf d selection (up_to asked.limit (scan conf d base asked.scope filter)))
 
 -- a directory was loaded, and searched by the filter that is asked for
-pub record IsSearched (asked : SearchOptions) (files : Option Files) (past : Bool) (a b : Written) : Type 0 where
-  pub filter : Tree
-  pub filter_is : IsFilter (option_copied asked.filter) filter
-  pub conf : Conf
-  pub entries : Entries
-  pub loaded : IsLoaded files asked.db.now conf entries
-  pub found : HasFound Took asked conf entries filter past a b
+abbrev pub IsSearched : SearchOptions → Option Files → Bool → Written → Written → Type 0
+IsSearched asked files past a b = IsLoadedFor (option_copied asked.filter) files asked.db.now (λ filter conf d. HasFound Took asked conf d filter past a b)
 
 -- a beginning of what the filter finds was printed when that failed
 abbrev pub HasFoundPartly : SearchOptions → Conf → Entries → Tree → CommandFault → Written → Written → Type 0
 HasFoundPartly asked conf d filter fault a b = (past : Bool) × HasFound (IsBegun fault) asked conf d filter past a b
 
--- likewise, in a directory that was loaded
-pub record IsSearchedPartly (asked : SearchOptions) (files : Option Files) (fault : CommandFault) (a b : Written) : Type 0 where
-  pub filter : Tree
-  pub filter_is : IsFilter (option_copied asked.filter) filter
-  pub conf : Conf
-  pub entries : Entries
-  pub loaded : IsLoaded files asked.db.now conf entries
-  pub found : HasFoundPartly asked conf entries filter fault a b
+-- likewise, where printing failed
+abbrev pub IsSearchedPartly : SearchOptions → Option Files → CommandFault → Written → Written → Type 0
+IsSearchedPartly asked files fault a b = IsLoadedFor (option_copied asked.filter) files asked.db.now (λ filter conf d. HasFoundPartly asked conf d filter fault a b)
 
 -- where search refuses: there is no base
 abbrev pub SearchRefuses : SearchOptions → Conf → Entries → Code → Type 0

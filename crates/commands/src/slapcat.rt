@@ -7,7 +7,7 @@ ghost use Rattle.filter_text.specs.Spells.{view};
 ghost use Rattle.commands.specs.Asked.{IsBase};
 ghost use Rattle.commands.specs.Failures.{FailsToWrite};
 ghost use Rattle.commands.specs.Stops.{Refuses, RefusesOrBreaks, PrintsPartly};
-ghost use Rattle.commands.specs.Prints.{IsBegun, is_whole, target_of, Puts, PutsPartly, HasPut, HasPutPartly, IsPrinted, IsPrintedPartly, CatRefuses, CatStops, CatEnds};
+ghost use Rattle.commands.specs.Prints.{IsBegun, is_whole, target_of, Puts, PutsPartly, HasPutAll, HasPutPartly, IsPrinted, IsPrintedPartly, CatRefuses, CatStops, CatEnds};
 
 use crate::database::{load_directory, store};
 use crate::finding::{filter_of, path_of};
@@ -84,7 +84,7 @@ fn put_part<F: Folder, O: Sink>(
 ) -> Result<(), CommandFault>
     requires { (O.written out.old).failed < 2 ^ 64 - 1 }
     ensures same { OnErr result (F.files folder.new ≡ F.files folder.old) }
-    ensures put { OnOk result (HasPut false asked.now (view filter.now) dir.now.conf dir.now.entries (F.files folder.old) (F.files folder.new) (O.written out.old) (O.written out.new)) }
+    ensures put { OnOk result (HasPutAll false asked.now (view filter.now) dir.now.conf dir.now.entries (F.files folder.old) (F.files folder.new) (O.written out.old) (O.written out.new)) }
     ensures fault { IfErr result (RefusesOrBreaks (codes "slapcat") (target_of (option_copied asked.now.file)) (CatRefuses asked.now dir.now.conf dir.now.entries)) }
     ensures partly { IfErr result (PrintsPartly (HasPutPartly false asked.now (view filter.now) dir.now.conf dir.now.entries) (O.written out.old) (O.written out.new)) }
 {
@@ -104,7 +104,7 @@ fn put_entries<F: Folder, O: Sink>(
 ) -> Result<(), CommandFault>
     requires { (O.written out.old).failed < 2 ^ 64 - 1 }
     ensures same { OnErr result (F.files folder.new ≡ F.files folder.old) }
-    ensures put { OnOk result (HasPut (is_whole asked.now) asked.now (view filter.now) dir.now.conf dir.now.entries (F.files folder.old) (F.files folder.new) (O.written out.old) (O.written out.new)) }
+    ensures put { OnOk result (HasPutAll (is_whole asked.now) asked.now (view filter.now) dir.now.conf dir.now.entries (F.files folder.old) (F.files folder.new) (O.written out.old) (O.written out.new)) }
     ensures fault { IfErr result (RefusesOrBreaks (codes "slapcat") (target_of (option_copied asked.now.file)) (CatRefuses asked.now dir.now.conf dir.now.entries)) }
     ensures partly { IfErr result (PrintsPartly (HasPutPartly (is_whole asked.now) asked.now (view filter.now) dir.now.conf dir.now.entries) (O.written out.old) (O.written out.new)) }
 {
