@@ -1,5 +1,5 @@
 -- What is seen of the sources and sinks in memory.
-use Rattle.std.specs.Prelude.{ℕ, ◌≤◌, Option, None, Some, nat_le, length, drop, vec_len}
+use Rattle.std.specs.Prelude.{ℕ, ◌+◌, ◌<◌, ◌≤◌, Option, None, Some, nat_le, length, drop, vec_len}
 use Rattle.std.specs.Vec.{vec_capacity}
 use Rattle.device.specs.Device.{Seen, Written}
 use Rattle.device.specs.declared.memory.TrySource.{TrySource}
@@ -28,6 +28,10 @@ sink_limit s = s.fails_after
 -- for how many bytes in all there is room without more memory
 abbrev pub sink_room : TrySink → ℕ
 sink_room s = vec_capacity s.bytes
+
+-- of so many further bytes, no more than go in one call, not all have room without more memory
+abbrev pub LacksRoom : TrySink → ℕ → Type 0
+LacksRoom s len = (sink_room s < vec_len s.bytes + len) × (sink_room s < vec_len s.bytes + s.most)
 
 -- so many bytes came or went that each call fails
 abbrev pub IsSpent : Option ℕ → ℕ → Type 0

@@ -133,7 +133,7 @@ impl TrySink {
 }
 
 impl Sink for TrySink {
-    ghost use Rattle.device.specs.Memory.{sink_written, sink_most, sink_limit, sink_room, IsSpent};
+    ghost use Rattle.device.specs.Memory.{sink_written, sink_most, sink_limit, IsSpent, LacksRoom};
 
     ghost written = { sink_written };
 
@@ -153,7 +153,7 @@ impl Sink for TrySink {
         ensures few { IfOk result (λ n. n ≤ sink_most self.old) }
         ensures limit { sink_limit self.new ≡ sink_limit self.old }
         ensures fails { IsSpent (sink_limit self.old) (sink_written self.old).count → IsErr result }
-        ensures only { OnErr result (IsSpent (sink_limit self.old) (sink_written self.old).count ⊎ (sink_room self.old < (sink_written self.old).count + length bytes.now)) }
+        ensures only { OnErr result (IsSpent (sink_limit self.old) (sink_written self.old).count ⊎ LacksRoom self.old (length bytes.now)) }
         ensures within { IfSome (sink_limit self.old) (λ limit. OnOk result ((sink_written self.new).count ≤ limit)) }
     {
         let Some(most) = allowed(self.most, self.fails_after, self.bytes.len()) else {
