@@ -111,18 +111,47 @@ fn first_of_text(alloc: Global, mode: Mode, lines: &[Vec<u8>]) -> Result<Record<
     }
 }
 
+// The elements of a byte slice are bytes.
+fn in_range(line: &[u8])
+    ensures { IsBytes line.now }
+{
+    let _ = line;
+}
+
+// Lines are bytes.
+fn are_in_range(lines: &[Vec<u8>])
+    ensures { AllByRecursion IsBytes (texts lines.now) }
+{
+    for line in lines {
+        in_range(line.as_slice());
+    }
+}
+
+fn read_lines(
+    alloc: Global,
+    mode: Mode,
+    first: bool,
+    lines: &[Vec<u8>],
+) -> Result<Record<'_>, LdifFault>
+    ensures { Gives result (reading mode first (texts lines.now)) }
+{
+    if first {
+        first_of_text(alloc, mode, lines)
+    } else {
+        entry(alloc, mode, lines)
+    }
+}
+
 /// Reads a record from its lines (RFC 2849, "Formal Syntax Definition of LDIF").
 ///
 /// The answer is what the record asks for, or the fault of its earliest line that has one; at one line `Continuation`,
 /// `ColonMissing`, `Url` and `Base64` come in this order and before any other. `OutOfMemory` says that memory ran out.
+#[tactic(auto, using(crate::proofs::RecordPlaces::why))]
 pub fn read_record(alloc: Global, raw: &RawRecord, mode: Mode) -> Result<Record<'_>, LdifFault>
     ensures exact { Gives result (reading mode raw.now.first (texts raw.now.lines.items)) }
     // A fault stands where the lines lead to.
-    ensures fault { AllByRecursion IsBytes (texts raw.now.lines.items) → IfErr result (IsWhy mode raw.now.first (texts raw.now.lines.items)) }
+    ensures fault { IfErr result (IsWhy mode raw.now.first (texts raw.now.lines.items)) }
 {
-    if raw.first {
-        first_of_text(alloc, mode, &raw.lines)
-    } else {
-        entry(alloc, mode, &raw.lines)
-    }
+    are_in_range(&raw.lines);
+    read_lines(alloc, mode, raw.first, &raw.lines)
 }
