@@ -69,10 +69,13 @@ impl Model for Ava {
 }
 
 impl MadeWith<Global> for Ava {
+    ghost use Rattle.std.specs.Prelude.{◌≡◌, true};
+    ghost use Rattle.dn.specs.Names.{is_ava};
+
+    ghost is_made_with = { λ a. is_ava a ≡ true };
+
     /// The part `x=`, to be put in another's place.
-    fn made_with(_alloc: Global) -> Ava
-        ensures { is_ava result ≡ true }
-    {
+    fn made_with(_alloc: Global) -> Ava {
         Ava {
             text: AvaText::blank(),
         }

@@ -37,6 +37,10 @@ impl Model for Value {
 }
 
 impl MadeWith<Global> for Value {
+    ghost use Rattle.std.specs.Prelude.{◌≡◌, []};
+
+    ghost is_made_with = { λ v. v ≡ record { raw = []; norm = [] } };
+
     fn made_with(alloc: Global) -> Value {
         Value {
             bytes: Bytes::from_vec(Vec::new(alloc)),
