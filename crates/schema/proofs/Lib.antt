@@ -29,3 +29,4 @@ pub mod Unkept
 pub mod IndexFlaws
 pub mod LaterFaults
 pub mod ConfFaultsStand
+pub mod KeyOrder

@@ -81,6 +81,10 @@ is_lower t q = nat_lt q.0 t
 unfoldable pub put_pair : Pair → RdnKey → RdnKey
 put_pair p key = insert key (prefix_len (is_lower p.0) key) p
 
+-- the number of its type
+abbrev pub type_of_pair : Pair → ℕ
+type_of_pair p = p.0
+
 abbrev pub pair_of : List AttributeType → Ava → Pair
 pair_of types p = (p.0, norm_part types p.0 p.1)
 

@@ -1,11 +1,12 @@
 //! Laws of names and configurations, for the crates above.
 
-ghost use Rattle.std.specs.Prelude.{◌≡◌, ◌↔◌, ℕ, true, false, Ok, Err, Some, nat_lt, List};
+ghost use Rattle.std.specs.Prelude.{◌≡◌, ◌↔◌, ℕ, true, false, Ok, Err, Some, nat_lt, List, map};
 ghost use Rattle.std.specs.List.{list_all, AllByRecursion};
+ghost use Rattle.std.specs.List.Sorted.{IsNonDecreasingBy, IsPermutation};
 ghost use Rattle.values.specs.Types.{type_of, name_of, is_known};
 ghost use Rattle.definitions.specs.Naming.{is_reserved};
 ghost use Rattle.values.specs.declared.types.AttributeType.{AttributeType};
-ghost use Rattle.schema.specs.Rdns.{Rdn};
+ghost use Rattle.schema.specs.Rdns.{Rdn, type_of_pair, pair_of, rdn_key_of};
 ghost use Rattle.schema.specs.GoodRdns.{IsRdn};
 ghost use Rattle.schema.specs.Values.{is_valid_at};
 ghost use Rattle.dn.specs.Names.{is_type};
@@ -40,6 +41,12 @@ pub fn written_names_are_located()
     written_names_are_read();
     matching::valid_values_are_bytes();
 }
+
+/// The step of a path that an RDN gives has the pair of each of its parts, by the numbers of their types, whatever order they are written in.
+pub fn keys_are_sorted()
+    ensures same { (types : List AttributeType) (r : Rdn) → IsPermutation (map (pair_of types) r) (rdn_key_of types r) }
+    ensures sorted { (types : List AttributeType) (r : Rdn) → IsNonDecreasingBy type_of_pair (rdn_key_of types r) }
+{}
 
 /// The RDNs at which a name is located are good ones.
 pub fn located_rdns_are_good()
