@@ -38,7 +38,7 @@ impl Model for Directory {
 }
 
 impl Directory {
-    /// The directory with no entry. It can run out of memory.
+    /// The directory with no entry. It takes no memory yet, and so it is never refused.
     pub fn new(alloc: Global, conf: Conf) -> Result<Directory, AllocError>
         ensures same_conf { IfOk result (λ d. d.conf ≡ conf) }
         ensures entries { IfOk result (λ d. d.entries ≡ finite.empty) }
@@ -47,7 +47,7 @@ impl Directory {
         Directory::from_tree(alloc, conf, tree)
     }
 
-    /// The directory of a tree that was made with this configuration. It can run out of memory.
+    /// The directory of a tree that was made with this configuration. It takes no memory yet, and so it is never refused.
     pub fn from_tree(alloc: Global, conf: Conf, tree: Tree) -> Result<Directory, AllocError>
         requires { tree.conf ≡ conf }
         ensures { IfOk result (λ d. d ≡ tree) }

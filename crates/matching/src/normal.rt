@@ -36,7 +36,7 @@ fn tidy_text(alloc: Global, bytes: &[u8]) -> Result<Vec<u8>, AllocError>
     Ok(out)
 }
 
-// whether there is no space at the ends, and one in each gap
+// whether there is something, without a space at the ends, and with one in each gap
 fn is_tidy(bytes: &[u8]) -> bool
     ensures { result ≡ is_tidy_after true bytes.now }
 {

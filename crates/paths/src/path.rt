@@ -46,7 +46,7 @@ impl Rdn {
     }
 }
 
-/// What an RDN comes to in a path: its pairs of type and normal value, by type number. A contract sees it as the list of them.
+/// What an RDN comes to in a path: pairs of type and normal value. A contract sees it as the list of them.
 #[derive(Debug, PartialEq, Eq, PartialOrd, Ord, Drop)]
 pub struct RdnKey {
     pairs: Sequence<(TypeId, Bytes)>,

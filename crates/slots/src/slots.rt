@@ -7,7 +7,7 @@ use std::alloc::{AllocError, Global};
 use std::marker::Model;
 use std::mem;
 
-/// Values in numbered slots. A value keeps its number until it is removed, and the number that was freed last is given out next.
+/// Values in numbered slots. A value keeps its number until it is removed; the number that was freed is given out next.
 #[derive(Drop)]
 pub struct Slots<T> {
     slots: Vec<Slot<T>>,
