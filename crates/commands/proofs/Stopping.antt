@@ -17,12 +17,15 @@ use Rattle.directory.specs.declared.runs.RunFault.{RunFault}
 use Rattle.directory.specs.declared.runs.RunFault.TheVariants as run_faults
 use Rattle.directory.specs.declared.loading.LoadFault.{LoadFault}
 use Rattle.directory.specs.declared.loading.LoadFault.TheVariants as loads
+use Rattle.filter_text.specs.Spells.{Tree}
+use Rattle.commands.specs.Asked.{IsFilter, HasFilter}
 use Rattle.commands.specs.Folders.{Files, Finds, conf_name, data_name}
 use Rattle.commands.specs.Loaded.{IsConfigured, IsLoaded, LoadFails, IsNotLoaded}
 use Rattle.commands.specs.Statuses.{status_of_fault}
 use Rattle.commands.specs.Messages.{IsSaid, IsTold, fault_text}
 use Rattle.commands.specs.Failures.{IsMemory, FailsToRead, FailsToWrite, IsToldUnread, IsToldUnwritten, IsToldMemory}
-use Rattle.commands.specs.Stops.{FilterFails, Refuses, RefusesOrBreaks, PrintsPartly, Stops, IsStopped}
+use Rattle.commands.specs.Stops.{PrintsPartly, Stops, IsStopped}
+use Rattle.commands.specs.inner.Refusals.{FilterFails, Refuses, RefusesOrBreaks}
 use Rattle.commands.specs.Prints.{IsBegun}
 use Rattle.commands.specs.inner.LoadFaults.{TellsLoadFault}
 use Rattle.commands.specs.inner.WriteFaults.{TellsWriteFault}
@@ -99,8 +102,8 @@ module _ (files : Option Files) (db : List ℕ) where
   pub conf_unread : (name : List ℕ) (f : CommandFault) → name ≡ conf_name db → FailsToRead name f → LoadFails files db f
   conf_unread name f is = of_unread (LoadFails files db) name (λ n named. inl (named ∙ is)) tt f
 
-  pub data_unread : (name : List ℕ) (f : CommandFault) → name ≡ data_name db → FailsToRead name f → LoadFails files db f
-  data_unread name f is = of_unread (LoadFails files db) name (λ n named. inr (named ∙ is)) tt f
+  pub data_unread : (conf : Conf) (name : List ℕ) (f : CommandFault) → IsConfigured files (conf_name db) conf → name ≡ data_name db → FailsToRead name f → LoadFails files db f
+  data_unread conf name f configured is = of_unread (LoadFails files db) name (λ n named. inr (record { conf = conf; configured = configured; name_is = named ∙ is })) tt f
 
   pub memory_loads : (f : CommandFault) → IsMemory f → LoadFails files db f
   memory_loads = of_memory (LoadFails files db) tt
@@ -108,7 +111,7 @@ module _ (files : Option Files) (db : List ℕ) where
   -- a fault of loading the file, told as the command's
   pub load_told : (conf : Conf) (named name : List ℕ) (text : Option (List ℕ)) (fault : LoadFault) (f : CommandFault)
       → TellsLoadFault named fault f → named ≡ data_name db → IsConfigured files (conf_name db) conf → name ≡ data_name db → Finds files name (Some text) → StopsAt fault conf finite.empty (option_map records text) → LoadFails files db f
-  load_told conf named name text loads.Read f told is configured is_data finds stops = data_unread named f is told
+  load_told conf named name text loads.Read f told is configured is_data finds stops = data_unread conf named f configured is told
   load_told conf named name text loads.OutOfMemory f told is configured is_data finds stops = memory_loads f told
   load_told conf named name text (loads.Refused line why) f told is configured is_data finds stops = subst (LoadFails files db) (sym told) (record {
     conf = conf;
@@ -136,32 +139,37 @@ module _ (command target : List ℕ) (filter : Option (List ℕ)) (files : Optio
   filter_stops (faults.CannotWrite name) h = absurd h
   filter_stops faults.OutOfMemory h = h
 
-  pub load_stops : (f : CommandFault) → LoadFails files db f → Stops command target filter files db Holds f
-  load_stops faults.Words h = h
-  load_stops (faults.Filter fault) h = absurd h
-  load_stops (faults.Code by code) h = absurd h
-  load_stops (faults.Configuration line kind) h = h
-  load_stops (faults.Data line why) h = h
-  load_stops (faults.CannotRead name) h = h
-  load_stops (faults.CannotWrite name) h = absurd h
-  load_stops faults.OutOfMemory h = h
-
-  refused_so : (conf : Conf) (d : Entries) → IsLoaded files db conf d → (f : CommandFault) → Refuses command (Holds conf d) f → Stops command target filter files db Holds f
-  refused_so conf d loaded faults.Words h = h
-  refused_so conf d loaded (faults.Filter fault) h = absurd h
-  refused_so conf d loaded (faults.Code by code) h = (h.0, record { conf = conf; entries = d; loaded = loaded; refused = h.1 })
-  refused_so conf d loaded (faults.Configuration line kind) h = absurd h
-  refused_so conf d loaded (faults.Data line why) h = absurd h
-  refused_so conf d loaded (faults.CannotRead name) h = absurd h
-  refused_so conf d loaded (faults.CannotWrite name) h = absurd h
-  refused_so conf d loaded faults.OutOfMemory h = h
-
   unwritten_stops : (f : CommandFault) → FailsToWrite target f → Stops command target filter files db Holds f
   unwritten_stops = of_unwritten (Stops command target filter files db Holds) target (λ n named. named) tt
 
-  pub refused_stops : (conf : Conf) (d : Entries) → IsLoaded files db conf d → (f : CommandFault) → RefusesOrBreaks command target (Holds conf d) f → Stops command target filter files db Holds f
-  refused_stops conf d loaded f (inl refuses) = refused_so conf d loaded f refuses
-  refused_stops conf d loaded f (inr unwritten) = unwritten_stops f unwritten
+  -- behind the filter
+  module _ (t : Tree) (spelled : IsFilter filter t) where
+    has : HasFilter filter
+    has = (t, spelled)
+
+    pub load_stops : (f : CommandFault) → LoadFails files db f → Stops command target filter files db Holds f
+    load_stops faults.Words h = h
+    load_stops (faults.Filter fault) h = absurd h
+    load_stops (faults.Code by code) h = absurd h
+    load_stops (faults.Configuration line kind) h = (has, h)
+    load_stops (faults.Data line why) h = (has, h)
+    load_stops (faults.CannotRead name) h = (has, h)
+    load_stops (faults.CannotWrite name) h = absurd h
+    load_stops faults.OutOfMemory h = tt
+
+    refused_so : (conf : Conf) (d : Entries) → IsLoaded files db conf d → (f : CommandFault) → Refuses command (Holds conf d) f → Stops command target filter files db Holds f
+    refused_so conf d loaded faults.Words h = h
+    refused_so conf d loaded (faults.Filter fault) h = absurd h
+    refused_so conf d loaded (faults.Code by code) h = (has, h.0, record { conf = conf; entries = d; loaded = loaded; refused = h.1 })
+    refused_so conf d loaded (faults.Configuration line kind) h = absurd h
+    refused_so conf d loaded (faults.Data line why) h = absurd h
+    refused_so conf d loaded (faults.CannotRead name) h = absurd h
+    refused_so conf d loaded (faults.CannotWrite name) h = absurd h
+    refused_so conf d loaded faults.OutOfMemory h = tt
+
+    pub refused_stops : (conf : Conf) (d : Entries) → IsLoaded files db conf d → (f : CommandFault) → RefusesOrBreaks command target (Holds conf d) f → Stops command target filter files db Holds f
+    refused_stops conf d loaded f (inl refuses) = refused_so conf d loaded f refuses
+    refused_stops conf d loaded f (inr unwritten) = unwritten_stops f unwritten
 
 -- ---- what was printed by then
 

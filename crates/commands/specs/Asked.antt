@@ -22,6 +22,10 @@ any_entry = codes "(objectClass=*)"
 abbrev pub IsFilter : Option (List ℕ) → Tree → Type 0
 IsFilter text f = FilterText f (unwrap_or text any_entry) × IsShallow (unwrap_or text any_entry)
 
+-- there is one
+abbrev pub HasFilter : Option (List ℕ) → Type 0
+HasFilter text = (f : Tree) × IsFilter text f
+
 -- there is none
 abbrev pub IsNoFilter : Option (List ℕ) → Type 0
 IsNoFilter text = (f : Tree) → ¬ (IsFilter text f)

@@ -52,11 +52,18 @@ pub record DataFails (files : Option Files) (db : List ℕ) (line : ℕ) (why : 
   pub there : Finds files (data_name db) (Some text)
   pub refused : Over (option_map records text) (λ given. (loaded_after conf finite.empty given).refused ≡ (line, why) ∷ [])
 
--- why no directory was loaded: a fault of one of its two files, or one that can't be read, or want of memory
+-- data.ldif is what can't be read, and dir.conf says this configuration
+pub record DataUnread (files : Option Files) (db : List ℕ) (name : List ℕ) : Type 0 where
+  pub conf : Conf
+  pub configured : IsConfigured files (conf_name db) conf
+  pub name_is : name ≡ data_name db
+
+-- Why no directory was loaded: a fault of one of its two files, or one that can't be read, or want of memory. dir.conf is looked at whole
+-- before data.ldif is.
 abbrev pub LoadFails : Option Files → List ℕ → CommandFault → Type 0
 LoadFails files db (faults.Configuration line kind) = ConfFails files db line kind
 LoadFails files db (faults.Data line why) = DataFails files db line why
-LoadFails files db (faults.CannotRead name) = (string_bytes name ≡ conf_name db) ⊎ (string_bytes name ≡ data_name db)
+LoadFails files db (faults.CannotRead name) = (string_bytes name ≡ conf_name db) ⊎ DataUnread files db (string_bytes name)
 LoadFails files db fault = IsMemory fault
 
 -- no directory was loaded: the line of why was said, with its status

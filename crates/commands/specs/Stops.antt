@@ -1,43 +1,20 @@
 -- Why search and slapcat stop before their work is done.
-use Rattle.std.specs.Prelude.{◌≡◌, ℕ, ◌⊎◌, false, List, Option, Err, string_bytes}
+use Rattle.std.specs.Prelude.{◌≡◌, ℕ, ◌⊎◌, false, List, Option, Err, ⊤, string_bytes}
 use Rattle.std.specs.FinMap as finite
-use Rattle.std.specs.Borrow.{Bor}
 use Rattle.device.specs.Device.{Written}
 use Rattle.paths.specs.Paths.{Path}
 use Rattle.schema.specs.Conf.{Conf}
 use Rattle.schema.specs.declared.code.Code.{Code}
 use Rattle.schema.specs.declared.code.Code.TheVariants.{NoSuchObject}
 use Rattle.tree.specs.Directories.{Entries}
-use Rattle.tree.specs.declared.refusal.Refusal.{Refusal}
-use Rattle.tree.specs.declared.refusal.Refusal.TheVariants as refusals
-use Rattle.commands.specs.Asked.{IsNoFilterFor, base_of, IsBase}
+use Rattle.commands.specs.Asked.{HasFilter, IsNoFilterFor, base_of, IsBase}
 use Rattle.commands.specs.Folders.{Files}
 use Rattle.commands.specs.Loaded.{IsLoaded, LoadFails}
 use Rattle.commands.specs.Messages.{IsTold, fault_text}
-use Rattle.commands.specs.Failures.{IsMemory, FailsToWrite}
 use Rattle.commands.specs.Statuses.{status_of_fault}
 use Rattle.commands.specs.declared.messages.Status.{Status}
 use Rattle.commands.specs.declared.messages.CommandFault.{CommandFault}
 use Rattle.commands.specs.declared.messages.CommandFault.TheVariants as faults
-
--- the fault of this command that a refusal comes to
-abbrev pub refusal_fault : Bor (List ℕ) → Refusal → CommandFault
-refusal_fault command (refusals.Code code) = faults.Code command code
-refusal_fault command refusals.OutOfMemory = faults.OutOfMemory
-
--- this is told of a text that spells no filter, or memory ran out
-abbrev pub FilterFails : Option (List ℕ) → CommandFault → Type 0
-FilterFails text (faults.Filter fault) = IsNoFilterFor text fault
-FilterFails text fault = IsMemory fault
-
--- the command of this name ends with a code of which this holds, or memory ran out
-abbrev pub Refuses : List ℕ → (Code → Type 0) → CommandFault → Type 0
-Refuses command Holds (faults.Code by code) = (by.now ≡ command) × Holds code
-Refuses command Holds fault = IsMemory fault
-
--- likewise, or what has this name can't be written
-abbrev pub RefusesOrBreaks : List ℕ → List ℕ → (Code → Type 0) → CommandFault → Type 0
-RefusesOrBreaks command target Holds fault = Refuses command Holds fault ⊎ FailsToWrite target fault
 
 -- no entry stands where the name leads to
 pub record IsNotThere (conf : Conf) (d : Entries) (name : Option (List ℕ)) : Type 0 where
@@ -57,13 +34,14 @@ pub record IsRefused (files : Option Files) (db : List ℕ) (Holds : Conf → En
   pub refused : Holds conf entries
 
 -- Why the command of this name stops: its filter is none, no directory was loaded, it ends with a code of which this holds there, or what it
--- prints to can't be written.
+-- prints to can't be written. They are looked for in this order: where one of the later ones is told, the text spells a filter.
 abbrev pub Stops : List ℕ → List ℕ → Option (List ℕ) → Option Files → List ℕ → (Conf → Entries → Code → Type 0) → CommandFault → Type 0
 Stops command target filter files db Holds faults.Words = ⊥
 Stops command target filter files db Holds (faults.Filter fault) = IsNoFilterFor filter fault
-Stops command target filter files db Holds (faults.Code by code) = (by.now ≡ command) × IsRefused files db (λ conf d. Holds conf d code)
+Stops command target filter files db Holds (faults.Code by code) = HasFilter filter × (by.now ≡ command) × IsRefused files db (λ conf d. Holds conf d code)
 Stops command target filter files db Holds (faults.CannotWrite name) = string_bytes name ≡ target
-Stops command target filter files db Holds fault = LoadFails files db fault
+Stops command target filter files db Holds faults.OutOfMemory = ⊤
+Stops command target filter files db Holds fault = HasFilter filter × LoadFails files db fault
 
 -- what was printed by then: where that failed, this holds of it; where memory ran out, it does or nothing was printed; else nothing was
 abbrev pub PrintsPartly : (CommandFault → Written → Written → Type 0) → Written → Written → CommandFault → Type 0

@@ -1,3 +1,4 @@
 pub mod LoadFaults
 pub mod WriteFaults
 pub mod Tasks
+pub mod Refusals

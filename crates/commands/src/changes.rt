@@ -15,7 +15,7 @@ use std::mem;
 
 /// Which records are to run over which directory, and how.
 #[derive(Clone, Copy, Debug, Drop)]
-struct Changes<'a> {
+struct Task<'a> {
     db: &'a str,
     // none for the input
     file: Option<&'a str>,
@@ -44,7 +44,7 @@ fn run_source<S: Source, E: Sink>(
     dir: &mut Directory,
     source: &mut S,
     name: &str,
-    asked: &Changes<'_>,
+    asked: &Task<'_>,
     err: &mut E,
 ) -> Result<Tally, Status>
     requires source { (S.seen source.old).failed < 2 ^ 64 - 1 }
@@ -63,7 +63,7 @@ fn run_source<S: Source, E: Sink>(
 #[tactic(auto, using(crate::proofs::Stopping::told_unread))]
 fn run_records<F: Folder, S: Source, E: Sink>(
     alloc: Global,
-    asked: &Changes<'_>,
+    asked: &Task<'_>,
     dir: &mut Directory,
     folder: &F,
     input: &mut S,
@@ -88,7 +88,7 @@ fn run_records<F: Folder, S: Source, E: Sink>(
 #[tactic(auto, using(crate::proofs::Stopping::told_unwritten))]
 fn run_and_store<F: Folder, S: Source, E: Sink>(
     alloc: Global,
-    asked: &Changes<'_>,
+    asked: &Task<'_>,
     mut dir: Directory,
     folder: &mut F,
     input: &mut S,
@@ -106,7 +106,7 @@ fn run_and_store<F: Folder, S: Source, E: Sink>(
         return Status::of_tally(tally);
     }
     let stored = store_directory(alloc, folder, asked.db, &dir);
-    // The process is about to end, which frees the entries at once.
+    // The program ends with its command, and that frees the entries at once.
     mem::forget(dir);
     match stored {
         Ok(()) => Status::of_tally(tally),
@@ -117,7 +117,7 @@ fn run_and_store<F: Folder, S: Source, E: Sink>(
 #[tactic(auto, using(crate::proofs::Stopping::not_loaded))]
 fn carry_out<F: Folder, S: Source, E: Sink>(
     alloc: Global,
-    asked: &Changes<'_>,
+    asked: &Task<'_>,
     folder: &mut F,
     input: &mut S,
     err: &mut E,
@@ -146,14 +146,14 @@ pub fn slapadd<F: Folder, S: Source, E: Sink>(
     ensures known { ChangesKnown (add_task asked.now) (F.files folder.old) (F.files folder.new) (S.seen input.old) (S.seen input.new) (E.written err.old) (E.written err.new) result }
     ensures ends { ChangeEnds (add_task asked.now) (F.files folder.old) (F.files folder.new) (S.seen input.old) (S.seen input.new) (E.written err.old) (E.written err.new) result }
 {
-    let changes = Changes {
+    let task = Task {
         db: asked.db,
         file: asked.file,
         mode: Mode::Content,
         go_on: asked.go_on,
         dry_run: asked.dry_run,
     };
-    carry_out(alloc, &changes, folder, input, err)
+    carry_out(alloc, &task, folder, input, err)
 }
 
 /// Carries out the change records of the file, or of the input, on the directory in a folder, with a line on `err` for each that
@@ -170,12 +170,12 @@ pub fn ldapmodify<F: Folder, S: Source, E: Sink>(
     ensures known { ChangesKnown (modify_task asked.now) (F.files folder.old) (F.files folder.new) (S.seen input.old) (S.seen input.new) (E.written err.old) (E.written err.new) result }
     ensures ends { ChangeEnds (modify_task asked.now) (F.files folder.old) (F.files folder.new) (S.seen input.old) (S.seen input.new) (E.written err.old) (E.written err.new) result }
 {
-    let changes = Changes {
+    let task = Task {
         db: asked.db,
         file: asked.file,
         mode: Mode::Changes { add: asked.add },
         go_on: asked.go_on,
         dry_run: asked.dry_run,
     };
-    carry_out(alloc, &changes, folder, input, err)
+    carry_out(alloc, &task, folder, input, err)
 }

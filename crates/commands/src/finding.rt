@@ -4,7 +4,7 @@ ghost use Rattle.std.specs.Prelude.{◌≡◌, IfOk, IfErr, Err};
 ghost use Rattle.std.specs.Option.{option_copied};
 ghost use Rattle.filter_text.specs.Spells.{view};
 ghost use Rattle.commands.specs.Asked.{IsFilter, base_of, IsBase};
-ghost use Rattle.commands.specs.Stops.{FilterFails, Refuses, refusal_fault};
+ghost use Rattle.commands.specs.inner.Refusals.{FilterFails, Refuses, refusal_fault};
 
 use crate::messages::CommandFault;
 use filter_text::{Filter, FilterFault, read_filter};

@@ -43,6 +43,11 @@ impl From<io::Error> for FolderFault {
 }
 
 impl From<WriteFault> for FolderFault {
+    ghost use Rattle.std.specs.Prelude.{◌≡◌};
+    ghost use Rattle.commands.specs.inner.WriteFaults.{folder_fault};
+
+    ghost from_gives = { λ w f. f ≡ folder_fault w };
+
     fn from(fault: WriteFault) -> FolderFault {
         match fault {
             WriteFault::Device => FolderFault::Device,

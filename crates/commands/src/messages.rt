@@ -62,7 +62,7 @@ pub enum CommandFault {
     Filter(FilterFault),
     /// The result code that a search of this command ends with.
     Code { command: &'static str, code: Code },
-    /// The configuration's first line that is at fault, or 0 where a line is missing.
+    /// The line of the configuration that is at fault, or 0 where a line is missing.
     Configuration { line: u64, kind: ConfFaultKind },
     /// The first record of the directory's file that is refused.
     Data { line: u64, reason: Reason },

@@ -5,7 +5,8 @@ ghost use Rattle.schema.specs.declared.code.Code.TheVariants.{SizeLimitExceeded}
 ghost use Rattle.filter_text.specs.Spells.{view};
 ghost use Rattle.commands.specs.Messages.{code_text, fault_text};
 ghost use Rattle.commands.specs.Statuses.{status_of_fault};
-ghost use Rattle.commands.specs.Stops.{RefusesOrBreaks, PrintsPartly};
+ghost use Rattle.commands.specs.Stops.{PrintsPartly};
+ghost use Rattle.commands.specs.inner.Refusals.{RefusesOrBreaks};
 ghost use Rattle.commands.specs.Prints.{HasFound, HasFoundPartly, IsSearched, IsSearchedPartly, SearchRefuses, SearchStops, SearchEnds};
 
 use crate::database::load_directory;
@@ -76,7 +77,7 @@ fn load_and_print<F: Folder, O: Sink>(
     let filter = filter_of(alloc, asked.filter)?;
     let dir = load_directory(alloc, folder, asked.db)?;
     let printed = print_found(alloc, asked, &filter, &dir, out);
-    // The process is about to end, which frees the entries at once.
+    // The program ends with its command, and that frees the entries at once.
     mem::forget(dir);
     printed
 }

@@ -6,7 +6,8 @@ ghost use Rattle.device.specs.Device.{Took};
 ghost use Rattle.filter_text.specs.Spells.{view};
 ghost use Rattle.commands.specs.Asked.{IsBase};
 ghost use Rattle.commands.specs.Failures.{FailsToWrite};
-ghost use Rattle.commands.specs.Stops.{Refuses, RefusesOrBreaks, PrintsPartly};
+ghost use Rattle.commands.specs.Stops.{PrintsPartly};
+ghost use Rattle.commands.specs.inner.Refusals.{Refuses, RefusesOrBreaks};
 ghost use Rattle.commands.specs.Prints.{IsBegun, is_whole, target_of, Puts, PutsPartly, HasPutAll, HasPutPartly, IsPrinted, IsPrintedPartly, CatRefuses, CatStops, CatEnds};
 
 use crate::database::{load_directory, store};
@@ -130,7 +131,7 @@ fn load_and_put<F: Folder, O: Sink>(
     let filter = filter_of(alloc, asked.filter)?;
     let dir = load_directory(alloc, folder, asked.db)?;
     let done = put_entries(alloc, asked, &filter, &dir, folder, out);
-    // The process is about to end, which frees the entries at once.
+    // The program ends with its command, and that frees the entries at once.
     mem::forget(dir);
     done
 }

@@ -8,10 +8,10 @@ use Rattle.directory.specs.declared.runs.RunFault.{RunFault}
 use Rattle.directory.specs.declared.runs.RunFault.TheVariants as run_faults
 use Rattle.commands.specs.Folders.{Files}
 use Rattle.commands.specs.Changes.{Task, WentThrough, RunFails}
-use Rattle.commands.specs.declared.changes.Changes.{Changes}
+use Rattle.commands.specs.declared.changes.Task as code
 use Rattle.commands.specs.declared.messages.Status.{Status}
 
-abbrev pub task_of : Changes → Task
+abbrev pub task_of : code.Task → Task
 task_of asked = record { db = asked.db.now; file = option_copied asked.file; mode = asked.mode; go_on = asked.go_on; dry_run = asked.dry_run }
 
 -- how often standard error may have failed where it is to say why a run was broken off: it can fail once more, unless nothing is said

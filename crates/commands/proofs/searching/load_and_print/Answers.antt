@@ -10,7 +10,7 @@ returns-clause-searched g c = loaded_and_searched c.print_found-printed.result _
 
 pub returns-clause-stops : goal.returns-clause-stops
 returns-clause-stops g c = of_faults c.print_found-printed.result
-    (refused_stops (codes "search") (codes "output") (option_copied c.args.asked.now.filter) (g.F.Folder.files c.args.folder.now) c.args.asked.now.db.now (SearchRefuses c.args.asked.now) _ _ c.in_ok-dir.ensures.loaded)
+    (refused_stops (codes "search") (codes "output") (option_copied c.args.asked.now.filter) (g.F.Folder.files c.args.folder.now) c.args.asked.now.db.now (SearchRefuses c.args.asked.now) _ c.in_ok-filter.ensures.found _ _ c.in_ok-dir.ensures.loaded)
     c.print_found-printed.ensures.fault
 
 pub returns-clause-partly : goal.returns-clause-partly

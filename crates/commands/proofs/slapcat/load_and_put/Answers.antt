@@ -10,7 +10,7 @@ returns-clause-printed g c = loaded_and_printed c.put_entries-done.result _ _ _ 
 
 pub returns-clause-stops : goal.returns-clause-stops
 returns-clause-stops g c = of_faults c.put_entries-done.result
-    (refused_stops (codes "slapcat") (target_of (option_copied c.args.asked.now.file)) (option_copied c.args.asked.now.filter) (g.F.Folder.files c.args.folder.now) c.args.asked.now.db.now (CatRefuses c.args.asked.now) _ _ c.in_ok-dir.ensures.loaded)
+    (refused_stops (codes "slapcat") (target_of (option_copied c.args.asked.now.file)) (option_copied c.args.asked.now.filter) (g.F.Folder.files c.args.folder.now) c.args.asked.now.db.now (CatRefuses c.args.asked.now) _ c.in_ok-filter.ensures.found _ _ c.in_ok-dir.ensures.loaded)
     c.put_entries-done.ensures.fault
 
 pub returns-clause-partly : goal.returns-clause-partly

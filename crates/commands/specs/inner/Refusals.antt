@@ -1,0 +1,29 @@
+-- The faults that the parts of search and slapcat answer.
+use Rattle.std.specs.Prelude.{◌≡◌, ℕ, ◌⊎◌, List, Option}
+use Rattle.std.specs.Borrow.{Bor}
+use Rattle.schema.specs.declared.code.Code.{Code}
+use Rattle.tree.specs.declared.refusal.Refusal.{Refusal}
+use Rattle.tree.specs.declared.refusal.Refusal.TheVariants as refusals
+use Rattle.commands.specs.Asked.{IsNoFilterFor}
+use Rattle.commands.specs.Failures.{IsMemory, FailsToWrite}
+use Rattle.commands.specs.declared.messages.CommandFault.{CommandFault}
+use Rattle.commands.specs.declared.messages.CommandFault.TheVariants as faults
+
+-- the fault of this command that a refusal comes to
+abbrev pub refusal_fault : Bor (List ℕ) → Refusal → CommandFault
+refusal_fault command (refusals.Code code) = faults.Code command code
+refusal_fault command refusals.OutOfMemory = faults.OutOfMemory
+
+-- this is told of a text that spells no filter, or memory ran out
+abbrev pub FilterFails : Option (List ℕ) → CommandFault → Type 0
+FilterFails text (faults.Filter fault) = IsNoFilterFor text fault
+FilterFails text fault = IsMemory fault
+
+-- the command of this name ends with a code of which this holds, or memory ran out
+abbrev pub Refuses : List ℕ → (Code → Type 0) → CommandFault → Type 0
+Refuses command Holds (faults.Code by code) = (by.now ≡ command) × Holds code
+Refuses command Holds fault = IsMemory fault
+
+-- likewise, or what has this name can't be written
+abbrev pub RefusesOrBreaks : List ℕ → List ℕ → (Code → Type 0) → CommandFault → Type 0
+RefusesOrBreaks command target Holds fault = Refuses command Holds fault ⊎ FailsToWrite target fault
