@@ -12,4 +12,6 @@ mod runs_in_little_memory;
 #[cfg(test)]
 mod searches_in_little_memory;
 #[cfg(test)]
+mod texts;
+#[cfg(test)]
 mod values_in_little_memory;

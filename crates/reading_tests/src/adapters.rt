@@ -112,3 +112,34 @@ fn a_write_that_takes_nothing_is_a_failure(rt: HostRuntime) {
     assert_eq!(rt; push_all(&mut sink, b"c"), Ok(()));
     assert_eq!(rt; sink.failures(), 2);
 }
+
+/// Fills each buffer.
+#[derive(Drop)]
+struct Endless;
+
+impl Read for Endless {
+    fn read(&mut self, buffer: &mut [u8]) -> io::Result<usize> {
+        Ok(buffer.len())
+    }
+}
+
+fn pull_and_push<S: Source, W: Sink>(
+    rt: &impl Abort,
+    source: &mut S,
+    sink: &mut W,
+    piece: &mut [u8],
+) {
+    assert!(rt; source.failures() < u64::MAX && sink.failures() < u64::MAX);
+    assert_eq!(rt; source.pull(piece), Ok(piece.len()));
+    assert_eq!(rt; push_all(sink, piece), Ok(()));
+}
+
+#[test]
+fn more_than_4_gib_come_and_go(rt: HostRuntime) {
+    let mut source = OfRead::new(Endless);
+    let mut sink = OfWrite::new(Reluctant { calls: 3 });
+    let mut piece = [0; 65536];
+    for _ in 0..65537 {
+        pull_and_push(&rt, &mut source, &mut sink, &mut piece);
+    }
+}
