@@ -1,12 +1,180 @@
--- What words ask for.
-use Rattle.std.specs.Prelude.{⊤, Result, Ok, Err}
+-- What the words of a command line ask for.
+use Rattle.std.specs.Prelude.{◌≡◌, ◌≢◌, ◌⊎◌, ◌<◌, ◌≤◌, ◌^◌, ◌==◌, ◌||◌, ⊤, ℕ, Bool, true, false, List, []}
+use Rattle.std.specs.Prelude.{◌∷◌, length, map, Option, Some, None, option_copied, unwrap_or, IsSome, IsSomeAnd}
+use Rattle.std.specs.Prelude.{Result, Ok, Err, if◌then◌else◌, find, option_and_then, bytes_eq, codes, slice_index}
+use Rattle.std.specs.List.{list_any}
+use Rattle.std.specs.Str.Parse.{IsNumeral, digits_value}
+use Rattle.clap.specs.Words.{IsAmong, Row, Text, all_of, fault_of, first_of, subcommand_of}
+use Rattle.clap.specs.declared.parser.matches.ValueSource.{ValueSource}
+use Rattle.clap.specs.declared.parser.matches.ValueSource.TheVariants.{CommandLine}
+use Rattle.clap.specs.declared.error.kind.ErrorKind.{ErrorKind}
+use Rattle.clap.specs.declared.error.kind.ErrorKind.TheVariants as kind
+use Rattle.search.specs.declared.scope.Scope.{Scope}
+use Rattle.search.specs.declared.scope.Scope.TheVariants.{Base, One, Sub, Children}
+use Rattle.command_line.specs.declared.request.AddOptions.{AddOptions}
+use Rattle.command_line.specs.declared.request.ModifyOptions.{ModifyOptions}
+use Rattle.command_line.specs.declared.request.SearchOptions.{SearchOptions}
+use Rattle.command_line.specs.declared.request.CatOptions.{CatOptions}
 use Rattle.command_line.specs.declared.request.Request.{Request}
-use Rattle.command_line.specs.declared.request.Request.TheVariants.{Help}
+use Rattle.command_line.specs.declared.request.Request.TheVariants.{Help, Add, Modify, Search, Cat}
 use Rattle.command_line.specs.declared.request.UsageFault.{UsageFault}
-use Rattle.command_line.specs.declared.request.UsageFault.TheVariants.{OutOfMemory}
+use Rattle.command_line.specs.declared.request.UsageFault.TheVariants.{Words, OutOfMemory}
+use Rattle.command_line.specs.CommandLine.{slaptools}
 
 -- for the help, unless there is no memory for its text
 abbrev pub AsksForHelp : Result Request UsageFault → Type 0
 AsksForHelp (Ok (Help text)) = ⊤
 AsksForHelp (Err OutOfMemory) = ⊤
 AsksForHelp _ = ⊥
+
+-- ---- what one word says
+
+-- the scope that a word names; without one, the base and all below it
+abbrev pub scope_of : Option Text → Option Scope
+scope_of None = Some Sub
+scope_of (Some word) = if bytes_eq word (codes "sub") then Some Sub
+    else (if bytes_eq word (codes "base") then Some Base
+    else (if bytes_eq word (codes "one") then Some One
+    else (if bytes_eq word (codes "children") then Some Children else None)))
+
+-- the word spells a number that can be a limit: decimal digits, at most 4294967295
+abbrev pub IsNumber : Text → Type 0
+IsNumber word = IsNumeral 10 word × (digits_value 10 word < 2 ^ 32)
+
+-- the limit that a word spells; 0 is none, and so is no word
+abbrev pub IsLimit : Option Text → Option ℕ → Type 0
+IsLimit None limit = limit ≡ None
+IsLimit (Some word) limit = IsNumber word
+    × (limit ≡ (if digits_value 10 word == 0 then None else Some (digits_value 10 word)))
+
+-- a word that begins with `(` or holds `=` is a filter, and not the name of an attribute
+abbrev pub is_filter : Text → Bool
+is_filter word = (slice_index word 0 == 40) || list_any (λ byte. byte == 61) word
+
+-- the filter is the first of the words, if it is one; the others are attributes
+abbrev pub filter_of : List Text → Option Text
+filter_of [] = None
+filter_of (word ∷ rest) = if is_filter word then Some word else None
+
+abbrev pub attributes_of : List Text → List Text
+attributes_of [] = []
+attributes_of (word ∷ rest) = if is_filter word then rest else word ∷ rest
+
+-- ---- what the rows of a command say: clap's note of each option, with its texts and where they come from
+
+-- the text given for the option
+abbrev pub text_of : Text → List Row → Option Text
+text_of = first_of
+
+-- the words that belong to no option
+abbrev pub words_of : List Row → List Text
+words_of rows = unwrap_or (all_of (codes "words") rows) []
+
+abbrev pub is_from_words : Option ValueSource → Bool
+is_from_words (Some CommandLine) = true
+is_from_words _ = false
+
+-- the option is given by the words, and not by default
+abbrev pub is_given : Text → List Row → Bool
+is_given id rows = is_from_words
+    (option_and_then (λ row. row.source) (find (λ row. bytes_eq row.id id) rows))
+
+-- the folder is given
+abbrev pub HasFolder : List Row → Type 0
+HasFolder rows = IsSome (text_of (codes "db") rows)
+
+pub record IsAdd (rows : List Row) (asked : AddOptions) : Type 0 where
+  pub db_is : text_of (codes "db") rows ≡ Some asked.db.now
+  pub file_is : option_copied asked.file ≡ text_of (codes "file") rows
+  pub go_on_is : asked.go_on ≡ is_given (codes "go_on") rows
+  pub dry_run_is : asked.dry_run ≡ is_given (codes "dry_run") rows
+
+pub record IsModify (rows : List Row) (asked : ModifyOptions) : Type 0 where
+  pub db_is : text_of (codes "db") rows ≡ Some asked.db.now
+  pub file_is : option_copied asked.file ≡ text_of (codes "file") rows
+  pub add_is : asked.add ≡ is_given (codes "add") rows
+  pub go_on_is : asked.go_on ≡ is_given (codes "go_on") rows
+  pub dry_run_is : asked.dry_run ≡ is_given (codes "dry_run") rows
+
+pub record IsSearch (rows : List Row) (asked : SearchOptions) : Type 0 where
+  pub db_is : text_of (codes "db") rows ≡ Some asked.db.now
+  pub base_is : option_copied asked.base ≡ text_of (codes "base") rows
+  pub scope_is : scope_of (text_of (codes "scope") rows) ≡ Some asked.scope
+  pub limit_is : IsLimit (text_of (codes "limit") rows) asked.limit
+  pub filter_is : option_copied asked.filter ≡ filter_of (words_of rows)
+  pub attributes_are : map (λ word. word.now) asked.attributes.items ≡ attributes_of (words_of rows)
+
+pub record IsCat (rows : List Row) (asked : CatOptions) : Type 0 where
+  pub db_is : text_of (codes "db") rows ≡ Some asked.db.now
+  pub file_is : option_copied asked.file ≡ text_of (codes "file") rows
+  pub filter_is : option_copied asked.filter ≡ text_of (codes "filter") rows
+  pub base_is : option_copied asked.base ≡ text_of (codes "base") rows
+
+-- ---- what a command and its rows ask for
+
+-- the command has this name, and its rows are such
+abbrev pub IsCommand : Option (Text × List Row) → Text → (List Row → Type 0) → Type 0
+IsCommand met name IsRows = IsSomeAnd met (λ command. (command.0 ≡ name) × IsRows command.1)
+
+abbrev pub IsRequest : Option (Text × List Row) → Request → Type 0
+IsRequest met (Help text) = ⊥
+IsRequest met (Add asked) = IsCommand met (codes "slapadd") (λ rows. IsAdd rows asked)
+IsRequest met (Modify asked) = IsCommand met (codes "ldapmodify") (λ rows. IsModify rows asked)
+IsRequest met (Search asked) = IsCommand met (codes "search") (λ rows. IsSearch rows asked)
+IsRequest met (Cat asked) = IsCommand met (codes "slapcat") (λ rows. IsCat rows asked)
+
+-- the scope or the limit of a search is none
+abbrev pub HasFaultyOption : List Row → Type 0
+HasFaultyOption rows = (scope_of (text_of (codes "scope") rows) ≡ None)
+    ⊎ IsSomeAnd (text_of (codes "limit") rows) (λ word. ¬ (IsNumber word))
+
+-- ---- what words ask for
+
+-- for help: they are the program's name alone, or clap finds a call for help in them
+abbrev pub AskForHelp : List Text → Type 0
+AskForHelp words = (length words ≤ 1) ⊎ IsAmong kind.DisplayHelp (fault_of slaptools words)
+
+abbrev pub IsHelp : Request → Type 0
+IsHelp (Help text) = ⊤
+IsHelp _ = ⊥
+
+-- for help; or for a command, where clap finds no fault in the words, and this is what its name and its rows say
+abbrev pub AskFor : List Text → Request → Type 0
+AskFor words asked = (IsHelp asked × AskForHelp words)
+    ⊎ ((fault_of slaptools words ≡ []) × IsRequest (subcommand_of slaptools words) asked)
+
+-- clap finds a fault in the words, or the scope or the limit of a search is none
+abbrev pub AreFaulty : List Text → Type 0
+AreFaulty words = ((fault : ErrorKind) × (fault ≢ kind.DisplayHelp)
+    × IsAmong fault (fault_of slaptools words))
+    ⊎ IsCommand (subcommand_of slaptools words) (codes "search") HasFaultyOption
+
+-- a fault of the words comes only of faulty ones
+abbrev pub IsFaultOf : List Text → UsageFault → Type 0
+IsFaultOf words (Words text) = AreFaulty words
+IsFaultOf words OutOfMemory = ⊤
+
+-- ---- on the way there: what one function tells the next
+
+-- the command is one of slaptools', with its folder
+abbrev pub IsWhole : Option (Text × List Row) → Type 0
+IsWhole met = IsSomeAnd met (λ command.
+    (list_any (λ s. bytes_eq s.name command.0) slaptools.subs ≡ true)
+    × HasFolder command.1)
+
+-- a fault of the words of a search comes of its scope or its limit
+abbrev pub IsFaultOfSearch : List Row → UsageFault → Type 0
+IsFaultOfSearch rows (Words text) = HasFaultyOption rows
+IsFaultOfSearch rows OutOfMemory = ⊤
+
+-- and no other command has such faults
+abbrev pub IsFaultOfCommand : Option (Text × List Row) → UsageFault → Type 0
+IsFaultOfCommand met (Words text) = IsCommand met (codes "search") HasFaultyOption
+IsFaultOfCommand met OutOfMemory = ⊤
+
+-- what is answered where clap gives an error of this kind in place of matches
+abbrev pub IsAnswer : ErrorKind → Result Request UsageFault → Type 0
+IsAnswer said (Ok (Help text)) = said ≡ kind.DisplayHelp
+IsAnswer said (Ok _) = ⊥
+IsAnswer said (Err (Words text)) = (said ≢ kind.DisplayHelp) × (said ≢ kind.OutOfMemory)
+IsAnswer said (Err OutOfMemory) = ⊤

@@ -1,8 +1,9 @@
 //! The command line: what its words ask for, and the text of the help.
 #![tactic(auto)]
 
+mod options;
 mod reading;
 mod request;
 
-pub use reading::{help, read};
+pub use reading::read;
 pub use request::{AddOptions, CatOptions, ModifyOptions, Request, SearchOptions, UsageFault};

@@ -1,154 +1,88 @@
 //! The words of a command line, read with `clap`.
-ghost use Rattle.std.specs.Prelude.{◌≤◌, length};
+ghost use Rattle.std.specs.Prelude.{◌≡◌, ◌≤◌, Some, codes, length, map, option_copied, option_map};
+ghost use Rattle.std.specs.Prelude.{IfErr, IfOk, IsSomeAnd, MatchResult};
+ghost use Rattle.clap.specs.Words.{all_of, found_of, kind_of, rows_of, subcommand_rows_of};
 ghost use Rattle.command_line.specs.Requests.{AsksForHelp};
+ghost use Rattle.command_line.specs.Requests as asks;
 
+use crate::options::slaptools;
 use crate::request::{AddOptions, CatOptions, ModifyOptions, Request, SearchOptions, UsageFault};
 use clap::error::ErrorKind;
-use clap::{Arg, ArgAction, ArgMatches, Command, Error};
+use clap::parser::ValueSource;
+use clap::{ArgMatches, Error};
 use search::Scope;
 use std::alloc::{AllocError, Global};
 use std::convert::AsStr;
 
-const INPUT_HELP: &str = "The LDIF text, in place of standard input";
-
-const GO_ON_HELP: &str = "Goes on after a refused record";
-
-const DRY_RUN_HELP: &str = "Writes no file";
-
-const OUTPUT_HELP: &str = "Is written, in place of standard output";
-
-const BASE_HELP: &str = "The entry that the search begins at, in place of the suffix's";
-
-const SCOPE_HELP: &str = "What is searched: base, one, sub (the default) or children";
-
-const LIMIT_HELP: &str = "Prints at most so many entries; 0 is no limit";
-
-const WORDS_HELP: &str =
-    "The filter, where it begins with ( or holds =, and the attributes to print: names, * or +, or 1.1 for none";
-
-const FILTER_HELP: &str = "Prints the entries that it is true of";
-
-const SUBTREE_HELP: &str = "Prints this entry and those below it";
-
-fn folder_option<'a>(alloc: Global) -> Arg<'a> {
-    Arg::new(alloc, "db")
-        .long("db")
-        .value_name("DIR")
-        .required(true)
-        .action(ArgAction::Set)
-        .help("The folder of the directory")
+/// The text given for an option.
+fn text_of<'a>(found: &ArgMatches<'a>, id: &str) -> Option<&'a str>
+    ensures { option_copied result ≡ asks.text_of id.now (rows_of (found_of found.now)) }
+{
+    found.get_str(id)
 }
 
-fn value_option<'a>(
-    alloc: Global,
-    id: &'a str,
-    short: char,
-    value_name: &'a str,
-    help: &'a str,
-) -> Arg<'a> {
-    Arg::new(alloc, id)
-        .short(short)
-        .value_name(value_name)
-        .action(ArgAction::Set)
-        .help(help)
+/// Whether the words give a flag.
+#[tactic(auto, using(crate::proofs::Rows::source_is))]
+fn is_given(found: &ArgMatches<'_>, id: &str) -> bool
+    ensures { result ≡ asks.is_given id.now (rows_of (found_of found.now)) }
+{
+    matches!(found.value_source(id), Some(ValueSource::CommandLine))
 }
 
-fn file_option<'a>(alloc: Global, short: char, help: &'a str) -> Arg<'a> {
-    value_option(alloc, "file", short, "FILE", help)
+/// The words that belong to no option.
+fn words_of<'a, 'm>(found: &'m ArgMatches<'a>) -> Option<&'m [&'a str]>
+    ensures { option_map (λ words. map (λ word. word.now) words.now) result
+        ≡ all_of (codes "words") (rows_of (found_of found.now)) }
+{
+    found.get_strs("words")
 }
 
-fn flag<'a>(alloc: Global, id: &'a str, short: char, help: &'a str) -> Arg<'a> {
-    Arg::new(alloc, id)
-        .short(short)
-        .action(ArgAction::SetTrue)
-        .help(help)
+/// The folder of the directory.
+fn folder_of<'a>(found: &ArgMatches<'a>) -> &'a str
+    requires { asks.HasFolder (rows_of (found_of found.now)) }
+    ensures { asks.text_of (codes "db") (rows_of (found_of found.now)) ≡ Some result.now }
+{
+    match text_of(found, "db") {
+        Some(folder) => folder,
+        None => unreachable!(),
+    }
 }
 
-fn slapadd<'a>(alloc: Global) -> Result<Command<'a>, AllocError> {
-    Command::new(alloc, "slapadd")
-        .about("Adds the entries of an LDIF text")
-        .arg(folder_option(alloc))?
-        .arg(file_option(alloc, 'l', INPUT_HELP))?
-        .arg(flag(alloc, "go_on", 'c', GO_ON_HELP))?
-        .arg(flag(alloc, "dry_run", 'u', DRY_RUN_HELP))
+fn add_options<'a>(found: &ArgMatches<'a>) -> AddOptions<'a>
+    requires { asks.HasFolder (rows_of (found_of found.now)) }
+    ensures { asks.IsAdd (rows_of (found_of found.now)) result }
+{
+    AddOptions {
+        db: folder_of(found),
+        file: text_of(found, "file"),
+        go_on: is_given(found, "go_on"),
+        dry_run: is_given(found, "dry_run"),
+    }
 }
 
-fn ldapmodify<'a>(alloc: Global) -> Result<Command<'a>, AllocError> {
-    Command::new(alloc, "ldapmodify")
-        .about("Carries out the changes of an LDIF text")
-        .arg(folder_option(alloc))?
-        .arg(file_option(alloc, 'f', INPUT_HELP))?
-        .arg(flag(
-            alloc,
-            "add",
-            'a',
-            "Adds the entries of records without changetype",
-        ))?
-        .arg(flag(alloc, "go_on", 'c', GO_ON_HELP))?
-        .arg(flag(alloc, "dry_run", 'n', DRY_RUN_HELP))
+fn modify_options<'a>(found: &ArgMatches<'a>) -> ModifyOptions<'a>
+    requires { asks.HasFolder (rows_of (found_of found.now)) }
+    ensures { asks.IsModify (rows_of (found_of found.now)) result }
+{
+    ModifyOptions {
+        db: folder_of(found),
+        file: text_of(found, "file"),
+        add: is_given(found, "add"),
+        go_on: is_given(found, "go_on"),
+        dry_run: is_given(found, "dry_run"),
+    }
 }
 
-fn search<'a>(alloc: Global) -> Result<Command<'a>, AllocError> {
-    Command::new(alloc, "search")
-        .about("Prints the entries that a filter finds")
-        .arg(folder_option(alloc))?
-        .arg(value_option(alloc, "base", 'b', "NAME", BASE_HELP))?
-        .arg(value_option(alloc, "scope", 's', "SCOPE", SCOPE_HELP))?
-        .arg(value_option(alloc, "limit", 'z', "N", LIMIT_HELP))?
-        .arg(
-            Arg::new(alloc, "words")
-                .value_name("WORD")
-                .num_args(0..)
-                .action(ArgAction::Append)
-                .help(WORDS_HELP),
-        )
-}
-
-fn slapcat<'a>(alloc: Global) -> Result<Command<'a>, AllocError> {
-    Command::new(alloc, "slapcat")
-        .about("Prints the directory as LDIF")
-        .arg(folder_option(alloc))?
-        .arg(file_option(alloc, 'l', OUTPUT_HELP))?
-        .arg(value_option(alloc, "filter", 'a', "FILTER", FILTER_HELP))?
-        .arg(value_option(alloc, "base", 's', "NAME", SUBTREE_HELP))
-}
-
-fn slaptools<'a>(alloc: Global) -> Result<Command<'a>, AllocError> {
-    Command::new(alloc, "slaptools")
-        .about("Tools for an LDAP directory that is kept as LDIF, without a server")
-        .subcommand_required(true)
-        .subcommand(slapadd(alloc)?)?
-        .subcommand(ldapmodify(alloc)?)?
-        .subcommand(search(alloc)?)?
-        .subcommand(slapcat(alloc)?)
-}
-
-fn add_options<'a>(found: &ArgMatches<'a>) -> Option<AddOptions<'a>> {
-    Some(AddOptions {
-        db: found.get_str("db")?,
-        file: found.get_str("file"),
-        go_on: found.get_flag("go_on"),
-        dry_run: found.get_flag("dry_run"),
-    })
-}
-
-fn modify_options<'a>(found: &ArgMatches<'a>) -> Option<ModifyOptions<'a>> {
-    Some(ModifyOptions {
-        db: found.get_str("db")?,
-        file: found.get_str("file"),
-        add: found.get_flag("add"),
-        go_on: found.get_flag("go_on"),
-        dry_run: found.get_flag("dry_run"),
-    })
-}
-
-fn cat_options<'a>(found: &ArgMatches<'a>) -> Option<CatOptions<'a>> {
-    Some(CatOptions {
-        db: found.get_str("db")?,
-        file: found.get_str("file"),
-        filter: found.get_str("filter"),
-        base: found.get_str("base"),
-    })
+fn cat_options<'a>(found: &ArgMatches<'a>) -> CatOptions<'a>
+    requires { asks.HasFolder (rows_of (found_of found.now)) }
+    ensures { asks.IsCat (rows_of (found_of found.now)) result }
+{
+    CatOptions {
+        db: folder_of(found),
+        file: text_of(found, "file"),
+        filter: text_of(found, "filter"),
+        base: text_of(found, "base"),
+    }
 }
 
 fn invalid(alloc: Global, text: &str, option: &str, wanted: &str) -> UsageFault {
@@ -161,7 +95,10 @@ fn invalid(alloc: Global, text: &str, option: &str, wanted: &str) -> UsageFault 
 }
 
 /// The scope that a word names; without one, the base and all below it.
-fn scope_of(alloc: Global, word: Option<&str>) -> Result<Scope, UsageFault> {
+fn scope_of(alloc: Global, word: Option<&str>) -> Result<Scope, UsageFault>
+    ensures { let named = asks.scope_of (option_copied word.entry) in
+        MatchResult result (λ scope. named ≡ Some scope) (λ _. named ≡ None) }
+{
     match word {
         None | Some("sub") => Ok(Scope::Sub),
         Some("base") => Ok(Scope::Base),
@@ -177,7 +114,10 @@ fn scope_of(alloc: Global, word: Option<&str>) -> Result<Scope, UsageFault> {
 }
 
 /// The number that a word spells in decimal digits; none for 0, and without a word.
-fn limit_of(alloc: Global, word: Option<&str>) -> Result<Option<u32>, UsageFault> {
+fn limit_of(alloc: Global, word: Option<&str>) -> Result<Option<u32>, UsageFault>
+    ensures { MatchResult result (asks.IsLimit (option_copied word.entry))
+        (λ _. IsSomeAnd word.entry (λ text. ¬ (asks.IsNumber text.now))) }
+{
     let Some(word) = word else {
         return Ok(None);
     };
@@ -190,12 +130,18 @@ fn limit_of(alloc: Global, word: Option<&str>) -> Result<Option<u32>, UsageFault
 }
 
 /// Whether a first word is a filter, and not the name of an attribute.
-fn is_filter(word: &str) -> bool {
-    word.starts_with('(') || word.contains('=')
+fn is_filter(word: &str) -> bool
+    ensures { result ≡ asks.is_filter word.now }
+{
+    word.starts_with('(') || word.as_bytes().contains(&b'=')
 }
 
 /// The filter and the attributes that words ask for.
-fn split_words<'a, 'w>(words: &'w [&'a str]) -> (Option<&'a str>, &'w [&'a str]) {
+fn split_words<'a, 'w>(words: &'w [&'a str]) -> (Option<&'a str>, &'w [&'a str])
+    ensures filter { option_copied result.0 ≡ asks.filter_of (map (λ word. word.now) words.now) }
+    ensures others { map (λ word. word.now) result.1.now
+        ≡ asks.attributes_of (map (λ word. word.now) words.now) }
+{
     match words {
         [first, rest @ ..] if is_filter(first) => (Some(*first), rest),
         _ => (None, words),
@@ -204,70 +150,92 @@ fn split_words<'a, 'w>(words: &'w [&'a str]) -> (Option<&'a str>, &'w [&'a str])
 
 fn search_options<'a>(
     alloc: Global,
-    db: &'a str,
     found: &ArgMatches<'a>,
-) -> Result<SearchOptions<'a>, UsageFault> {
-    let words = found.get_strs("words").unwrap_or(&[]);
-    let (filter, names) = split_words(words);
+) -> Result<SearchOptions<'a>, UsageFault>
+    requires { asks.HasFolder (rows_of (found_of found.now)) }
+    ensures asked { IfOk result (asks.IsSearch (rows_of (found_of found.now))) }
+    ensures faulty { IfErr result (asks.IsFaultOfSearch (rows_of (found_of found.now))) }
+{
+    let (filter, names) = split_words(words_of(found).unwrap_or(&[]));
     let mut attributes = Vec::new(alloc);
     attributes.extend_from_slice(names)?;
     Ok(SearchOptions {
-        db,
-        base: found.get_str("base"),
-        scope: scope_of(alloc, found.get_str("scope"))?,
-        limit: limit_of(alloc, found.get_str("limit"))?,
+        db: folder_of(found),
+        base: text_of(found, "base"),
+        scope: scope_of(alloc, text_of(found, "scope"))?,
+        limit: limit_of(alloc, text_of(found, "limit"))?,
         filter,
         attributes,
     })
 }
 
-/// The request that matches make, or none where they lack what `clap` gives them.
+/// The command that the words named, with its own matches.
+fn command_of<'a, 'm>(matches: &'m ArgMatches<'a>) -> Option<(&'a str, &'m ArgMatches<'a>)>
+    ensures { option_map (λ command. (command.0.now, rows_of (found_of command.1.now))) result
+        ≡ subcommand_rows_of matches.now }
+{
+    matches.subcommand()
+}
+
+/// What a command and its own matches ask for.
 fn request_of<'a>(
     alloc: Global,
-    matches: &ArgMatches<'a>,
-) -> Result<Option<Request<'a>>, UsageFault> {
-    match matches.subcommand() {
-        Some(("slapadd", found)) => Ok(add_options(found).map(Request::Add)),
-        Some(("ldapmodify", found)) => Ok(modify_options(found).map(Request::Modify)),
-        Some(("search", found)) => match found.get_str("db") {
-            Some(db) => Ok(Some(Request::Search(search_options(alloc, db, found)?))),
-            None => Ok(None),
-        },
-        Some(("slapcat", found)) => Ok(cat_options(found).map(Request::Cat)),
-        _ => Ok(None),
+    name: &str,
+    found: &ArgMatches<'a>,
+) -> Result<Request<'a>, UsageFault>
+    requires { asks.IsWhole (Some (name.now, rows_of (found_of found.now))) }
+    ensures asked { IfOk result (asks.IsRequest (Some (name.now, rows_of (found_of found.now)))) }
+    ensures faulty { IfErr result
+        (asks.IsFaultOfCommand (Some (name.now, rows_of (found_of found.now)))) }
+{
+    match name {
+        "slapadd" => Ok(Request::Add(add_options(found))),
+        "ldapmodify" => Ok(Request::Modify(modify_options(found))),
+        "search" => Ok(Request::Search(search_options(alloc, found)?)),
+        "slapcat" => Ok(Request::Cat(cat_options(found))),
+        _ => unreachable!(),
+    }
+}
+
+/// What the matches of words ask for, in which clap finds no fault.
+fn requested<'a>(alloc: Global, matches: &ArgMatches<'a>) -> Result<Request<'a>, UsageFault>
+    requires { asks.IsWhole (subcommand_rows_of matches.now) }
+    ensures asked { IfOk result (asks.IsRequest (subcommand_rows_of matches.now)) }
+    ensures faulty { IfErr result (asks.IsFaultOfCommand (subcommand_rows_of matches.now)) }
+{
+    match command_of(matches) {
+        Some((name, found)) => request_of(alloc, name, found),
+        None => unreachable!(),
     }
 }
 
 /// The text of the help.
-pub fn help(alloc: Global) -> Result<String, AllocError> {
+fn help(alloc: Global) -> Result<String, AllocError> {
     slaptools(alloc)?.render_help()
 }
 
 /// What clap says in place of matches: what is wrong, or the help that the words ask for.
-fn answer_of<'a>(alloc: Global, said: &Error) -> Result<Request<'a>, UsageFault> {
-    if said.kind() == ErrorKind::OutOfMemory {
-        return Err(UsageFault::OutOfMemory);
-    }
-    let text = said.to_string(alloc)?;
-    if said.use_stderr() {
-        Err(UsageFault::Words(text))
-    } else {
-        Ok(Request::Help(text))
+fn answer_of<'a>(alloc: Global, said: &Error) -> Result<Request<'a>, UsageFault>
+    ensures { asks.IsAnswer (kind_of said.now) result }
+{
+    match said.kind() {
+        ErrorKind::OutOfMemory => Err(UsageFault::OutOfMemory),
+        ErrorKind::DisplayHelp => Ok(Request::Help(said.to_string(alloc)?)),
+        _ => Err(UsageFault::Words(said.to_string(alloc)?)),
     }
 }
 
 /// What the words ask for, the first being the program's name. Where it stands alone, that is the help.
 pub fn read<'a, W: AsStr>(alloc: Global, words: &'a [W]) -> Result<Request<'a>, UsageFault>
-    ensures { length words.now ≤ 1 → AsksForHelp result }
+    ensures help { length words.now ≤ 1 → AsksForHelp result }
+    ensures asked { IfOk result (asks.AskFor (map W.text words.now)) }
+    ensures faulty { IfErr result (asks.IsFaultOf (map W.text words.now)) }
 {
     if words.len() <= 1 {
         return Ok(Request::Help(help(alloc)?));
     }
     match slaptools(alloc)?.try_get_matches_from(words) {
-        Ok(matches) => match request_of(alloc, &matches)? {
-            Some(request) => Ok(request),
-            None => Ok(Request::Help(help(alloc)?)),
-        },
+        Ok(matches) => requested(alloc, &matches),
         Err(said) => answer_of(alloc, &said),
     }
 }

@@ -1,0 +1,4 @@
+pub mod Folders
+pub mod Named
+pub mod Rows
+pub mod Taken

@@ -1,0 +1,75 @@
+-- The commands of slaptools, and the options of each, in clap's words.
+use Rattle.std.specs.Prelude.{ℕ, true, false, List, [], ◌∷◌, Some, codes}
+use Rattle.clap.specs.Lexer.{usize_max}
+use Rattle.clap.specs.Words.{App, Rule, Shape, Text, new_rule}
+use Rattle.clap.specs.Simple.{new_shape}
+use Rattle.clap.specs.declared.builder.action.ArgAction.TheVariants.{Set, SetTrue, Append}
+
+-- ---- options
+
+-- `--db DIR`, which each command needs
+abbrev pub folder_option : Rule
+folder_option = record (new_rule (codes "db")) {
+  long = Some (codes "db");
+  value_names = 1;
+  required = true;
+  action = Some Set;
+}
+
+-- an option with a value, as `-l FILE`; `short` is its letter
+abbrev pub value_option : Text → ℕ → Rule
+value_option id short = record (new_rule id) {
+  short = Some short;
+  value_names = 1;
+  action = Some Set;
+}
+
+abbrev pub file_option : ℕ → Rule
+file_option short = value_option (codes "file") short
+
+-- an option without a value, as `-c`
+abbrev pub flag : Text → ℕ → Rule
+flag id short = record (new_rule id) { short = Some short; action = Some SetTrue }
+
+-- the words that belong to no option, any number of them
+abbrev pub other_words : Rule
+other_words = record (new_rule (codes "words")) {
+  value_names = 1;
+  range = Some (record { start_inclusive = 0; end_inclusive = usize_max });
+  action = Some Append;
+}
+
+-- ---- commands
+
+abbrev pub command : Text → List Rule → Shape
+command name options = record (new_shape name) { rules = options }
+
+-- slapadd --db DIR [-l FILE] [-c] [-u]
+abbrev pub slapadd : Shape
+slapadd = command (codes "slapadd")
+    (folder_option ∷ file_option 108 ∷ flag (codes "go_on") 99 ∷ flag (codes "dry_run") 117 ∷ [])
+
+-- ldapmodify --db DIR [-f FILE] [-a] [-c] [-n]
+abbrev pub ldapmodify : Shape
+ldapmodify = command (codes "ldapmodify")
+    (folder_option ∷ file_option 102 ∷ flag (codes "add") 97 ∷ flag (codes "go_on") 99
+    ∷ flag (codes "dry_run") 110 ∷ [])
+
+-- search --db DIR [-b NAME] [-s SCOPE] [-z N] [WORD..]
+abbrev pub search : Shape
+search = command (codes "search")
+    (folder_option ∷ value_option (codes "base") 98 ∷ value_option (codes "scope") 115
+    ∷ value_option (codes "limit") 122 ∷ other_words ∷ [])
+
+-- slapcat --db DIR [-l FILE] [-a FILTER] [-s NAME]
+abbrev pub slapcat : Shape
+slapcat = command (codes "slapcat")
+    (folder_option ∷ file_option 108 ∷ value_option (codes "filter") 97
+    ∷ value_option (codes "base") 115 ∷ [])
+
+-- one of them has to be named
+abbrev pub slaptools : App
+slaptools = record {
+  top = record (new_shape (codes "slaptools")) { is_leaf = false; subcommand_required = true };
+  subs = slapadd ∷ ldapmodify ∷ search ∷ slapcat ∷ [];
+}
