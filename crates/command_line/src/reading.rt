@@ -227,7 +227,7 @@ fn answer_of<'a>(alloc: Global, said: &Error) -> Result<Request<'a>, UsageFault>
 
 /// What the words ask for, the first being the program's name. Where it stands alone, that is the help.
 pub fn read<'a, W: AsStr>(alloc: Global, words: &'a [W]) -> Result<Request<'a>, UsageFault>
-    ensures help { length words.now ≤ 1 → AsksForHelp result }
+    ensures help { length (map W.text words.now) ≤ 1 → AsksForHelp result }
     ensures asked { IfOk result (asks.AskFor (map W.text words.now)) }
     ensures faulty { IfErr result (asks.IsFaultOf (map W.text words.now)) }
 {
