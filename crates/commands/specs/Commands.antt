@@ -1,6 +1,7 @@
--- What a command comes to, by what its words ask for. Which words ask for what, contracts don't say, but for the help.
-use Rattle.std.specs.Prelude.{◌≡◌, ℕ, ◌⊎◌, List, Option, Result, Ok, Err, string_bytes, codes}
+-- What a command comes to, by what its words ask for.
+use Rattle.std.specs.Prelude.{◌≡◌, ℕ, ◌≤◌, ◌⊎◌, List, length, Option, Result, Ok, Err, IfOk, IfErr, string_bytes, codes}
 use Rattle.device.specs.Device.{Seen, Written, Took, Broke}
+use Rattle.command_line.specs.Requests.{AsksForHelp, AskFor, IsFaultOf}
 use Rattle.command_line.specs.declared.request.Request.{Request}
 use Rattle.command_line.specs.declared.request.Request.TheVariants.{Help, Add, Modify, Search, Cat}
 use Rattle.command_line.specs.declared.request.UsageFault.{UsageFault}
@@ -39,9 +40,13 @@ RequestEnds (Ok (Cat asked)) files files' t s = (t.input' ≡ t.input) × CatEnd
 RequestEnds (Err (Words text)) files files' t s = (files' ≡ files) × (t.input' ≡ t.input) × (t.out' ≡ t.out) × IsSaid t.err t.err' (string_bytes text) Usage s
 RequestEnds (Err OutOfMemory) files files' t s = (files' ≡ files) × (t.input' ≡ t.input) × (t.out' ≡ t.out) × IsToldMemory t.err t.err' s
 
--- the words asked for something, it was done, and this is the number of its status
-pub record CommandEnds (files files' : Option Files) (t : Streams) (number : ℕ) : Type 0 where
+-- The words, the first of which is the program's name, asked for this, or this is wrong with them: it was done, or said, and this is the
+-- number of its status.
+pub record CommandEnds (words : List (List ℕ)) (files files' : Option Files) (t : Streams) (number : ℕ) : Type 0 where
   pub asked : Result Request UsageFault
+  pub asks : IfOk asked (AskFor words)
+  pub faulty : IfErr asked (IsFaultOf words)
+  pub help : length words ≤ 1 → AsksForHelp asked
   pub status : Status
   pub ends : RequestEnds asked files files' t status
   pub number_is : number ≡ status_number status

@@ -1,5 +1,5 @@
 //! One command, from its words to its status.
-ghost use Rattle.std.specs.Prelude.{◌≡◌, ◌<◌, ◌≤◌, ◌-◌, ◌^◌, ◌⊎◌, length};
+ghost use Rattle.std.specs.Prelude.{◌≡◌, ◌<◌, ◌≤◌, ◌-◌, ◌^◌, map};
 ghost use Rattle.commands.specs.Commands.{IsPrintedText, RequestEnds, CommandEnds};
 
 use crate::changes::{ldapmodify, slapadd};
@@ -65,9 +65,8 @@ pub fn command<W: AsStr, F: Folder, S: Source, O: Sink, E: Sink>(
     requires out { (O.written out.old).failed < 2 ^ 64 - 1 }
     requires err { (E.written err.old).failed < 2 ^ 64 - 1 }
     ensures range { result ≤ 3 }
-    ensures help { length words.now ≤ 1 → (result ≡ 0) ⊎ (result ≡ 3) }
-    // What is asked for is done, to the files as well.
-    ensures ends { CommandEnds (F.files folder.old) (F.files folder.new) (record { input = S.seen input.old; input' = S.seen input.new; out = O.written out.old; out' = O.written out.new; err = E.written err.old; err' = E.written err.new }) result }
+    // What the words ask for is done, to the files as well.
+    ensures ends { CommandEnds (map W.text words.now) (F.files folder.old) (F.files folder.new) (record { input = S.seen input.old; input' = S.seen input.new; out = O.written out.old; out' = O.written out.new; err = E.written err.old; err' = E.written err.new }) result }
 {
     let asked = read(alloc, words);
     carry_out(alloc, asked, folder, input, out, err).number()
