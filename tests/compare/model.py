@@ -356,7 +356,9 @@ def slapcat(conf_text, data, folder, filter_text=None, below=None):
 
 def limit_of(text):
     """-> the limit that a word says, 0 for none, or None where it says no limit"""
-    return int(text) if DIGITS.fullmatch(text) and int(text) <= MOST_ENTRIES else None
+    digits = text.lstrip(b"0") or text[-1:]
+    # Python refuses to read thousands of digits
+    return int(digits) if DIGITS.fullmatch(text) and len(digits) <= len(str(MOST_ENTRIES)) and int(digits) <= MOST_ENTRIES else None
 
 
 def selection(conf, words):
@@ -369,12 +371,23 @@ def selection(conf, words):
         any(conf.is_subtype(number, above) for above in named)
 
 
-def search(conf_text, data, folder, words, name=None, scope=None, limit=None):
+def bad_option(scope, scope_word, limit_word):
+    """The answer to a scope or a limit that is none. A word that begins with a hyphen looks like another option to the library that reads
+    words, and the message is the library's."""
+    if limit_word is not None and limit_word.startswith(b"-"):
+        return 2, b"", None
+    word, option, wanted = (scope_word, b"-s <SCOPE>", b"one of base, one, sub and children") if scope is None else \
+        (limit_word, b"-z <N>", b"a number from 0 to %d" % MOST_ENTRIES)
+    return 2, b"", b"error: invalid value '%s' for '%s': it has to be %s\n" % (word, option, wanted)
+
+
+def search(conf_text, data, folder, words, name=None, scope_word=None, limit_word=None):
     """Of the words the first one may be a filter, the others are attributes. -> (status, output, messages, or None where they are
     those of the library that reads words)"""
-    scope, limit, text = SCOPES.get(b"sub" if scope is None else scope), limit_of(b"0" if limit is None else limit), b"(objectClass=*)"
+    scope = SCOPES.get(b"sub" if scope_word is None else scope_word)
+    limit, text = limit_of(b"0" if limit_word is None else limit_word), b"(objectClass=*)"
     if scope is None or limit is None:
-        return 2, b"", None
+        return bad_option(scope, scope_word, limit_word)
     if words and (words[0].startswith(b"(") or b"=" in words[0]):
         text, words = words[0], words[1:]
     try:

@@ -6,6 +6,7 @@ use device::{OfRead, OfWrite};
 use std::alloc::{AllocError, Global};
 use std::fs::{self, OpenFile, OpenOptions};
 use std::io::ErrorKind;
+use std::os::unix::fs::{MetadataExt, lchown};
 use std::rt::Files as HostFiles;
 
 /// The files of the system.
@@ -22,15 +23,25 @@ fn reserved(alloc: Global, name: &str) -> Result<String, AllocError> {
     }
 }
 
+/// Whether this is a name that the system gives to an open file, whatever that is.
+fn names_open_file(name: &str) -> bool {
+    name == "/dev/stdout" || name == "/dev/stderr" || name.starts_with("/dev/fd/")
+}
+
 impl<'r, R: HostFiles + AllocGlobal> Files<'r, R> {
     pub fn new(rt: &'r R) -> Files<'r, R> {
         Files { rt }
     }
 
-    /// Whether something is there that is no plain file, as a device or a pipe.
+    /// Whether something has this name, be it a link that leads nowhere.
+    fn is_there(&self, name: &str) -> bool {
+        fs::symlink_metadata(self.rt, name).is_ok()
+    }
+
+    /// Whether something is there that is no plain file, as a device or a pipe, or that has the name of an open file.
     fn is_special(&self, name: &str) -> bool {
         match fs::metadata(self.rt, name) {
-            Ok(found) => !found.is_file(),
+            Ok(found) => !found.is_file() || names_open_file(name),
             Err(_) => false,
         }
     }
@@ -49,7 +60,8 @@ impl<'r, R: HostFiles + AllocGlobal> Files<'r, R> {
         Ok(how.open(self.rt, name)?)
     }
 
-    /// Writes the next contents of a file, with its permissions, and renames them over it.
+    /// Writes the next contents of a file, with its permissions and for its owner, and renames them over it. Whoever may not give a file
+    /// away keeps it.
     fn fill<T: FileText>(
         &self,
         mut file: R::File,
@@ -58,6 +70,7 @@ impl<'r, R: HostFiles + AllocGlobal> Files<'r, R> {
         text: &T,
     ) -> Result<(), FolderFault> {
         if let Ok(found) = fs::metadata(self.rt, name) {
+            let _ = lchown(self.rt, new, Some(found.uid()), Some(found.gid()));
             OpenFile::set_permissions(&file, found.permissions())?;
         }
         text.write(self.rt.alloc(), &mut OfWrite::new(&mut file))?;
@@ -101,7 +114,7 @@ impl<'r, R: HostFiles + AllocGlobal> Folder for Files<'r, R> {
     fn open(&self, name: &str) -> Result<Option<OfRead<R::File>>, FolderFault> {
         match fs::open(self.rt, name) {
             Ok(file) => Ok(Some(OfRead::new(file))),
-            Err(error) if error.kind() == ErrorKind::NotFound => Ok(None),
+            Err(error) if error.kind() == ErrorKind::NotFound && !self.is_there(name) => Ok(None),
             Err(error) => Err(FolderFault::from(error)),
         }
     }
