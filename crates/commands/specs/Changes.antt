@@ -3,13 +3,14 @@ use Rattle.std.specs.Prelude.{◌≡◌, ℕ, ◌⊎◌, Bool, false, List, Opti
 use Rattle.std.specs.Option.{option_copied, option_map}
 use Rattle.std.specs.FinMap as finite
 use Rattle.device.specs.Device.{Seen, Written, GaveSome}
-use Rattle.ldif_lines.specs.Records.{records}
+use Rattle.ldif_lines.specs.Records.{records, closed_records}
 use Rattle.ldif.specs.declared.record.Mode.{Mode}
 use Rattle.ldif.specs.declared.record.Mode.TheVariants as modes
 use Rattle.schema.specs.Conf.{Conf}
 use Rattle.tree.specs.Directories.{Entries}
 use Rattle.directory.specs.Runs.{dump}
 use Rattle.directory.specs.Faults.{Failures}
+use Rattle.directory.specs.FailedReads.{StopsReading}
 use Rattle.directory.specs.Folds.{Over, Ran, BrokeOff}
 use Rattle.directory.specs.declared.runs.Tally.{Tally}
 use Rattle.directory.specs.declared.runs.RunFault.{RunFault}
@@ -87,7 +88,8 @@ TellsBreak (run_faults.Read t) name a b s = IsToldUnread name a b s
 TellsBreak (run_faults.Write t) name a b s = (s ≡ Failed) × (b ≡ a)
 TellsBreak (run_faults.OutOfMemory t) name a b s = IsToldMemory a b s
 
--- the records of the source ran until it, the report or memory failed: the report is that of those that ran, and then it was said what failed
+-- The records of the source ran until it, the report or memory failed: the report is that of those that ran, and then it was said what
+-- failed. Where the source failed, those are the records whose closing empty line it gave.
 pub record SourceBreaksOff (task : Task) (name : List ℕ) (conf : Conf) (old : Entries) (source source' : Seen) (a b : Written) (s : Status) : Type 0 where
   pub new : Entries
   pub fault : RunFault
@@ -95,6 +97,7 @@ pub record SourceBreaksOff (task : Task) (name : List ℕ) (conf : Conf) (old : 
   pub gave : GaveSome source source'
   pub failures : Failures (Err fault) source.failed source'.failed a.failed mid.failed
   pub broke : Over (option_map records source.left) (λ given. BrokeOff conf task.mode task.go_on old new given fault a mid)
+  pub read : StopsReading fault closed_records conf task.mode task.go_on old new source source' a mid
   pub told : TellsBreak fault name mid b s
 
 -- the name that the source has on standard error

@@ -16,11 +16,15 @@ pub record Gave (old new : Seen) (bytes : List ℕ) : Type 0 where
   pub failed : new.failed ≡ old.failed
   pub stays_ended : old.ended ≡ true → (new.ended ≡ true) × (bytes ≡ [])
 
--- some bytes were pulled, in any number of pulls, whichever of them failed
+-- these bytes were pulled, in any number of pulls, whichever of them failed
+pub record Pulled (old new : Seen) (bytes : List ℕ) : Type 0 where
+  pub left : Consumes old.left new.left bytes
+  pub count : new.pulled ≡ old.pulled + length bytes
+
+-- some bytes were pulled
 pub record GaveSome (old new : Seen) : Type 0 where
   pub bytes : List ℕ
-  pub left : Consumes old.left new.left bytes
-  pub pulled : new.pulled ≡ old.pulled + length bytes
+  pub are : Pulled old new bytes
 
 -- a pull failed: the count of failures rose, and nothing else happened
 pub record PullFailed (old new : Seen) : Type 0 where

@@ -1,3 +1,4 @@
+pub mod Pulled
 pub mod Records
 pub mod Whole
 pub mod Pieces

@@ -1,5 +1,6 @@
 -- Loading one record after the other.
 use Rattle.std.proofs.Common.{◌≡◌, ℕ, inl, inr, true, false, List, [], ◌∷◌, ◌++◌, Option, Some, None, refl, sym, ◌∙◌, ap, subst}
+use Rattle.device.specs.Device.{Seen, Pulled}
 use Rattle.ldif_lines.specs.Records.{RawRecord}
 use Rattle.ldif_lines.specs.Reader.{Takes, IsEnd}
 use Rattle.ldif.specs.declared.record.Mode.TheVariants.{Content}
@@ -9,6 +10,7 @@ use Rattle.tree.specs.Directories.{Entries}
 use Rattle.directory.specs.Runs.{State, counted, outcome, after_records, loaded_after, LoadsRecords}
 use Rattle.directory.specs.Folds.{Over}
 use Rattle.directory.specs.Loading.{StopsAt}
+use Rattle.directory.specs.FailedReads.{LoadedUpTo}
 use Rattle.directory.specs.inner.Steps.{ends}
 use Rattle.directory.specs.inner.Loading.{is_refused, IsLoaded, Explains, IsUnderWay}
 use Rattle.directory.specs.declared.loading.LoadFault.{LoadFault}
@@ -39,16 +41,16 @@ refuses_over conf old (Some rs) left front last parts refused ended = record {
 }
 
 module _ (conf : Conf) (old : Entries) where
-  pub begins : (all : Option (List RawRecord)) → IsUnderWay conf old old all all
+  pub begins : (P : List RawRecord → Type 0) → P [] → (all : Option (List RawRecord)) → IsUnderWay P conf old old all all
   unfolding after_records
-  begins all = record { front = []; parts = takes_nothing all; entries = refl; refused = refl; going = refl }
+  begins P so all = record { front = []; parts = takes_nothing all; entries = refl; refused = refl; going = refl; so = so }
 
-  module _ (now new : Entries) (all mid left : Option (List RawRecord)) (r : RawRecord) (h : IsUnderWay conf old now all mid) (taken : Takes mid left (r ∷ [])) where
+  module _ (now new : Entries) (all mid left : Option (List RawRecord)) (r : RawRecord) (P : List RawRecord → Type 0) (h : IsUnderWay P conf old now all mid) (taken : Takes mid left (r ∷ [])) where
     abbrev o : Entries × Outcome
     o = outcome conf Content now (reading Content r.first r.lines)
 
-    pub goes_on : IsLoaded o new → IsUnderWay conf old new all left
-    goes_on k =
+    pub goes_on : (Q : List RawRecord → Type 0) → ((front : List RawRecord) → P front → Q (front ++ r ∷ [])) → IsLoaded o new → IsUnderWay Q conf old new all left
+    goes_on Q more k =
         let s : State = loaded_after conf old h.front in
         let is : loaded_after conf old (h.front ++ r ∷ []) ≡ counted false s r.line o.0 o.1 = settled conf Content false old now h.front r h.going h.entries in
         record {
@@ -57,6 +59,7 @@ module _ (conf : Conf) (old : Entries) where
           entries = k.entries ∙ counted_entries false s r.line o.0 o.1 ∙ ap (λ (x : State). x.entries) (sym is);
           refused = ap (λ (x : State). x.refused) is ∙ keeps_refused s r.line o.0 o.1 k.taken ∙ h.refused;
           going = ap (λ (x : State). x.ended) is ∙ keeps_going s r.line o.0 o.1 k.taken;
+          so = more h.front h.so;
         }
 
     -- the records up to the one that is refused
@@ -72,10 +75,17 @@ module _ (conf : Conf) (old : Entries) where
     stops faults.OutOfMemory k = tt
     stops (faults.Refused at why) k = subst (λ n. Over all (λ given. (loaded_after conf old given).refused ≡ (n, why) ∷ [])) (sym k.0) (refuses why k.1)
 
+  -- the records that were loaded are those that some bytes close
+  pub stops_up_to : (P : List RawRecord → Type 0) (now : Entries) (all left : Option (List RawRecord)) → IsUnderWay P conf old now all left
+      → (closed : List ℕ → List RawRecord) (source source' : Seen) → ((front : List RawRecord) → P front → (got : List ℕ) × Pulled source source' got × (closed got ≡ front)) → LoadedUpTo closed conf old source source'
+  stops_up_to P now all left h closed source source' up_to =
+      let u = up_to h.front h.so in
+      record { got = u.0; pulled = u.1; taken = ap (λ (rs : List RawRecord). (loaded_after conf old rs).refused) u.2 ∙ h.refused }
+
   -- all records were taken
-  pub ends_there : (now : Entries) (all left : Option (List RawRecord)) → IsUnderWay conf old now all left → IsEnd left → Over all (λ given. LoadsRecords conf old given now)
-  ends_there now None left h over = record { given = h.front; are = tt; so = record { entries = h.entries; all = h.refused } }
-  ends_there now (Some rs) left h over =
+  pub ends_there : (P : List RawRecord → Type 0) (now : Entries) (all left : Option (List RawRecord)) → IsUnderWay P conf old now all left → IsEnd left → Over all (λ given. LoadsRecords conf old given now)
+  ends_there P now None left h over = record { given = h.front; are = tt; so = record { entries = h.entries; all = h.refused } }
+  ends_there P now (Some rs) left h over =
       let is : loaded_after conf old rs ≡ loaded_after conf old h.front = after_all conf Content false old rs h.front left h.parts (inl over) in
       record {
         given = rs;

@@ -5,7 +5,7 @@ use Rattle.std.specs.List.{fold}
 use Rattle.std.proofs.lemmas.List.{append-nil, map-append}
 use Rattle.std.proofs.lemmas.List.Sums.{fold_push}
 use Rattle.std.proofs.lemmas.Grind.{flat_map-append}
-use Rattle.device.specs.Device.{Written, Took}
+use Rattle.device.specs.Device.{Seen, Pulled, Written, Took}
 use Rattle.device.proofs.Taken.{took_none, took_more}
 use Rattle.ldif_lines.specs.Records.{RawRecord}
 use Rattle.ldif_lines.specs.Reader.{Takes, IsEnd}
@@ -19,7 +19,8 @@ use Rattle.directory.specs.Runs.{State, start, outcome, counted, take_up, step, 
 use Rattle.directory.specs.Reports.{report, report_line}
 use Rattle.directory.specs.inner.Steps.{counts_after, reported, ends, IsTaken, IsCounted, IsBrokenOff}
 use Rattle.directory.specs.inner.Stands.{IsReached, Stands}
-use Rattle.directory.specs.Faults.{Failures, AllButLast, WrittenAt, tally_of}
+use Rattle.directory.specs.Faults.{Failures, LastRefused, WasGoing, WrittenAt, tally_of}
+use Rattle.directory.specs.FailedReads.{IsLeft, RanUpTo}
 use Rattle.directory.specs.Folds.{Runs}
 use Rattle.directory.proofs.Whole as whole
 use Rattle.directory.specs.declared.reason.Reason.{Reason}
@@ -111,22 +112,25 @@ module _ (conf : Conf) (mode : Mode) (go_on : Bool) (old : Entries) where
 
   -- ---- what the loop keeps
 
-  pub begins : (all : Option (List RawRecord)) (a : Written) → Stands conf mode go_on old old all all (record { accepted = 0; refused = 0 }) a a
+  pub begins : (P : List RawRecord → Type 0) → P [] → (all : Option (List RawRecord)) (a : Written) → Stands P conf mode go_on old old all all (record { accepted = 0; refused = 0 }) a a
   unfolding after_records
-  begins all a = record {
+  begins P so all a = record {
     front = [];
     reached = record { parts = takes_nothing all; entries = refl; accepted = refl; refused = refl };
     going = refl;
     written = took_none a;
+    so = so;
   }
 
-  module _ (now new : Entries) (all mid left : Option (List RawRecord)) (t t' : Tally) (a b c : Written) (r : RawRecord) (h : Stands conf mode go_on old now all mid t a b) (taken : Takes mid left (r ∷ [])) where
-    pub goes_on : (ended : Bool) → IsTaken (outcome conf mode now (reading mode r.first r.lines)) go_on r.line new t t' b c ended → ended ≡ false → Stands conf mode go_on old new all left t' a c
-    goes_on ended k off = record {
+  module _ (now new : Entries) (all mid left : Option (List RawRecord)) (t t' : Tally) (a b c : Written) (r : RawRecord) (P : List RawRecord → Type 0) (h : Stands P conf mode go_on old now all mid t a b) (taken : Takes mid left (r ∷ [])) where
+    pub goes_on : (Q : List RawRecord → Type 0) → ((front : List RawRecord) → P front → Q (front ++ r ∷ [])) → (ended : Bool) → IsTaken (outcome conf mode now (reading mode r.first r.lines)) go_on r.line new t t' b c ended → ended ≡ false
+        → Stands Q conf mode go_on old new all left t' a c
+    goes_on Q more ended k off = record {
       front = h.front ++ r ∷ [];
       reached = reached_more now h.front r h.going h.reached.entries all mid left t t' new h.reached taken k.entries k.counts;
       going = ended_is now h.front r h.going h.reached.entries ∙ sym k.ended_is ∙ off;
       written = written_more now h.front r h.going h.reached.entries a b c h.written k.written;
+      so = more h.front h.so;
     }
 
     pub ends_there : (ended : Bool) → IsTaken (outcome conf mode now (reading mode r.first r.lines)) go_on r.line new t t' b c ended → ended ≡ true → Runs conf mode go_on old new all (Ok t') a c
@@ -135,21 +139,23 @@ module _ (conf : Conf) (mode : Mode) (go_on : Bool) (old : Entries) where
         (inr (ended_is now h.front r h.going h.reached.entries ∙ sym k.ended_is ∙ on))
         (written_more now h.front r h.going h.reached.entries a b c h.written k.written)
 
-    all_but_last : (why : Reason) → (outcome conf mode now (reading mode r.first r.lines)).1 ≡ Refused why → AllButLast (at (h.front ++ r ∷ [])).refused a b (r.line, why)
-    all_but_last why is = record {
-      before = (at h.front).refused;
-      are = last_refused now h.front r h.going h.reached.entries why is;
-      written = h.written;
+    last_one : (why : Reason) → (outcome conf mode now (reading mode r.first r.lines)).1 ≡ Refused why → LastRefused at (h.front ++ r ∷ []) a b (r.line, why)
+    last_one why is = record {
+      earlier = h.front;
+      last = r;
+      are = refl;
+      refused = last_refused now h.front r h.going h.reached.entries why is;
+      before = record { going = h.going; written = h.written };
     }
 
     -- behind the record that was refused
-    counts_it : (f : RunFault) → (why : Reason) → IsCounted (outcome conf mode now (reading mode r.first r.lines)) new t (tally_of f) why → WrittenAt f (at (h.front ++ r ∷ [])).refused a c → Runs conf mode go_on old new all (Err f) a c
+    counts_it : (f : RunFault) → (why : Reason) → IsCounted (outcome conf mode now (reading mode r.first r.lines)) new t (tally_of f) why → WrittenAt f at (h.front ++ r ∷ []) a c → Runs conf mode go_on old new all (Err f) a c
     counts_it f why k written = whole.broke_off conf mode go_on old new a c left (h.front ++ r ∷ []) f all
         (reached_more now h.front r h.going h.reached.entries all mid left t (tally_of f) new h.reached taken k.entries k.counts) written
 
     pub breaks_off : (f : RunFault) → IsBrokenOff (outcome conf mode now (reading mode r.first r.lines)) r.line now new t b c f → Runs conf mode go_on old new all (Err f) a c
     breaks_off (faults.Read u) k = absurd k
-    breaks_off (faults.Write u) (why, k, broke) = counts_it (faults.Write u) why k (record { last = (r.line, why); mid = b; others = all_but_last why k.is; broke = broke })
+    breaks_off (faults.Write u) (why, k, broke) = counts_it (faults.Write u) why k (record { why = (r.line, why); mid = b; last = last_one why k.is; broke = broke })
     breaks_off (faults.OutOfMemory u) (inl k) = whole.broke_off conf mode go_on old new a c mid h.front (faults.OutOfMemory u) all
         (record {
           parts = h.reached.parts;
@@ -157,19 +163,32 @@ module _ (conf : Conf) (mode : Mode) (go_on : Bool) (old : Entries) where
           accepted = ap (λ (x : Tally). x.accepted) k.counts ∙ h.reached.accepted;
           refused = ap (λ (x : Tally). x.refused) k.counts ∙ h.reached.refused;
         })
-        (inl (subst (λ w. Took a w (report (at h.front).refused)) (sym k.written) h.written))
+        (inl (record { going = h.going; written = subst (λ w. Took a w (report (at h.front).refused)) (sym k.written) h.written }))
     breaks_off (faults.OutOfMemory u) (inr (why, k, same)) = counts_it (faults.OutOfMemory u) why k
-        (inr (record { last = (r.line, why); others = subst (λ w. AllButLast (at (h.front ++ r ∷ [])).refused a w (r.line, why)) (sym same) (all_but_last why k.is) }))
+        (inr (record { why = (r.line, why); last = subst (λ w. LastRefused at (h.front ++ r ∷ []) a w (r.line, why)) (sym same) (last_one why k.is) }))
 
-  module _ (now : Entries) (all left : Option (List RawRecord)) (t : Tally) (a b : Written) (h : Stands conf mode go_on old now all left t a b) where
+  module _ (now : Entries) (all left : Option (List RawRecord)) (t : Tally) (a b : Written) (P : List RawRecord → Type 0) (h : Stands P conf mode go_on old now all left t a b) where
+    was_going : WasGoing (at h.front) a b
+    was_going = record { going = h.going; written = h.written }
+
     pub stops : IsEnd left → Runs conf mode go_on old now all (Ok t) a b
     stops over = whole.ran conf mode go_on old now a b left h.front all t h.reached (inl over) h.written
 
     pub stops_reading : Runs conf mode go_on old now all (Err (faults.Read t)) a b
-    stops_reading = whole.broke_off conf mode go_on old now a b left h.front (faults.Read t) all h.reached h.written
+    stops_reading = whole.broke_off conf mode go_on old now a b left h.front (faults.Read t) all h.reached was_going
 
     pub stops_wanting : Runs conf mode go_on old now all (Err (faults.OutOfMemory t)) a b
-    stops_wanting = whole.broke_off conf mode go_on old now a b left h.front (faults.OutOfMemory t) all h.reached (inl h.written)
+    stops_wanting = whole.broke_off conf mode go_on old now a b left h.front (faults.OutOfMemory t) all h.reached (inl was_going)
+
+    -- where the records that were carried out are those that some bytes close
+    pub stops_up_to : (closed : List ℕ → List RawRecord) (source source' : Seen) → ((front : List RawRecord) → P front → (got : List ℕ) × Pulled source source' got × (closed got ≡ front)) → RanUpTo closed conf mode go_on old now t source source' a b
+    stops_up_to closed source source' up_to =
+        let u = up_to h.front h.so in
+        record {
+          got = u.0;
+          pulled = u.1;
+          left = subst (λ (rs : List RawRecord). IsLeft (at rs) now t a b) (sym u.2) (record { entries = h.reached.entries; accepted = h.reached.accepted; refused = h.reached.refused; report = was_going });
+        }
 
 -- ---- counts
 

@@ -74,9 +74,9 @@ module _ (conf : Conf) (mode : Mode) (go_on : Bool) (old : Entries) where
         }
 
     module _ (f : RunFault) where
-      broke_in : (all : Option (List RawRecord)) (given others : List RawRecord) → given ≡ front ++ others → IsReached conf mode go_on old now all left (tally_of f) front → WrittenAt f (state_after conf mode go_on old front).refused a b → BrokeOff conf mode go_on old now given f a b
+      broke_in : (all : Option (List RawRecord)) (given others : List RawRecord) → given ≡ front ++ others → IsReached conf mode go_on old now all left (tally_of f) front → WrittenAt f (state_after conf mode go_on old) front a b → BrokeOff conf mode go_on old now given f a b
       broke_in all given others parts h written = record { front = front; others = others; parts = parts; entries = h.entries; accepted = h.accepted; refused = h.refused; written = written }
 
-      pub broke_off : (all : Option (List RawRecord)) → IsReached conf mode go_on old now all left (tally_of f) front → WrittenAt f (state_after conf mode go_on old front).refused a b → Over all (λ given. BrokeOff conf mode go_on old now given f a b)
+      pub broke_off : (all : Option (List RawRecord)) → IsReached conf mode go_on old now all left (tally_of f) front → WrittenAt f (state_after conf mode go_on old) front a b → Over all (λ given. BrokeOff conf mode go_on old now given f a b)
       broke_off None h written = record { given = front; are = tt; so = broke_in None front [] (sym (append-nil front)) h written }
       broke_off (Some rs) h written = record { given = rs; are = refl; so = broke_in (Some rs) rs (others_of left) (parts_of rs front left h.parts) h written }

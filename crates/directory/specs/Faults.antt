@@ -1,35 +1,45 @@
 -- What a run that is broken off has written, and how often devices failed.
-use Rattle.std.specs.Prelude.{◌≡◌, ℕ, ◌+◌, ◌⊎◌, List, [], ◌∷◌, ◌++◌, Result, Ok, Err}
+use Rattle.std.specs.Prelude.{◌≡◌, ℕ, ◌+◌, ◌⊎◌, false, List, [], ◌∷◌, ◌++◌, Result, Ok, Err}
 use Rattle.device.specs.Device.{Written, Took, Broke}
+use Rattle.ldif_lines.specs.Records.{RawRecord}
 use Rattle.directory.specs.Reports.{report, report_line}
+use Rattle.directory.specs.Runs.{State}
 use Rattle.directory.specs.declared.reason.Reason.{Reason}
 use Rattle.directory.specs.declared.runs.Tally.{Tally}
 use Rattle.directory.specs.declared.runs.RunFault.{RunFault}
 use Rattle.directory.specs.declared.runs.RunFault.TheVariants as faults
 
--- the report lines of all refused records but the last were written
-pub record AllButLast (refused : List (ℕ × Reason)) (a mid : Written) (last : ℕ × Reason) : Type 0 where
-  pub before : List (ℕ × Reason)
-  pub are : refused ≡ before ++ last ∷ []
-  pub written : Took a mid (report before)
+-- the run had not ended, and all of the report was written
+pub record WasGoing (s : State) (a b : Written) : Type 0 where
+  pub going : s.ended ≡ false
+  pub written : Took a b (report s.refused)
+
+-- The last record was refused, for this reason on this line; the run was going before it, and the report of those before it was written.
+-- `at` says where the run stands behind some records.
+pub record LastRefused (at : List RawRecord → State) (front : List RawRecord) (a mid : Written) (why : ℕ × Reason) : Type 0 where
+  pub earlier : List RawRecord
+  pub last : RawRecord
+  pub are : front ≡ earlier ++ last ∷ []
+  pub refused : (at front).refused ≡ (at earlier).refused ++ why ∷ []
+  pub before : WasGoing (at earlier) a mid
 
 -- the sink failed in the last report line, of which a beginning was written
-pub record BrokeInLast (refused : List (ℕ × Reason)) (a b : Written) : Type 0 where
-  pub last : ℕ × Reason
+pub record BrokeInLast (at : List RawRecord → State) (front : List RawRecord) (a b : Written) : Type 0 where
+  pub why : ℕ × Reason
   pub mid : Written
-  pub others : AllButLast refused a mid last
-  pub broke : Broke mid b (report_line last)
+  pub last : LastRefused at front a mid why
+  pub broke : Broke mid b (report_line why)
 
 -- the last report line was wanting memory, and nothing of it was written
-pub record WantedInLast (refused : List (ℕ × Reason)) (a b : Written) : Type 0 where
-  pub last : ℕ × Reason
-  pub others : AllButLast refused a b last
+pub record WantedInLast (at : List RawRecord → State) (front : List RawRecord) (a b : Written) : Type 0 where
+  pub why : ℕ × Reason
+  pub last : LastRefused at front a b why
 
--- what was written of the report
-abbrev pub WrittenAt : RunFault → List (ℕ × Reason) → Written → Written → Type 0
-WrittenAt (faults.Read t) refused a b = Took a b (report refused)
-WrittenAt (faults.Write t) refused a b = BrokeInLast refused a b
-WrittenAt (faults.OutOfMemory t) refused a b = Took a b (report refused) ⊎ WantedInLast refused a b
+-- where the run stood, and what was written of the report
+abbrev pub WrittenAt : RunFault → (List RawRecord → State) → List RawRecord → Written → Written → Type 0
+WrittenAt (faults.Read t) at front a b = WasGoing (at front) a b
+WrittenAt (faults.Write t) at front a b = BrokeInLast at front a b
+WrittenAt (faults.OutOfMemory t) at front a b = WasGoing (at front) a b ⊎ WantedInLast at front a b
 
 abbrev pub tally_of : RunFault → Tally
 tally_of (faults.Read t) = t

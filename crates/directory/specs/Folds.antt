@@ -32,7 +32,7 @@ pub record BrokeOff (conf : Conf) (mode : Mode) (go_on : Bool) (old new : Entrie
   pub entries : new ≡ (state_after conf mode go_on old front).entries
   pub accepted : (tally_of f).accepted ≡ (state_after conf mode go_on old front).accepted
   pub refused : (tally_of f).refused ≡ length (state_after conf mode go_on old front).refused
-  pub written : WrittenAt f (state_after conf mode go_on old front).refused a b
+  pub written : WrittenAt f (state_after conf mode go_on old) front a b
 
 -- what a run over the records of a source answers and leaves
 abbrev pub Runs : Conf → Mode → Bool → Entries → Entries → Option (List RawRecord) → Result Tally RunFault → Written → Written → Type 0

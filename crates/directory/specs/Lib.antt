@@ -4,6 +4,7 @@ pub mod Faults
 pub mod Dumps
 pub mod Loading
 pub mod Folds
+pub mod FailedReads
 pub mod Selections
 pub mod Found
 pub mod inner

@@ -3,3 +3,4 @@ pub mod Dumps
 pub mod Loading
 pub mod Stands
 pub mod Found
+pub mod Pulls

@@ -1,7 +1,6 @@
 //! One record on a tree.
 
 ghost use Rattle.std.specs.Prelude.{◌≡◌, IfOk, OnErr, if◌then◌else◌};
-ghost use Rattle.ldif_lines.specs.View.{texts};
 ghost use Rattle.ldif.specs.Reading.{reading};
 ghost use Rattle.tree.specs.Operations.{apply};
 ghost use Rattle.tree.specs.Gives.{Gives};
@@ -42,7 +41,7 @@ pub(crate) fn carry_out(
 ) -> Result<Outcome, AllocError>
     requires { tree.old.conf ≡ conf.now }
     ensures same_conf { tree.new.conf ≡ tree.old.conf }
-    ensures outcome { IfOk result (λ o. outcome tree.old.conf mode tree.old.entries (reading mode raw.now.first (texts raw.now.lines.items)) ≡ (tree.new.entries, o)) }
+    ensures outcome { IfOk result (λ o. outcome tree.old.conf mode tree.old.entries (reading mode raw.now.first raw.now.lines) ≡ (tree.new.entries, o)) }
     ensures err { OnErr result (tree.new ≡ tree.old) }
 {
     let asked = match read_record(alloc, raw, mode) {

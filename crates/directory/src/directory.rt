@@ -2,7 +2,6 @@
 
 ghost use Rattle.std.specs.Prelude.{◌≡◌, IfOk, OnErr};
 ghost use Rattle.std.specs.FinMap as finite;
-ghost use Rattle.ldif_lines.specs.View.{texts};
 ghost use Rattle.ldif.specs.Reading.{reading};
 ghost use Rattle.tree.specs.Operations.{apply};
 ghost use Rattle.tree.specs.Gives.{Gives};
@@ -87,7 +86,7 @@ impl Directory {
         mode: Mode,
     ) -> Result<Outcome, AllocError>
         ensures same_conf { self.new.conf ≡ self.old.conf }
-        ensures outcome { IfOk result (λ o. outcome self.old.conf mode self.old.entries (reading mode raw.now.first (texts raw.now.lines.items)) ≡ (self.new.entries, o)) }
+        ensures outcome { IfOk result (λ o. outcome self.old.conf mode self.old.entries (reading mode raw.now.first raw.now.lines) ≡ (self.new.entries, o)) }
         ensures err { OnErr result (self.new ≡ self.old) }
     {
         carry_out(alloc, &mut self.tree, &self.conf, raw, mode)

@@ -1,16 +1,17 @@
 //! Loading: a directory of the content records of a source.
 
-ghost use Rattle.std.specs.Prelude.{◌≡◌, ◌<◌, ◌-◌, ◌^◌, false, IfOk, IfErr, OnOk, option_map};
+ghost use Rattle.std.specs.Prelude.{◌≡◌, ◌<◌, ◌-◌, ◌^◌, false, Err, IfOk, IfErr, OnOk, option_map};
 ghost use Rattle.std.specs.FinMap as finite;
 ghost use Rattle.device.specs.Device.{GaveSome};
 ghost use Rattle.ldif.specs.declared.record.Mode.TheVariants.{Content};
 ghost use Rattle.ldif.specs.Reading.{reading};
-ghost use Rattle.ldif_lines.specs.Records.{records};
+ghost use Rattle.ldif_lines.specs.Records.{records, closed_records};
 ghost use Rattle.ldif_lines.specs.Reader.{source_of, loan_of, is_failed, records_left};
-ghost use Rattle.ldif_lines.specs.View.{texts};
 ghost use Rattle.directory.specs.Runs.{outcome, LoadsRecords};
 ghost use Rattle.directory.specs.Folds.{Over};
 ghost use Rattle.directory.specs.Loading.{StopsAt, PullFailures};
+ghost use Rattle.directory.specs.FailedReads.{LoadedUpTo};
+ghost use Rattle.directory.specs.inner.Pulls.{closed_with};
 ghost use Rattle.directory.specs.inner.Loading.{IsLoaded, Explains};
 
 use crate::applying::carry_out;
@@ -41,8 +42,8 @@ fn load_record(
 ) -> Result<(), LoadFault>
     requires { tree.old.conf ≡ conf.now }
     ensures same_conf { tree.new.conf ≡ tree.old.conf }
-    ensures loaded { OnOk result (IsLoaded (outcome tree.old.conf Content tree.old.entries (reading Content raw.now.first (texts raw.now.lines.items))) tree.new.entries) }
-    ensures refused { IfErr result (λ f. Explains f raw.now.line (outcome tree.old.conf Content tree.old.entries (reading Content raw.now.first (texts raw.now.lines.items)))) }
+    ensures loaded { OnOk result (IsLoaded (outcome tree.old.conf Content tree.old.entries (reading Content raw.now.first raw.now.lines)) tree.new.entries) }
+    ensures refused { IfErr result (λ f. Explains f raw.now.line (outcome tree.old.conf Content tree.old.entries (reading Content raw.now.first raw.now.lines))) }
 {
     match carry_out(alloc, tree, conf, raw, Mode::Content) {
         Ok(Outcome::Refused(reason)) => Err(LoadFault::Refused {
@@ -68,6 +69,7 @@ fn load_rest<S: Source>(
     ensures same_conf { tree.new.conf ≡ tree.old.conf }
     ensures loads { OnOk result (Over (records_left S.seen reader.old) (λ given. LoadsRecords tree.old.conf tree.old.entries given tree.new.entries)) }
     ensures stops { IfErr result (λ f. StopsAt f tree.old.conf tree.old.entries (records_left S.seen reader.old)) }
+    ensures read { result ≡ Err LoadFault.Read → LoadedUpTo (closed_with reader.old) tree.old.conf tree.old.entries (S.seen (source_of reader.old)) (S.seen (source_of reader.new)) }
     ensures failures { PullFailures result (S.seen (source_of reader.old)).failed (S.seen (source_of reader.new)).failed }
     ensures gave { GaveSome (S.seen (source_of reader.old)) (S.seen (source_of reader.new)) }
 {
@@ -78,8 +80,9 @@ fn load_rest<S: Source>(
                 reader.reuse(raw);
             }
             Ok(None) => return Ok(()),
+            Err(ReadFault::Device) => return Err(LoadFault::Read),
             Err(ReadFault::OutOfMemory) => return Err(LoadFault::OutOfMemory),
-            Err(_) => return Err(LoadFault::Read),
+            Err(ReadFault::Failed) => unreachable!(),
         }
     }
 }
@@ -91,6 +94,7 @@ pub fn load_tree<S: Source>(alloc: Global, conf: &Conf, source: &mut S) -> Resul
     ensures same_conf { IfOk result (λ t. t.conf ≡ conf.now) }
     ensures loads { IfOk result (λ t. Over (option_map records (S.seen source.old).left) (λ given. LoadsRecords conf.now finite.empty given t.entries)) }
     ensures stops { IfErr result (λ f. StopsAt f conf.now finite.empty (option_map records (S.seen source.old).left)) }
+    ensures read { result ≡ Err LoadFault.Read → LoadedUpTo closed_records conf.now finite.empty (S.seen source.old) (S.seen source.new) }
     ensures failures { PullFailures result (S.seen source.old).failed (S.seen source.new).failed }
     ensures gave { GaveSome (S.seen source.old) (S.seen source.new) }
 {
@@ -109,6 +113,7 @@ pub fn load<S: Source>(alloc: Global, conf: Conf, source: &mut S) -> Result<Dire
     ensures same_conf { IfOk result (λ d. d.conf ≡ conf) }
     ensures loads { IfOk result (λ d. Over (option_map records (S.seen source.old).left) (λ given. LoadsRecords conf finite.empty given d.entries)) }
     ensures stops { IfErr result (λ f. StopsAt f conf finite.empty (option_map records (S.seen source.old).left)) }
+    ensures read { result ≡ Err LoadFault.Read → LoadedUpTo closed_records conf finite.empty (S.seen source.old) (S.seen source.new) }
     ensures failures { PullFailures result (S.seen source.old).failed (S.seen source.new).failed }
     ensures gave { GaveSome (S.seen source.old) (S.seen source.new) }
 {

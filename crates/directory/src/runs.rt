@@ -2,13 +2,14 @@
 
 ghost use Rattle.std.specs.Prelude.{◌≡◌, ◌<◌, ◌≤◌, ◌+◌, ◌-◌, ◌^◌, false, IfOk, IfErr, OnOk, Err, option_map};
 ghost use Rattle.device.specs.Device.{Took, Broke, GaveSome};
-ghost use Rattle.ldif_lines.specs.Records.{records};
-ghost use Rattle.ldif_lines.specs.View.{texts};
+ghost use Rattle.ldif_lines.specs.Records.{records, closed_records};
 ghost use Rattle.ldif.specs.Reading.{reading};
 ghost use Rattle.directory.specs.Runs.{outcome};
 ghost use Rattle.directory.specs.Reports.{report_line};
 ghost use Rattle.directory.specs.Faults.{Failures};
 ghost use Rattle.directory.specs.Folds.{Runs};
+ghost use Rattle.directory.specs.FailedReads.{StopsReading};
+ghost use Rattle.directory.specs.inner.Pulls.{closed_with};
 ghost use Rattle.directory.specs.inner.Steps.{IsTaken, IsBrokenOff};
 ghost use Rattle.ldif_lines.specs.Reader.{source_of, loan_of, is_failed, records_left, bytes_left};
 
@@ -69,8 +70,8 @@ fn take_record<W: Sink>(
     requires can_fail { (W.written sink.old).failed < 2 ^ 64 - 1 }
     requires room { tally.old.accepted + tally.old.refused < 2 ^ 64 - 1 }
     ensures same_conf { dir.new.conf ≡ dir.old.conf }
-    ensures taken { IfOk result (λ ended. IsTaken (outcome dir.old.conf mode dir.old.entries (reading mode raw.now.first (texts raw.now.lines.items))) go_on raw.now.line dir.new.entries tally.old tally.new (W.written sink.old) (W.written sink.new) ended) }
-    ensures broken { IfErr result (λ f. IsBrokenOff (outcome dir.old.conf mode dir.old.entries (reading mode raw.now.first (texts raw.now.lines.items))) raw.now.line dir.old.entries dir.new.entries tally.old (W.written sink.old) (W.written sink.new) f) }
+    ensures taken { IfOk result (λ ended. IsTaken (outcome dir.old.conf mode dir.old.entries (reading mode raw.now.first raw.now.lines)) go_on raw.now.line dir.new.entries tally.old tally.new (W.written sink.old) (W.written sink.new) ended) }
+    ensures broken { IfErr result (λ f. IsBrokenOff (outcome dir.old.conf mode dir.old.entries (reading mode raw.now.first raw.now.lines)) raw.now.line dir.old.entries dir.new.entries tally.old (W.written sink.old) (W.written sink.new) f) }
 {
     let Ok(outcome) = dir.carry_out(alloc, raw, mode) else {
         return Err(RunFault::OutOfMemory(*tally));
@@ -108,6 +109,7 @@ fn run_rest<S: Source, W: Sink>(
     ensures same_loan { loan_of reader.new ≡ loan_of reader.old }
     ensures same_conf { dir.new.conf ≡ dir.old.conf }
     ensures runs { Runs dir.old.conf mode go_on dir.old.entries dir.new.entries (records_left S.seen reader.old) result (W.written sink.old) (W.written sink.new) }
+    ensures read { IfErr result (λ f. StopsReading f (closed_with reader.old) dir.old.conf mode go_on dir.old.entries dir.new.entries (S.seen (source_of reader.old)) (S.seen (source_of reader.new)) (W.written sink.old) (W.written sink.new)) }
     ensures failures { Failures result (S.seen (source_of reader.old)).failed (S.seen (source_of reader.new)).failed (W.written sink.old).failed (W.written sink.new).failed }
     ensures gave { GaveSome (S.seen (source_of reader.old)) (S.seen (source_of reader.new)) }
 {
@@ -124,8 +126,9 @@ fn run_rest<S: Source, W: Sink>(
                 reader.reuse(raw);
             }
             Ok(None) => return Ok(tally),
+            Err(ReadFault::Device) => return Err(RunFault::Read(tally)),
             Err(ReadFault::OutOfMemory) => return Err(RunFault::OutOfMemory(tally)),
-            Err(_) => return Err(RunFault::Read(tally)),
+            Err(ReadFault::Failed) => unreachable!(),
         }
     }
 }
@@ -133,7 +136,8 @@ fn run_rest<S: Source, W: Sink>(
 /// Carries out the records of a source in turn. For each that is refused, a line with the number of the line on which the
 /// record begins and the reason goes to the sink; the first one ends the run, unless it goes on.
 ///
-/// A refused record changes nothing. A fault leaves the records that were carried out by then, and comes with their counts.
+/// A refused record changes nothing. A fault leaves the records that were carried out by then, and comes with their counts. Where
+/// the source fails, these are the records whose closing empty line it gave by then.
 pub fn run<S: Source, W: Sink>(
     alloc: Global,
     dir: &mut Directory,
@@ -146,6 +150,7 @@ pub fn run<S: Source, W: Sink>(
     requires sink { (W.written sink.old).failed < 2 ^ 64 - 1 }
     ensures same_conf { dir.new.conf ≡ dir.old.conf }
     ensures runs { Runs dir.old.conf mode go_on dir.old.entries dir.new.entries (option_map records (S.seen source.old).left) result (W.written sink.old) (W.written sink.new) }
+    ensures read { IfErr result (λ f. StopsReading f closed_records dir.old.conf mode go_on dir.old.entries dir.new.entries (S.seen source.old) (S.seen source.new) (W.written sink.old) (W.written sink.new)) }
     ensures failures { Failures result (S.seen source.old).failed (S.seen source.new).failed (W.written sink.old).failed (W.written sink.new).failed }
     ensures gave { GaveSome (S.seen source.old) (S.seen source.new) }
 {

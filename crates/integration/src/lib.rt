@@ -4,6 +4,8 @@
 #![tactic(auto)]
 
 #[cfg(test)]
+mod failing_devices;
+#[cfg(test)]
 mod places;
 #[cfg(test)]
 mod runs;

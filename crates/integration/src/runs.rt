@@ -81,32 +81,6 @@ fn a_report_breaks_off_where_its_sink_fails(rt: HostRuntime) -> Result<(), Fail>
     Ok(())
 }
 
-// the whole source is read before the first record is carried out
-#[test]
-fn nothing_is_done_where_the_source_fails(rt: HostRuntime) -> Result<(), Fail> {
-    let none = Tally {
-        accepted: 0,
-        refused: 0,
-    };
-    for limit in [0, 30, 90] {
-        let (outcome, report) = run_three(rt.alloc(), Some(limit), None)?;
-        assert_eq!(rt; outcome, Err(RunFault::Read(none)), "{limit}");
-        assert!(rt; report.is_empty());
-    }
-    Ok(())
-}
-
-#[test]
-fn a_dump_breaks_off_where_its_sink_fails(rt: HostRuntime) -> Result<(), Fail> {
-    let dir = loaded(rt.alloc(), ROOT)?;
-    for limit in 0..ROOT.len() {
-        let mut sink = TrySink::new(rt.alloc(), 4, Some(limit));
-        assert_eq!(rt; dir.dump(rt.alloc(), &mut sink), Err(WriteFault::Device));
-        assert_eq!(rt; sink.bytes(), &ROOT.as_bytes()[..limit]);
-    }
-    Ok(())
-}
-
 #[test]
 fn a_load_ends_where_the_source_fails(rt: HostRuntime) -> Result<(), Fail> {
     for limit in 0..ROOT.len() {

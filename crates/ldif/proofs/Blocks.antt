@@ -1,42 +1,55 @@
 -- The first block of several.
-use Rattle.std.proofs.Common.{◌≡◌, ℕ, zero, suc, ◌<◌, Bool, true, false, cond, List, [], ◌∷◌, length, get_or, take, drop, refl, sym, ap, ◌∙◌, arith}
-use Rattle.std.proofs.lemmas.List.{drop_all, take_all}
-use Rattle.std.specs.Global.{Vec}
-use Rattle.std.specs.List.{onto_first}
-use Rattle.ldif.specs.Reading.{is_dash, items_of, texts, blocks}
+use Rattle.std.proofs.Common.{◌≡◌, ℕ, ◌+◌, ◌<◌, ◌≤◌, Bool, true, false, cond, List, [], ◌∷◌, ◌++◌, length, take, refl, sym, ap, ◌∙◌, append_assoc, arith}
+use Rattle.std.proofs.lemmas.List.{length-take-le, length-append}
+use Rattle.std.proofs.Math.Seq.{take-append-add}
+use Rattle.std.specs.List.{AllByRecursion, onto_first}
+use Rattle.ldif.specs.Reading.{is_dash, blocks}
 
-take_nil : {A : Type 0} (n : ℕ) (xs : List A) → xs ≡ [] → take n xs ≡ []
-take_nil n xs e = take_all n xs (let z = ap length e in omega arith) ∙ e
+-- these are lines of one block
+abbrev pub ArePlain : List (List ℕ) → Type 0
+ArePlain ls = AllByRecursion (λ l. is_dash l ≡ false) ls
 
 first : (l : List ℕ) (ls : List (List ℕ)) (b : Bool) → is_dash l ≡ b → blocks (l ∷ ls) ≡ cond b ([] ∷ blocks ls) (onto_first l (blocks ls))
 unfolding blocks
 first l ls b e = ap (λ (t : Bool). cond t ([] ∷ blocks ls) (onto_first l (blocks ls))) e
 
-pub blocks_at : (xs : List (Vec ℕ)) (i : ℕ) (d : Vec ℕ) → i < length xs → ((k : ℕ) (d : Vec ℕ) → k < i → is_dash (items_of (get_or xs k d)) ≡ false) → is_dash (items_of (get_or xs i d)) ≡ true
-    → blocks (texts xs) ≡ texts (take i xs) ∷ blocks (texts (drop (suc i) xs))
-blocks_at [] i d lt none e = absurd (omega arith)
-blocks_at (x ∷ xs) zero d lt none e = first (items_of x) (texts xs) true e
-blocks_at (x ∷ xs) (suc i) d lt none e =
-    first (items_of x) (texts xs) false (none 0 d (omega arith))
-    ∙ ap (onto_first (items_of x)) (blocks_at xs i d (omega arith) (λ k b h. none (suc k) b (omega arith)) e)
+-- up to the first `-`
+pub blocks_at : (front : List (List ℕ)) (line : List ℕ) (after : List (List ℕ)) → ArePlain front → is_dash line ≡ true → blocks (front ++ line ∷ after) ≡ front ∷ blocks after
+blocks_at [] line after plain e = first line after true e
+blocks_at (l ∷ front) line after plain e =
+    first l (front ++ line ∷ after) false plain.0
+    ∙ ap (onto_first l) (blocks_at front line after plain.1 e)
 
-pub blocks_none : (xs : List (Vec ℕ)) → 0 < length xs → ((k : ℕ) (d : Vec ℕ) → k < length xs → is_dash (items_of (get_or xs k d)) ≡ false) → blocks (texts xs) ≡ texts xs ∷ []
+-- without one
+pub blocks_none : (front : List (List ℕ)) → 0 < length front → ArePlain front → blocks front ≡ front ∷ blocks []
 unfolding blocks
-blocks_none [] lt none = absurd (omega arith)
-blocks_none (x ∷ []) lt none = first (items_of x) [] false (none 0 x (omega arith))
-blocks_none (x ∷ y ∷ xs) lt none =
-    first (items_of x) (texts (y ∷ xs)) false (none 0 x (omega arith))
-    ∙ ap (onto_first (items_of x)) (blocks_none (y ∷ xs) (omega arith) (λ k b h. none (suc k) b (omega arith)))
+blocks_none [] some plain = absurd (omega arith)
+blocks_none (l ∷ []) some plain = first l [] false plain.0
+blocks_none (l ∷ m ∷ front) some plain =
+    first l (m ∷ front) false plain.0
+    ∙ ap (onto_first l) (blocks_none (m ∷ front) (omega arith) plain.1)
 
-pub none_left : (xs : List (Vec ℕ)) (n : ℕ) → [] ≡ blocks (texts (take n (drop (length xs) xs)))
-unfolding blocks
-none_left xs n = sym (ap (λ (r : List (Vec ℕ)). blocks (texts r)) (take_nil n (drop (length xs) xs) (drop_all (length xs) xs (omega arith))))
-
-pub blocks_nil : (xs : List (Vec ℕ)) → length xs ≡ 0 → blocks (texts xs) ≡ []
+pub blocks_nil : (ls : List (List ℕ)) → length ls ≡ 0 → blocks ls ≡ []
 unfolding blocks
 blocks_nil [] e = refl
-blocks_nil (x ∷ xs) e = absurd (omega arith)
+blocks_nil (l ∷ ls) e = absurd (omega arith)
 
-pub texts_nil : (xs : List (Vec ℕ)) → length xs ≡ 0 → texts xs ≡ []
-texts_nil [] e = refl
-texts_nil (x ∷ xs) e = absurd (omega arith)
+pub lines_nil : (ls : List (List ℕ)) → length ls ≡ 0 → ls ≡ []
+lines_nil [] e = refl
+lines_nil (l ∷ ls) e = absurd (omega arith)
+
+pub plain_push : (front : List (List ℕ)) (line : List ℕ) → ArePlain front → is_dash line ≡ false → ArePlain (front ++ line ∷ [])
+plain_push [] line plain e = (e, tt)
+plain_push (l ∷ front) line plain e = (plain.0, plain_push front line plain.1 e)
+
+-- one more line of the front
+pub take_push : (n : ℕ) (ls : List (List ℕ)) (line : List ℕ) (after : List (List ℕ)) → n ≤ length ls → ls ≡ take n ls ++ line ∷ after → take (n + 1) ls ≡ take n ls ++ line ∷ []
+take_push n ls line after within e =
+    let len : length (take n ls) ≡ n = length-take-le n ls within in
+    ap (take (n + 1)) e ∙ ap (λ (k : ℕ). take k (take n ls ++ line ∷ after)) (let same : n + 1 ≡ length (take n ls) + 1 = omega (arith, len) in same) ∙ take-append-add (take n ls) (line ∷ after) 1
+
+pub rest_push : (n : ℕ) (ls : List (List ℕ)) (line : List ℕ) (after : List (List ℕ)) → n ≤ length ls → ls ≡ take n ls ++ line ∷ after → ls ≡ take (n + 1) ls ++ after
+rest_push n ls line after within e = e ∙ sym (append_assoc (take n ls) (line ∷ []) after) ∙ ap (λ (front : List (List ℕ)). front ++ after) (sym (take_push n ls line after within e))
+
+pub within_push : (n : ℕ) (ls : List (List ℕ)) (line : List ℕ) (after : List (List ℕ)) → n ≤ length ls → ls ≡ take n ls ++ line ∷ after → n + 1 ≤ length ls
+within_push n ls line after within e = omega (arith, length-take-le n ls within, ap length e, length-append (take n ls) (line ∷ after))

@@ -1,7 +1,6 @@
 -- A record, by the forms that its list of lines may have, or the fault of its earliest line that has one
 -- (RFC 2849, "Formal Syntax Definition of LDIF").
-use Rattle.std.specs.Prelude.{ℕ, Bool, true, false, if◌then◌else◌, List, [], ◌∷◌, map, Option, Some, None, Result, Ok, Err, codes}
-use Rattle.std.specs.Global.{Vec}
+use Rattle.std.specs.Prelude.{ℕ, Bool, true, false, if◌then◌else◌, List, [], ◌∷◌, Option, Some, None, Result, Ok, Err, codes}
 use Rattle.std.specs.List.{onto_first}
 use Rattle.std.specs.Str.{bytes_eq}
 use Rattle.ldif.specs.declared.fault.LdifFaultKind.{LdifFaultKind}
@@ -19,12 +18,6 @@ use Rattle.base.specs.Answers.{◌>>=◌, each}
 use Rattle.base.specs.Ends.{without_end}
 use Rattle.ldif.specs.Line.{value_line, same_name, is_word}
 use Rattle.ldif.specs.Controls.{control_of}
-
-abbrev pub items_of : Vec ℕ → List ℕ
-items_of v = v.items
-
-abbrev pub texts : List (Vec ℕ) → List (List ℕ)
-texts vs = map items_of vs
 
 -- an attribute line of a content record
 unfoldable pub content_line : List ℕ → Result Attr LdifFaultKind

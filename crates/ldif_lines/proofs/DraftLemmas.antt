@@ -1,14 +1,16 @@
 -- What a draft adds to.
-use Rattle.std.proofs.Common.{◌≡◌, ℕ, ◌<◌, ◌+◌, Bool, true, false, cond, not, List, [], ◌∷◌, ◌++◌, length, drop, map, filter, Option, Some, None, refl, sym, ap, ◌∙◌, append_assoc, arith}
+use Rattle.std.proofs.Common.{◌≡◌, ℕ, suc, ◌<◌, Bool, true, false, cond, not, eqb, List, [], ◌∷◌, ◌++◌, length, drop, map, filter, Option, Some, None, refl, sym, ap, ◌∙◌, append_assoc, arith}
 use Rattle.std.specs.List.{slice_split, onto_first, filter_map, enumerate_from, cons_option}
 use Rattle.std.specs.Str.Lines.{lines}
 use Rattle.std.proofs.lemmas.List.{append-nil}
 use Rattle.std.proofs.lemmas.List.Splits.{slice_split-cons_yes, slice_split-cons_no}
 use Rattle.base.specs.Ends.{begins_with}
 use Rattle.ldif_lines.specs.Records.{Body, RawRecord, is_blank, continues, is_kept, bytes_of, continuation, joined, joined_block, body_of, body_of_block, with_first, records_from}
-use Rattle.ldif_lines.specs.inner.Drafts.{RecordDraft, append_last, add_by, add}
+use Rattle.ldif_lines.specs.inner.Drafts.{Draft, append_last, add_by, add}
 use Rattle.std.proofs.lemmas.Bool.{eqb-true, false_from_ne_true}
-use Rattle.ldif_lines.proofs.LineLemmas.{split_cons}
+use Rattle.ldif_lines.specs.inner.States.{kept, after, body_after, in_blocks, cut, pending}
+use Rattle.ldif_lines.specs.Records.{but_last, whole_lines, closed_from}
+use Rattle.ldif_lines.proofs.PartLemmas.{split_cons, heads}
 
 -- ---- the last line grows
 
@@ -17,6 +19,12 @@ unfolding append_last
 append_last-push [] k bs = refl
 append_last-push (l ∷ []) k bs = refl
 append_last-push (l ∷ m ∷ ks) k bs = ap (λ (x : List (List ℕ)). l ∷ x) (append_last-push (m ∷ ks) k bs)
+
+pub append_last-length : (ks : List (List ℕ)) (bs : List ℕ) → length (append_last ks bs) ≡ length ks
+unfolding append_last
+append_last-length [] bs = refl
+append_last-length (k ∷ []) bs = refl
+append_last-length (k ∷ l ∷ ks) bs = ap suc (append_last-length (l ∷ ks) bs)
 
 pub append_last-none : (ks : List (List ℕ)) (bs : List ℕ) → length ks ≡ 0 → append_last ks bs ≡ ks
 unfolding append_last
@@ -40,9 +48,6 @@ append_last-twice k (l ∷ m ∷ ks) a b = ap (λ (x : List (List ℕ)). k ∷ x
 begins-append : (b : ℕ) (bs more : List ℕ) → 0 < length bs → begins_with b (bs ++ more) ≡ begins_with b bs
 begins-append b [] more some = absurd (omega arith)
 begins-append b (c ∷ bs) more some = refl
-
-abbrev kept : List (ℕ × List ℕ) → List (ℕ × List ℕ)
-kept ls = filter is_kept (joined ls)
 
 abbrev headed : ℕ × List ℕ → List (ℕ × List ℕ) → List (ℕ × List ℕ)
 headed l ls = filter is_kept ((l.0, l.1 ++ continuation ls) ∷ joined ls)
@@ -72,21 +77,11 @@ module _ (l : ℕ × List ℕ) (ls : List (ℕ × List ℕ)) where
 
 -- ---- the block that a draft begins
 
--- its body, with these lines after the draft's
-unfoldable after : List (List ℕ) → ℕ → Bool → List (ℕ × List ℕ) → Option Body
-after [] line true p = body_of (kept p)
-after [] line false p = body_of_block p
-after (k ∷ ks) line true p = Some (record { line = line; lines = (k ∷ ks) ++ map bytes_of (kept p) })
-after (k ∷ ks) line false p = Some (record { line = line; lines = append_last (k ∷ ks) (continuation p) ++ map bytes_of (kept p) })
-
-abbrev made : ℕ → List (List ℕ) → Option Body
+abbrev pub made : ℕ → List (List ℕ) → Option Body
 made line ls = Some (record { line = line; lines = ls })
 
-abbrev draft : ℕ → Bool → List (List ℕ) → RecordDraft
+abbrev pub draft : ℕ → Bool → List (List ℕ) → Draft
 draft line comment ks = record { line = line; comment = comment; lines = ks }
-
-pub body_after : RecordDraft → List (ℕ × List ℕ) → Option Body
-body_after d p = after d.lines d.line d.comment p
 
 extended : (line : ℕ) (k : List ℕ) (ks : List (List ℕ)) (bs : List ℕ) (p : List (ℕ × List ℕ)) → after (append_last (k ∷ ks) bs) line false p ≡ made line (append_last (k ∷ ks) (bs ++ continuation p) ++ map bytes_of (kept p))
 unfolding after append_last
@@ -110,7 +105,7 @@ module _ (line : ℕ) (l : ℕ × List ℕ) (p : List (ℕ × List ℕ)) (some :
   next_one false k ks e = ap (λ (x : List (ℕ × List ℕ)). made line ((k ∷ ks) ++ map bytes_of x)) (headed-line l p some e) ∙ ap (made line) (sym (pushed (k ∷ ks)))
 
   step : (ks : List (List ℕ)) (comment c h : Bool) → continues l ≡ c → begins_with 35 l.1 ≡ h → after ks line comment (l ∷ p) ≡ body_after (add_by c h (draft line comment ks) l) p
-  unfolding after add_by body_after body_of_block joined_block
+  unfolding after add_by body_of_block joined_block
   step [] true true h e f = ap (λ (x : List (ℕ × List ℕ)). body_of (filter is_kept x)) (joined-yes l p e)
   step [] true false true e f = ap (λ (x : List (ℕ × List ℕ)). body_of (filter is_kept x)) (joined-no l p e) ∙ first_one true f
   step [] true false false e f = ap (λ (x : List (ℕ × List ℕ)). body_of (filter is_kept x)) (joined-no l p e) ∙ first_one false f
@@ -127,108 +122,129 @@ module _ (line : ℕ) (l : ℕ × List ℕ) (p : List (ℕ × List ℕ)) (some :
 
 -- ---- the records that are left
 
-in_blocks : Bool → RecordDraft → List (List (ℕ × List ℕ)) → List RawRecord
-in_blocks first d [] = []
-in_blocks first d (p ∷ ps) = with_first first (cons_option (body_after d p) (filter_map body_of_block ps))
-
--- what a draft and the lines after it hold
-pub pending : Bool → RecordDraft → List (ℕ × List ℕ) → List RawRecord
-pending first d ls = in_blocks first d (slice_split is_blank ls)
+added : (only first : Bool) (d : Draft) (l : ℕ × List ℕ) (p : List (ℕ × List ℕ)) (ps : List (List (ℕ × List ℕ))) → 0 < length l.1
+    → in_blocks first d (cut only ((l ∷ p) ∷ ps)) ≡ in_blocks first (add d l) (cut only (p ∷ ps))
+unfolding in_blocks but_last
+added false first d l p ps some = ap (λ (b : Option Body). with_first first (cons_option b (filter_map body_of_block ps))) (step d.line l p some d.lines d.comment (continues l) (begins_with 35 l.1) refl refl)
+added true first d l p [] some = refl
+added true first d l p (q ∷ ps) some = ap (λ (b : Option Body). with_first first (cons_option b (filter_map body_of_block (but_last (q ∷ ps))))) (step d.line l p some d.lines d.comment (continues l) (begins_with 35 l.1) refl refl)
 
 -- a line that isn't empty goes to the draft
-pub pending-add : (first : Bool) (d : RecordDraft) (n : ℕ) (bs : List ℕ) (ls : List (ℕ × List ℕ)) → 0 < length bs → pending first d ((n, bs) ∷ ls) ≡ pending first (add d (n, bs)) ls
-unfolding pending in_blocks body_after
-pending-add first d n bs ls some =
+pub pending-add : (only first : Bool) (d : Draft) (n : ℕ) (bs : List ℕ) (ls : List (ℕ × List ℕ)) → 0 < length bs → pending only first d ((n, bs) ∷ ls) ≡ pending only first (add d (n, bs)) ls
+unfolding pending
+pending-add only first d n bs ls some =
     let l : ℕ × List ℕ = (n, bs) in
     let no : is_blank l ≡ false = false_from_ne_true _ (λ h. let k = eqb-true _ _ h in omega arith) in
     let s = split_cons is_blank ls in
-    let cut : slice_split is_blank (l ∷ ls) ≡ (l ∷ s.0) ∷ s.1 = slice_split-cons_no is_blank l ls no ∙ ap (onto_first l) s.2 in
-    ap (in_blocks first d) cut
-    ∙ ap (λ (b : Option Body). with_first first (cons_option b (filter_map body_of_block s.1))) (step d.line l s.0 some d.lines d.comment (continues l) (begins_with 35 l.1) refl refl)
-    ∙ ap (in_blocks first (add d l)) (sym s.2)
-
--- a draft with no line
-pub IsFresh : RecordDraft → Type 0
-IsFresh d = (d.lines ≡ []) × (d.comment ≡ false)
+    let parts : slice_split is_blank (l ∷ ls) ≡ (l ∷ s.0) ∷ s.1 = slice_split-cons_no is_blank l ls no ∙ ap (onto_first l) s.2 in
+    ap (λ (ps : List (List (ℕ × List ℕ))). in_blocks first d (cut only ps)) parts
+    ∙ added only first d l s.0 s.1 some
+    ∙ ap (λ (ps : List (List (ℕ × List ℕ))). in_blocks first (add d l) (cut only ps)) (sym s.2)
 
 fresh_blocks : (first : Bool) (line : ℕ) (ps : List (List (ℕ × List ℕ))) → in_blocks first (draft line false []) ps ≡ with_first first (filter_map body_of_block ps)
-unfolding in_blocks body_after after with_first
+unfolding in_blocks after with_first
 fresh_blocks first line [] = refl
 fresh_blocks first line (p ∷ ps) = refl
 
-pub pending-fresh : (first : Bool) (line number : ℕ) (text : List ℕ) → pending first (draft line false []) (enumerate_from number (lines text)) ≡ records_from first number text
+pub pending-fresh : (first : Bool) (line number : ℕ) (text : List ℕ) → pending false first (draft line false []) (enumerate_from number (lines text)) ≡ records_from first number text
 unfolding pending records_from
 pending-fresh first line number text = fresh_blocks first line (slice_split is_blank (enumerate_from number (lines text)))
+
+pub closing-fresh : (first : Bool) (line number : ℕ) (text : List ℕ) → pending true first (draft line false []) (enumerate_from number (whole_lines text)) ≡ closed_from first number text
+unfolding pending closed_from
+closing-fresh first line number text = fresh_blocks first line (but_last (slice_split is_blank (enumerate_from number (whole_lines text))))
 
 nothing : (line : ℕ) (comment : Bool) → after [] line comment [] ≡ None
 unfolding after joined body_of_block joined_block body_of
 nothing line true = refl
 nothing line false = refl
 
--- an empty line before the first kept one
-pub pending-skip : (first comment : Bool) (line n : ℕ) (ls : List (ℕ × List ℕ)) → pending first (draft line comment []) ((n, []) ∷ ls) ≡ pending first (draft line false []) ls
-unfolding pending in_blocks body_after
-pending-skip first comment line n ls =
-    ap (in_blocks first (draft line comment [])) (slice_split-cons_yes is_blank (n, []) ls refl)
-    ∙ ap (λ (b : Option Body). with_first first (cons_option b (filter_map body_of_block (slice_split is_blank ls)))) (nothing line comment)
-    ∙ sym (fresh_blocks first line (slice_split is_blank ls))
-
 whole : (line : ℕ) (comment : Bool) (k : List ℕ) (ks : List (List ℕ)) → after (k ∷ ks) line comment [] ≡ made line (k ∷ ks)
 unfolding after joined continuation
 whole line true k ks = ap (λ (x : List (List ℕ)). made line (k ∷ x)) (append-nil ks)
 whole line false k ks = ap (λ (x : List (List ℕ)). made line x) (append-nil (append_last (k ∷ ks) []) ∙ append_last-nil (k ∷ ks))
 
+-- an empty line: the draft's block is done, and the next begins
+ended : (only first comment : Bool) (line n : ℕ) (ks : List (List ℕ)) (ls : List (ℕ × List ℕ)) → pending only first (draft line comment ks) ((n, []) ∷ ls)
+    ≡ with_first first (cons_option (after ks line comment []) (filter_map body_of_block (cut only (slice_split is_blank ls))))
+unfolding pending in_blocks but_last
+ended only first comment line n ks ls =
+    let s = split_cons is_blank ls in
+    ap (λ (ps : List (List (ℕ × List ℕ))). in_blocks first (draft line comment ks) (cut only ps)) (slice_split-cons_yes is_blank (n, []) ls refl)
+    ∙ ap (in_blocks first (draft line comment ks)) (heads only [] (slice_split is_blank ls) s)
+
+-- an empty line before the first kept one
+pub pending-skip : (only first comment : Bool) (line n : ℕ) (ls : List (ℕ × List ℕ)) → pending only first (draft line comment []) ((n, []) ∷ ls) ≡ pending only first (draft line false []) ls
+unfolding pending
+pending-skip only first comment line n ls =
+    ended only first comment line n [] ls
+    ∙ ap (λ (b : Option Body). with_first first (cons_option b (filter_map body_of_block (cut only (slice_split is_blank ls))))) (nothing line comment)
+    ∙ sym (fresh_blocks first line (cut only (slice_split is_blank ls)))
+
 -- an empty line after a kept one
-pub pending-end : (first comment : Bool) (line n number : ℕ) (k : List ℕ) (ks : List (List ℕ)) (text : List ℕ)
-    → pending first (draft line comment (k ∷ ks)) ((n, []) ∷ enumerate_from number (lines text)) ≡ record { line = line; first = first; lines = k ∷ ks } ∷ records_from false number text
-unfolding pending in_blocks body_after with_first records_from
-pending-end first comment line n number k ks text =
-    let ls = enumerate_from number (lines text) in
-    ap (in_blocks first (draft line comment (k ∷ ks))) (slice_split-cons_yes is_blank (n, []) ls refl)
-    ∙ ap (λ (b : Option Body). with_first first (cons_option b (filter_map body_of_block (slice_split is_blank ls)))) (whole line comment k ks)
+pub pending-end : (only first comment : Bool) (line n : ℕ) (k : List ℕ) (ks : List (List ℕ)) (ls : List (ℕ × List ℕ))
+    → pending only first (draft line comment (k ∷ ks)) ((n, []) ∷ ls) ≡ record { line = line; first = first; lines = k ∷ ks } ∷ pending only false (draft 0 false []) ls
+unfolding pending with_first
+pending-end only first comment line n k ks ls =
+    ended only first comment line n (k ∷ ks) ls
+    ∙ ap (λ (b : Option Body). with_first first (cons_option b (filter_map body_of_block (cut only (slice_split is_blank ls))))) (whole line comment k ks)
+    ∙ ap (λ (rs : List RawRecord). record { line = line; first = first; lines = k ∷ ks } ∷ rs) (sym (fresh_blocks false 0 (cut only (slice_split is_blank ls))))
 
 -- no line is left
-pub pending-none : (first comment : Bool) (line : ℕ) → pending first (draft line comment []) [] ≡ []
-unfolding pending in_blocks body_after with_first
+pub pending-none : (first comment : Bool) (line : ℕ) → pending false first (draft line comment []) [] ≡ []
+unfolding pending in_blocks with_first
 pending-none first comment line = ap (λ (b : Option Body). with_first first (cons_option b [])) (nothing line comment)
 
-pub pending-last : (first comment : Bool) (line : ℕ) (k : List ℕ) (ks : List (List ℕ)) → pending first (draft line comment (k ∷ ks)) [] ≡ record { line = line; first = first; lines = k ∷ ks } ∷ []
-unfolding pending in_blocks body_after with_first
+pub pending-last : (first comment : Bool) (line : ℕ) (k : List ℕ) (ks : List (List ℕ)) → pending false first (draft line comment (k ∷ ks)) [] ≡ record { line = line; first = first; lines = k ∷ ks } ∷ []
+unfolding pending in_blocks with_first
 pending-last first comment line k ks = ap (λ (b : Option Body). with_first first (cons_option b [])) (whole line comment k ks)
 
--- ---- the same, as the code meets them
+pub closing-none : (first : Bool) (d : Draft) → pending true first d [] ≡ []
+unfolding pending in_blocks but_last
+closing-none first d = refl
 
-records_none : (first : Bool) (number : ℕ) → records_from first number [] ≡ []
-unfolding records_from with_first body_of_block joined_block body_of
-records_none first number = refl
+-- ---- a line in two pieces: the second goes in like a continuation
 
-pub pending-line : (first : Bool) (d : RecordDraft) (number : ℕ) (text l rest : List ℕ) → lines text ≡ l ∷ lines rest → 0 < length l
-    → pending first d (enumerate_from number (lines text)) ≡ pending first (add d (number, l)) (enumerate_from (number + 1) (lines rest))
-pending-line first d number text l rest e some =
-    ap (λ (ls : List (List ℕ)). pending first d (enumerate_from number ls)) e ∙ pending-add first d number l (enumerate_from (number + 1) (lines rest)) some
+cut_by : (line n : ℕ) (x : ℕ) (xs more : List ℕ) (c h comment : Bool) (ks : List (List ℕ))
+    → add_by c h (draft line comment ks) (n, x ∷ (xs ++ more)) ≡ add_by true false (add_by c h (draft line comment ks) (n, x ∷ xs)) (n, 32 ∷ more)
+unfolding add_by append_last
+cut_by line n x xs more true h true ks = refl
+cut_by line n x xs more true true false [] = refl
+cut_by line n x xs more true false false [] = refl
+cut_by line n x xs more true h false (k ∷ []) = ap (draft line false) (sym (append_last-twice k [] xs more))
+cut_by line n x xs more true h false (k ∷ m ∷ ks) = ap (draft line false) (sym (append_last-twice k (m ∷ ks) xs more))
+cut_by line n x xs more false true comment ks = refl
+cut_by line n x xs more false false comment [] = refl
+cut_by line n x xs more false false comment (k ∷ ks) = ap (draft line false) (sym (append_last-push (k ∷ ks) (x ∷ xs) more))
 
-pub pending-gap : (first comment : Bool) (line : ℕ) (ks : List (List ℕ)) (number : ℕ) (text l rest : List ℕ) → lines text ≡ l ∷ lines rest → length l ≡ 0 → length ks ≡ 0
-    → pending first (draft line comment ks) (enumerate_from number (lines text)) ≡ pending first (draft line false ks) (enumerate_from (number + 1) (lines rest))
-pending-gap first comment line [] number text [] rest e z none =
-    ap (λ (ls : List (List ℕ)). pending first (draft line comment []) (enumerate_from number ls)) e ∙ pending-skip first comment line number (enumerate_from (number + 1) (lines rest))
-pending-gap first comment line ks number text (b ∷ bs) rest e z none = absurd (omega arith)
-pending-gap first comment line (k ∷ ks) number text [] rest e z none = absurd (omega arith)
+pub add-cut : (d : Draft) (n : ℕ) (xs more : List ℕ) → 0 < length xs → add d (n, xs ++ more) ≡ add (add d (n, xs)) (n, 32 ∷ more)
+add-cut d n [] more some = absurd (omega arith)
+add-cut d n (x ∷ xs) more some = cut_by d.line n x xs more (eqb x 32) (eqb x 35) d.comment d.lines
 
-pub pending-done : (first comment : Bool) (line : ℕ) (ks : List (List ℕ)) (number : ℕ) (text l rest : List ℕ) → lines text ≡ l ∷ lines rest → length l ≡ 0 → 0 < length ks
-    → pending first (draft line comment ks) (enumerate_from number (lines text)) ≡ record { line = line; first = first; lines = ks } ∷ records_from false (number + 1) rest
-pending-done first comment line (k ∷ ks) number text [] rest e z some =
-    ap (λ (ls : List (List ℕ)). pending first (draft line comment (k ∷ ks)) (enumerate_from number ls)) e ∙ pending-end first comment line number (number + 1) k ks rest
-pending-done first comment line ks number text (b ∷ bs) rest e z some = absurd (omega arith)
-pending-done first comment line [] number text [] rest e z some = absurd (omega arith)
+-- a continuation without bytes changes nothing, where there is something to continue
+nothing_by : (line n : ℕ) (comment : Bool) (ks : List (List ℕ)) → (comment ≡ false → 0 < length ks) → add_by true false (draft line comment ks) (n, 32 ∷ []) ≡ draft line comment ks
+unfolding add_by
+nothing_by line n true ks some = refl
+nothing_by line n false [] some = absurd (let h : 0 < 0 = some refl in omega arith)
+nothing_by line n false (k ∷ ks) some = ap (draft line false) (append_last-nil (k ∷ ks))
 
-pub pending-over : (first comment : Bool) (line : ℕ) (ks : List (List ℕ)) (number : ℕ) (text : List ℕ) → length text ≡ 0 → length ks ≡ 0
-    → pending first (draft line comment ks) (enumerate_from number (lines text)) ≡ []
-pending-over first comment line [] number [] z none = pending-none first comment line
-pending-over first comment line ks number (b ∷ bs) z none = absurd (omega arith)
-pending-over first comment line (k ∷ ks) number [] z none = absurd (omega arith)
+pub add-nothing : (d : Draft) (n : ℕ) → (d.comment ≡ false → 0 < length d.lines) → add d (n, 32 ∷ []) ≡ d
+add-nothing d n some = nothing_by d.line n d.comment d.lines some
 
-pub pending-rest : (first comment : Bool) (line : ℕ) (ks : List (List ℕ)) (number : ℕ) (text : List ℕ) → length text ≡ 0 → 0 < length ks
-    → pending first (draft line comment ks) (enumerate_from number (lines text)) ≡ record { line = line; first = first; lines = ks } ∷ records_from false number text
-pending-rest first comment line (k ∷ ks) number [] z some = pending-last first comment line k ks ∙ ap (λ (rs : List RawRecord). record { line = line; first = first; lines = k ∷ ks } ∷ rs) (sym (records_none false number))
-pending-rest first comment line ks number (b ∷ bs) z some = absurd (omega arith)
-pending-rest first comment line [] number [] z some = absurd (omega arith)
+-- after a line, there is something to continue
+true_ne_false : true ≡ false → ⊥
+true_ne_false e = (cc)
+
+kept_by : (line n : ℕ) (l : List ℕ) (c h comment : Bool) (ks : List (List ℕ)) → (add_by c h (draft line comment ks) (n, l)).comment ≡ false → 0 < length (add_by c h (draft line comment ks) (n, l)).lines
+unfolding add_by append_last
+kept_by line n l true h true ks e = absurd (true_ne_false e)
+kept_by line n l true true false [] e = absurd (true_ne_false e)
+kept_by line n l true false false [] e = omega arith
+kept_by line n l true h false (k ∷ []) e = omega arith
+kept_by line n l true h false (k ∷ m ∷ ks) e = omega arith
+kept_by line n l false true comment ks e = absurd (true_ne_false e)
+kept_by line n l false false comment [] e = omega arith
+kept_by line n l false false comment (k ∷ ks) e = omega arith
+
+pub add-kept : (d : Draft) (l : ℕ × List ℕ) → (add d l).comment ≡ false → 0 < length (add d l).lines
+add-kept d l e = kept_by d.line l.0 l.1 (continues l) (begins_with 35 l.1) d.comment d.lines e

@@ -1,3 +1,6 @@
-pub mod LineLemmas
+pub mod CutLemmas
+pub mod PartLemmas
 pub mod DraftLemmas
+pub mod StateLemmas
+pub mod MoveLemmas
 pub mod WrittenLemmas

@@ -10,7 +10,7 @@ use Rattle.std.proofs.lemmas.List.Concat.{flat_map-append}
 use Rattle.std.proofs.lemmas.List.Elements.{All-from_recursion, All-get_or}
 use Rattle.base.specs.Ends.{begins_with}
 use Rattle.ldif_lines.specs.Records.{Body, is_blank, is_kept, bytes_of, continuation, joined, joined_block, body_of, body_of_block, with_first, records_from, records}
-use Rattle.ldif_lines.proofs.LineLemmas.{is_feed, IsCons, split_cons}
+use Rattle.ldif_lines.proofs.PartLemmas.{is_feed, IsCons, split_cons}
 use Rattle.ldif_lines.specs.Folding.{folded, written_blocks, is_line_byte, IsWritable, AreWritable, raw_lines, raw_block, with_first_flag}
 
 -- ---- lines

@@ -6,8 +6,8 @@
 -- As a block's first line, one that begins with a space stays as it is. A block with a line left is a record.
 use Rattle.std.specs.Prelude.{ℕ, Bool, true, false, not, List, [], ◌∷◌, ◌++◌, map, filter, length, drop, ◌==◌, Option, Some, None, if◌then◌else◌}
 use Rattle.std.specs.List.{slice_split, enumerate_from, filter_map}
-use Rattle.std.specs.Str.Lines.{lines}
-use Rattle.base.specs.Ascii.{space, number_sign}
+use Rattle.std.specs.Str.Lines.{lines, strip_carriage_return}
+use Rattle.base.specs.Ascii.{line_feed, space, number_sign}
 use Rattle.base.specs.Ends.{begins_with}
 
 -- a record: the number of its first line that is no comment, whether it is the text's first record, and its lines
@@ -68,3 +68,21 @@ records_from first number text = with_first first (filter_map body_of_block (sli
 -- the records of a text
 abbrev pub records : List ℕ → List RawRecord
 records text = records_from true 1 text
+
+-- all but the last
+unfoldable pub but_last : {A : Type 0} → List A → List A
+but_last [] = []
+but_last (x ∷ []) = []
+but_last (x ∷ y ∷ xs) = x ∷ but_last (y ∷ xs)
+
+-- the lines that have their end
+unfoldable pub whole_lines : List ℕ → List (List ℕ)
+whole_lines text = map strip_carriage_return (but_last (slice_split (λ b. b == line_feed) text))
+
+-- the records whose closing empty line stands in the text
+unfoldable pub closed_from : Bool → ℕ → List ℕ → List RawRecord
+closed_from first number text = with_first first (filter_map body_of_block (but_last (slice_split is_blank (enumerate_from number (whole_lines text)))))
+
+-- those of a text from its beginning
+abbrev pub closed_records : List ℕ → List RawRecord
+closed_records text = closed_from true 1 text

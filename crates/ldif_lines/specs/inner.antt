@@ -1,3 +1,7 @@
+pub mod Cuts
 pub mod Drafts
 pub mod Examples
+pub mod Moves
+pub mod ReaderStates
+pub mod States
 pub mod View

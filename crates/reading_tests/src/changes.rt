@@ -1,7 +1,7 @@
 //! Records of changes, which no command reads yet, each with what it reads as (RFC 2849).
 
 use crate::record_text::record_text;
-use ldif::{Mode, RawRecord, read_record};
+use ldif::{Lines, Mode, RawRecord, read_record};
 use std::alloc::{AllocError, Global};
 use std::test::Fail;
 
@@ -9,9 +9,9 @@ const CHANGES: Mode = Mode::Changes { add: false };
 
 /// A record of these lines.
 pub fn raw_of(alloc: Global, lines: &[u8]) -> Result<RawRecord, AllocError> {
-    let mut kept = Vec::new(alloc);
+    let mut kept = Lines::new(alloc);
     for line in lines.split(|b| *b == b'\n') {
-        kept.push(Vec::from_slice(alloc, line)?)?;
+        kept.push(line)?;
     }
     Ok(RawRecord {
         line: 1,

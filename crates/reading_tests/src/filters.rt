@@ -98,7 +98,7 @@ fn deep_place(alloc: Global, text: &[u8]) -> Option<usize> {
 }
 
 /// A text, so many times this, and another text.
-fn repeated(
+pub fn repeated(
     alloc: Global,
     front: &[u8],
     again: &[u8],
@@ -125,6 +125,17 @@ fn deep_filters_are_told(rt: HostRuntime) -> Result<(), Fail> {
     assert_eq!(rt; deep_place(alloc, &bare), Some(1024));
     let closed_before = repeated(alloc, b"((a=b)))", b"(", 514, b"")?;
     assert_eq!(rt; deep_place(alloc, &closed_before), Some(521));
+    Ok(())
+}
+
+/// A text much too deep has its fault where it is too deep by one.
+#[test]
+fn filters_too_deep_by_far_are_told(rt: HostRuntime) -> Result<(), Fail> {
+    let rows: [(&[u8], usize); 3] = [(b"(", 512), (b"(!", 1024), (b"(&", 1024)];
+    for (again, want) in rows {
+        let text = repeated(rt.alloc(), b"", again, 100_000, b"")?;
+        assert_eq!(rt; deep_place(rt.alloc(), &text), Some(want), "{again:?}");
+    }
     Ok(())
 }
 

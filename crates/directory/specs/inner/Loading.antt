@@ -24,10 +24,11 @@ Explains faults.Read line o = ⊥
 Explains faults.OutOfMemory line o = ⊤
 Explains (faults.Refused at why) line o = (at ≡ line) × (o.1 ≡ Refused why)
 
--- these records were loaded
-pub record IsUnderWay (conf : Conf) (old now : Entries) (all left : Option (List RawRecord)) : Type 0 where
+-- these records were loaded, and this holds of them
+pub record IsUnderWay (P : List RawRecord → Type 0) (conf : Conf) (old now : Entries) (all left : Option (List RawRecord)) : Type 0 where
   pub front : List RawRecord
   pub parts : Takes all left front
   pub entries : now ≡ (loaded_after conf old front).entries
   pub refused : (loaded_after conf old front).refused ≡ []
   pub going : (loaded_after conf old front).ended ≡ false
+  pub so : P front

@@ -17,8 +17,10 @@ pub record IsReached (conf : Conf) (mode : Mode) (go_on : Bool) (old now : Entri
   pub accepted : t.accepted ≡ (state_after conf mode go_on old front).accepted
   pub refused : t.refused ≡ length (state_after conf mode go_on old front).refused
 
-pub record Stands (conf : Conf) (mode : Mode) (go_on : Bool) (old now : Entries) (all left : Option (List RawRecord)) (t : Tally) (a b : Written) : Type 0 where
+-- and this holds of them
+pub record Stands (P : List RawRecord → Type 0) (conf : Conf) (mode : Mode) (go_on : Bool) (old now : Entries) (all left : Option (List RawRecord)) (t : Tally) (a b : Written) : Type 0 where
   pub front : List RawRecord
   pub reached : IsReached conf mode go_on old now all left t front
   pub going : (state_after conf mode go_on old front).ended ≡ false
   pub written : Took a b (report (state_after conf mode go_on old front).refused)
+  pub so : P front

@@ -1,6 +1,6 @@
 -- The records of short texts and the folds of some lines, by computation (RFC 2849, notes 2, 5 and 6).
 use Rattle.std.specs.Prelude.{◌≡◌, ℕ, Bool, true, false, List, [], ◌∷◌, ◌++◌, codes, replicate, refl}
-use Rattle.ldif_lines.specs.Records.{RawRecord, continuation, joined, joined_block, body_of, body_of_block, with_first, records_from, records}
+use Rattle.ldif_lines.specs.Records.{RawRecord, continuation, joined, joined_block, body_of, body_of_block, with_first, records_from, records, but_last, whole_lines, closed_from}
 use Rattle.ldif_lines.specs.Folding.{folded, written_blocks}
 
 abbrev raw : ℕ → Bool → List (List ℕ) → RawRecord
@@ -73,6 +73,24 @@ comments_alone = refl
 inner_hash : records (ended (codes "a#b") ++ ended (codes " #c")) ≡ raw 1 true (codes "a#b#c" ∷ []) ∷ []
 unfolding records_from with_first body_of_block body_of joined_block joined continuation
 inner_hash = refl
+
+-- a record is closed by the line feed of the empty line behind it
+open_record : closed_from true 1 (ended (codes "dn: x") ++ ended (codes "cn: a")) ≡ []
+unfolding closed_from whole_lines but_last with_first body_of_block body_of joined_block joined continuation
+open_record = refl
+
+closed_record : closed_from true 1 (ended (codes "dn: x") ++ ended (codes "cn: a") ++ ended []) ≡ raw 1 true (codes "dn: x" ∷ codes "cn: a" ∷ []) ∷ []
+unfolding closed_from whole_lines but_last with_first body_of_block body_of joined_block joined continuation
+closed_record = refl
+
+-- a carriage return closes none, before its line feed comes
+returned_record : closed_from true 1 (returned (codes "dn: x") ++ 13 ∷ []) ≡ []
+unfolding closed_from whole_lines but_last with_first body_of_block body_of joined_block joined continuation
+returned_record = refl
+
+closed_by_return : closed_from false 7 (returned [] ++ returned (codes "dn: x") ++ returned [] ++ codes "dn: y") ≡ raw 8 false (codes "dn: x" ∷ []) ∷ []
+unfolding closed_from whole_lines but_last with_first body_of_block body_of joined_block joined continuation
+closed_by_return = refl
 
 -- a line of 76 bytes is not folded
 whole : folded 76 (replicate 76 97) ≡ ended (replicate 76 97)

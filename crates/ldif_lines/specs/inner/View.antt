@@ -1,7 +1,12 @@
--- Records and drafts as contracts see them: each vector of bytes as its list.
-use Rattle.ldif_lines.specs.inner.Drafts as drafts
+-- Drafts as contracts see them.
+use Rattle.std.specs.Prelude.{ℕ, Bool}
+use Rattle.ldif_lines.specs.inner.Drafts.{Draft}
+use Rattle.ldif_lines.specs.inner.States.{State}
 use Rattle.ldif_lines.specs.declared.draft.RecordDraft.{RecordDraft}
-use Rattle.ldif_lines.specs.View.{texts}
 
-abbrev pub draft_of : RecordDraft → drafts.RecordDraft
-draft_of d = record { line = d.line; comment = d.in_comment; lines = texts d.lines.items }
+abbrev pub draft_of : RecordDraft → Draft
+draft_of d = record { line = d.record.line; comment = d.in_comment; lines = d.record.lines }
+
+-- the state after this many lines, where a carriage return may have come last
+abbrev pub state_of : RecordDraft → Bool → ℕ → State
+state_of d after_return count = record { draft = draft_of d; first = d.record.first; count = count; inside = d.in_line; after_return = after_return }

@@ -11,5 +11,6 @@ returns-in-Err-clause-err g c = record {
   gave = c.in-Err.ensures.gave;
   failures = c.in-Err.ensures.failures;
   broke = c.in-Err.ensures.runs;
+  read = c.in-Err.ensures.read;
   told = c.tell_break.ensures;
 }

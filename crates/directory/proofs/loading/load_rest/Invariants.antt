@@ -2,6 +2,7 @@ use Rattle.std.proofs.Common.{◌≡◌, false}
 use Rattle.device.specs.Device.{GaveSome}
 use Rattle.ldif_lines.specs.Reader.{source_of, loan_of, is_failed, records_left, bytes_left}
 use Rattle.directory.specs.inner.Loading.{IsUnderWay}
+use Rattle.directory.specs.inner.Pulls.{TookBeforeEnd}
 use Rattle.directory.proofs.loading.load_rest.Given as goal
 
 abbrev pub invariant-records : goal.invariant-records
@@ -11,7 +12,7 @@ invariant-records g l = record {
   same_loan : loan_of l.reader ≡ loan_of l.fn.reader;
   gave : GaveSome (g.S.Source.seen (source_of l.fn.reader)) (g.S.Source.seen (source_of l.reader));
   conf : l.tree.conf ≡ l.fn.tree.conf;
-  under_way : IsUnderWay l.fn.tree.conf l.fn.tree.entries l.tree.entries (records_left g.S.Source.seen l.fn.reader) (records_left g.S.Source.seen l.reader);
+  under_way : IsUnderWay (TookBeforeEnd g.S.Source.seen l.fn.reader l.reader) l.fn.tree.conf l.fn.tree.entries l.tree.entries (records_left g.S.Source.seen l.fn.reader) (records_left g.S.Source.seen l.reader);
 }
 
 abbrev pub decreases-records : goal.decreases-records

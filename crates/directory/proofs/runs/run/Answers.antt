@@ -1,7 +1,14 @@
-use Rattle.std.proofs.Common.{subst}
+use Rattle.std.proofs.Common.{subst, rules}
 use Rattle.directory.specs.Folds.{Runs}
+use Rattle.directory.proofs.Pulled.{closed_when_fresh, stops_fresh}
 use Rattle.directory.proofs.runs.run.Goals as goal
 
 pub returns-clause-runs : goal.returns-clause-runs
 returns-clause-runs g c =
     subst (λ all. Runs c.args.dir.now.conf c.args.mode c.args.go_on c.args.dir.now.entries c.run_rest.new.dir.entries all c.run_rest.result (g.W.Sink.written c.args.sink.now) (g.W.Sink.written c.run_rest.new.sink)) c.new-reader.ensures.records c.run_rest.ensures.runs
+
+pub returns-clause-read : goal.returns-clause-read
+returns-clause-read g c =
+    let r = c.new-reader.result in
+    let place = c.new-reader.ensures.place in
+    stops_fresh c.run_rest.result _ _ _ _ _ _ _ _ _ _ _ _ (closed_when_fresh r place.0 place.1 place.2) (search rules) (search rules) c.run_rest.ensures.read

@@ -1,13 +1,16 @@
-use Rattle.std.proofs.Common.{IfSome, [], ◌∷◌, ◌<◌, refl, sym, ◌∙◌, ap, subst, arith, rules}
+use Rattle.std.proofs.Common.{◌⊎◌, IfSome, [], ◌∷◌, ◌<◌, refl, sym, ◌∙◌, ap, subst, arith}
 use Rattle.std.proofs.lemmas.Result.{err_from_is_err_and}
 use Rattle.device.specs.Device.{GaveSome}
 use Rattle.device.proofs.Pulls.{gave_none, gave_more}
-use Rattle.ldif_lines.specs.View.{view, texts}
+use Rattle.ldif_lines.specs.View.{view}
 use Rattle.ldif.specs.Reading.{reading}
+use Rattle.ldif_lines.specs.Pulls.{TakesBlock, TakesRest}
 use Rattle.ldif_lines.specs.Reader.{Takes, source_of, records_left, bytes_left}
 use Rattle.directory.specs.Runs.{outcome}
 use Rattle.directory.specs.inner.Steps.{IsBrokenOff}
-use Rattle.directory.proofs.Records.{begins, goes_on, ends_there, breaks_off, stops_reading, stops_wanting, counts_few}
+use Rattle.directory.proofs.Records.{begins, goes_on, ends_there, breaks_off, stops_reading, stops_up_to, stops_wanting, counts_few}
+use Rattle.directory.specs.inner.Pulls.{TookBeforeEnd, closed_with}
+use Rattle.directory.proofs.Pulled.{took_none, took_next, up_to}
 use Rattle.directory.proofs.runs.run_rest.Goals as goal
 
 pub records-init : goal.records-init
@@ -18,7 +21,7 @@ records-init g c = record {
   same_loan = refl;
   gave = gave_none _;
   conf = refl;
-  stands = begins c.args.dir.now.conf c.args.mode c.args.go_on c.args.dir.now.entries (records_left g.S.Source.seen c.args.reader.now) (g.W.Sink.written c.args.sink.now);
+  stands = begins c.args.dir.now.conf c.args.mode c.args.go_on c.args.dir.now.entries (TookBeforeEnd g.S.Source.seen c.args.reader.now c.args.reader.now) (λ _. took_none g.S.Source.seen c.args.reader.now) (records_left g.S.Source.seen c.args.reader.now) (g.W.Sink.written c.args.sink.now);
   few = let few = c.requires.bound in omega (arith, few);
 }
 
@@ -31,9 +34,9 @@ returns-in_err-take_record-in-Ok-Some-clause-runs g c =
     (records_left g.S.Source.seen c.args.reader.now) (records_left g.S.Source.seen c.records.reader) (records_left g.S.Source.seen c.next.new.self)
     c.records.tally c.take_record.new.tally
     (g.W.Sink.written c.args.sink.now) (g.W.Sink.written c.records.sink) (g.W.Sink.written c.take_record.new.sink)
-    (view c.in-Ok-Some.raw) c.records.invariant.stands (subst (λ o. IfSome o (λ r. Takes (records_left g.S.Source.seen c.records.reader) (records_left g.S.Source.seen c.next.new.self) (view r ∷ []))) c.in-Ok-Some.field-0-is c.in-Ok-Some.ensures.record)
+    (view c.in-Ok-Some.raw) (TookBeforeEnd g.S.Source.seen c.args.reader.now c.records.reader) c.records.invariant.stands (subst (λ o. IfSome o (λ r. Takes (records_left g.S.Source.seen c.records.reader) (records_left g.S.Source.seen c.next.new.self) (view r ∷ []))) c.in-Ok-Some.field-0-is c.in-Ok-Some.ensures.record)
     c.in_err-take_record-in-Ok-Some.field-0.0
-    (subst (λ r. IsBrokenOff (outcome r c.args.mode c.records.dir.entries (reading c.args.mode c.in-Ok-Some.raw.first (texts c.in-Ok-Some.raw.lines.items))) c.in-Ok-Some.raw.line c.records.dir.entries c.take_record.new.dir.entries c.records.tally (g.W.Sink.written c.records.sink) (g.W.Sink.written c.take_record.new.sink) c.in_err-take_record-in-Ok-Some.field-0.0) c.records.invariant.conf c.in_err-take_record-in-Ok-Some.ensures.broken))
+    (subst (λ r. IsBrokenOff (outcome r c.args.mode c.records.dir.entries (reading c.args.mode c.in-Ok-Some.raw.first c.in-Ok-Some.raw.lines)) c.in-Ok-Some.raw.line c.records.dir.entries c.take_record.new.dir.entries c.records.tally (g.W.Sink.written c.records.sink) (g.W.Sink.written c.take_record.new.sink) c.in_err-take_record-in-Ok-Some.field-0.0) c.records.invariant.conf c.in_err-take_record-in-Ok-Some.ensures.broken))
 
 pub returns-then-branch-clause-runs : goal.returns-then-branch-clause-runs
 returns-then-branch-clause-runs g c =
@@ -42,9 +45,9 @@ returns-then-branch-clause-runs g c =
     (records_left g.S.Source.seen c.args.reader.now) (records_left g.S.Source.seen c.records.reader) (records_left g.S.Source.seen c.next.new.self)
     c.records.tally c.take_record.new.tally
     (g.W.Sink.written c.args.sink.now) (g.W.Sink.written c.records.sink) (g.W.Sink.written c.take_record.new.sink)
-    (view c.in-Ok-Some.raw) c.records.invariant.stands (subst (λ o. IfSome o (λ r. Takes (records_left g.S.Source.seen c.records.reader) (records_left g.S.Source.seen c.next.new.self) (view r ∷ []))) c.in-Ok-Some.field-0-is c.in-Ok-Some.ensures.record)
+    (view c.in-Ok-Some.raw) (TookBeforeEnd g.S.Source.seen c.args.reader.now c.records.reader) c.records.invariant.stands (subst (λ o. IfSome o (λ r. Takes (records_left g.S.Source.seen c.records.reader) (records_left g.S.Source.seen c.next.new.self) (view r ∷ []))) c.in-Ok-Some.field-0-is c.in-Ok-Some.ensures.record)
     c.in_ok-take_record-in-Ok-Some.field-0
-    (subst (λ r. Rattle.directory.specs.inner.Steps.IsTaken (outcome r c.args.mode c.records.dir.entries (reading c.args.mode c.in-Ok-Some.raw.first (texts c.in-Ok-Some.raw.lines.items))) c.args.go_on c.in-Ok-Some.raw.line c.take_record.new.dir.entries c.records.tally c.take_record.new.tally (g.W.Sink.written c.records.sink) (g.W.Sink.written c.take_record.new.sink) c.in_ok-take_record-in-Ok-Some.field-0) c.records.invariant.conf c.in_ok-take_record-in-Ok-Some.ensures.taken)
+    (subst (λ r. Rattle.directory.specs.inner.Steps.IsTaken (outcome r c.args.mode c.records.dir.entries (reading c.args.mode c.in-Ok-Some.raw.first c.in-Ok-Some.raw.lines)) c.args.go_on c.in-Ok-Some.raw.line c.take_record.new.dir.entries c.records.tally c.take_record.new.tally (g.W.Sink.written c.records.sink) (g.W.Sink.written c.take_record.new.sink) c.in_ok-take_record-in-Ok-Some.field-0) c.records.invariant.conf c.in_ok-take_record-in-Ok-Some.ensures.taken)
     c.if-branch.true
 
 pub records-preserved : goal.records-preserved
@@ -60,12 +63,16 @@ records-preserved g c = record {
       (records_left g.S.Source.seen c.args.reader.now) (records_left g.S.Source.seen c.records.reader) (records_left g.S.Source.seen c.next.new.self)
       c.records.tally c.take_record.new.tally
       (g.W.Sink.written c.args.sink.now) (g.W.Sink.written c.records.sink) (g.W.Sink.written c.take_record.new.sink)
-      (view c.in-Ok-Some.raw) c.records.invariant.stands (subst (λ o. IfSome o (λ r. Takes (records_left g.S.Source.seen c.records.reader) (records_left g.S.Source.seen c.next.new.self) (view r ∷ []))) c.in-Ok-Some.field-0-is c.in-Ok-Some.ensures.record)
+      (view c.in-Ok-Some.raw) (TookBeforeEnd g.S.Source.seen c.args.reader.now c.records.reader) c.records.invariant.stands (subst (λ o. IfSome o (λ r. Takes (records_left g.S.Source.seen c.records.reader) (records_left g.S.Source.seen c.next.new.self) (view r ∷ []))) c.in-Ok-Some.field-0-is c.in-Ok-Some.ensures.record)
+      (TookBeforeEnd g.S.Source.seen c.args.reader.now c.reuse.new.self)
+      (took_next g.S.Source.seen c.args.reader.now c.records.reader c.next.new.self c.reuse.new.self (view c.in-Ok-Some.raw)
+      (subst (λ o. IfSome o (λ r. TakesBlock g.S.Source.seen c.records.reader c.next.new.self (view r) ⊎ TakesRest g.S.Source.seen c.records.reader c.next.new.self (view r ∷ []))) c.in-Ok-Some.field-0-is c.in-Ok-Some.ensures.took)
+      (record { source = c.reuse.ensures.source; number = c.reuse.ensures.place.0; first = c.reuse.ensures.place.1; unread = c.reuse.ensures.place.2; ended = c.reuse.ensures.place.3 }))
       c.in_ok-take_record-in-Ok-Some.field-0
-      (subst (λ r. Rattle.directory.specs.inner.Steps.IsTaken (outcome r c.args.mode c.records.dir.entries (reading c.args.mode c.in-Ok-Some.raw.first (texts c.in-Ok-Some.raw.lines.items))) c.args.go_on c.in-Ok-Some.raw.line c.take_record.new.dir.entries c.records.tally c.take_record.new.tally (g.W.Sink.written c.records.sink) (g.W.Sink.written c.take_record.new.sink) c.in_ok-take_record-in-Ok-Some.field-0) c.records.invariant.conf c.in_ok-take_record-in-Ok-Some.ensures.taken)
+      (subst (λ r. Rattle.directory.specs.inner.Steps.IsTaken (outcome r c.args.mode c.records.dir.entries (reading c.args.mode c.in-Ok-Some.raw.first c.in-Ok-Some.raw.lines)) c.args.go_on c.in-Ok-Some.raw.line c.take_record.new.dir.entries c.records.tally c.take_record.new.tally (g.W.Sink.written c.records.sink) (g.W.Sink.written c.take_record.new.sink) c.in_ok-take_record-in-Ok-Some.field-0) c.records.invariant.conf c.in_ok-take_record-in-Ok-Some.ensures.taken)
       c.if-branch.false);
   few =
-      let one = counts_few (outcome c.records.dir.conf c.args.mode c.records.dir.entries (reading c.args.mode c.in-Ok-Some.raw.first (texts c.in-Ok-Some.raw.lines.items))).1 c.records.tally in
+      let one = counts_few (outcome c.records.dir.conf c.args.mode c.records.dir.entries (reading c.args.mode c.in-Ok-Some.raw.first c.in-Ok-Some.raw.lines)).1 c.records.tally in
       let accepted = ap (λ (x : Rattle.directory.specs.declared.runs.Tally.Tally). x.accepted) c.in_ok-take_record-in-Ok-Some.ensures.taken.counts in
       let refused = ap (λ (x : Rattle.directory.specs.declared.runs.Tally.Tally). x.refused) c.in_ok-take_record-in-Ok-Some.ensures.taken.counts in
       let falls = subst (λ o. IfSome o (λ _. bytes_left g.S.Source.seen c.next.new.self < bytes_left g.S.Source.seen c.records.reader)) c.in-Ok-Some.field-0-is c.in-Ok-Some.ensures.falls in
@@ -88,13 +95,16 @@ returns-in-Err-OutOfMemory-clause-gave g c = gave_more _ _ _ c.records.invariant
 
 pub returns-in-Err-OutOfMemory-clause-runs : goal.returns-in-Err-OutOfMemory-clause-runs
 returns-in-Err-OutOfMemory-clause-runs g c =
-    stops_wanting c.args.dir.now.conf c.args.mode c.args.go_on c.args.dir.now.entries c.records.dir.entries (records_left g.S.Source.seen c.args.reader.now) (records_left g.S.Source.seen c.records.reader) c.records.tally (g.W.Sink.written c.args.sink.now) (g.W.Sink.written c.records.sink) c.records.invariant.stands
+    stops_wanting c.args.dir.now.conf c.args.mode c.args.go_on c.args.dir.now.entries c.records.dir.entries (records_left g.S.Source.seen c.args.reader.now) (records_left g.S.Source.seen c.records.reader) c.records.tally (g.W.Sink.written c.args.sink.now) (g.W.Sink.written c.records.sink) (TookBeforeEnd g.S.Source.seen c.args.reader.now c.records.reader) c.records.invariant.stands
 
-pub returns-in-Err : goal.returns-in-Err
-returns-in-Err g c = record {
-  same_loan = c.in-Err.ensures.same_loan ∙ c.records.invariant.same_loan;
-  same_conf = c.records.invariant.conf;
-  runs = stops_reading c.args.dir.now.conf c.args.mode c.args.go_on c.args.dir.now.entries c.records.dir.entries (records_left g.S.Source.seen c.args.reader.now) (records_left g.S.Source.seen c.records.reader) c.records.tally (g.W.Sink.written c.args.sink.now) (g.W.Sink.written c.records.sink) c.records.invariant.stands;
-  failures = search rules;
-  gave = gave_more _ _ _ c.records.invariant.gave c.in-Err.ensures.gave;
-}
+pub returns-in-Err-Device-clause-gave : goal.returns-in-Err-Device-clause-gave
+returns-in-Err-Device-clause-gave g c = gave_more _ _ _ c.records.invariant.gave c.in-Err-Device.ensures.gave
+
+pub returns-in-Err-Device-clause-runs : goal.returns-in-Err-Device-clause-runs
+returns-in-Err-Device-clause-runs g c =
+    stops_reading c.args.dir.now.conf c.args.mode c.args.go_on c.args.dir.now.entries c.records.dir.entries (records_left g.S.Source.seen c.args.reader.now) (records_left g.S.Source.seen c.records.reader) c.records.tally (g.W.Sink.written c.args.sink.now) (g.W.Sink.written c.records.sink) (TookBeforeEnd g.S.Source.seen c.args.reader.now c.records.reader) c.records.invariant.stands
+
+pub returns-in-Err-Device-clause-read : goal.returns-in-Err-Device-clause-read
+returns-in-Err-Device-clause-read g c =
+    stops_up_to c.args.dir.now.conf c.args.mode c.args.go_on c.args.dir.now.entries c.records.dir.entries (records_left g.S.Source.seen c.args.reader.now) (records_left g.S.Source.seen c.records.reader) c.records.tally (g.W.Sink.written c.args.sink.now) (g.W.Sink.written c.records.sink) (TookBeforeEnd g.S.Source.seen c.args.reader.now c.records.reader) c.records.invariant.stands
+    (closed_with c.args.reader.now) (g.S.Source.seen (source_of c.args.reader.now)) (g.S.Source.seen (source_of c.next.new.self)) (up_to g.S.Source.seen c.args.reader.now c.records.reader c.next.new.self (c.in-Err-Device.ensures.breaks (cc)))

@@ -1,9 +1,11 @@
-use Rattle.std.proofs.Common.{◌≡◌, drop}
+use Rattle.std.proofs.Common.{◌≡◌, length}
 use Rattle.base.specs.Answers.{each}
-use Rattle.ldif.specs.Reading.{texts}
 use Rattle.ldif.specs.Reading.{content_line}
 use Rattle.base.proofs.Each.{with_front}
 use Rattle.ldif.proofs.attributes.contents_of.Given as goal
 
-abbrev pub invariant-loop-line : goal.invariant-loop-line
-invariant-loop-line l = with_front l.attrs.items (each content_line (texts (drop l.line-index l.lines))) ≡ each content_line (texts l.lines)
+abbrev pub invariant-walk : goal.invariant-walk
+invariant-walk l = with_front l.attrs.items (each content_line l.rest) ≡ each content_line l.fn.lines
+
+abbrev pub decreases-walk : goal.decreases-walk
+decreases-walk l = length l.rest

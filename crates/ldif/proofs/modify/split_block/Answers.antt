@@ -1,24 +1,32 @@
-use Rattle.std.proofs.Common.{◌≡◌, ℕ, ◌+◌, ◌-◌, ◌∷◌, List, sym, ap, ◌∙◌, arith, get_or, drop, take, length, suc}
-use Rattle.std.proofs.lemmas.List.{take_all, length-drop}
-use Rattle.std.specs.Global.{Vec}
-use Rattle.ldif.specs.Reading.{texts, blocks, is_dash, items_of}
-use Rattle.ldif.proofs.Blocks.{blocks_at, blocks_none, none_left}
+use Rattle.std.proofs.Common.{◌≡◌, ℕ, ◌∷◌, ◌++◌, List, [], take, sym, ap, ◌∙◌}
+use Rattle.std.proofs.lemmas.List.{append-nil}
+use Rattle.ldif.specs.Reading.{blocks}
+use Rattle.ldif.proofs.Blocks.{blocks_at, blocks_none, plain_push, take_push, rest_push, within_push}
 use Rattle.ldif.proofs.modify.split_block.Goals as goal
 
 pub returns-then-is_dash-clause-parts : goal.returns-then-is_dash-clause-parts
 returns-then-is_dash-clause-parts c =
-    let xs = c.args.lines.now in
-    let i = c.loop-at.at in
-    let v = c.index-lines-at.result in
-    let line : c.deref.result.now ≡ items_of (get_or xs i v) = c.deref.ensures.value ∙ ap items_of c.index-lines-at.is in
-    let e : suc i ≡ i + 1 = omega arith in
-    let whole : drop (i + 1) xs ≡ take (length xs - (i + 1)) (drop (i + 1) xs) = sym (take_all (length xs - (i + 1)) (drop (i + 1) xs) (omega (arith, length-drop (i + 1) xs))) in
-    blocks_at xs i v c.loop-at-test.true c.loop-at.invariant (sym (ap is_dash line) ∙ sym c.is_dash.ensures ∙ c.if-is_dash.true)
-    ∙ ap (λ (k : ℕ). texts (take i xs) ∷ blocks (texts (drop k xs))) e
-    ∙ ap (λ (r : List (Vec ℕ)). texts (take i xs) ∷ blocks (texts r)) whole
+    let ls = c.args.lines.now in
+    let front = take c.walk.len ls in
+    let cut : ls ≡ front ++ c.in-Some.line.now ∷ c.in-Some.after = c.walk.invariant.parts ∙ ap (λ (r : List (List ℕ)). front ++ r) c.in-Some.ensures in
+    ap blocks cut
+    ∙ blocks_at front c.in-Some.line.now c.in-Some.after c.walk.invariant.plain (sym c.is_dash.ensures ∙ c.if-is_dash.true)
+    ∙ ap (λ (f : List (List ℕ)). f ∷ blocks c.in-Some.after) (sym c.front.ensures)
+
+pub walk-preserved : goal.walk-preserved
+walk-preserved c =
+    let ls = c.args.lines.now in
+    let front = take c.walk.len ls in
+    let cut : ls ≡ front ++ c.in-Some.line.now ∷ c.in-Some.after = c.walk.invariant.parts ∙ ap (λ (r : List (List ℕ)). front ++ r) c.in-Some.ensures in
+    record {
+      parts = rest_push c.walk.len ls _ _ c.walk.invariant.within cut;
+      within = within_push c.walk.len ls _ _ c.walk.invariant.within cut;
+      plain = rw (take_push c.walk.len ls _ _ c.walk.invariant.within cut) (plain_push front _ c.walk.invariant.plain (sym c.is_dash.ensures ∙ c.if-is_dash.false));
+    }
 
 pub returns-clause-parts : goal.returns-clause-parts
 returns-clause-parts c =
-    let xs = c.args.lines.now in
-    blocks_none xs c.requires (λ k d lt. c.loop-at.invariant k d (omega arith))
-    ∙ ap (λ (r : List (List (List ℕ))). texts xs ∷ r) (none_left xs (length xs - length xs))
+    let ls = c.args.lines.now in
+    let front = take c.walk.len ls in
+    let whole : ls ≡ front = c.walk.invariant.parts ∙ ap (λ (r : List (List ℕ)). front ++ r) c.in_default.ensures ∙ append-nil front in
+    ap blocks whole ∙ blocks_none front (rw (← whole) c.requires) c.walk.invariant.plain ∙ ap (λ (f : List (List ℕ)). f ∷ blocks []) (sym c.front-2.ensures) ∙ ap (λ (r : List (List ℕ)). c.front-2.result ∷ blocks r) (sym c.in_default.ensures)

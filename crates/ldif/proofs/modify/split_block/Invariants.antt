@@ -1,7 +1,13 @@
-use Rattle.std.proofs.Common.{◌≡◌, ℕ, ◌<◌, get_or, false}
-use Rattle.std.specs.Global.{Vec}
-use Rattle.ldif.specs.Reading.{is_dash, items_of}
+use Rattle.std.proofs.Common.{◌≡◌, ◌≤◌, ◌++◌, length, take}
+use Rattle.ldif.proofs.Blocks.{ArePlain}
 use Rattle.ldif.proofs.modify.split_block.Given as goal
 
-abbrev pub invariant-loop-at : goal.invariant-loop-at
-invariant-loop-at l = (k : ℕ) (d : Vec ℕ) → k < l.at → is_dash (items_of (get_or l.lines k d)) ≡ false
+abbrev pub invariant-walk : goal.invariant-walk
+invariant-walk l = record {
+  parts : l.lines ≡ take l.len l.lines ++ l.rest;
+  within : l.len ≤ length l.lines;
+  plain : ArePlain (take l.len l.lines);
+}
+
+abbrev pub decreases-walk : goal.decreases-walk
+decreases-walk l = length l.rest

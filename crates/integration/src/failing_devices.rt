@@ -1,0 +1,386 @@
+//! Runs, loads and dumps over sources and sinks that fail behind each number of bytes, and over each beginning of a text.
+
+use crate::runs::{ROOT, dump_of, loaded, loaded_under};
+use device::{TrySink, TrySource};
+use directory::{Directory, LoadFault, RunFault, Tally, load, run};
+use ldif::{Mode, WriteFault};
+use schema::{Conf, ConfFault, read_conf};
+use std::alloc::{AllocError, Global};
+use std::process::Abort;
+use std::test::Fail;
+
+// the record on line 4 is refused
+const TEXT: &str =
+    "dn: cn=x,dc=ex\nobjectClass: person\n\ndn: cn=y,cn=no,dc=ex\nobjectClass: person\n\ndn: cn=z,dc=ex\nobjectClass: person\n";
+
+const REPORT: &str = "line 4: 32 noSuchObject\n";
+
+const X: &str = "dn: cn=x,dc=ex\nobjectClass: person\ncn: x\n\n";
+
+const Z: &str = "dn: cn=z,dc=ex\nobjectClass: person\ncn: z\n\n";
+
+/// The outcome of a run on the suffix's entry that goes on, by one byte a call, and its report with the dump behind it.
+fn run_by_bytes(
+    alloc: Global,
+    source_limit: Option<usize>,
+    sink_limit: Option<usize>,
+) -> Result<(Result<Tally, RunFault>, Vec<u8>), Fail> {
+    let mut dir = loaded(alloc, ROOT)?;
+    let mut source = TrySource::new(TEXT.as_bytes(), 1, source_limit);
+    let mut sink = TrySink::new(alloc, 1, sink_limit);
+    let outcome = run(alloc, &mut dir, &mut source, &mut sink, Mode::Content, true);
+    let mut left = Vec::from_slice(alloc, sink.bytes())?;
+    left.extend_from_slice(&dump_of(alloc, &dir)?)?;
+    Ok((outcome, left))
+}
+
+/// The first bytes of the report, and the dump of the suffix's entry and those that were accepted.
+fn left(alloc: Global, written: usize, accepted: u64) -> Result<String, AllocError> {
+    let report = REPORT.get(..written).unwrap_or("");
+    let entries: &[&str] = match accepted {
+        0 => &[report, ROOT],
+        1 => &[report, ROOT, X],
+        _ => &[report, ROOT, X, Z],
+    };
+    entries.concat(alloc)
+}
+
+// what is accepted, refused and written where the source fails behind so many bytes: the last record has no empty line
+fn read_until(limit: usize) -> (Tally, usize) {
+    let (accepted, refused, written) = match limit {
+        0..36 => (0, 0, 0),
+        36..78 => (1, 0, 0),
+        _ => (1, 1, 24),
+    };
+    (Tally { accepted, refused }, written)
+}
+
+#[test]
+fn records_before_a_failed_read_are_carried_out(rt: HostRuntime) -> Result<(), Fail> {
+    for limit in 0..=TEXT.len() {
+        let (tally, written) = read_until(limit);
+        let (outcome, found) = run_by_bytes(rt.alloc(), Some(limit), None)?;
+        assert_eq!(rt; outcome, Err(RunFault::Read(tally)), "{limit}");
+        let want = left(rt.alloc(), written, tally.accepted)?;
+        assert_eq!(rt; found.as_slice(), want.as_bytes(), "{limit}");
+    }
+    Ok(())
+}
+
+// the outcome where the sink fails behind so many bytes, and what is accepted
+fn written_until(limit: usize) -> (Result<Tally, RunFault>, u64) {
+    if limit < 24 {
+        let tally = Tally {
+            accepted: 1,
+            refused: 1,
+        };
+        return (Err(RunFault::Write(tally)), 1);
+    }
+    let tally = Tally {
+        accepted: 2,
+        refused: 1,
+    };
+    (Ok(tally), 2)
+}
+
+#[test]
+fn records_before_a_failed_write_are_carried_out(rt: HostRuntime) -> Result<(), Fail> {
+    for limit in 0..27 {
+        let (want, accepted) = written_until(limit);
+        let (outcome, found) = run_by_bytes(rt.alloc(), None, Some(limit))?;
+        assert_eq!(rt; outcome, want, "{limit}");
+        let want = left(rt.alloc(), limit.min(24), accepted)?;
+        assert_eq!(rt; found.as_slice(), want.as_bytes(), "{limit}");
+    }
+    Ok(())
+}
+
+const CONF: &[u8] = b"suffix \"dc=ex\"
+attributetype ( 2.5.4.41 NAME 'name' EQUALITY caseIgnoreMatch SUBSTR caseIgnoreSubstringsMatch SYNTAX 1.3.6.1.4.1.1466.115.121.1.15{32768} )
+attributetype ( 2.5.4.3 NAME ( 'cn' 'commonName' ) SUP name )
+attributetype ( 0.9.2342.19200300.100.1.25 NAME ( 'dc' 'domainComponent' ) EQUALITY caseIgnoreIA5Match SUBSTR caseIgnoreIA5SubstringsMatch SYNTAX 1.3.6.1.4.1.1466.115.121.1.26 SINGLE-VALUE )
+attributetype ( 1.3.6.1.1.1.1.0 NAME 'uidNumber' EQUALITY integerMatch ORDERING integerOrderingMatch SYNTAX 1.3.6.1.4.1.1466.115.121.1.27 SINGLE-VALUE )
+attributetype ( 2.5.4.13 NAME 'description' EQUALITY caseIgnoreMatch SUBSTR caseIgnoreSubstringsMatch SYNTAX 1.3.6.1.4.1.1466.115.121.1.15 )
+";
+
+fn conf(alloc: Global) -> Result<Conf, ConfFault> {
+    read_conf(alloc, CONF)
+}
+
+const DUMP: &str =
+    "dn: dc=ex\nobjectClass: domain\ndc: ex\n\ndn: cn=aba,dc=ex\nobjectClass: person\ncn: aba\n\ndn: cn=abba,dc=ex\nobjectClass: person\ncn: abba\n\ndn: cn=abc bcd,dc=ex\nobjectClass: person\ncn: abc bcd\n\ndn: cn=Bob,dc=ex\nobjectClass: person\nuidNumber: 7\ncn: Bob\n\n";
+
+#[test]
+fn a_dump_breaks_off_where_its_sink_fails(rt: HostRuntime) -> Result<(), Fail> {
+    let dir = loaded_under(rt.alloc(), conf(rt.alloc())?, DUMP)?;
+    for limit in 0..DUMP.len() {
+        let mut sink = TrySink::new(rt.alloc(), 4, Some(limit));
+        assert_eq!(rt; dir.dump(rt.alloc(), &mut sink), Err(WriteFault::Device));
+        assert_eq!(rt; sink.bytes(), &DUMP.as_bytes()[..limit]);
+    }
+    assert_eq!(rt; dump_of(rt.alloc(), &dir)?.as_slice(), DUMP.as_bytes());
+    Ok(())
+}
+
+// what the beginnings of a text come to, from behind those of the row above up to this length
+type Beginnings = &'static [(usize, &'static str)];
+
+const LOADS: Beginnings = &[
+    (0, "0 entries"),
+    (2, "line 1: L6 colon missing"),
+    (4, "line 1: 32 noSuchObject"),
+    (6, "line 1: 34 invalidDNSyntax"),
+    (8, "line 1: 32 noSuchObject"),
+    (10, "line 1: 65 objectClassViolation"),
+    (21, "line 1: L6 colon missing"),
+    (23, "line 1: 21 invalidAttributeSyntax"),
+    (30, "1 entries"),
+    (32, "line 1: L6 colon missing"),
+    (35, "line 1: 19 constraintViolation"),
+    (38, "1 entries"),
+    (40, "line 5: L6 colon missing"),
+    (42, "line 5: 32 noSuchObject"),
+    (45, "line 5: 34 invalidDNSyntax"),
+    (48, "line 5: 32 noSuchObject"),
+    (51, "line 5: 34 invalidDNSyntax"),
+    (53, "line 5: 32 noSuchObject"),
+    (55, "line 5: 65 objectClassViolation"),
+    (66, "line 5: L6 colon missing"),
+    (68, "line 5: 21 invalidAttributeSyntax"),
+    (75, "2 entries"),
+    (77, "line 5: L6 colon missing"),
+    (79, "line 5: 21 invalidAttributeSyntax"),
+    (84, "2 entries"),
+    (86, "line 9: L6 colon missing"),
+    (88, "line 9: 32 noSuchObject"),
+    (91, "line 9: 34 invalidDNSyntax"),
+    (95, "line 9: 32 noSuchObject"),
+    (98, "line 9: 34 invalidDNSyntax"),
+    (100, "line 9: 32 noSuchObject"),
+    (102, "line 9: 65 objectClassViolation"),
+    (113, "line 9: L6 colon missing"),
+    (115, "line 9: 21 invalidAttributeSyntax"),
+    (122, "3 entries"),
+    (124, "line 9: L6 colon missing"),
+    (126, "line 9: 21 invalidAttributeSyntax"),
+    (132, "3 entries"),
+    (134, "line 13: L6 colon missing"),
+    (136, "line 13: 32 noSuchObject"),
+    (139, "line 13: 34 invalidDNSyntax"),
+    (146, "line 13: 32 noSuchObject"),
+    (149, "line 13: 34 invalidDNSyntax"),
+    (151, "line 13: 32 noSuchObject"),
+    (153, "line 13: 65 objectClassViolation"),
+    (164, "line 13: L6 colon missing"),
+    (166, "line 13: 21 invalidAttributeSyntax"),
+    (173, "4 entries"),
+    (175, "line 13: L6 colon missing"),
+    (177, "line 13: 21 invalidAttributeSyntax"),
+    (186, "4 entries"),
+    (188, "line 17: L6 colon missing"),
+    (190, "line 17: 32 noSuchObject"),
+    (193, "line 17: 34 invalidDNSyntax"),
+    (196, "line 17: 32 noSuchObject"),
+    (199, "line 17: 34 invalidDNSyntax"),
+    (201, "line 17: 32 noSuchObject"),
+    (203, "line 17: 65 objectClassViolation"),
+    (214, "line 17: L6 colon missing"),
+    (216, "line 17: 21 invalidAttributeSyntax"),
+    (223, "5 entries"),
+    (232, "line 17: L6 colon missing"),
+    (234, "line 17: 21 invalidAttributeSyntax"),
+    (236, "5 entries"),
+    (238, "line 17: L6 colon missing"),
+    (240, "line 17: 21 invalidAttributeSyntax"),
+    (245, "5 entries"),
+];
+
+fn load_text(alloc: Global, text: &[u8]) -> Result<String, Fail> {
+    let mut source = TrySource::new(text, 7, None);
+    match load(alloc, conf(alloc)?, &mut source) {
+        Ok(dir) => Ok(format!(in alloc; "{} entries", dir.tree().len())?),
+        Err(LoadFault::Refused { line, reason }) => Ok(format!(in alloc; "line {line}: {reason}")?),
+        Err(_) => Err(Fail::from("nothing fails")),
+    }
+}
+
+/// What becomes of a load of the first so many bytes.
+fn load_beginning(alloc: Global, len: usize) -> Result<String, Fail> {
+    match DUMP.as_bytes().get(..len) {
+        Some(text) => load_text(alloc, text),
+        None => Err(Fail::from("the text is longer")),
+    }
+}
+
+#[test]
+fn each_beginning_of_a_dump_loads_or_is_refused(rt: HostRuntime) -> Result<(), Fail> {
+    let mut from = 0usize;
+    for (last, want) in LOADS {
+        for len in from..=*last {
+            let found = load_beginning(rt.alloc(), len)?;
+            assert_eq!(rt; found.as_str(), *want, "{len}");
+        }
+        from = last.wrapping_add(1);
+    }
+    assert_eq!(rt; from, DUMP.len() + 1);
+    Ok(())
+}
+
+// a run, and what its beginnings come to: how many records are accepted and refused, and the report
+struct Row {
+    mode: Mode,
+    text: &'static str,
+    beginnings: Beginnings,
+    // what stands where one record is refused: the entries before the run, and what came by then
+    stands: &'static [&'static str],
+}
+
+const FOLDED: Row = Row {
+    mode: Mode::Content,
+    text: "dn: cn=a,dc=ex\n# note\n more\ncn: a\ndescription: fol\n ded\nobjectClass: person\n",
+    beginnings: &[
+        (0, "0 0 "),
+        (2, "0 1 line 1: L6 colon missing\n"),
+        (4, "0 1 line 1: 32 noSuchObject\n"),
+        (7, "0 1 line 1: 34 invalidDNSyntax\n"),
+        (8, "0 1 line 1: 32 noSuchObject\n"),
+        (11, "0 1 line 1: 34 invalidDNSyntax\n"),
+        (13, "0 1 line 1: 32 noSuchObject\n"),
+        (28, "0 1 line 1: 65 objectClassViolation\n"),
+        (30, "0 1 line 1: L6 colon missing\n"),
+        (32, "0 1 line 1: 21 invalidAttributeSyntax\n"),
+        (34, "0 1 line 1: 65 objectClassViolation\n"),
+        (45, "0 1 line 1: L6 colon missing\n"),
+        (47, "0 1 line 1: 21 invalidAttributeSyntax\n"),
+        (56, "0 1 line 1: 65 objectClassViolation\n"),
+        (67, "0 1 line 1: L6 colon missing\n"),
+        (69, "0 1 line 1: 21 invalidAttributeSyntax\n"),
+        (76, "1 0 "),
+    ],
+    stands: &[ROOT],
+};
+
+const MODIFIED: Row = Row {
+    mode: Mode::Changes { add: false },
+    text: "dn: cn=a b,dc=ex\nchangetype: modify\nadd: description\ndescription: x\n-\nadd: cn\ncn: A  b\n-\n",
+    beginnings: &[
+        (0, "0 0 "),
+        (2, "0 1 line 1: L6 colon missing\n"),
+        (17, "0 1 line 1: L11 changetype missing\n"),
+        (27, "0 1 line 1: L6 colon missing\n"),
+        (34, "0 1 line 1: L7 changetype unknown\n"),
+        (36, "1 0 "),
+        (39, "0 1 line 1: L6 colon missing\n"),
+        (51, "0 1 line 1: 17 undefinedAttributeType\n"),
+        (53, "0 1 line 1: 2 protocolError\n"),
+        (64, "0 1 line 1: L6 colon missing\n"),
+        (66, "0 1 line 1: 21 invalidAttributeSyntax\n"),
+        (70, "1 0 "),
+        (73, "0 1 line 1: L6 colon missing\n"),
+        (76, "0 1 line 1: 17 undefinedAttributeType\n"),
+        (78, "0 1 line 1: 2 protocolError\n"),
+        (80, "0 1 line 1: L6 colon missing\n"),
+        (82, "0 1 line 1: 21 invalidAttributeSyntax\n"),
+        (85, "1 0 "),
+        (89, "0 1 line 1: 20 attributeOrValueExists\n"),
+    ],
+    stands: &[
+        "dn: dc=ex\nobjectClass: domain\ndc: ex\n\ndn: cn=a b,dc=ex\nobjectClass: person\ncn: a b\n\n",
+    ],
+};
+
+const ENCODED: Row = Row {
+    mode: Mode::Content,
+    text: "dn: cn=x,dc=ex\nobjectClass: person\n\ndn: cn=y,dc=ex\nobjectClass: person\ncn:: YSA",
+    beginnings: &[
+        (0, "0 0 "),
+        (2, "0 1 line 1: L6 colon missing\n"),
+        (4, "0 1 line 1: 32 noSuchObject\n"),
+        (7, "0 1 line 1: 34 invalidDNSyntax\n"),
+        (8, "0 1 line 1: 32 noSuchObject\n"),
+        (11, "0 1 line 1: 34 invalidDNSyntax\n"),
+        (13, "0 1 line 1: 32 noSuchObject\n"),
+        (15, "0 1 line 1: 65 objectClassViolation\n"),
+        (26, "0 1 line 1: L6 colon missing\n"),
+        (28, "0 1 line 1: 21 invalidAttributeSyntax\n"),
+        (36, "1 0 "),
+        (38, "1 1 line 4: L6 colon missing\n"),
+        (40, "1 1 line 4: 32 noSuchObject\n"),
+        (43, "1 1 line 4: 34 invalidDNSyntax\n"),
+        (44, "1 1 line 4: 32 noSuchObject\n"),
+        (47, "1 1 line 4: 34 invalidDNSyntax\n"),
+        (49, "1 1 line 4: 32 noSuchObject\n"),
+        (51, "1 1 line 4: 65 objectClassViolation\n"),
+        (62, "1 1 line 4: L6 colon missing\n"),
+        (64, "1 1 line 4: 21 invalidAttributeSyntax\n"),
+        (71, "2 0 "),
+        (73, "1 1 line 4: L6 colon missing\n"),
+        (76, "1 1 line 4: 21 invalidAttributeSyntax\n"),
+        (79, "1 1 line 4: L4 base64\n"),
+    ],
+    stands: &[ROOT, X],
+};
+
+// whether the directory is as it was before the record that was refused, if one was
+fn is_kept(alloc: Global, row: &Row, tally: Tally, dir: &Directory) -> Result<bool, Fail> {
+    if tally.refused == 0 {
+        return Ok(true);
+    }
+    let Some(stands) = row.stands.get(..=tally.accepted as usize) else {
+        return Ok(false);
+    };
+    let want = stands.concat(alloc)?;
+    Ok(dump_of(alloc, dir)?.as_slice() == want.as_bytes())
+}
+
+/// How many were accepted, how many refused, and the report.
+fn told(alloc: Global, tally: Tally, report: &[u8]) -> Result<Vec<u8>, AllocError> {
+    let counts = format!(in alloc; "{} {} ", tally.accepted, tally.refused)?;
+    let mut told = Vec::from_slice(alloc, counts.as_bytes())?;
+    told.extend_from_slice(report)?;
+    Ok(told)
+}
+
+/// What becomes of a run of a text, on what stands before it.
+fn run_text(rt: &impl Abort, alloc: Global, row: &Row, text: &[u8]) -> Result<Vec<u8>, Fail> {
+    let [start, ..] = row.stands else {
+        return Err(Fail::from("something stands"));
+    };
+    let mut dir = loaded_under(alloc, conf(alloc)?, start)?;
+    let mut source = TrySource::new(text, 7, None);
+    let mut sink = TrySink::new(alloc, 8192, None);
+    let Ok(tally) = run(alloc, &mut dir, &mut source, &mut sink, row.mode, true) else {
+        return Err(Fail::from("nothing fails"));
+    };
+    assert!(rt; is_kept(alloc, row, tally, &dir)?, "{}", text.len());
+    Ok(told(alloc, tally, sink.bytes())?)
+}
+
+/// What becomes of a run of the first so many bytes.
+fn run_beginning(rt: &impl Abort, alloc: Global, row: &Row, len: usize) -> Result<Vec<u8>, Fail> {
+    match row.text.as_bytes().get(..len) {
+        Some(text) => run_text(rt, alloc, row, text),
+        None => Err(Fail::from("the text is longer")),
+    }
+}
+
+fn run_beginnings(rt: &impl Abort, alloc: Global, row: &Row) -> Result<(), Fail> {
+    let mut from = 0usize;
+    for (last, want) in row.beginnings {
+        for len in from..=*last {
+            let found = run_beginning(rt, alloc, row, len)?;
+            assert_eq!(rt; found.as_slice(), want.as_bytes(), "{len}");
+        }
+        from = last.wrapping_add(1);
+    }
+    assert_eq!(rt; from, row.text.len().wrapping_add(1));
+    Ok(())
+}
+
+#[test]
+fn each_beginning_of_a_text_runs_or_is_refused(rt: HostRuntime) -> Result<(), Fail> {
+    for row in [&FOLDED, &MODIFIED, &ENCODED] {
+        run_beginnings(&rt, rt.alloc(), row)?;
+    }
+    Ok(())
+}
