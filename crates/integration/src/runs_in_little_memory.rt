@@ -2,18 +2,18 @@
 
 use crate::runs::{ROOT, dump_of, loaded};
 use device::{TrySink, TrySource};
-use directory::{RunFault, Tally, run};
+use directory::{Directory, RunFault, Tally, run};
 use ldif::Mode;
 use reading_tests::spend;
 use std::alloc::{AllocError, Global};
 use std::process::Abort;
 use std::test::Fail;
 
-// a run, and what is left of it wherever it ends
+// a run, what is left of it wherever it ends, and that the records which it didn't count can be carried out then
 struct Row {
     mode: Mode,
     start: &'static str,
-    records: &'static str,
+    records: &'static [&'static str],
     // how many were accepted and refused after each record
     tallies: &'static [(u64, u64)],
     // a line for each refused record
@@ -32,7 +32,13 @@ const E: &str = "dn: cn=e,dc=ex\nobjectClass: person\ncn: e\n\n";
 const CONTENT: Row = Row {
     mode: Mode::Content,
     start: ROOT,
-    records: "dn: cn=a,dc=ex\nobjectClass: person\n\ndn: cn=b,cn=no,dc=ex\nobjectClass: person\n\ndn: cn=c,dc=ex\nobjectClass: person\n\ndn: cn=d,dc=ex\nobjectClass: person\ncn:: YSA\n\ndn: cn=e,dc=ex\nobjectClass: person\n",
+    records: &[
+        "dn: cn=a,dc=ex\nobjectClass: person\n\n",
+        "dn: cn=b,cn=no,dc=ex\nobjectClass: person\n\n",
+        "dn: cn=c,dc=ex\nobjectClass: person\n\n",
+        "dn: cn=d,dc=ex\nobjectClass: person\ncn:: YSA\n\n",
+        "dn: cn=e,dc=ex\nobjectClass: person\n",
+    ],
     tallies: &[(0, 0), (1, 0), (1, 1), (2, 1), (2, 2), (3, 2)],
     report: &["line 4: 32 noSuchObject\n", "line 10: L4 base64\n"],
     dumps: &[&[ROOT], &[ROOT, A], &[ROOT, A, C], &[ROOT, A, C, E]],
@@ -63,54 +69,18 @@ const C_MOVED: &str = "dn: cn=g,cn=d,dc=ex\nobjectClass: person\ncn: c\ncn: g\n\
 const CHANGES: Row = Row {
     mode: Mode::Changes { add: false },
     start: "dn: dc=ex\nobjectClass: domain\n\ndn: cn=a,dc=ex\nobjectClass: person\n\ndn: cn=b,dc=ex\nobjectClass: person\n\ndn: cn=c,cn=b,dc=ex\nobjectClass: person\n",
-    records: "dn: cn=d,dc=ex
-changetype: add
-objectClass: person
-
-dn: cn=e,cn=d,dc=ex
-changetype: add
-objectClass: person
-
-dn: cn=a,dc=ex
-changetype: modify
-add: description
-description: first
-description: a second one of more than a few bytes
--
-
-dn: cn=a,dc=ex
-changetype: modify
-delete: description
-description: FIRST
--
-
-dn: cn=b,dc=ex
-changetype: delete
-
-dn: cn=a,dc=ex
-changetype: modify
-replace: description
-description: third
-description: fourth
--
-
-dn: cn=e,cn=d,dc=ex
-changetype: modrdn
-newrdn: cn=f
-deleteoldrdn: 1
-
-dn: cn=c,cn=b,dc=ex
-changetype: modrdn
-newrdn: cn=g
-deleteoldrdn: 0
-newsuperior: cn=d,dc=ex
-
-dn: cn=b,dc=ex
-changetype: delete
-
-dn: cn=g,cn=d,dc=ex
-changetype: delete
-",
+    records: &[
+        "dn: cn=d,dc=ex\nchangetype: add\nobjectClass: person\n\n",
+        "dn: cn=e,cn=d,dc=ex\nchangetype: add\nobjectClass: person\n\n",
+        "dn: cn=a,dc=ex\nchangetype: modify\nadd: description\ndescription: first\ndescription: a second one of more than a few bytes\n-\n\n",
+        "dn: cn=a,dc=ex\nchangetype: modify\ndelete: description\ndescription: FIRST\n-\n\n",
+        "dn: cn=b,dc=ex\nchangetype: delete\n\n",
+        "dn: cn=a,dc=ex\nchangetype: modify\nreplace: description\ndescription: third\ndescription: fourth\n-\n\n",
+        "dn: cn=e,cn=d,dc=ex\nchangetype: modrdn\nnewrdn: cn=f\ndeleteoldrdn: 1\n\n",
+        "dn: cn=c,cn=b,dc=ex\nchangetype: modrdn\nnewrdn: cn=g\ndeleteoldrdn: 0\nnewsuperior: cn=d,dc=ex\n\n",
+        "dn: cn=b,dc=ex\nchangetype: delete\n\n",
+        "dn: cn=g,cn=d,dc=ex\nchangetype: delete\n",
+    ],
     tallies: &[
         (0, 0),
         (1, 0),
@@ -136,6 +106,60 @@ changetype: delete
         &[ROOT, A_REPLACED, B, D, E_RENAMED, C_MOVED],
         &[ROOT, A_REPLACED, D, E_RENAMED, C_MOVED],
         &[ROOT, A_REPLACED, D, E_RENAMED],
+    ],
+};
+
+const S: &str = "dn: cn=some longer name,dc=ex\nobjectClass: person\ncn: some longer name\n\n";
+
+const I_BELOW_S: &str =
+    "dn: cn=an inner one too,cn=some longer name,dc=ex\nobjectClass: person\ncn: an inner one too\n\n";
+
+const L_BELOW_S: &str =
+    "dn: cn=the lowest below,cn=an inner one too,cn=some longer name,dc=ex\nobjectClass: person\ncn: the lowest below\n\n";
+
+const R: &str = "dn: cn=any longer name,dc=ex\nobjectClass: person\ncn: any longer name\n\n";
+
+const I_BELOW_R: &str =
+    "dn: cn=an inner one too,cn=any longer name,dc=ex\nobjectClass: person\ncn: an inner one too\n\n";
+
+const L_BELOW_R: &str =
+    "dn: cn=the lowest below,cn=an inner one too,cn=any longer name,dc=ex\nobjectClass: person\ncn: the lowest below\n\n";
+
+const R_BELOW_B: &str =
+    "dn: cn=any longer name,cn=b,dc=ex\nobjectClass: person\ncn: any longer name\n\n";
+
+const I_BELOW_B: &str =
+    "dn: cn=an inner one too,cn=any longer name,cn=b,dc=ex\nobjectClass: person\ncn: an inner one too\n\n";
+
+const L_BELOW_B: &str =
+    "dn: cn=the lowest below,cn=an inner one too,cn=any longer name,cn=b,dc=ex\nobjectClass: person\ncn: the lowest below\n\n";
+
+const R_BELOW_C: &str =
+    "dn: cn=any longer name,cn=c,dc=ex\nobjectClass: person\ncn: any longer name\n\n";
+
+const I_BELOW_C: &str =
+    "dn: cn=an inner one too,cn=any longer name,cn=c,dc=ex\nobjectClass: person\ncn: an inner one too\n\n";
+
+const L_BELOW_C: &str =
+    "dn: cn=the lowest below,cn=an inner one too,cn=any longer name,cn=c,dc=ex\nobjectClass: person\ncn: the lowest below\n\n";
+
+// entries move with those below them; the record on line 6 is refused, since an entry can't stand below itself
+const MOVES: Row = Row {
+    mode: Mode::Changes { add: false },
+    start: "dn: dc=ex\nobjectClass: domain\n\ndn: cn=some longer name,dc=ex\nobjectClass: person\n\ndn: cn=an inner one too,cn=some longer name,dc=ex\nobjectClass: person\n\ndn: cn=the lowest below,cn=an inner one too,cn=some longer name,dc=ex\nobjectClass: person\n\ndn: cn=b,dc=ex\nobjectClass: person\n",
+    records: &[
+        "dn: cn=some longer name,dc=ex\nchangetype: modrdn\nnewrdn: cn=any longer name\ndeleteoldrdn: 1\n\n",
+        "dn: cn=b,dc=ex\nchangetype: modrdn\nnewrdn: cn=b\ndeleteoldrdn: 0\nnewsuperior: cn=b,dc=ex\n\n",
+        "dn: cn=any longer name,dc=ex\nchangetype: modrdn\nnewrdn: cn=any longer name\ndeleteoldrdn: 0\nnewsuperior: cn=b,dc=ex\n\n",
+        "dn: cn=b,dc=ex\nchangetype: modrdn\nnewrdn: cn=c\ndeleteoldrdn: 1\n",
+    ],
+    tallies: &[(0, 0), (1, 0), (1, 1), (2, 1), (3, 1)],
+    report: &["line 6: 53 unwillingToPerform\n"],
+    dumps: &[
+        &[ROOT, B, S, I_BELOW_S, L_BELOW_S],
+        &[ROOT, R, I_BELOW_R, L_BELOW_R, B],
+        &[ROOT, B, R_BELOW_B, I_BELOW_B, L_BELOW_B],
+        &[ROOT, C, R_BELOW_C, I_BELOW_C, L_BELOW_C],
     ],
 };
 
@@ -182,6 +206,21 @@ fn is_reported(
     is_report(alloc, row, refused - 1, report)
 }
 
+// carries out the records that a run didn't count
+fn carry_on(alloc: Global, row: &Row, tally: Tally, dir: &mut Directory) -> Result<(), Fail> {
+    let counted = tally.accepted.saturating_add(tally.refused) as usize;
+    let Some(left) = row.records.get(counted..) else {
+        return Err(Fail::from("there aren't so many records"));
+    };
+    let records = left.concat(alloc)?;
+    let mut source = TrySource::new(records.as_bytes(), 8192, None);
+    let mut sink = TrySink::new(alloc, 8192, None);
+    match run(alloc, dir, &mut source, &mut sink, row.mode, true) {
+        Ok(_) => Ok(()),
+        Err(_) => Err(Fail::from("nothing is refused any more")),
+    }
+}
+
 // a run with so many allocations before and behind it: whether it went through, and whether one of those was refused
 fn run_between(
     rt: &impl Abort,
@@ -191,7 +230,8 @@ fn run_between(
     behind: usize,
 ) -> Result<(bool, bool), Fail> {
     let mut dir = loaded(alloc, row.start)?;
-    let mut source = TrySource::new(row.records.as_bytes(), 8192, None);
+    let records = row.records.concat(alloc)?;
+    let mut source = TrySource::new(records.as_bytes(), 8192, None);
     let mut sink = TrySink::new(alloc, 8192, None);
     let met_before = spend(alloc, before);
     let outcome = run(alloc, &mut dir, &mut source, &mut sink, row.mode, true);
@@ -209,12 +249,16 @@ fn run_between(
         is_reported(alloc, row, tally.refused, whole, sink.bytes())?,
         "{tally:?}"
     );
+    carry_on(alloc, row, tally, &mut dir)?;
+    let last = dump_of(alloc, &dir)?;
+    let most = row.dumps.len().saturating_sub(1) as u64;
+    assert!(rt; is_dump(alloc, row, most, &last)?, "{tally:?}");
     Ok((whole, met))
 }
 
 #[test]
 fn a_run_leaves_what_it_counts(rt: HostRuntime) -> Result<(), Fail> {
-    for row in [&CONTENT, &CHANGES] {
+    for row in [&CONTENT, &CHANGES, &MOVES] {
         let (whole, met) = run_between(&rt, rt.alloc(), row, 0, 0)?;
         assert!(rt; whole && !met);
     }

@@ -1,8 +1,9 @@
 -- Worked examples of changes, by computation (RFC 4511, 4.6, 4.8 and 4.9).
-use Rattle.std.proofs.Common.{◌≡◌, ℕ, Bool, true, false, cond, List, [], ◌∷◌, ◌++◌, Option, Some, None, Result, Ok, Err, refl, ap, ◌∙◌, map, not, is_some, ◌&&◌}
-use Rattle.std.specs.Prelude.{codes, ⊤}
+use Rattle.std.proofs.Common.{◌≡◌, ℕ, Bool, true, false, cond, List, [], ◌∷◌, ◌++◌, Option, Some, None, Result, Ok, Err, refl, sym, ap, ◌∙◌, map, length, not, is_some, ◌&&◌}
+use Rattle.std.specs.Prelude.{codes, ⊤, T}
 use Rattle.std.specs.List.{list_any}
 use Rattle.std.specs.FinMap as finite
+use Rattle.std.specs.FinMap.Entries.{is_sorted, put}
 use Rattle.std.specs.Str.{is_utf8, chars}
 use lib.Utf8.{encode}
 use Rattle.ldif.specs.declared.record.Mod.{Mod}
@@ -33,12 +34,13 @@ use Rattle.dn.specs.Reading.{octets_from, trimmed, value_of, part_at, part_of, c
 use Rattle.paths.specs.Paths.{RdnKey, Path, path_cmp, begins}
 use Rattle.tree.specs.Entries.{Attribute, Attributes, EntryContent, push_value, with_rdn}
 use Rattle.tree.specs.Directories.{Entries}
-use Rattle.tree.specs.Changes.{Change, Put, Remove, Move, allowed}
+use Rattle.tree.specs.Changes.{Change, Put, Remove, Move, moved_path, moved_entries, moved, changed, allowed}
 use Rattle.tree.specs.Trees.{is_child, has_child}
 use Rattle.tree.specs.Modifies.{set_values, modify_at, modify_block, modify_entry, without_rdn, rename_entry}
 use Rattle.tree.specs.Deletes.{delete_at, delete}
 use Rattle.tree.specs.Renames.{rdn_in, same_path, renamed_to, rename_to, rename_below, rename_there}
 use Rattle.tree.specs.Operations.{change_of}
+use Rattle.tree.proofs.Order.{path_total}
 
 -- what a modify and a rename make of an entry
 unfoldable on_entries : ⊤
@@ -325,17 +327,23 @@ not_there = delete_seen (step (codes "c") ∷ [])
 
 -- ---- moving to an RDN below a path
 
-abbrev rename_where : Bool → Bool → Bool → Result Change Code → Result Change Code
-rename_where child inside there rest = cond child (Err result.NotAllowedOnNonLeaf) (cond inside (Err result.UnwillingToPerform) (cond (not there) (Err result.NoSuchObject) rest))
+abbrev rename_where : Bool → Bool → Result Change Code → Result Change Code
+rename_where inside there rest = cond inside (Err result.UnwillingToPerform) (cond (not there) (Err result.NoSuchObject) rest)
 
 -- b, with what a look at the other entries finds
-rename_b : (new : Rdn) (delete_old : Bool) (upper : Path) → rename_below conf four at_b (person_named (codes "b")) new delete_old upper ≡ rename_where false (begins at_b upper) (is_some (finite.find path_cmp upper in_order)) (rename_to conf four at_b (person_named (codes "b")) new delete_old (upper ++ rdn_key_of types new ∷ []))
+rename_b : (new : Rdn) (delete_old : Bool) (upper : Path) → rename_below conf four at_b (person_named (codes "b")) new delete_old upper ≡ rename_where (begins at_b upper) (is_some (finite.find path_cmp upper in_order)) (rename_to conf four at_b (person_named (codes "b")) new delete_old (upper ++ rdn_key_of types new ∷ []))
 rename_b new delete_old upper =
-    ap (λ b. rename_where b (begins at_b upper) (finite.contains_key four upper) (rename_to conf four at_b (person_named (codes "b")) new delete_old (upper ++ rdn_key_of types new ∷ []))) (children at_b)
-    ∙ ap (λ b. rename_where false (begins at_b upper) b (rename_to conf four at_b (person_named (codes "b")) new delete_old (upper ++ rdn_key_of types new ∷ []))) (stands upper)
+    ap (λ b. rename_where (begins at_b upper) b (rename_to conf four at_b (person_named (codes "b")) new delete_old (upper ++ rdn_key_of types new ∷ []))) (stands upper)
 
-with_a_child_stays : (new : Rdn) (delete_old : Bool) (upper : Path) → rename_below conf four at_a (person_named (codes "a")) new delete_old upper ≡ refused result.NotAllowedOnNonLeaf
-with_a_child_stays new delete_old upper = ap (λ b. rename_where b (begins at_a upper) (finite.contains_key four upper) (rename_to conf four at_a (person_named (codes "a")) new delete_old (upper ++ rdn_key_of types new ∷ []))) (children at_a)
+-- a, with what stands below it
+below_its_child : (new : Rdn) (delete_old : Bool) → rename_below conf four at_a (person_named (codes "a")) new delete_old at_c ≡ refused result.UnwillingToPerform
+below_its_child new delete_old = refl
+
+child_goes_along : moved_path at_a (step (codes "z") ∷ []) at_c ≡ step (codes "z") ∷ step (codes "c") ∷ []
+child_goes_along = refl
+
+other_stays : moved_path at_a (step (codes "z") ∷ []) at_b ≡ at_b
+other_stays = refl
 
 below_itself : (new : Rdn) (delete_old : Bool) → rename_below conf four at_b (person_named (codes "b")) new delete_old at_b ≡ refused result.UnwillingToPerform
 below_itself new delete_old = rename_b new delete_old at_b
@@ -357,6 +365,102 @@ name_taken new delete_old = ap (λ b. move_where b at_a new delete_old) (stands 
 comes_below : rename_below conf four at_b (person_named (codes "b")) ((1, codes "B") ∷ []) false at_a ≡ allowed (Move at_b (step (codes "a") ∷ step (codes "b") ∷ []) (named (codes "B") (person ∷ cn (codes "b") ∷ [])))
 unfolding on_entries rdn_key_of key_from put_pair
 comes_below = rename_b ((1, codes "B") ∷ []) false at_a ∙ ap (λ b. move_where b (step (codes "a") ∷ step (codes "b") ∷ []) ((1, codes "B") ∷ []) false) (stands (step (codes "a") ∷ step (codes "b") ∷ []))
+
+-- ---- moving with those below: the suffix's entry, aba, abba, abc bcd and Bob below it, and k below Bob
+
+abbrev at_aba : Path
+at_aba = step (codes "aba") ∷ []
+
+abbrev at_abba : Path
+at_abba = step (codes "abba") ∷ []
+
+abbrev at_abc : Path
+at_abc = step (codes "abc bcd") ∷ []
+
+abbrev at_bob : Path
+at_bob = step (codes "bob") ∷ []
+
+abbrev at_al : Path
+at_al = step (codes "al") ∷ []
+
+abbrev bob_below_aba : Path
+bob_below_aba = step (codes "aba") ∷ step (codes "bob") ∷ []
+
+abbrev k_below : Path → Path
+k_below p = p ++ step (codes "k") ∷ []
+
+abbrev numbered_seven : List ℕ → EntryContent
+numbered_seven value = named value (person ∷ with_values 4 (codes "7" ∷ []) ∷ cn value ∷ [])
+
+-- six things at the paths of a directory
+abbrev six_at : {X : Type 0} → Path → Path → X → X → X → X → X → X → List (Path × X)
+six_at p q ex aba abba abc at_p at_q = ([], ex) ∷ (at_aba, aba) ∷ (at_abba, abba) ∷ (at_abc, abc) ∷ (p, at_p) ∷ (q, at_q) ∷ []
+
+abbrev six_in_order : List (Path × EntryContent)
+six_in_order = six_at at_bob (k_below at_bob) (person_named (codes "ex")) (person_named (codes "aba")) (person_named (codes "abba")) (person_named (codes "abc bcd")) (numbered_seven (codes "Bob")) (person_named (codes "k"))
+
+abbrev six_numbers : List (Path × ℕ)
+six_numbers = six_at at_bob (k_below at_bob) 0 1 2 3 4 5
+
+six : Entries
+six = finite.from_sorted six_in_order
+
+six_stands : (p : Path) → finite.contains_key six p ≡ is_some (finite.find path_cmp p six_in_order)
+unfolding six
+six_stands p = ap is_some (finite.get-from_sorted path_cmp six_in_order p tt)
+
+abbrev bob_where : Bool → Path → Rdn → Bool → Result Change Code
+bob_where there q new delete_old = cond (not (same_path at_bob q) && there) (Err result.EntryAlreadyExists) (rename_entry types (numbered_seven (codes "Bob")) new delete_old >>= λ e. Ok (renamed_to at_bob q e))
+
+bob_gets_another_name : rename_below conf six at_bob (numbered_seven (codes "Bob")) ((1, codes "Al") ∷ []) true [] ≡ allowed (Move at_bob at_al (numbered_seven (codes "Al")))
+unfolding on_entries rdn_key_of key_from put_pair
+bob_gets_another_name =
+    ap (λ b. rename_where false b (rename_to conf six at_bob (numbered_seven (codes "Bob")) ((1, codes "Al") ∷ []) true at_al)) (six_stands [])
+    ∙ ap (λ b. bob_where b at_al ((1, codes "Al") ∷ []) true) (six_stands at_al)
+
+bob_below_k : (new : Rdn) (delete_old : Bool) → rename_below conf six at_bob (numbered_seven (codes "Bob")) new delete_old (k_below at_bob) ≡ refused result.UnwillingToPerform
+bob_below_k new delete_old = refl
+
+bob_comes_below_aba : rename_below conf six at_bob (numbered_seven (codes "Bob")) ((1, codes "Bob") ∷ []) false at_aba ≡ allowed (Move at_bob bob_below_aba (numbered_seven (codes "Bob")))
+unfolding on_entries rdn_key_of key_from put_pair
+bob_comes_below_aba =
+    ap (λ b. rename_where false b (rename_to conf six at_bob (numbered_seven (codes "Bob")) ((1, codes "Bob") ∷ []) false bob_below_aba)) (six_stands at_aba)
+    ∙ ap (λ b. bob_where b bob_below_aba ((1, codes "Bob") ∷ []) false) (six_stands bob_below_aba)
+
+-- a list put into a map one by one, in the order of the map
+abbrev put_in : {X : Type 0} → List (Path × X) → List (Path × X)
+put_in [] = []
+put_in (e ∷ es) = put path_cmp e.0 e.1 (put_in es)
+
+nothing_in : {X : Type 0} → finite.entries (finite.empty {X = X} {R = path_cmp}) ≡ []
+nothing_in =
+    ap finite.entries (sym (finite.empty_of_len (finite.from_sorted []) (finite.len-entries (finite.from_sorted []) ∙ ap length (finite.entries-from_sorted path_cmp [] tt))))
+    ∙ finite.entries-from_sorted path_cmp [] tt
+
+shown : {X : Type 0} (es : List (Path × X)) → finite.entries (finite.from_entries {R = path_cmp} es) ≡ put_in es
+shown [] = nothing_in
+shown (e ∷ es) = finite.entries-insert path_total (finite.from_entries es) e.0 e.1 ∙ ap (put path_cmp e.0 e.1) (shown es)
+
+moved_shown : {X : Type 0} (from to : Path) (x : X) (es : List (Path × X)) → T (is_sorted path_cmp es) → finite.entries (finite.insert (moved from to (finite.from_sorted es)) to x) ≡ put path_cmp to x (put_in (moved_entries from to es))
+moved_shown from to x es rising =
+    finite.entries-insert path_total (moved from to (finite.from_sorted es)) to x
+    ∙ ap (put path_cmp to x) (shown (moved_entries from to (finite.entries (finite.from_sorted es))) ∙ ap (λ xs. put_in (moved_entries from to xs)) (finite.entries-from_sorted path_cmp es rising))
+
+-- the whole directory, in the order of the dump
+all_have_the_other_name : finite.entries (changed six (Move at_bob at_al (numbered_seven (codes "Al"))))
+    ≡ six_at at_al (k_below at_al) (person_named (codes "ex")) (person_named (codes "aba")) (person_named (codes "abba")) (person_named (codes "abc bcd")) (numbered_seven (codes "Al")) (person_named (codes "k"))
+unfolding six
+all_have_the_other_name = moved_shown at_bob at_al (numbered_seven (codes "Al")) six_in_order tt
+
+all_are_below_aba : finite.entries (changed six (Move at_bob bob_below_aba (numbered_seven (codes "Bob"))))
+    ≡ ([], person_named (codes "ex")) ∷ (at_aba, person_named (codes "aba")) ∷ (bob_below_aba, numbered_seven (codes "Bob")) ∷ (k_below bob_below_aba, person_named (codes "k")) ∷ (at_abba, person_named (codes "abba")) ∷ (at_abc, person_named (codes "abc bcd")) ∷ []
+unfolding six
+all_are_below_aba = moved_shown at_bob bob_below_aba (numbered_seven (codes "Bob")) six_in_order tt
+
+-- each with its number
+numbers_go_along : finite.entries (finite.insert (moved at_bob bob_below_aba (finite.from_sorted six_numbers)) bob_below_aba 4)
+    ≡ ([], 0) ∷ (at_aba, 1) ∷ (bob_below_aba, 4) ∷ (k_below bob_below_aba, 5) ∷ (at_abba, 2) ∷ (at_abc, 3) ∷ []
+numbers_go_along = moved_shown at_bob bob_below_aba 4 six_numbers tt
 
 -- ---- controls
 

@@ -1,24 +1,24 @@
--- A directory stays one when an entry that has no child is taken away, or moves.
-use Rattle.std.proofs.Common.{◌≡◌, ◌≢◌, ℕ, ◌+◌, ◌-◌, ◌≤◌, Bool, true, false, cond, not, List, [], ◌∷◌, ◌++◌, Some, None, refl, sym, ap, ◌∙◌, arith, length, Option, inl, inr, subst}
-use Rattle.std.specs.Prelude.{is_some, nat_le, ◌&&◌, ◌||◌, ◌==◌}
+-- A directory stays one when an entry that has no child is taken away.
+use Rattle.std.proofs.Common.{◌≡◌, ◌≢◌, ℕ, ◌+◌, ◌-◌, ◌≤◌, Bool, true, false, cond, List, [], ◌∷◌, ◌++◌, Some, None, refl, sym, ap, ◌∙◌, arith, length, Option, inl, inr, subst}
+use Rattle.std.specs.Prelude.{is_some, ◌&&◌, ◌||◌, ◌==◌}
 use Rattle.std.specs.Ordering.{eq_by_cmp, is_eq}
 use Rattle.std.specs.List.{list_any}
 use Rattle.std.specs.FinMap as finite
 use Rattle.std.proofs.lemmas.Cmp.{tied_itself}
-use Rattle.paths.specs.Paths.{RdnKey, Path, path_cmp, begins, parent_of}
+use Rattle.paths.specs.Paths.{RdnKey, Path, path_cmp, begins}
 use Rattle.schema.specs.Rdns.{rdn_key_of}
 use Rattle.schema.specs.Conf.{Conf}
 use Rattle.tree.specs.Entries.{EntryContent, IsGood}
 use Rattle.tree.specs.Directories.{Entries, IsDirectory}
-use Rattle.tree.specs.Changes.{MayStand, MayMove}
+use Rattle.tree.specs.Changes.{MayStand}
 use Rattle.tree.specs.Trees.{is_child, has_child}
-use Rattle.tree.proofs.Kept.{equal, put_kept}
+use Rattle.tree.proofs.Kept.{equal}
 use Rattle.tree.proofs.Order.{rdn_key_total, path_total, path_exact}
 use Rattle.tree.proofs.Numbered.{removed, inserted}
 
 -- ---- a child
 
-begins_more : (p q : Path) → begins p (p ++ q) ≡ true
+pub begins_more : (p q : Path) → begins p (p ++ q) ≡ true
 begins_more [] q = refl
 begins_more (x ∷ p) q = ap (λ o. is_eq o && begins p (p ++ q)) (tied_itself rdn_key_total x) ∙ begins_more p q
 
@@ -44,7 +44,7 @@ any_more : (f g : Path → Bool) → ((k : Path) → f k ≡ true → g k ≡ tr
 any_more f g more [] is = cc
 any_more f g more (k ∷ ks) is = any_step (f k) (g k) (list_any f ks) (list_any g ks) (more k) (any_more f g more ks) is
 
-child_seen : (d : Entries) (p : Path) (s : RdnKey) (x : EntryContent) → finite.get d (p ++ s ∷ []) ≡ Some x → has_child d p ≡ true
+pub child_seen : (d : Entries) (p : Path) (s : RdnKey) (x : EntryContent) → finite.get d (p ++ s ∷ []) ≡ Some x → has_child d p ≡ true
 child_seen d p s x is = any_more (eq_by_cmp path_cmp (p ++ s ∷ [])) (is_child p)
     (λ k tie. ap (is_child p) (sym (path_exact (p ++ s ∷ []) k (equal (path_cmp (p ++ s ∷ []) k) tie))) ∙ own_child p s)
     (finite.keys d) (sym (finite.contains_key-keys d (p ++ s ∷ [])) ∙ ap is_some is)
@@ -73,23 +73,9 @@ removed_kept conf d p h leaf = record {
   few = fewer (finite.contains_key d p) (finite.len d) (finite.len (finite.remove d p)) (finite.len-remove path_total d p) h.few;
 }
 
--- ---- one that moves
-
 pub begins_itself : (p : Path) → begins p p ≡ true
 begins_itself [] = refl
 begins_itself (x ∷ p) = ap (λ o. is_eq o && begins p p) (tied_itself rdn_key_total x) ∙ begins_itself p
-
-room_left : (n m : ℕ) → m ≡ n - 1 → n ≤ 4294967295 → nat_le 4294967295 m ≡ false
-room_left n m is le = grind (arith, is, le)
-
-pub moved_kept : (conf : Conf) (d : Entries) (from to : Path) (e : EntryContent) → IsDirectory conf d → has_child d from ≡ false → MayMove d from to → MayStand conf to e → IsDirectory conf (finite.insert (finite.remove d from) to e)
-moved_kept conf d from to e h leaf may fit =
-    let apart : parent_of to ≢ from = λ same. (let c : true ≡ false = sym (begins_itself from) ∙ ap (begins from) (sym same) ∙ may.apart in cc) in
-    put_kept conf (finite.remove d from) to e (removed_kept conf d from h leaf) (record {
-      stands = fit;
-      parent = λ i. not (may.below_root i) && not (other_stays d from (parent_of to) apart may.parent i);
-      room = room_left (finite.len d) (finite.len (finite.remove d from)) (finite.len-remove path_total d from ∙ ap (λ b. cond b (finite.len d - 1) (finite.len d)) may.there) h.few;
-    })
 
 -- ---- one in place of another
 
@@ -97,7 +83,7 @@ some_of : {A : Type 0} (o : Option A) → is_some o ≡ true → (a : A) × (o �
 some_of None h = cc
 some_of (Some a) h = (a, refl)
 
-put_there : (d : Entries) (p q : Path) (e : EntryContent) → finite.contains_key d q ≡ true → finite.contains_key (finite.insert d p e) q ≡ true
+pub put_there : (d : Entries) (p q : Path) (e : EntryContent) → finite.contains_key d q ≡ true → finite.contains_key (finite.insert d p e) q ≡ true
 put_there d p q e there =
     ap is_some (finite.get-insert path_total d p e q)
     ∙ elim (eq_by_cmp path_cmp q p) as (λ b. is_some (cond b (Some e) (finite.get d q)) ≡ true) [ true ↦ refl | false ↦ there ]

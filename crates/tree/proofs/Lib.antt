@@ -10,6 +10,9 @@ pub mod Stretch
 pub mod Numbered
 pub mod Carried
 pub mod Leaves
+pub mod Moved
+pub mod Moving
+pub mod Rekeyed
 pub mod Keeping
 pub mod TreeLemmas
 pub mod StoredLemmas

@@ -13,12 +13,13 @@ use Rattle.tree.specs.StoredEntries.{Entry, EntryAttribute, content_of, IsMade}
 use Rattle.tree.specs.Changes.{MayStand, MayMove}
 use Rattle.tree.specs.Modifies.{modify_entry, rename_entry, changed_to}
 use Rattle.tree.specs.Renames.{same_path}
-use Rattle.tree.specs.Trees.{Tree, has_child}
+use Rattle.tree.specs.Trees.{Tree}
 use Rattle.tree.specs.declared.plans.Change.TheVariants as changes
 use Rattle.tree.specs.inner.Plans.{IsChange}
 use Rattle.tree.proofs.Adding.{parent_is}
 use Rattle.tree.proofs.Kept.{equal, not_root}
-use Rattle.tree.proofs.Leaves.{moved_kept, replaced_kept}
+use Rattle.tree.proofs.Leaves.{replaced_kept}
+use Rattle.tree.proofs.Moved.{moved_kept}
 use Rattle.tree.proofs.Modified.{modify_keeps, rename_keeps}
 use Rattle.tree.proofs.Order.{path_exact}
 
@@ -95,9 +96,9 @@ module _ (t : Tree) (conf : Conf) (p to upper : Path) (old : EntryContent) (new 
         (subst (λ (y : Path). MayStand t.conf y (content_of out)) (sym (path_exact p to (equal (path_cmp p to) tie))) may_stand);
   }
 
-  pub moved_change : has_child t.entries p ≡ false → begins p upper ≡ false → finite.contains_key t.entries upper ≡ true → finite.contains_key t.entries to ≡ false → IsChange t (changes.Move p to out)
-  moved_change leaf apart above free = record {
+  pub moved_change : begins p upper ≡ false → finite.contains_key t.entries upper ≡ true → finite.contains_key t.entries to ≡ false → IsChange t (changes.Move p to out)
+  moved_change apart above free = record {
     fit = (ap is_some at, free, made_under t.conf conf out.attrs same made);
-    directory = moved_kept t.conf t.entries p to (content_of out) h leaf
+    directory = moved_kept t.conf t.entries p to (content_of out) h
         (moves t.entries p to upper (rdn_key_of conf.types new) place (ap is_some at) apart above) may_stand;
   }

@@ -2,4 +2,5 @@ pub mod Above
 pub mod StoredEntries
 pub mod Trees
 pub mod Plans
+pub mod Moves
 pub mod ValuesDrafts

@@ -13,9 +13,8 @@ ghost use Rattle.schema.specs.Rdns.{Rdn};
 ghost use Rattle.schema.specs.GoodRdns.{IsRdn};
 ghost use Rattle.tree.specs.Entries.{EntryContent, IsGood};
 ghost use Rattle.tree.specs.Directories.{Entries, IsDirectory, record_at};
-ghost use Rattle.tree.specs.Changes.{Change, changed, allowed, MayStand, MayMove};
+ghost use Rattle.tree.specs.Changes.{Change, Move, changed, allowed, MayStand, MayMove, IsMoved};
 ghost use Rattle.tree.specs.Trees.{has_child};
-ghost use Rattle.tree.specs.Plans.{Planned, KeepsNumbers};
 ghost use Rattle.tree.specs.Adds.{add, added, MayCome};
 ghost use Rattle.tree.specs.Modifies.{modify_entry, rename_entry, changed_to};
 
@@ -41,14 +40,14 @@ pub fn replacing_keeps_a_directory()
     ensures { (conf : Conf) (d : Entries) (p : Path) (e : EntryContent) → IsDirectory conf d → finite.contains_key d p ≡ true → MayStand conf p e → IsDirectory conf (finite.insert d p e) }
 {}
 
-/// A directory stays one when an entry that has no child moves to where it may.
+/// A directory stays one when an entry moves to where it may, with all below it.
 pub fn moving_keeps_a_directory()
-    ensures { (conf : Conf) (d : Entries) (from to : Path) (e : EntryContent) → IsDirectory conf d → has_child d from ≡ false → MayMove d from to → MayStand conf to e → IsDirectory conf (finite.insert (finite.remove d from) to e) }
+    ensures { (conf : Conf) (d : Entries) (from to : Path) (e : EntryContent) → IsDirectory conf d → MayMove d from to → MayStand conf to e → IsDirectory conf (changed d (Move from to e)) }
 {}
 
-/// The entry that changes has one number before and after, and all others keep theirs.
-pub fn plans_keep_numbers()
-    ensures { (p : Planned) → KeepsNumbers p }
+/// What a move leaves at each path: the entry at its new one, each other where its own leads, and nothing else.
+pub fn moving_takes_all_along()
+    ensures { (conf : Conf) (d : Entries) (from to : Path) (e : EntryContent) → IsDirectory conf d → finite.contains_key d to ≡ false → IsMoved d from to e (changed d (Move from to e)) }
 {}
 
 /// Loading what an entry is written as gives that entry again, wherever it may come.

@@ -11,6 +11,7 @@ mod entry_checks;
 mod laws;
 mod modified_values;
 mod modifies;
+mod moves;
 mod names;
 mod naming;
 mod plan_add;
@@ -29,7 +30,7 @@ mod values_draft;
 pub use entry::Entry;
 pub use laws::{
     adding_keeps_a_directory, an_entry_adds_itself, empty_is_a_directory, modifying_keeps_an_entry,
-    moving_keeps_a_directory, own_content_is_written, plans_keep_numbers,
+    moving_keeps_a_directory, moving_takes_all_along, own_content_is_written,
     removing_keeps_a_directory, renaming_keeps_an_entry, replacing_keeps_a_directory,
 };
 pub use names::Names;

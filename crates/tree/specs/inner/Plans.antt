@@ -1,6 +1,7 @@
 -- A change as a plan keeps it: values come with their normal forms, and a new entry is told from one in place of another.
-use Rattle.std.specs.Prelude.{◌≡◌, ℕ, true, false, Option}
+use Rattle.std.specs.Prelude.{◌≡◌, ℕ, true, false, Option, Some}
 use Rattle.std.specs.FinMap as finite
+use Rattle.paths.specs.Paths.{Path, begins}
 use Rattle.tree.specs.declared.plans.Change as stored
 use Rattle.tree.specs.declared.plans.Change.TheVariants as changes
 use Rattle.tree.specs.Directories.{IsDirectory}
@@ -32,7 +33,16 @@ pub record IsChange (d : Tree) (c : stored.Change) : Type 0 where
 abbrev pub planned : Tree → stored.Change → Planned
 planned d c = record { tree = d; change = seen_change c }
 
+-- nothing stands where an entry moves to, nor below
+abbrev pub IsSpare : Tree → stored.Change → Type 0
+IsSpare d changes.Nothing = Unit {0}
+IsSpare d (changes.Add path entry) = Unit {0}
+IsSpare d (changes.Replace path entry) = Unit {0}
+IsSpare d (changes.Remove path) = Unit {0}
+IsSpare d (changes.Move from to entry) = (q : Path) (n : ℕ) → finite.get d.numbers q ≡ Some n → begins to q ≡ false
+
 -- what a plan keeps
 pub record IsPlan (d : Tree) (c : stored.Change) (n : Option ℕ) : Type 0 where
   pub change : IsChange d c
+  pub spare : IsSpare d c
   pub number : n ≡ number_of (planned d c)

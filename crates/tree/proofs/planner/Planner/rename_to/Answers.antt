@@ -19,5 +19,5 @@ pub returns-else-eq-clause-change : goal.returns-else-eq-clause-change
 returns-else-eq-clause-change c =
     moved_change c.args.self.now.tree.now c.args.self.now.conf.now c.args.path c.in_ok-to.to c.args.upper.now (content_of c.args.entry.now) c.args.new c.args.delete_old c.in_ok-entry.entry
     c.args.self.now.same_conf c.is_directory.ensures c.requires.there c.requires.good c.in_ok-to.ensures c.in_ok-entry.ensures.made c.in_ok-entry.ensures.gives
-    c.requires.leaf c.requires.apart c.requires.upper
+    c.requires.apart c.requires.upper
     (ap (λ (b : Bool). not b && finite.contains_key c.args.self.now.tree.now.entries c.in_ok-to.to) (sym (sym c.eq.ensures ∙ c.if-eq.false)) ∙ sym c.is_taken.ensures ∙ c.if-is_taken.false)

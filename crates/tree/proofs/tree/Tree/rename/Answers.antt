@@ -1,23 +1,36 @@
-use Rattle.std.proofs.Common.{◌∙◌, sym, ap}
+use Rattle.std.proofs.Common.{◌≡◌, ◌∙◌, sym, true, false, subst}
+use Rattle.std.specs.Prelude.{OnOk}
 use Rattle.std.specs.FinMap as finite
+use Rattle.paths.specs.Paths.{begins}
+use Rattle.tree.specs.Directories.{Entries, IsDirectory}
 use Rattle.tree.specs.StoredEntries.{content_of}
-use Rattle.tree.proofs.Carried.{IsCarried, slot_there, move_done, number_is, no_number}
+use Rattle.tree.specs.Changes.{moved}
+use Rattle.tree.specs.Trees.{Numbers, number_at}
+use Rattle.tree.proofs.Moved.{spare_of, alone_of, of_numbers, alone_moved}
 use Rattle.tree.proofs.tree.Tree.rename.Goals as goal
+use Rattle.tree.proofs.tree.Tree.rename.Goals.{Else-has_child}
 
-pub replace-requires : goal.replace-requires
-replace-requires c = slot_there c.self.inside.made.value c.self.inside.slots.slots c.self.inside.slots.next c.self.inside.numbers.entries c.self.invariant c.args.self.now c.self.view_is c.args.from.now c.number_there-number.result c.number_there-number.ensures
+entries_alone : (c : Else-has_child) → finite.insert (moved c.args.from.now c.args.to c.args.self.now.entries) c.args.to (content_of c.args.entry) ≡ finite.insert (finite.remove c.args.self.now.entries c.args.from.now) c.args.to (content_of c.args.entry)
+entries_alone c =
+    alone_moved c.args.from.now c.args.to c.args.self.now.entries
+    (spare_of c.args.self.now.conf c.args.self.now.entries c.is_directory.ensures c.args.to c.requires.new)
+    (alone_of c.args.self.now.conf c.args.self.now.entries c.is_directory.ensures c.args.from.now (sym c.has_child.ensures ∙ c.if-has_child.false))
+    (content_of c.args.entry)
 
-carried : (c : goal.After-drop-2) → IsCarried c.self.inside.made.value c.replace.new.self.slots c.remove.new.self.entries (finite.insert (finite.remove c.args.self.now.entries c.args.from.now) c.args.to (content_of c.args.entry)) (finite.insert (finite.remove c.args.self.now.numbers c.args.from.now) c.args.to c.number_there-number.result)
-carried c =
-    move_done c.self.inside.made.value c.self.inside.slots.slots c.self.inside.slots.next c.self.inside.numbers.entries c.self.invariant c.replace.new.self.slots c.args.from.now c.args.to c.number_there-number.result c.args.entry
-    c.replace.ensures.set c.replace.ensures.taken _ _ c.in_ok-insert.ensures.entries c.remove.ensures.entries
-    c.args.self.now c.self.view_is c.number_there-number.ensures (no_number c.args.self.now c.is_numbered.ensures c.args.to c.requires.new) c.requires.made c.requires.directory
+numbers_alone : (c : Else-has_child) → finite.insert (moved c.args.from.now c.args.to c.args.self.now.numbers) c.args.to (number_at c.args.self.now c.args.from.now) ≡ finite.insert (finite.remove c.args.self.now.numbers c.args.from.now) c.args.to (number_at c.args.self.now c.args.from.now)
+numbers_alone c =
+    alone_moved c.args.from.now c.args.to c.args.self.now.numbers
+    (of_numbers c.args.self.now.entries c.args.self.now.numbers c.is_numbered.ensures (λ p. begins c.args.to p ≡ false)
+    (spare_of c.args.self.now.conf c.args.self.now.entries c.is_directory.ensures c.args.to c.requires.new))
+    (of_numbers c.args.self.now.entries c.args.self.now.numbers c.is_numbered.ensures (λ p. begins c.args.from.now p ≡ true → p ≡ c.args.from.now)
+    (alone_of c.args.self.now.conf c.args.self.now.entries c.is_directory.ensures c.args.from.now (sym c.has_child.ensures ∙ c.if-has_child.false)))
+    (number_at c.args.self.now c.args.from.now)
 
-pub invariant_of-self-2 : goal.invariant_of-self-2
-invariant_of-self-2 c = (carried c).kept
+pub rename_alone-requires-clause-directory : goal.rename_alone-requires-clause-directory
+rename_alone-requires-clause-directory c = subst (IsDirectory c.args.self.now.conf) (entries_alone (goal.at.rename_alone-requires-clause-directory c).Else-has_child) c.requires.directory
 
-pub returns-clause-entries : goal.returns-clause-entries
-returns-clause-entries c = (carried c).entries
+pub returns-else-has_child-clause-entries : goal.returns-else-has_child-clause-entries
+returns-else-has_child-clause-entries c = subst (λ (d : Entries). OnOk c.rename_alone.result (c.rename_alone.new.self.entries ≡ d)) (sym (entries_alone (goal.at.returns-else-has_child-clause-entries c).Else-has_child)) c.rename_alone.ensures.entries
 
-pub returns-clause-numbers : goal.returns-clause-numbers
-returns-clause-numbers c = (carried c).numbers ∙ ap (finite.insert (finite.remove c.args.self.now.numbers c.args.from.now) c.args.to) (sym (number_is c.args.self.now c.args.from.now c.number_there-number.result c.number_there-number.ensures))
+pub returns-else-has_child-clause-numbers : goal.returns-else-has_child-clause-numbers
+returns-else-has_child-clause-numbers c = subst (λ (m : Numbers). OnOk c.rename_alone.result (c.rename_alone.new.self.numbers ≡ m)) (sym (numbers_alone (goal.at.returns-else-has_child-clause-numbers c).Else-has_child)) c.rename_alone.ensures.numbers

@@ -1,0 +1,12 @@
+use Rattle.std.proofs.Common.{sym, subst}
+use Rattle.tree.specs.Trees.{Tree}
+use Rattle.tree.specs.inner.Plans.{IsPlan}
+use Rattle.tree.proofs.PlanLemmas.{spare}
+use Rattle.tree.proofs.plans.Plan.of.Goals as goal
+
+pub invariant_of-result : goal.invariant_of-result
+invariant_of-result c = subst (λ (d : Tree). IsPlan d c.args.change c.number_of-number.result) (sym c.of.ensures) (record {
+  change = c.requires;
+  spare = spare c.args.tree.now c.args.change c.is_directory.ensures c.is_numbered.ensures c.requires.fit;
+  number = c.number_of-number.ensures;
+})

@@ -1,0 +1,41 @@
+use Rattle.std.proofs.Common.{◌≡◌, ◌∙◌, ℕ, Some, sym, ap, false}
+use Rattle.std.specs.FinMap as finite
+use Rattle.paths.specs.Paths.{Path, begins}
+use Rattle.tree.specs.StoredEntries.{content_of}
+use Rattle.tree.specs.Changes.{moved}
+use Rattle.tree.specs.Trees.{Tree}
+use Rattle.tree.proofs.Carried.{IsCarried, slot_there, number_is}
+use Rattle.tree.proofs.Moved.{spare_of, of_numbers}
+use Rattle.tree.proofs.Rekeyed.{exchange_done}
+use Rattle.tree.proofs.tree.Tree.rename_all.Goals as goal
+use Rattle.tree.proofs.tree.Tree.rename_all.Goals.{After-is_numbered}
+
+-- nothing stands where the entry moves to, nor below
+spare : (c : After-is_numbered) → (q : Path) (n : ℕ) → finite.get c.args.self.now.numbers q ≡ Some n → begins c.args.to.now q ≡ false
+spare c = of_numbers c.args.self.now.entries c.args.self.now.numbers c.is_numbered.ensures (λ p. begins c.args.to.now p ≡ false) (spare_of c.args.self.now.conf c.args.self.now.entries c.is_directory.ensures c.args.to.now c.requires.new)
+
+pub move_numbers-requires-clause-sorted : goal.move_numbers-requires-clause-sorted
+move_numbers-requires-clause-sorted c = c.self.invariant.sorted
+
+pub move_numbers-requires-clause-spare : goal.move_numbers-requires-clause-spare
+move_numbers-requires-clause-spare c = λ q n at. spare (goal.at.move_numbers-requires-clause-spare c).After-is_numbered q n (sym (ap (λ (d : Tree). finite.get d.numbers q) c.self.view_is) ∙ at)
+
+pub replace-requires : goal.replace-requires
+replace-requires c = slot_there c.self.inside.made.value c.self.inside.slots.slots c.self.inside.slots.next c.self.inside.numbers.entries c.self.invariant c.args.self.now c.self.view_is c.args.from.now c.number_there-number.result c.number_there-number.ensures
+
+carried : (c : goal.After-drop-2) → IsCarried c.self.inside.made.value c.replace.new.self.slots c.move_numbers.new.numbers.entries (finite.insert (moved c.args.from.now c.args.to.now c.args.self.now.entries) c.args.to.now (content_of c.args.entry)) (finite.insert (moved c.args.from.now c.args.to.now c.args.self.now.numbers) c.args.to.now c.number_there-number.result)
+carried c =
+    exchange_done c.self.inside.made.value c.self.inside.slots.slots c.self.inside.slots.next c.self.inside.numbers.entries c.self.invariant c.replace.new.self.slots c.args.from.now c.args.to.now c.number_there-number.result c.args.entry
+    c.replace.ensures.set c.replace.ensures.taken c.move_numbers.new.numbers.entries c.move_numbers.ensures.sorted c.in_ok-move_numbers.ensures.moved
+    c.args.self.now c.self.view_is c.number_there-number.ensures
+    (of_numbers c.args.self.now.entries c.args.self.now.numbers c.is_numbered.ensures (λ p. begins c.args.to.now p ≡ false) (spare_of c.args.self.now.conf c.args.self.now.entries c.is_directory.ensures c.args.to.now c.requires.new))
+    c.requires.made c.requires.directory
+
+pub invariant_of-self-2 : goal.invariant_of-self-2
+invariant_of-self-2 c = (carried c).kept
+
+pub returns-clause-entries : goal.returns-clause-entries
+returns-clause-entries c = (carried c).entries
+
+pub returns-clause-numbers : goal.returns-clause-numbers
+returns-clause-numbers c = (carried c).numbers ∙ ap (finite.insert (moved c.args.from.now c.args.to.now c.args.self.now.numbers) c.args.to.now) (sym (number_is c.args.self.now c.args.from.now c.number_there-number.result c.number_there-number.ensures))
