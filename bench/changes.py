@@ -2,6 +2,8 @@
 """LDIF of changes, the same bytes for the same arguments, all of which apply.
 
 changes.py mixed COUNT < people.ldif       modify, add, delete and rename of people (people.py), in turn at random
+changes.py moves COUNT                     a unit of 12,500 people, of 100,000, moves below another unit and back again, so many times
+changes.py leaves COUNT < people.ldif      renames of so many people
 changes.py group                           a group of 100,000 members, as content
 changes.py add|delete|replace              50,000 of its members added, deleted or replaced, in one record
 changes.py blocks                          5,000 of them, added and deleted in turn, one to a block of one record
@@ -66,6 +68,21 @@ def mixed(count, text):
             yield rename(r, dn, number)
 
 
+def moves(count):
+    inside, outside = f"ou=Sales,ou=People,{SUFFIX}", f"ou=People,{SUFFIX}"
+    for number in range(count):
+        above, to = (outside, inside) if number % 2 == 0 else (inside, outside)
+        yield f"dn: ou=Engineering,{above}\nchangetype: modrdn\nnewrdn: ou=Engineering\ndeleteoldrdn: 0\nnewsuperior: {to}\n\n"
+
+
+def leaves(count, text):
+    r = random.Random(count)
+    names = people(text)
+    r.shuffle(names)
+    for number, dn in zip(range(count), names):
+        yield rename(r, dn, number)
+
+
 def member(number):
     return f"member: uid=user{number},ou=People,{SUFFIX}\n"
 
@@ -102,6 +119,10 @@ def records():
 def main(kind, count="0"):
     if kind == "mixed":
         texts = mixed(int(count), sys.stdin.read())
+    elif kind == "leaves":
+        texts = leaves(int(count), sys.stdin.read())
+    elif kind == "moves":
+        texts = moves(int(count))
     elif kind in ("add", "delete", "replace"):
         texts = in_one_block(kind)
     else:

@@ -1,10 +1,10 @@
 #!/bin/sh
 # Times ldapmodify: changes.sh PROGRAM
 #
-# On 100,000 people: 10,000 and 100,000 mixed changes. On a group of 100,000 members: 50,000 of them added, deleted and replaced in
-# one block, 5,000 in blocks of one value, 1,000 in records of one value. For each a line with its seconds, those of no change on the
-# same folder, and the first in times of the second: the best of three rounds, in turn. Nothing is stored. The status is 1 where a
-# record is refused, or where it takes more times than the last column says.
+# On 100,000 people: 10,000 and 100,000 mixed changes, 10,000 renames, and 1 and 100 moves of a unit with 12,500 people below it. On a
+# group of 100,000 members: 50,000 of them added, deleted and replaced in one block, 5,000 in blocks of one value, 1,000 in records of one
+# value. For each a line with its seconds, those of no change on the same folder, and the first in times of the second: the best of three
+# rounds, in turn. Nothing is stored. The status is 1 where a record is refused, or where it takes more times than the last column says.
 set -eu
 program=$(realpath "$1")
 here=$(dirname "$(realpath "$0")")
@@ -33,7 +33,8 @@ def seconds(folder, text):
     return time.monotonic() - start
 
 missed = 0
-for folder, kind, bar in [("people", "mixed 10000", 1.3), ("people", "mixed 100000", 3), ("group", "add", 3), ("group", "delete", 3),
+for folder, kind, bar in [("people", "mixed 10000", 1.3), ("people", "mixed 100000", 3), ("people", "leaves 10000", 1.15),
+                          ("people", "moves 1", 1.15), ("people", "moves 100", 7), ("group", "add", 3), ("group", "delete", 3),
                           ("group", "replace", 3), ("group", "blocks", 10), ("group", "records", 50)]:
     with open(f"{work}/text", "wb") as out, open(f"{work}/people.ldif", "rb") as people:
         subprocess.run(["python3", changes, *kind.split()], stdin=people, stdout=out, check=True)

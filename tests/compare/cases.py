@@ -90,13 +90,15 @@ class Records:
 
     def __init__(self, rng, config):
         self.rng, self.config = rng, config
-        self.names = []
+        self.names, self.is_deep = [], False
 
     def new_name(self):
         rng, config = self.rng, self.config
         if not self.names:
             return list(config.suffix)
         parent = rng.choice(self.names) if some(rng, .6) else self.names[0]
+        if self.is_deep and some(rng, .6):
+            parent = rng.choice(self.names[-3:])
         if len(parent) > 12:
             parent = self.names[0]
         kind = b"objectClass" if some(rng, .035) else rng.choice(config.types if some(rng, .05) else config.naming)
@@ -282,6 +284,11 @@ class Changes(Records):
         leaves = [path for path in paths if not self.directory.has_child(path)]
         return self.rng.choice(leaves if some(self.rng, leaf) else paths)
 
+    def some_parent(self):
+        """Of an entry below the suffix that has others below it, where there is one."""
+        parents = sorted({path[:-1] for path in self.directory.entries if len(path) > 1})
+        return self.rng.choice(parents) if parents else self.some_path()
+
     def dn_of(self, path, odd=.07):
         rng, name = self.rng, self.name_of(path) if path in self.directory.entries else self.config.suffix
         if some(rng, odd):
@@ -410,7 +417,9 @@ class Changes(Records):
 
     def renaming(self):
         rng, wild = self.rng, some(self.rng, .12)   # a wild one may break several rules at a time
-        path = self.some_path(.2 if wild else .6)
+        path = self.some_path(.2 if wild else .5)
+        if some(rng, .4):
+            path = self.some_parent()
         if path == () and not wild:         # the suffix keeps its name
             path = self.some_path(1)
         lines = self.begun(self.dn_of(path), rng.choice([b"modrdn", b"modrdn", b"moddn"]))
@@ -476,7 +485,7 @@ class Changes(Records):
 
     def record(self, first):
         rng = self.rng
-        kinds = [self.modification] * 40 + [self.renaming] * 25 + [self.deletion] * 8 + [self.addition] * 15 + \
+        kinds = [self.modification] * (5 if self.is_deep else 40) + [self.renaming] * (70 if self.is_deep else 25) + [self.deletion] * 8 + [self.addition] * 15 + \
             [self.odd_change] * 12
         lines = (self.addition if len(self.names) < 2 and some(rng, .6) else rng.choice(kinds))()
         if some(rng, .015):
@@ -631,7 +640,9 @@ def change_case(rng):
     """A directory, and changes for it."""
     config, add_default = Config(rng), some(rng, .3)
     changes = Changes(rng, config, add_default)
-    changes.fill(rng.choice([0, 1, 3, 6, 10]))
+    # long branches, of which whole ones move
+    changes.is_deep = some(rng, .3)
+    changes.fill(rng.choice([6, 10, 16] if changes.is_deep else [0, 1, 3, 6, 10]))
     data = changes.directory.dump() or rng.choice([None, b""])
     text = changes.text(rng.choice([1, 2, 4, 8, 12]))
     text = None if some(rng, .02) else mutated(rng, text) if some(rng, .1) else text

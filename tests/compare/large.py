@@ -69,11 +69,24 @@ def content():
     yield "an entry of 5,000 values", texts([SUFFIX, entry(b"cn=a,dc=ex", b"".join(b"sn: value %d\n" % number for number in range(5000)))])
 
 
+def added(name):
+    return b"dn: " + name + b"\nchangetype: add\nobjectClass: top\n"
+
+
+def moved(name, rdn, superior):
+    return b"dn: " + name + b"\nchangetype: modrdn\nnewrdn: " + rdn + b"\ndeleteoldrdn: 1\nnewsuperior: " + superior + b"\n"
+
+
 def changes():
     """-> (what it is, a text of change records over the suffix's entry)"""
     names = list(chain(40))
     tree = [b"dn: " + name + b"\nchangetype: add\nobjectClass: top\n" for name in names]
     yield "renames below 40 RDNs", texts(tree + [b"dn: " + names[-1] + b"\nchangetype: modrdn\nnewrdn: cn=" + b"x" * 100001 + b"\ndeleteoldrdn: 1\n"])
+    yield "a chain of 40 RDNs moves by its second", texts(tree + [moved(names[1], b"cn=moved", b"dc=ex"), moved(names[0], b"cn=up", b"cn=moved,dc=ex")])
+    below = [added(b"cn=top,dc=ex"), added(b"cn=side,dc=ex")] + [added(b"cn=%d,cn=top,dc=ex" % number) for number in range(3000)]
+    yield "3,000 entries move, and come back in another spelling", texts(below + [
+        moved(b"cn=top,dc=ex", b"cn=a", b"cn=side,dc=ex"), moved(b"cn=side,dc=ex", b"cn=z", b"dc=ex"), moved(b"cn=z,dc=ex", b"cn=y", b"cn=a,cn=z,dc=ex"),
+        moved(b"cn=A,cn=Z,dc=ex", b"cn=TOP", b"dc=ex"), moved(b"cn=7,cn=top,dc=ex", b"cn=seven", b"cn=8,cn=top,dc=ex")])
     yield "deletes from below", texts(tree + [b"dn: " + name + b"\nchangetype: delete\n" for name in reversed(names)])
     values = b"".join(b"sn: " + b"%d" % number * 9000 + b"\n" for number in range(100, 140))
     yield "values over 1 MiB in one record", texts([b"dn: dc=ex\nchangetype: modify\nadd: sn\n" + values + b"-\ndelete: sn\n" + values[:54010] + b"-\n"])

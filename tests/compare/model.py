@@ -211,14 +211,13 @@ class Directory:
             attributes.remove(number, value)
 
     def rename(self, dn, rename):
-        """Gives an entry another RDN, another parent, or both (RFC 4511, 4.9). Its new values come before the old ones go."""
+        """Gives an entry another RDN, another parent, or both (RFC 4511, 4.9), with all that stands below it. Its new values come
+        before the old ones go."""
         path, old, attributes = self.found(dn)
         if not path:
             raise Refused(53)
         new = self.read_rdn(rename.rdn)
         parent = path[:-1] if rename.superior is None else self.located(rename.superior)[1]
-        if self.has_child(path):
-            raise Refused(66)
         if parent[:len(path)] == path:
             raise Refused(53)
         if parent not in self.entries:
@@ -235,7 +234,9 @@ class Directory:
             if (pair[0], self.conf.normal(*pair)) not in moved[-1]:
                 attributes.remove(*pair)
         attributes.check()
-        del self.entries[path]
+        along = [other for other in self.entries if other[:len(path)] == path]
+        taken = {moved + other[len(path):]: self.entries.pop(other) for other in along}
+        self.entries.update(taken)
         self.entries[moved] = new, attributes
 
     def read_rdn(self, text):
