@@ -9,6 +9,7 @@ from typing import ClassVar, Optional
 
 import ldif
 import model
+import schema
 import values
 from configs import PAIRED, PLAIN_CONF, RULES, SUBSTRINGS, Config, definition, other_case, some, value
 from pieces import (
@@ -109,14 +110,31 @@ class Records:
 
     def attributes(self, most=3, wild=True):
         rng = self.rng
-        classes = [b"person", b"top", b"domain", b"2.5.6.6", b"a\x01", b"x\x7f", b"t%d" % rng.randrange(9)]
-        lines = [self.line(b"objectClass", rng.choice(classes), wild) for _ in range(rng.choice([1, 1, 1, 2]))]
+        lines = self.classes(wild)
         for _ in range(rng.randrange(most + 1)):
             kinds = self.config.types if some(rng, .1) else self.config.naming
             kind = rng.choice(self.config.named if self.config.named and some(rng, .2) else kinds)
             lines.append(self.line(kind, self.config.value(kind, .05 if wild else 0), wild))
         if some(rng, .3):
             rng.shuffle(lines)
+        return lines
+
+    def classes(self, wild):
+        """Values of objectClass, and mostly of the types that defined classes require."""
+        rng, config = self.rng, self.config
+        if not config.classes or some(rng, .05):
+            names = [b"person", b"top", b"domain", b"2.5.6.6", b"a\x01", b"x\x7f", b"t%d" % rng.randrange(9)]
+            return [self.line(b"objectClass", rng.choice(names), wild) for _ in range(rng.choice([1, 1, 1, 2]))]
+        picked = rng.sample(config.classes, min(len(config.classes), rng.choice([1, 1, 2, 3])))
+        if some(rng, .6) and config.classes[0] not in picked:
+            picked.append(config.classes[0])
+        names = [config.class_text(one) for one in picked]
+        if some(rng, .3):
+            names.append(rng.choice([b"top", b"extensibleObject", b"EXTENSIBLEobject", schema.BUILT_IN[2], b"2.5.6.0"]))
+        lines = [self.line(b"objectClass", name, wild) for name in names]
+        for kind in sorted({kind for one in picked for kind in one.must}):
+            if some(rng, .95):
+                lines.append(self.line(kind, config.value(kind, 0), wild))
         return lines
 
     def named(self, name, wild=True):
@@ -394,7 +412,8 @@ class Changes(Records):
     def new_value(self, number):
         name = self.directory.conf.types[number].printed()
         if number == model.OBJECT_CLASS:
-            return self.rng.choice([b"person", b"PERSON", b"top", b"2.5.6.6", b"a\x01", b"t%d" % self.rng.randrange(9)])
+            others = [self.config.class_text(one) for one in self.config.classes] * 3 + [b"extensibleObject"] * (self.config.classes != [])
+            return self.rng.choice(others + [b"person", b"PERSON", b"top", b"2.5.6.6", b"a\x01", b"t%d" % self.rng.randrange(9)])
         return self.config.value(name, .03)
 
     def new_values(self, word, there, number):

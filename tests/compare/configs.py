@@ -73,6 +73,13 @@ class Type:
         return self.family() is not None and self.kind() != "name"
 
 
+@dataclass
+class Class:
+    """An object class as it is defined: the ways to name it, and the types that it and those above it require."""
+    names: list
+    must: list
+
+
 def spelled(rng, value):
     """A value as it may stand in a name, with the escapes that it needs and some that it doesn't."""
     is_text, out = values.is_utf8(value), b""
@@ -112,6 +119,10 @@ class Config:
         if some(rng, .05):
             self.suffix[0] = [(b"objectClass", b"a.b")]
         self.lines = [b"attributetype " + kind.text for kind in self.kinds.values()]
+        # most entries name some of these, where there are any
+        self.classes = []
+        for serial in range(rng.choice([0, 0, 0, 1, 2, 3, 6])):
+            self.add_class(serial)
         if some(rng, .3):
             self.lines = [self.respelled(line) for line in self.lines]
         if some(rng, .2):
@@ -154,6 +165,28 @@ class Config:
             rng.shuffle(fields)
         printed = names[0] if names else oid
         self.kinds[printed] = Type(printed, names + [oid], syntax, rule, b"( " + oid + b" " + b" ".join(fields) + b" )")
+
+    def add_class(self, serial):
+        """An object class of its own, or below others. The first one takes most types."""
+        rng, oid = self.rng, b"8.%d" % serial
+        names = [b"class%d" % serial, b"Kind-%d" % serial][:rng.choice([0, 1, 1, 1, 2])] + [oid]
+        above = rng.sample(self.classes, min(len(self.classes), rng.choice([0, 1, 1, 2, 3])))
+        must = rng.sample(self.types, min(len(self.types), rng.choice([0, 0, 0, 1, 2])))
+        may = rng.sample(self.types, min(len(self.types), rng.choice([0, 1, 3, 6]) if serial else rng.choice([1, 50, 50])))
+        built_in = [] if some(rng, .5) else [rng.choice([b"top", b"TOP", b"2.5.6.0"])]
+        built_in += [rng.choice([b"extensibleObject", schema.BUILT_IN[2]])] if some(rng, .1) else []
+        fields = [b"NAME ( " + b" ".join(b"'" + name + b"'" for name in names[:-1]) + b" )"] if names[:-1] else []
+        for word, listed in ((b"SUP ", built_in + [rng.choice(one.names) for one in above]),
+                             (b"MUST ", [self.type_text(name) for name in must]), (b"MAY ", [self.type_text(name) for name in may])):
+            fields += [word + (listed[0] if len(listed) == 1 else b"( " + b" $ ".join(listed) + b" )")] if listed else []
+        fields += rng.choice([[], [], [b"STRUCTURAL"], [b"AUXILIARY"], [b"ABSTRACT"]])
+        rng.shuffle(fields)
+        self.lines.append(b"objectclass ( " + b" ".join([oid] + fields) + b" )")
+        self.classes.append(Class(names, must + [name for one in above for name in one.must]))
+
+    def class_text(self, one):
+        """One of the spellings of a class."""
+        return other_case(self.rng, self.rng.choice(one.names)) if some(self.rng, .2) else self.rng.choice(one.names)
 
     def word(self, name):
         """A value of a type that stands in a name."""

@@ -95,11 +95,20 @@ def changes():
 
 
 def confs():
-    """-> (what it is, a dir.conf)"""
-    yield "a dir.conf over 1 MiB", b"# " + b"c" * (1 << 20) + b"\n" + CONF
-    yield "a dir.conf over 1 MiB with a fault at its end", CONF + b"\n" * (1 << 20) + b"suffix 'dc=ex'\n"
-    yield "a line over 64 KiB", CONF + b"attributetype ( 1.4.1 NAME 'a' DESC '" + b"d" * 70000 + b"' SUP cn )\n"
-    yield "3,000 types", CONF + b"".join(b"attributetype ( 1.4.%d NAME 't%d' SUP cn )\n" % (number, number) for number in range(3000))
+    """-> (what it is, a dir.conf, the class of the suffix's entry)"""
+    yield "a dir.conf over 1 MiB", b"# " + b"c" * (1 << 20) + b"\n" + CONF, b"top"
+    yield "a dir.conf over 1 MiB with a fault at its end", CONF + b"\n" * (1 << 20) + b"suffix 'dc=ex'\n", b"top"
+    yield "a line over 64 KiB", CONF + b"attributetype ( 1.4.1 NAME 'a' DESC '" + b"d" * 70000 + b"' SUP cn )\n", b"top"
+    types = b"".join(b"attributetype ( 1.4.%d NAME 't%d' SUP cn )\n" % (number, number) for number in range(3000))
+    yield "3,000 types", CONF + types, b"top"
+    first = b"objectclass ( 1.5.0 NAME 'c0' SUP top MUST dc )\nobjectclass ( 1.5.1 NAME 'c1' SUP c0 MAY cn )\n"
+    lattice = first + b"".join(
+        b"objectclass ( 1.5.%d NAME 'c%d' SUP ( c%d $ c%d ) MAY ( cn $ sn ) )\n" % (number, number, number - 1, number - 2) for number in range(2, 10000))
+    yield "10,000 classes, each below two", CONF + lattice, b"c9999"
+    yield "10,000 classes, and one that isn't known", CONF + lattice, b"c10000"
+    chain_of_types = first + b"".join(
+        b"objectclass ( 1.5.%d NAME 'c%d' SUP c%d MAY t%d )\n" % (number, number, number - 1, number) for number in range(2, 3000))
+    yield "3,000 classes below each other, each with a type of its own", CONF + types + chain_of_types, b"c2999"
 
 
 def filters():
@@ -119,8 +128,8 @@ def runs():
         yield what, {"dir.conf": CONF, "in": text}, "slapadd", ["-c", "-l", "db/in"]
     for what, text in changes():
         yield what, {"dir.conf": CONF, "data.ldif": SUFFIX, "in": text}, "ldapmodify", ["-c", "-f", "db/in"]
-    for what, conf in confs():
-        yield what, {"dir.conf": conf, "data.ldif": SUFFIX}, "slapcat", []
+    for what, conf, name in confs():
+        yield what, {"dir.conf": conf, "data.ldif": SUFFIX.replace(b"top", name)}, "slapcat", []
     data = texts([SUFFIX] + [entry(b"cn=%d,dc=ex" % number) for number in range(50)] + [entry(b"cn=" + b"a" * 70000 + b",dc=ex")])
     for what, text in filters():
         yield what, {"dir.conf": CONF, "data.ldif": data}, "slapcat", ["-a", text]

@@ -69,8 +69,10 @@ class Attributes:
             self.values.pop(number, None)
 
     def check(self):
-        """What holds of each entry as a whole: it has a class, and one value of each type that takes no more."""
-        if OBJECT_CLASS not in self.values:
+        """What holds of each entry as a whole: it has a class, what its classes ask for, and one value of each type that takes
+        no more."""
+        if OBJECT_CLASS not in self.values or \
+                not self.conf.fits_classes(self.values[OBJECT_CLASS].values(), self.values.keys()):
             raise Refused(65)
         if any(self.conf.types[number].is_single and len(values) > 1 for number, values in self.values.items()):
             raise Refused(19)

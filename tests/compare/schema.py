@@ -17,6 +17,7 @@ FAULTS = {
 }
 # objectClass, top and extensibleObject are there already; definitions with their OIDs are skipped
 BUILT_IN = (b"2.5.4.0", b"2.5.6.0", b"1.3.6.1.4.1.1466.101.120.111")
+TOP, EXTENSIBLE_OBJECT, BUILT_IN_CLASSES = 0, 1, 2
 # names that stand for something else in LDIF
 BARRED = (b"dn", b"version", b"control", b"changetype")
 USAGES = (b"userapplications", b"directoryoperation", b"distributedoperation", b"dsaoperation")
@@ -78,6 +79,14 @@ class Type:
 
     def takes_index(self, kind):
         return {b"eq": self.family is not None, b"pres": True, b"sub": self.has_substrings}.get(kind, False)
+
+
+@dataclass
+class Class:
+    """An object class: the classes that it is derived from, and the types that it names, all by their numbers."""
+    above: list
+    must: list
+    may: list
 
 
 # definitions as text
@@ -244,11 +253,12 @@ def written_value(value):
 
 @dataclass
 class Conf:
-    """The types by their numbers, the names and OIDs of types and classes, and the suffix, each of its RDNs as
-    [(number, value)]."""
+    """The types and classes by their numbers, their names and OIDs, and the suffix, each of its RDNs as [(number, value)]."""
     types: list = field(default_factory=lambda: [Type(b"2.5.4.0", [b"objectClass"], "oid", "oid")])
     numbers: dict = field(default_factory=lambda: {b"objectclass": 0, b"2.5.4.0": 0})
-    classes: set = field(default_factory=lambda: {b"top", b"2.5.6.0", b"extensibleobject", BUILT_IN[2]})
+    classes: list = field(default_factory=lambda: [Class([], [0], []), Class([TOP], [], [])])
+    class_numbers: dict = field(default_factory=lambda: {
+        b"top": TOP, b"2.5.6.0": TOP, b"extensibleobject": EXTENSIBLE_OBJECT, BUILT_IN[2]: EXTENSIBLE_OBJECT})
     suffix: Optional[list] = None
 
     def type_of(self, text):
@@ -330,12 +340,41 @@ class Conf:
         oid, fields = read_class(text)
         if oid in BUILT_IN:
             return
-        keys = new_keys(oid, fields.get(b"name", []), self.classes)
-        types = fields.get(b"must", []) + fields.get(b"may", [])
-        if any(name.lower() not in self.classes for name in fields.get(b"sup", [])) or \
-                any(self.type_of(name) is None for name in types):
+        keys = new_keys(oid, fields.get(b"name", []), self.class_numbers)
+        above = [self.class_of(name) for name in fields.get(b"sup", [])]
+        must, may = ([self.type_of(name) for name in fields.get(kind, [])] for kind in (b"must", b"may"))
+        if None in above + must + may:
             raise Wrong("C4")
-        self.classes.update(keys)
+        self.class_numbers.update((key, len(self.classes)) for key in keys)
+        self.classes.append(Class(above, must, may))
+
+    def class_of(self, text):
+        """The number of the class that a name, in any case, or an OID says."""
+        return self.class_numbers.get(text.lower())
+
+    def with_superclasses(self, numbers):
+        """These classes and all that they are derived from (RFC 4512, 2.4)."""
+        found, left = set(), list(numbers)
+        while left:
+            number = left.pop()
+            if number not in found:
+                found.add(number)
+                left += self.classes[number].above
+        return found
+
+    def fits_classes(self, names, types):
+        """May an entry that names these classes have these types, and no others? All will do where no class is defined."""
+        if len(self.classes) == BUILT_IN_CLASSES:
+            return True
+        named = [self.class_of(name) for name in names]
+        if None in named:
+            return False
+        belongs = self.with_superclasses(named)
+        required = {number for one in belongs for number in self.classes[one].must}
+        allowed = required.union(*(self.classes[one].may for one in belongs))
+        return required <= types and all(
+            number == 0 or self.types[number].is_operational or EXTENSIBLE_OBJECT in belongs or number in allowed
+            for number in types)
 
     def add_suffix(self, text):
         text = text.rstrip(b" ")

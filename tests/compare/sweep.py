@@ -46,8 +46,8 @@ FILTER_OTHERS = [bytes([b]) for b in b"\t\n !#&()*+,-.0:;<=>A\\a|~\x7f"] + ["\u0
 
 FILTER_CONF = b"\n".join(line for line in CONF.splitlines() if not line.upper().startswith(b"INDEX")).replace(b"ou=a\\2Cb+cn=c,dc=ex", b"dc=ex")
 
-FILTER_DATA = b"dn: dc=ex\nobjectClass: one\n\n" + b"".join(
-    b"dn: cn=%s,dc=ex\nobjectClass: one\nn: %d\nm: cn=x\\2Cy,dc=ex\nou: q r\n\n" % (name, n)
+FILTER_DATA = b"dn: dc=ex\nobjectClass: one\ncn: ab\n\n" + b"".join(
+    b"dn: cn=%s,dc=ex\nobjectClass: two\nn: %d\nm: cn=x\\2Cy,dc=ex\nou: q r\n\n" % (name, n)
     for name, n in [(b"ab", 5), (b"a b c*", 7), (b"\xc3\xa4", -12), (b"x*(y", 6)])
 
 

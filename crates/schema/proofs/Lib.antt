@@ -30,3 +30,4 @@ pub mod IndexFlaws
 pub mod LaterFaults
 pub mod ConfFaultsStand
 pub mod KeyOrder
+pub mod Lineages

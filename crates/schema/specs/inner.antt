@@ -1,2 +1,4 @@
 pub mod Keys
 pub mod Classes
+pub mod Marks
+pub mod Settled

@@ -1,6 +1,6 @@
 //! A configuration, and what it says of types, values and names.
 
-ghost use Rattle.std.specs.Prelude.{◌≡◌, ◌<◌, ◌≤◌, IfSome, length, map, reverse};
+ghost use Rattle.std.specs.Prelude.{◌≡◌, ◌<◌, ◌≤◌, IfOk, IfSome, length, map, reverse};
 ghost use Rattle.schema.specs.Rdns.{rdn_key_of};
 ghost use Rattle.schema.specs.Classes.{class_of};
 ghost use Rattle.values.specs.Types.{type_of, name_of, type_at};
@@ -8,9 +8,11 @@ ghost use Rattle.values.specs.Types.{type_of, name_of, type_at};
 use crate::class_table::ClassTable;
 use crate::locate::TypedName;
 use crate::object_class::ObjectClass;
+use crate::settled::{Settled, settle};
 use crate::slots::Slot;
 use base::Sequence;
 use paths::{Path, Rdn};
+use std::alloc::{AllocError, Global};
 use std::marker::Model;
 use values::{AttributeType, TypeId, TypeTable};
 
@@ -23,42 +25,49 @@ pub struct Conf {
     // what the suffix's RDNs come to, from the root of the tree down
     root: Path,
     classes: ClassTable,
+    // what each class asks, with all of its superclasses
+    settled: Sequence<Settled>,
 }
 
 impl Model for Conf {
     ghost use Rattle.std.specs.Prelude.{◌≡◌, map, reverse};
     ghost use Rattle.schema.specs.Conf.{Conf, IsConf};
     ghost use Rattle.schema.specs.Rdns.{rdn_key_of};
+    ghost use Rattle.schema.specs.inner.Settled.{AreSettled};
 
     ghost Value = { Conf };
 
     ghost view = { λ c. record { types = c.types; suffix = c.suffix; slots = c.slots; classes = c.classes } };
 
-    ghost invariant = { λ c. (IsConf (record { types = c.types; suffix = c.suffix; slots = c.slots; classes = c.classes })) × (c.root ≡ map (rdn_key_of c.types) (reverse c.suffix)) };
+    ghost invariant = { λ c. (IsConf (record { types = c.types; suffix = c.suffix; slots = c.slots; classes = c.classes })) × (c.root ≡ map (rdn_key_of c.types) (reverse c.suffix)) × (AreSettled c.classes c.settled) };
 }
 
 impl Conf {
     ghost use Rattle.schema.specs.Conf.{IsConf, root_rdn};
     ghost use Rattle.schema.specs.inner.Keys.{KeysFit};
+    ghost use Rattle.schema.specs.inner.Settled.{IsSettled};
 
     pub(crate) fn new(
+        alloc: Global,
         types: TypeTable,
         suffix: TypedName,
         slots: Sequence<Slot>,
         classes: ClassTable,
-    ) -> Conf
+    ) -> Result<Conf, AllocError>
         requires same_conf { IsConf (record { types = types; suffix = suffix.rdns.items; slots = slots; classes = classes }) }
         requires keys { KeysFit types suffix }
-        ensures { result ≡ record { types = types; suffix = suffix.rdns.items; slots = slots; classes = classes } }
+        ensures { IfOk result (λ conf. conf ≡ record { types = types; suffix = suffix.rdns.items; slots = slots; classes = classes }) }
     {
+        let settled = settle(alloc, classes.as_slice())?;
         let TypedName { rdns, path } = suffix;
-        Conf {
+        Ok(Conf {
             types,
             suffix: Sequence::from_vec(rdns),
             slots,
             root: path,
             classes,
-        }
+            settled,
+        })
     }
 
     /// What holds of every configuration.
@@ -102,6 +111,14 @@ impl Conf {
         ensures { result.now ≡ self.now.classes }
     {
         self.classes.as_slice()
+    }
+
+    /// What an object class asks, with all of its superclasses.
+    pub(crate) fn settled_class(&self, class: usize) -> &Settled
+        requires { class < length self.now.classes }
+        ensures { IsSettled self.now.classes class result.now }
+    {
+        &self.settled.as_slice()[class]
     }
 
     /// The number of the object class with this name or OID, without ASCII case.

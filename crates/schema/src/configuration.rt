@@ -33,7 +33,7 @@ pub fn read_conf(alloc: Global, text: &[u8]) -> Result<Conf, ConfFault>
     let Defined { types, classes } = defined_by(alloc, text.len() / BYTES_OF_A_NAME, &lines)?;
     let Found { suffix, slots } = found_in(alloc, &types, &lines)?;
     match suffix {
-        Some(suffix) => Ok(Conf::new(types, suffix, in_order(alloc, slots)?, classes)),
+        Some(suffix) => Ok(Conf::new(alloc, types, suffix, in_order(alloc, slots)?, classes)?),
         None => Err(fault(0, ConfFaultKind::Suffix)),
     }
 }

@@ -13,6 +13,7 @@ ghost use Rattle.dn.specs.Names.{is_type};
 ghost use Rattle.schema.specs.Conf.{Conf, IsConf, located, name_text, located_at};
 ghost use Rattle.schema.specs.declared.conf_fault.ConfFaultKind.{ConfFaultKind};
 ghost use Rattle.schema.specs.Configurations.{conf_of};
+ghost use Rattle.schema.specs.Superclasses.{has_number, with_superclasses, IsAtOrAboveOne};
 ghost use Rattle.schema.specs.FaultyLines.{IsConfFault};
 
 use definitions::{spelled_classes_are_read, spelled_types_are_read};
@@ -54,6 +55,11 @@ pub fn located_rdns_are_good()
 {
     spelled_names_are_read();
 }
+
+/// Which classes stand in the list of some classes with their superclasses: those that one of them is derived from (RFC 4512, 2.4).
+pub fn superclasses_are_listed()
+    ensures { (conf : Conf) (named : List ℕ) (c : ℕ) → IsConf conf → (has_number (with_superclasses conf.classes named) c ≡ true) ↔ IsAtOrAboveOne conf.classes named c }
+{}
 
 /// Which fault a configuration has: that of the first line that is at fault beside what is defined above it; where none is, that of the
 /// first suffix or index that is; and last, that no suffix stands. It has one such fault at most.

@@ -4,6 +4,7 @@
 #![tactic(auto)]
 
 mod class_lines;
+mod class_readers;
 mod class_table;
 mod code;
 mod conf;
@@ -21,11 +22,13 @@ mod names;
 mod object_class;
 mod rdns;
 mod rule_names;
+mod settled;
 mod slots;
 mod suffix_lines;
 mod type_lines;
 mod type_readers;
 mod type_rules;
+mod type_set;
 mod typed_values;
 
 pub use code::Code;
@@ -37,7 +40,8 @@ pub use dn::Name;
 pub use fault::PathFault;
 pub use laws::{
     conf_faults_stand_at_lines, keys_are_sorted, located_rdns_are_good,
-    printed_names_name_their_types, valid_values_are_bytes, written_names_are_located,
+    printed_names_name_their_types, superclasses_are_listed, valid_values_are_bytes,
+    written_names_are_located,
 };
 pub use locate::Located;
 pub use matching::{Family, Pieces, Syntax, contains_pieces, is_less};

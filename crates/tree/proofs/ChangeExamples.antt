@@ -69,6 +69,9 @@ types =
     ∷ type_with (codes "1.1") (codes "note") (type_syntaxes.Plain syntaxes.Text) None false false
     ∷ type_with (codes "2.5.18.1") (codes "createTimestamp") (type_syntaxes.Plain syntaxes.Octet) None true true ∷ []
 
+abbrev conf : Conf
+conf = record { types = types; suffix = ((1, codes "ex") ∷ []) ∷ []; slots = []; classes = [] }
+
 abbrev with_values : ℕ → List (List ℕ) → Attribute
 with_values t vs = (t, vs)
 
@@ -195,31 +198,31 @@ abbrev named : List ℕ → Attributes → EntryContent
 named value attrs = record { rdn = (1, value) ∷ []; attrs = attrs }
 
 -- the RDN's value goes and comes back in another spelling, behind what was there; the RDN keeps its own
-name_comes_back : modify_entry types (named (codes "a") described) (block Delete (codes "cn") [] ∷ block Delete (codes "description") [] ∷ block Add (codes "cn") (codes "A" ∷ []) ∷ []) ≡ left_as (named (codes "a") (person ∷ cn (codes "A") ∷ []))
+name_comes_back : modify_entry conf (named (codes "a") described) (block Delete (codes "cn") [] ∷ block Delete (codes "description") [] ∷ block Add (codes "cn") (codes "A" ∷ []) ∷ []) ≡ left_as (named (codes "a") (person ∷ cn (codes "A") ∷ []))
 unfolding on_entries
 name_comes_back = refl
 
 -- the second block's, though the first is fine
-first_fault : modify_entry types (named (codes "a b") a_b) (block Add (codes "description") (codes "x" ∷ []) ∷ block Add (codes "cn") (codes "A  b" ∷ []) ∷ block Delete (codes "sn") [] ∷ []) ≡ refused result.AttributeOrValueExists
+first_fault : modify_entry conf (named (codes "a b") a_b) (block Add (codes "description") (codes "x" ∷ []) ∷ block Add (codes "cn") (codes "A  b" ∷ []) ∷ block Delete (codes "sn") [] ∷ []) ≡ refused result.AttributeOrValueExists
 unfolding on_entries
 first_fault = refl
 
 -- before a want of objectClass
-without_its_name : modify_entry types (named (codes "a b") a_b) (block Delete (codes "cn") [] ∷ block Delete (codes "objectClass") [] ∷ []) ≡ refused result.NotAllowedOnRdn
+without_its_name : modify_entry conf (named (codes "a b") a_b) (block Delete (codes "cn") [] ∷ block Delete (codes "objectClass") [] ∷ []) ≡ refused result.NotAllowedOnRdn
 unfolding on_entries
 without_its_name = refl
 
 -- before two values of a type that has one at most
-without_class : modify_entry types (named (codes "a b") a_b) (block Delete (codes "objectClass") [] ∷ block Add (codes "uidNumber") (codes "7" ∷ codes "8" ∷ []) ∷ []) ≡ refused result.ObjectClassViolation
+without_class : modify_entry conf (named (codes "a b") a_b) (block Delete (codes "objectClass") [] ∷ block Add (codes "uidNumber") (codes "7" ∷ codes "8" ∷ []) ∷ []) ≡ refused result.ObjectClassViolation
 unfolding on_entries
 without_class = refl
 
-two_numbers : modify_entry types (named (codes "a b") a_b) (block Add (codes "uidNumber") (codes "7" ∷ codes "8" ∷ []) ∷ []) ≡ refused result.ConstraintViolation
+two_numbers : modify_entry conf (named (codes "a b") a_b) (block Add (codes "uidNumber") (codes "7" ∷ codes "8" ∷ []) ∷ []) ≡ refused result.ConstraintViolation
 unfolding on_entries
 two_numbers = refl
 
 -- the end alone is looked at
-one_number : modify_entry types (named (codes "a b") a_b) (block Add (codes "uidNumber") (codes "7" ∷ codes "8" ∷ []) ∷ block Delete (codes "uidNumber") (codes "7" ∷ []) ∷ []) ≡ left_as (named (codes "a b") (person ∷ cn (codes "a b") ∷ with_values 4 (codes "8" ∷ []) ∷ []))
+one_number : modify_entry conf (named (codes "a b") a_b) (block Add (codes "uidNumber") (codes "7" ∷ codes "8" ∷ []) ∷ block Delete (codes "uidNumber") (codes "7" ∷ []) ∷ []) ≡ left_as (named (codes "a b") (person ∷ cn (codes "a b") ∷ with_values 4 (codes "8" ∷ []) ∷ []))
 unfolding on_entries
 one_number = refl
 
@@ -229,32 +232,29 @@ abbrev both_names : EntryContent
 both_names = record { rdn = (1, codes "a") ∷ (2, codes "b") ∷ []; attrs = person ∷ cn (codes "a") ∷ with_values 2 (codes "b" ∷ []) ∷ [] }
 
 -- what the new RDN has, too, stays
-old_value_goes : rename_entry types both_names ((1, codes "a") ∷ []) true ≡ left_as (named (codes "a") (person ∷ cn (codes "a") ∷ []))
+old_value_goes : rename_entry conf both_names ((1, codes "a") ∷ []) true ≡ left_as (named (codes "a") (person ∷ cn (codes "a") ∷ []))
 unfolding on_entries
 old_value_goes = refl
 
-old_value_stays : rename_entry types both_names ((1, codes "a") ∷ []) false ≡ left_as (named (codes "a") (person ∷ cn (codes "a") ∷ with_values 2 (codes "b" ∷ []) ∷ []))
+old_value_stays : rename_entry conf both_names ((1, codes "a") ∷ []) false ≡ left_as (named (codes "a") (person ∷ cn (codes "a") ∷ with_values 2 (codes "b" ∷ []) ∷ []))
 unfolding on_entries
 old_value_stays = refl
 
 -- the RDN alone takes the new spelling
-new_spelling : rename_entry types (named (codes "Bob") (person ∷ cn (codes "Bob") ∷ [])) ((1, codes "bob") ∷ []) true ≡ left_as (named (codes "bob") (person ∷ cn (codes "Bob") ∷ []))
+new_spelling : rename_entry conf (named (codes "Bob") (person ∷ cn (codes "Bob") ∷ [])) ((1, codes "bob") ∷ []) true ≡ left_as (named (codes "bob") (person ∷ cn (codes "Bob") ∷ []))
 unfolding on_entries
 new_spelling = refl
 
 -- the new value comes behind the old one, which then goes, and the attribute keeps its place
-new_value_in_place : rename_entry types (named (codes "a") (cn (codes "a") ∷ person ∷ [])) ((1, codes "b") ∷ []) true ≡ left_as (named (codes "b") (cn (codes "b") ∷ person ∷ []))
+new_value_in_place : rename_entry conf (named (codes "a") (cn (codes "a") ∷ person ∷ [])) ((1, codes "b") ∷ []) true ≡ left_as (named (codes "b") (cn (codes "b") ∷ person ∷ []))
 unfolding on_entries
 new_value_in_place = refl
 
-one_value_too_many : rename_entry types (named (codes "a") (person ∷ cn (codes "a") ∷ with_values 4 (codes "7" ∷ []) ∷ [])) ((4, codes "8") ∷ []) true ≡ refused result.ConstraintViolation
+one_value_too_many : rename_entry conf (named (codes "a") (person ∷ cn (codes "a") ∷ with_values 4 (codes "7" ∷ []) ∷ [])) ((4, codes "8") ∷ []) true ≡ refused result.ConstraintViolation
 unfolding on_entries
 one_value_too_many = refl
 
 -- ---- where it may stand
-
-abbrev conf : Conf
-conf = record { types = types; suffix = ((1, codes "ex") ∷ []) ∷ []; slots = []; classes = [] }
 
 -- the suffix's entry, before the new RDN is read
 the_suffix : (d : Entries) (e : EntryContent) → rename_there conf d [] (codes "no name") true None (Some e) ≡ refused result.UnwillingToPerform
@@ -356,7 +356,7 @@ below_nothing : (new : Rdn) (delete_old : Bool) → rename_below conf four at_b 
 below_nothing new delete_old = rename_b new delete_old (step (codes "no") ∷ [])
 
 abbrev move_where : Bool → Path → Rdn → Bool → Result Change Code
-move_where there q new delete_old = cond (not (same_path at_b q) && there) (Err result.EntryAlreadyExists) (rename_entry types (person_named (codes "b")) new delete_old >>= λ e. Ok (renamed_to at_b q e))
+move_where there q new delete_old = cond (not (same_path at_b q) && there) (Err result.EntryAlreadyExists) (rename_entry conf (person_named (codes "b")) new delete_old >>= λ e. Ok (renamed_to at_b q e))
 
 name_taken : (new : Rdn) (delete_old : Bool) → rename_to conf four at_b (person_named (codes "b")) new delete_old at_a ≡ refused result.EntryAlreadyExists
 name_taken new delete_old = ap (λ b. move_where b at_a new delete_old) (stands at_a)
@@ -410,7 +410,7 @@ unfolding six
 six_stands p = ap is_some (finite.get-from_sorted path_cmp six_in_order p tt)
 
 abbrev bob_where : Bool → Path → Rdn → Bool → Result Change Code
-bob_where there q new delete_old = cond (not (same_path at_bob q) && there) (Err result.EntryAlreadyExists) (rename_entry types (numbered_seven (codes "Bob")) new delete_old >>= λ e. Ok (renamed_to at_bob q e))
+bob_where there q new delete_old = cond (not (same_path at_bob q) && there) (Err result.EntryAlreadyExists) (rename_entry conf (numbered_seven (codes "Bob")) new delete_old >>= λ e. Ok (renamed_to at_bob q e))
 
 bob_gets_another_name : rename_below conf six at_bob (numbered_seven (codes "Bob")) ((1, codes "Al") ∷ []) true [] ≡ allowed (Move at_bob at_al (numbered_seven (codes "Al")))
 unfolding on_entries rdn_key_of key_from put_pair

@@ -17,7 +17,7 @@ use Rattle.schema.specs.Rdns.{Rdn, rdn_key_of}
 use Rattle.schema.specs.GoodRdns.{IsRdn}
 use Rattle.schema.specs.Conf.{Conf, IsConf, root_rdn, first_rdn, located, located_at, path_of}
 use Rattle.base.specs.Answers.{◌>>=◌}
-use Rattle.tree.specs.Entries.{EntryContent, Attributes, IsGood, add_lines, has_class, are_single}
+use Rattle.tree.specs.Entries.{EntryContent, Attributes, IsGood, add_lines, has_its_classes, are_single}
 use Rattle.tree.specs.Directories.{Entries, IsDirectory}
 use Rattle.tree.specs.Changes.{Change, Put, changed, MayStand}
 use Rattle.ldif.specs.declared.record.Mode.{Mode}
@@ -116,12 +116,12 @@ none_good : (conf : Conf) → AreGood conf.types []
 unfolding IsDistinct
 none_good conf = record { all = tt; types_apart = tt }
 
-put_ok : (conf : Conf) (d : Entries) (p : Path) (e : EntryContent) (out : Change) → with_entry conf d p e ≡ Ok out → (has_class e.attrs ≡ true) × (are_single conf.types e.attrs ≡ true) × (nat_le 4294967295 (finite.len d) ≡ false) × (Put p e ≡ out)
+put_ok : (conf : Conf) (d : Entries) (p : Path) (e : EntryContent) (out : Change) → with_entry conf d p e ≡ Ok out → (has_its_classes conf e.attrs ≡ true) × (are_single conf.types e.attrs ≡ true) × (nat_le 4294967295 (finite.len d) ≡ false) × (Put p e ≡ out)
 put_ok conf d p e out said =
-    let a = guard_ok (not (has_class e.attrs)) ObjectClassViolation (cond (not (are_single conf.types e.attrs)) (Err ConstraintViolation) (cond (nat_le 4294967295 (finite.len d)) (Err AdminLimitExceeded) (Ok (Put p e)))) out said in
+    let a = guard_ok (not (has_its_classes conf e.attrs)) ObjectClassViolation (cond (not (are_single conf.types e.attrs)) (Err ConstraintViolation) (cond (nat_le 4294967295 (finite.len d)) (Err AdminLimitExceeded) (Ok (Put p e)))) out said in
     let b = guard_ok (not (are_single conf.types e.attrs)) ConstraintViolation (cond (nat_le 4294967295 (finite.len d)) (Err AdminLimitExceeded) (Ok (Put p e))) out a.1 in
     let f = guard_ok (nat_le 4294967295 (finite.len d)) AdminLimitExceeded (Ok (Put p e)) out b.1 in
-    (not-false (has_class e.attrs) a.0, not-false (are_single conf.types e.attrs) b.0, f.0, same_ok (Put p e) out f.1)
+    (not-false (has_its_classes conf e.attrs) a.0, not-false (are_single conf.types e.attrs) b.0, f.0, same_ok (Put p e) out f.1)
 
 pub keeps : ((conf : Conf) (text : List ℕ) (rs : List Rdn) → located conf text ≡ located_at rs → AllByRecursion (IsRdn conf.types) rs)
     → (conf : Conf) (mode : Mode) (d : Entries) (dn : List ℕ) (lines : List Attr) (out : Change) → IsConf conf → IsDirectory conf d → add conf mode d dn lines ≡ Ok out → IsDirectory conf (changed d out)

@@ -30,4 +30,7 @@ pub mod ModifyLemmas
 pub mod LeftFrom
 pub mod Copied
 pub mod Planned
+pub mod ClassLemmas
+pub mod ClassLaw
+pub mod ClassRuleExamples
 pub mod ChangeExamples

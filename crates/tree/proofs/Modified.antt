@@ -20,7 +20,7 @@ use Rattle.schema.specs.GoodRdns.{IsAva, IsRdn}
 use Rattle.schema.specs.Conf.{Conf}
 use Rattle.base.specs.Answers.{through}
 use Rattle.base.proofs.Bound.{bind_ok, same_ok}
-use Rattle.tree.specs.Entries.{Attributes, EntryContent, values_of, has_equal, with_rdn, has_class, are_single, IsGood}
+use Rattle.tree.specs.Entries.{Attributes, EntryContent, values_of, has_equal, with_rdn, has_its_classes, are_single, IsGood}
 use Rattle.tree.specs.Modifies.{unless, append_value, without_value, remove_value, has_values, block_fault, block_values, changed_values, set_values, modify_at, named_type, modify_block, entry_fault, has_rdn, modified_fault, modify_entry, has_part, without_part, without_rdn, renamed_attrs, rename_entry}
 use Rattle.tree.proofs.Pushed.{AreGood, all_push, equal_equiv, turned, type_known, rdn_good, all_come, IsThere}
 use Rattle.tree.proofs.Kept.{guard_ok}
@@ -115,32 +115,33 @@ module _ (types : List AttributeType) where
       let k = and_parts (has_equal types p.0 p.1 (values_of attrs p.0)) (has_rdn types ps attrs) h in
       (k.0, rdn_there attrs ps k.1)
 
+module _ (conf : Conf) where
   -- what is known where nothing failed
-  whole_ok : (attrs : Attributes) → entry_fault types attrs ≡ None → (has_class attrs ≡ true) × (are_single types attrs ≡ true)
-  whole_ok attrs e = by (has_class attrs) (are_single types attrs) e
+  whole_ok : (attrs : Attributes) → entry_fault conf attrs ≡ None → (has_its_classes conf attrs ≡ true) × (are_single conf.types attrs ≡ true)
+  whole_ok attrs e = by (has_its_classes conf attrs) (are_single conf.types attrs) e
     where
       by : (a b : Bool) → cond (not a) (Some ObjectClassViolation) (cond (not b) (Some ConstraintViolation) None) ≡ None → (a ≡ true) × (b ≡ true)
       by false b said = absurd cc
       by true false said = absurd cc
       by true true said = (refl, refl)
 
-  modified_ok : (rdn : Rdn) (attrs : Attributes) → modified_fault types rdn attrs ≡ None → (has_rdn types rdn attrs ≡ true) × (entry_fault types attrs ≡ None)
-  modified_ok rdn attrs e = by (has_rdn types rdn attrs) e
+  modified_ok : (rdn : Rdn) (attrs : Attributes) → modified_fault conf rdn attrs ≡ None → (has_rdn conf.types rdn attrs ≡ true) × (entry_fault conf attrs ≡ None)
+  modified_ok rdn attrs e = by (has_rdn conf.types rdn attrs) e
     where
-      by : (a : Bool) → cond (not a) (Some NotAllowedOnRdn) (entry_fault types attrs) ≡ None → (a ≡ true) × (entry_fault types attrs ≡ None)
+      by : (a : Bool) → cond (not a) (Some NotAllowedOnRdn) (entry_fault conf attrs) ≡ None → (a ≡ true) × (entry_fault conf attrs ≡ None)
       by false said = absurd cc
       by true said = (refl, said)
 
-pub modify_keeps : (conf : Conf) (e out : EntryContent) (mods : List Mod) → IsGood conf e → modify_entry conf.types e mods ≡ Ok out → (IsGood conf out) × (out.rdn ≡ e.rdn)
+pub modify_keeps : (conf : Conf) (e out : EntryContent) (mods : List Mod) → IsGood conf e → modify_entry conf e mods ≡ Ok out → (IsGood conf out) × (out.rdn ≡ e.rdn)
 unfolding modify_entry
 modify_keeps conf e out mods h said =
     let now : Attributes → EntryContent = λ attrs. record { rdn = e.rdn; attrs = attrs } in
-    let k = bind_ok (through (modify_block conf.types) e.attrs mods) (λ attrs. unless (modified_fault conf.types e.rdn attrs) (Ok (now attrs))) out said in
+    let k = bind_ok (through (modify_block conf.types) e.attrs mods) (λ attrs. unless (modified_fault conf e.rdn attrs) (Ok (now attrs))) out said in
     let attrs : Attributes = k.0 in
     let good = through_keeps (AreGood conf.types) (modify_block conf.types) (modify_good conf.types) mods e.attrs attrs (record { all = h.attrs; types_apart = h.types_apart }) k.1 in
-    let n = none_said (modified_fault conf.types e.rdn attrs) (Ok (now attrs)) out k.2 in
-    let m = modified_ok conf.types e.rdn attrs n.0 in
-    let tests = whole_ok conf.types attrs m.1 in
+    let n = none_said (modified_fault conf e.rdn attrs) (Ok (now attrs)) out k.2 in
+    let m = modified_ok conf e.rdn attrs n.0 in
+    let tests = whole_ok conf attrs m.1 in
     let is : now attrs ≡ out = same_ok (now attrs) out n.1 in (
       subst (IsGood conf) is (record {
         attrs = good.all;
@@ -197,13 +198,13 @@ module _ (types : List AttributeType) where
   renamed_good e new false old is h = (rdn_good types new e.attrs is h, all_come types new e.attrs)
   renamed_good e new true old is h = rdn_gone new e.rdn (with_rdn types new e.attrs) old (rdn_good types new e.attrs is h) (all_come types new e.attrs)
 
-pub rename_keeps : (conf : Conf) (e out : EntryContent) (new : Rdn) (delete_old : Bool) → IsGood conf e → IsRdn conf.types new → rename_entry conf.types e new delete_old ≡ Ok out → (IsGood conf out) × (out.rdn ≡ new)
+pub rename_keeps : (conf : Conf) (e out : EntryContent) (new : Rdn) (delete_old : Bool) → IsGood conf e → IsRdn conf.types new → rename_entry conf e new delete_old ≡ Ok out → (IsGood conf out) × (out.rdn ≡ new)
 unfolding rename_entry
 rename_keeps conf e out new delete_old h good_new said =
     let attrs : Attributes = renamed_attrs conf.types e new delete_old in
     let now : EntryContent = record { rdn = new; attrs = attrs } in
-    let n = none_said (entry_fault conf.types attrs) (Ok now) out said in
-    let tests = whole_ok conf.types attrs n.0 in
+    let n = none_said (entry_fault conf attrs) (Ok now) out said in
+    let tests = whole_ok conf attrs n.0 in
     let good = renamed_good conf.types e new delete_old h.rdn.parts good_new.parts (record { all = h.attrs; types_apart = h.types_apart }) in
     let is : now ≡ out = same_ok now out n.1 in (
       subst (IsGood conf) is (record {

@@ -15,6 +15,7 @@ use Rattle.base.specs.Answers.{◌>>=◌, through, Fails}
 use Rattle.values.specs.declared.types.AttributeType.{AttributeType}
 use Rattle.values.specs.Values.{Value}
 use Rattle.schema.specs.Values.{norm_at, is_valid_at}
+use Rattle.schema.specs.Conf.{Conf}
 use Rattle.tree.specs.Entries.{Attributes, EntryContent, values_of, has_equal}
 use Rattle.tree.specs.StoredEntries.{Entry, EntryAttribute, raws, attributes_of, content_of, AreNormal, IsMadeAttribute, IsMade}
 use Rattle.values.specs.Norms.{has_norm, but_norm}
@@ -143,12 +144,12 @@ part_out types es t raw n made is =
 
 -- ---- an entry
 
-module _ (types : List AttributeType) (e : Entry) (mods : List Mod) (es : List EntryAttribute) (gives : through (modify_block types) (attributes_of e.attrs) mods ≡ Ok (attributes_of es)) where
+module _ (conf : Conf) (e : Entry) (mods : List Mod) (es : List EntryAttribute) (gives : through (modify_block conf.types) (attributes_of e.attrs) mods ≡ Ok (attributes_of es)) where
   abbrev with_attrs : Attributes → Result EntryContent Code
   with_attrs attrs = Ok (record { rdn = e.rdn; attrs = attrs })
 
-  pub modified_is : (fault : Option Code) → fault ≡ modified_fault types e.rdn (attributes_of es) → modify_entry types (content_of e) mods ≡ unless fault (with_attrs (attributes_of es))
+  pub modified_is : (fault : Option Code) → fault ≡ modified_fault conf e.rdn (attributes_of es) → modify_entry conf (content_of e) mods ≡ unless fault (with_attrs (attributes_of es))
   unfolding modify_entry
   modified_is fault is =
-      ap (λ (r : Result Attributes Code). r >>= λ attrs. unless (modified_fault types e.rdn attrs) (with_attrs attrs)) gives
+      ap (λ (r : Result Attributes Code). r >>= λ attrs. unless (modified_fault conf e.rdn attrs) (with_attrs attrs)) gives
       ∙ ap (λ (f : Option Code). unless f (with_attrs (attributes_of es))) (sym is)

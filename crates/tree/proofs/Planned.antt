@@ -41,7 +41,7 @@ stays made d p old out h at good same = record {
 }
 
 pub modified_change : (t : Tree) (conf : Conf) (p : Path) (old : EntryContent) (mods : List Mod) (out : Entry) → t.conf ≡ conf → IsDirectory t.conf t.entries → finite.get t.entries p ≡ Some old
-    → IsMade conf.types out.attrs → modify_entry conf.types old mods ≡ changed_to (content_of out) → IsChange t (changes.Replace p out)
+    → IsMade conf.types out.attrs → modify_entry conf old mods ≡ changed_to (content_of out) → IsChange t (changes.Replace p out)
 modified_change t conf p old mods out same h at made said =
     let k = modify_keeps conf old (content_of out) mods (good_under t.conf conf t.entries p old same h at) said in
     record {
@@ -82,7 +82,7 @@ moves d p to upper s place there apart above =
     }
 
 module _ (t : Tree) (conf : Conf) (p to upper : Path) (old : EntryContent) (new : Rdn) (delete_old : Bool) (out : Entry) (same : t.conf ≡ conf) (h : IsDirectory t.conf t.entries) (at : finite.get t.entries p ≡ Some old)
-    (rdn : IsRdn conf.types new) (place : to ≡ upper ++ rdn_key_of conf.types new ∷ []) (made : IsMade conf.types out.attrs) (said : rename_entry conf.types old new delete_old ≡ changed_to (content_of out)) where
+    (rdn : IsRdn conf.types new) (place : to ≡ upper ++ rdn_key_of conf.types new ∷ []) (made : IsMade conf.types out.attrs) (said : rename_entry conf old new delete_old ≡ changed_to (content_of out)) where
   may_stand : MayStand t.conf to (content_of out)
   may_stand =
       let k = rename_keeps conf old (content_of out) new delete_old (good_under t.conf conf t.entries p old same h at) rdn said in

@@ -4,3 +4,4 @@ pub mod Trees
 pub mod Plans
 pub mod Moves
 pub mod ValuesDrafts
+pub mod ClassChecks

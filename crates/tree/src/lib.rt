@@ -6,6 +6,7 @@
 
 mod attributes;
 mod attributes_draft;
+mod class_checks;
 mod entry;
 mod entry_checks;
 mod laws;
@@ -29,9 +30,10 @@ mod values_draft;
 
 pub use entry::Entry;
 pub use laws::{
-    adding_keeps_a_directory, an_entry_adds_itself, empty_is_a_directory, modifying_keeps_an_entry,
-    moving_keeps_a_directory, moving_takes_all_along, own_content_is_written,
-    removing_keeps_a_directory, renaming_keeps_an_entry, replacing_keeps_a_directory,
+    adding_keeps_a_directory, an_entry_adds_itself, classes_are_kept, empty_is_a_directory,
+    modifying_keeps_an_entry, moving_keeps_a_directory, moving_takes_all_along,
+    own_content_is_written, removing_keeps_a_directory, renaming_keeps_an_entry,
+    replacing_keeps_a_directory,
 };
 pub use names::Names;
 pub use planner::plan;

@@ -57,4 +57,4 @@ returns-in-Some c =
     let slots : c.in_ok-in_order-in-Some.field-0 ≡ in_order (length s.types) said = c.in_ok-in_order-in-Some.ensures (length s.types) (known_bounds s.types said (is_found past).slots) in
     conf_is c.args.text.now c.deref.result.now c.deref-2.result.now s (found past) rdns
     (c.deref.ensures.value ∙ c.in_ok-lines.ensures) (c.deref-2.ensures.value ∙ c.in_ok-lines.ensures) c.in_ok-types.ensures c.in_ok-suffix.ensures.reads some
-    ∙ ap (λ (x : Conf). conf_ok x) ((λ j. conf_with s.classes (sym c.types.view_is j) rdns (sym slots j)) ∙ sym c.new.ensures)
+    ∙ ap (λ (x : Conf). conf_ok x) ((λ j. conf_with s.classes (sym c.types.view_is j) rdns (sym slots j)) ∙ sym c.in_ok-new-in-Some.ensures)

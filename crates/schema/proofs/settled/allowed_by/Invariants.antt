@@ -1,0 +1,11 @@
+use Rattle.std.proofs.Common.{◌≡◌, ◌<◌, ◌||◌, ℕ, drop, length}
+use Rattle.std.specs.List.{list_any, AllByRecursion}
+use Rattle.schema.specs.Superclasses.{has_number, is_listed}
+use Rattle.schema.specs.inner.Settled.{settled_at}
+use Rattle.schema.proofs.settled.allowed_by.Given as goal
+
+abbrev pub invariant-loop-superior : goal.invariant-loop-superior
+invariant-loop-superior l = record {
+  known : AllByRecursion (λ s. s < length l.above) (drop l.superior-index l.class.superiors);
+  rest : (t : ℕ) → (has_number l.set t || list_any (λ s. has_number (settled_at l.above s).allowed t) (drop l.superior-index l.class.superiors)) ≡ (is_listed l.class t || list_any (λ s. has_number (settled_at l.above s).allowed t) l.class.superiors);
+}
