@@ -36,13 +36,16 @@ fn run_by_bytes(
 
 /// The first bytes of the report, and the dump of the suffix's entry and those that were accepted.
 fn left(alloc: Global, written: usize, accepted: u64) -> Result<String, AllocError> {
-    let report = REPORT.get(..written).unwrap_or("");
-    let entries: &[&str] = match accepted {
-        0 => &[report, ROOT],
-        1 => &[report, ROOT, X],
-        _ => &[report, ROOT, X, Z],
-    };
-    entries.concat(alloc)
+    let mut text = String::new(alloc);
+    text.push_str(REPORT.get(..written).unwrap_or(""))?;
+    text.push_str(ROOT)?;
+    if accepted > 0 {
+        text.push_str(X)?;
+    }
+    if accepted > 1 {
+        text.push_str(Z)?;
+    }
+    Ok(text)
 }
 
 // what is accepted, refused and written where the source fails behind so many bytes: the last record has no empty line
