@@ -5,29 +5,29 @@ use Rattle.std.specs.Ordering.{eq_by_cmp}
 use Rattle.std.specs.Map.{remove_entry}
 use Rattle.std.specs.BTreeMap.{insert_entry, is_at}
 use Rattle.std.specs.FinMap as finite
-use Rattle.slots.specs.Slots.{slot, IsTaken, taken, most, IsSet}
+use Rattle.cells.specs.Cells.{cell, IsTaken, taken, most, IsSet}
 use Rattle.paths.specs.Paths.{Path, path_cmp}
 use Rattle.schema.specs.Conf.{Conf}
 use Rattle.tree.specs.Entries.{EntryContent}
 use Rattle.tree.specs.Directories.{Entries, IsDirectory}
 use Rattle.tree.specs.StoredEntries.{Entry, content_of, IsMade}
 use Rattle.tree.specs.Trees.{Tree, Numbers, IsNumbered, number_at}
-use Rattle.tree.specs.inner.Trees.{Slots, numbers_of, entries_in, AreNumbered, IsKept}
+use Rattle.tree.specs.inner.Trees.{Cells, numbers_of, entries_in, AreNumbered, IsKept}
 use Rattle.tree.proofs.Kept.{equal}
 use Rattle.tree.proofs.Order.{path_total, path_exact}
 use Rattle.tree.proofs.Numbered.{IsRising, IsFree, removed, rising_put, rising_remove, numbers_put, numbers_remove, numbers_len, entries_len, entries_put, entries_remove, numbered_put, numbered_remove, free_new, free_own, nothing_set}
 
 -- this is kept, and is seen as these entries and numbers
-pub record IsCarried (conf : Conf) (slots : Slots) (es : List (Path × ℕ)) (d : Entries) (m : Numbers) : Type 0 where
-  pub kept : IsKept conf slots es
-  pub entries : entries_in slots (numbers_of es) ≡ d
+pub record IsCarried (conf : Conf) (cells : Cells) (es : List (Path × ℕ)) (d : Entries) (m : Numbers) : Type 0 where
+  pub kept : IsKept conf cells es
+  pub entries : entries_in cells (numbers_of es) ≡ d
   pub numbers : numbers_of es ≡ m
 
-pub carried : (conf : Conf) (slots : Slots) (es : List (Path × ℕ)) (d : Entries) (m : Numbers) → IsRising es → numbers_of es ≡ m → AreNumbered conf slots m → taken slots ≡ length es → entries_in slots m ≡ d → IsDirectory conf d → IsCarried conf slots es d m
-carried conf slots es d m rising is numbered counted seen directory =
-    let e : entries_in slots (numbers_of es) ≡ d = ap (entries_in slots) is ∙ seen in
+pub carried : (conf : Conf) (cells : Cells) (es : List (Path × ℕ)) (d : Entries) (m : Numbers) → IsRising es → numbers_of es ≡ m → AreNumbered conf cells m → taken cells ≡ length es → entries_in cells m ≡ d → IsDirectory conf d → IsCarried conf cells es d m
+carried conf cells es d m rising is numbered counted seen directory =
+    let e : entries_in cells (numbers_of es) ≡ d = ap (entries_in cells) is ∙ seen in
     record {
-      kept = record { sorted = rising; numbered = subst (AreNumbered conf slots) (sym is) numbered; counted = counted; directory = subst (IsDirectory conf) (sym e) directory };
+      kept = record { sorted = rising; numbered = subst (AreNumbered conf cells) (sym is) numbered; counted = counted; directory = subst (IsDirectory conf) (sym e) directory };
       entries = e;
       numbers = is;
     }
@@ -96,25 +96,25 @@ length_remove es k n h there =
 
 -- ---- each change
 
-module _ (conf : Conf) (slots : Slots) (next : ℕ) (es : List (Path × ℕ)) (kept : IsKept conf slots es) where
+module _ (conf : Conf) (cells : Cells) (next : ℕ) (es : List (Path × ℕ)) (kept : IsKept conf cells es) where
   abbrev m : Numbers
   m = numbers_of es
 
   abbrev whole : Tree
-  whole = record { conf = conf; entries = entries_in slots m; numbers = m; next_number = next }
+  whole = record { conf = conf; entries = entries_in cells m; numbers = m; next_number = next }
 
-  pub slot_there : (d : Tree) → whole ≡ d → (p : Path) (n : ℕ) → finite.get d.numbers p ≡ Some n → IsTaken slots n
-  slot_there d is p n there = some_and _ (slot slots n) (kept.numbered.filled p n (ap (λ (x : Tree). finite.get x.numbers p) is ∙ there))
+  pub cell_there : (d : Tree) → whole ≡ d → (p : Path) (n : ℕ) → finite.get d.numbers p ≡ Some n → IsTaken cells n
+  cell_there d is p n there = some_and _ (cell cells n) (kept.numbered.filled p n (ap (λ (x : Tree). finite.get x.numbers p) is ∙ there))
 
-  -- where a new entry leaves a directory, its slot has a number
-  pub slot_left : (d : Tree) → whole ≡ d → (p : Path) (e : EntryContent) → finite.contains_key d.entries p ≡ false → IsDirectory d.conf (finite.insert d.entries p e) → taken slots < most
-  slot_left d is p e new directory =
-      let len_is : finite.len d.entries ≡ length es = ap (λ (x : Tree). finite.len x.entries) (sym is) ∙ entries_len slots m ∙ numbers_len es kept.sorted in
+  -- where a new entry leaves a directory, its cell has a number
+  pub cell_left : (d : Tree) → whole ≡ d → (p : Path) (e : EntryContent) → finite.contains_key d.entries p ≡ false → IsDirectory d.conf (finite.insert d.entries p e) → taken cells < most
+  cell_left d is p e new directory =
+      let len_is : finite.len d.entries ≡ length es = ap (λ (x : Tree). finite.len x.entries) (sym is) ∙ entries_len cells m ∙ numbers_len es kept.sorted in
       let more : finite.len (finite.insert d.entries p e) ≡ finite.len d.entries + 1 = finite.len-insert path_total d.entries p e ∙ ap (λ b. cond b (finite.len d.entries) (finite.len d.entries + 1)) new in
       omega (arith, kept.counted, len_is, more, directory.few)
 
-  -- an entry in the next slot, where none was
-  pub new_done : (after : Slots) (p : Path) (n : ℕ) (e : Entry) → slot slots n ≡ None → IsSet slots after n (Some e) → taken after ≡ taken slots + 1
+  -- an entry in the next cell, where none was
+  pub new_done : (after : Cells) (p : Path) (n : ℕ) (e : Entry) → cell cells n ≡ None → IsSet cells after n (Some e) → taken after ≡ taken cells + 1
       → (es' : List (Path × ℕ)) → es' ≡ insert_entry path_cmp es p n
       → (d : Tree) → whole ≡ d → finite.get d.numbers p ≡ None → IsMade d.conf.types e.attrs → IsDirectory d.conf (finite.insert d.entries p (content_of e))
       → IsCarried conf after es' (finite.insert d.entries p (content_of e)) (finite.insert d.numbers p n)
@@ -122,36 +122,36 @@ module _ (conf : Conf) (slots : Slots) (next : ℕ) (es : List (Path × ℕ)) (k
       (λ (x : Tree). finite.get x.numbers p ≡ None → IsMade x.conf.types e.attrs → IsDirectory x.conf (finite.insert x.entries p (content_of e)) → IsCarried conf after es' (finite.insert x.entries p (content_of e)) (finite.insert x.numbers p n))
       is
       (λ new made directory.
-      let free : IsFree m p n = free_new conf slots m kept.numbered p n vacant in
+      let free : IsFree m p n = free_new conf cells m kept.numbered p n vacant in
       carried conf after es' _ _
       (subst IsRising (sym come) (rising_put es p n kept.sorted))
       (ap numbers_of come ∙ numbers_put es p n kept.sorted)
-      (numbered_put slots after m p n free conf kept.numbered e sets made)
+      (numbered_put cells after m p n free conf kept.numbered e sets made)
       (more ∙ ap (λ k. k + 1) kept.counted ∙ sym (ap length come ∙ length_put es p n kept.sorted new))
-      (entries_put slots after m p n free e sets)
+      (entries_put cells after m p n free e sets)
       directory)
       new made directory
 
-  -- another one in the slot of an entry
-  pub over_done : (after : Slots) (p : Path) (n : ℕ) (e : Entry) → IsSet slots after n (Some e) → taken after ≡ taken slots
+  -- another one in the cell of an entry
+  pub over_done : (after : Cells) (p : Path) (n : ℕ) (e : Entry) → IsSet cells after n (Some e) → taken after ≡ taken cells
       → (d : Tree) → whole ≡ d → finite.get d.numbers p ≡ Some n → IsMade d.conf.types e.attrs → IsDirectory d.conf (finite.insert d.entries p (content_of e))
       → IsCarried conf after es (finite.insert d.entries p (content_of e)) (finite.insert d.numbers p n)
   over_done after p n e sets same d is there made directory = subst
       (λ (x : Tree). finite.get x.numbers p ≡ Some n → IsMade x.conf.types e.attrs → IsDirectory x.conf (finite.insert x.entries p (content_of e)) → IsCarried conf after es (finite.insert x.entries p (content_of e)) (finite.insert x.numbers p n))
       is
       (λ there made directory.
-      let free : IsFree m p n = free_own conf slots m kept.numbered p n there in
+      let free : IsFree m p n = free_own conf cells m kept.numbered p n there in
       carried conf after es _ _
       kept.sorted
       (put_same m p n there)
-      (numbered_put slots after m p n free conf kept.numbered e sets made)
+      (numbered_put cells after m p n free conf kept.numbered e sets made)
       (same ∙ kept.counted)
-      (entries_put slots after m p n free e sets)
+      (entries_put cells after m p n free e sets)
       directory)
       there made directory
 
   -- none there
-  pub take_done : (after : Slots) (p : Path) (n : ℕ) → IsSet slots after n None → taken after + 1 ≡ taken slots
+  pub take_done : (after : Cells) (p : Path) (n : ℕ) → IsSet cells after n None → taken after + 1 ≡ taken cells
       → (es' : List (Path × ℕ)) → es' ≡ remove_entry (is_at (path_cmp p)) es
       → (d : Tree) → whole ≡ d → finite.get d.numbers p ≡ Some n → IsDirectory d.conf (finite.remove d.entries p)
       → IsCarried conf after es' (finite.remove d.entries p) (finite.remove d.numbers p)
@@ -159,19 +159,19 @@ module _ (conf : Conf) (slots : Slots) (next : ℕ) (es : List (Path × ℕ)) (k
       (λ (x : Tree). finite.get x.numbers p ≡ Some n → IsDirectory x.conf (finite.remove x.entries p) → IsCarried conf after es' (finite.remove x.entries p) (finite.remove x.numbers p))
       is
       (λ there directory.
-      let free : IsFree m p n = free_own conf slots m kept.numbered p n there in
+      let free : IsFree m p n = free_own conf cells m kept.numbered p n there in
       let length_is : length es' ≡ length es - 1 = ap length go ∙ length_remove es p n kept.sorted there in
       carried conf after es' _ _
       (subst IsRising (sym go) (rising_remove es p kept.sorted))
       (ap numbers_of go ∙ numbers_remove es p kept.sorted)
-      (numbered_remove slots after m p n free conf kept.numbered None sets)
+      (numbered_remove cells after m p n free conf kept.numbered None sets)
       (omega (arith, fewer, kept.counted, length_is))
-      (entries_remove slots after m p n free None sets)
+      (entries_remove cells after m p n free None sets)
       directory)
       there directory
 
-  -- another one in the slot of an entry, and at another path
-  pub move_done : (after : Slots) (from to : Path) (n : ℕ) (e : Entry) → IsSet slots after n (Some e) → taken after ≡ taken slots
+  -- another one in the cell of an entry, and at another path
+  pub move_done : (after : Cells) (from to : Path) (n : ℕ) (e : Entry) → IsSet cells after n (Some e) → taken after ≡ taken cells
       → (es1 es2 : List (Path × ℕ)) → es1 ≡ insert_entry path_cmp es to n → es2 ≡ remove_entry (is_at (path_cmp from)) es1
       → (d : Tree) → whole ≡ d → finite.get d.numbers from ≡ Some n → finite.get d.numbers to ≡ None → IsMade d.conf.types e.attrs → IsDirectory d.conf (finite.insert (finite.remove d.entries from) to (content_of e))
       → IsCarried conf after es2 (finite.insert (finite.remove d.entries from) to (content_of e)) (finite.insert (finite.remove d.numbers from) to n)
@@ -180,7 +180,7 @@ module _ (conf : Conf) (slots : Slots) (next : ℕ) (es : List (Path × ℕ)) (k
       → IsCarried conf after es2 (finite.insert (finite.remove x.entries from) to (content_of e)) (finite.insert (finite.remove x.numbers from) to n))
       is
       (λ there new made directory.
-      let free : IsFree m from n = free_own conf slots m kept.numbered from n there in
+      let free : IsFree m from n = free_own conf cells m kept.numbered from n there in
       let left : Numbers = finite.remove m from in
       let free_left : IsFree left to n = λ q j _ at. let g = removed m from q j at in free q j g.0 g.1 in
       let apart : from ≢ to = λ same. (let b : Some n ≡ None = sym there ∙ ap (λ (x : Path). finite.get m x) same ∙ new in cc) in
@@ -192,9 +192,9 @@ module _ (conf : Conf) (slots : Slots) (next : ℕ) (es : List (Path × ℕ)) (k
       carried conf after es2 _ _
       (subst IsRising (sym go) (rising_remove es1 from rising))
       (ap numbers_of go ∙ numbers_remove es1 from rising ∙ ap (λ x. finite.remove x from) seen ∙ commuted m from to n apart)
-      (numbered_put slots after left to n free_left conf (numbered_remove slots slots m from n free conf kept.numbered (slot slots n) (nothing_set slots n)) e sets made)
+      (numbered_put cells after left to n free_left conf (numbered_remove cells cells m from n free conf kept.numbered (cell cells n) (nothing_set cells n)) e sets made)
       (omega (arith, same, kept.counted, longer, shorter))
-      (entries_put slots after left to n free_left e sets ∙ ap (λ (x : Entries). finite.insert x to (content_of e)) (entries_remove slots slots m from n free (slot slots n) (nothing_set slots n)))
+      (entries_put cells after left to n free_left e sets ∙ ap (λ (x : Entries). finite.insert x to (content_of e)) (entries_remove cells cells m from n free (cell cells n) (nothing_set cells n)))
       directory)
       there new made directory
     where

@@ -12,7 +12,7 @@ use Rattle.tree.specs.StoredEntries.{EntryAttribute, raws, attributes_of}
 use Rattle.tree.proofs.StoredLemmas.{values_raw}
 use Rattle.tree.specs.Entries.{Attributes, values_of}
 use Rattle.tree.specs.EntryClasses.{are_classes, named_classes, classes_of, fits_classes, has_type, has_required, is_allowed, are_allowed}
-use Rattle.tree.specs.inner.ClassChecks.{has_all_required, is_allowed_by, may_have, may_have_all}
+use Rattle.tree.specs.inner.ClassChecks.{has_all_required, may_have, may_have_all}
 
 pub and_both : (a b : Bool) → a ≡ true → b ≡ true → (a && b) ≡ true
 and_both a b e f = ap (λ x. x && b) e ∙ f

@@ -34,3 +34,4 @@ pub mod ClassLemmas
 pub mod ClassLaw
 pub mod ClassRuleExamples
 pub mod ChangeExamples
+pub mod Followed

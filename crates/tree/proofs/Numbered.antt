@@ -15,8 +15,8 @@ use Rattle.tree.specs.Entries.{EntryContent}
 use Rattle.tree.specs.Directories.{Entries}
 use Rattle.tree.specs.StoredEntries.{Entry, content_of, IsMade}
 use Rattle.tree.specs.Trees.{Numbers, seen_entries}
-use Rattle.slots.specs.Slots.{slot, IsSet}
-use Rattle.tree.specs.inner.Trees.{Slots, entry_at, joined, numbers_of, entries_in, AreNumbered}
+use Rattle.cells.specs.Cells.{cell, IsSet}
+use Rattle.tree.specs.inner.Trees.{Cells, entry_at, joined, numbers_of, entries_in, AreNumbered}
 use Rattle.tree.proofs.Kept.{equal}
 use Rattle.tree.proofs.Order.{path_total, path_exact}
 use Rattle.tree.proofs.Views.{put_is, find_is, remove_is, find_seen, rising_seen, seen_length}
@@ -59,36 +59,36 @@ numbers_get es q h = finite.get-from_sorted path_cmp es q h ∙ find_is path_cmp
 pub numbers_len : (es : List (Path × ℕ)) → IsRising es → finite.len (numbers_of es) ≡ length es
 numbers_len es h = finite.len-entries (numbers_of es) ∙ ap length (finite.entries-from_sorted path_cmp es h)
 
--- ---- the entries in slots
+-- ---- the entries in cells
 
 fused : {A B C : Type 0} (f : B → C) (g : A → B) (o : Option A) → option_map f (option_map g o) ≡ option_map (λ a. f (g a)) o
 fused f g None = refl
 fused f g (Some a) = refl
 
-module _ (slots : Slots) where
-  pub joined_rising : (es : List (Path × ℕ)) → IsRising es → T (is_sorted path_cmp (seen_entries (joined slots es)))
-  joined_rising es h = subst T (sym (rising_seen content_of path_cmp (joined slots es) ∙ rising_seen (entry_at slots) path_cmp es)) h
+module _ (cells : Cells) where
+  pub joined_rising : (es : List (Path × ℕ)) → IsRising es → T (is_sorted path_cmp (seen_entries (joined cells es)))
+  joined_rising es h = subst T (sym (rising_seen content_of path_cmp (joined cells es) ∙ rising_seen (entry_at cells) path_cmp es)) h
 
-  pub entries_list : (m : Numbers) → finite.entries (entries_in slots m) ≡ seen_entries (joined slots (finite.entries m))
-  entries_list m = finite.entries-from_sorted path_cmp (seen_entries (joined slots (finite.entries m))) (joined_rising (finite.entries m) (finite.entries_sorted m))
+  pub entries_list : (m : Numbers) → finite.entries (entries_in cells m) ≡ seen_entries (joined cells (finite.entries m))
+  entries_list m = finite.entries-from_sorted path_cmp (seen_entries (joined cells (finite.entries m))) (joined_rising (finite.entries m) (finite.entries_sorted m))
 
-  pub entries_len : (m : Numbers) → finite.len (entries_in slots m) ≡ finite.len m
+  pub entries_len : (m : Numbers) → finite.len (entries_in cells m) ≡ finite.len m
   entries_len m =
-      finite.len-entries (entries_in slots m) ∙ ap length (entries_list m) ∙ seen_length content_of path_cmp (joined slots (finite.entries m))
-      ∙ seen_length (entry_at slots) path_cmp (finite.entries m) ∙ sym (finite.len-entries m)
+      finite.len-entries (entries_in cells m) ∙ ap length (entries_list m) ∙ seen_length content_of path_cmp (joined cells (finite.entries m))
+      ∙ seen_length (entry_at cells) path_cmp (finite.entries m) ∙ sym (finite.len-entries m)
 
   abbrev pub content_at : ℕ → EntryContent
-  content_at n = content_of (entry_at slots n)
+  content_at n = content_of (entry_at cells n)
 
-  pub entries_get : (m : Numbers) (q : Path) → finite.get (entries_in slots m) q ≡ option_map content_at (finite.get m q)
+  pub entries_get : (m : Numbers) (q : Path) → finite.get (entries_in cells m) q ≡ option_map content_at (finite.get m q)
   entries_get m q =
-      finite.get-from_sorted path_cmp (seen_entries (joined slots (finite.entries m))) q (joined_rising (finite.entries m) (finite.entries_sorted m))
-      ∙ find_seen content_of path_cmp q (joined slots (finite.entries m))
-      ∙ ap (option_map content_of) (find_seen (entry_at slots) path_cmp q (finite.entries m))
-      ∙ fused content_of (entry_at slots) (find path_cmp q (finite.entries m))
+      finite.get-from_sorted path_cmp (seen_entries (joined cells (finite.entries m))) q (joined_rising (finite.entries m) (finite.entries_sorted m))
+      ∙ find_seen content_of path_cmp q (joined cells (finite.entries m))
+      ∙ ap (option_map content_of) (find_seen (entry_at cells) path_cmp q (finite.entries m))
+      ∙ fused content_of (entry_at cells) (find path_cmp q (finite.entries m))
       ∙ ap (option_map content_at) (sym (finite.get-entries m q))
 
--- ---- a change of one slot
+-- ---- a change of one cell
 
 pub same_key : (p q : Path) (b : Bool) → eq_by_cmp path_cmp q p ≡ b → (b ≡ false) → q ≢ p
 same_key p q b is not_tied same = let k : true ≡ false = sym (ap is_eq (tied_itself path_total p)) ∙ ap (λ x. eq_by_cmp path_cmp x p) (sym same) ∙ is ∙ not_tied in cc
@@ -111,7 +111,7 @@ removed {X} d p q x is = by (eq_by_cmp path_cmp q p) refl (sym (finite.get-remov
 abbrev pub IsFree : Numbers → Path → ℕ → Type 0
 IsFree m p n = (q : Path) (k : ℕ) → q ≢ p → finite.get m q ≡ Some k → k ≢ n
 
-module _ (old new : Slots) (m : Numbers) (p : Path) (n : ℕ) (o : Option Entry) (sets : IsSet old new n o) (free : IsFree m p n) where
+module _ (old new : Cells) (m : Numbers) (p : Path) (n : ℕ) (o : Option Entry) (sets : IsSet old new n o) (free : IsFree m p n) where
   others_same : (q : Path) → q ≢ p → option_map (content_at new) (finite.get m q) ≡ option_map (content_at old) (finite.get m q)
   others_same q apart = elim (finite.get m q) as (λ x. finite.get m q ≡ x → option_map (content_at new) x ≡ option_map (content_at old) x) [
     | None ↦ λ _. refl
@@ -130,7 +130,7 @@ module _ (old new : Slots) (m : Numbers) (p : Path) (n : ℕ) (o : Option Entry)
       by q true tie = is
       by q false tie = others_same q (same_key p q false tie refl) ∙ sym (entries_get old m q)
 
-module _ (old new : Slots) (m : Numbers) (p : Path) (n : ℕ) (free : IsFree m p n) where
+module _ (old new : Cells) (m : Numbers) (p : Path) (n : ℕ) (free : IsFree m p n) where
   pub entries_put : (e : Entry) → IsSet old new n (Some e) → entries_in new (finite.insert m p n) ≡ finite.insert (entries_in old m) p (content_of e)
   entries_put e sets = stepped old new m p n (Some e) sets free _ _ (Some n) (Some (content_of e)) (finite.get-insert path_total m p n) (finite.get-insert path_total (entries_in old m) p (content_of e)) (ap (λ s. Some (content_of (unwrap_or s (record { rdn = []; attrs = [] })))) sets.at)
 
@@ -139,14 +139,14 @@ module _ (old new : Slots) (m : Numbers) (p : Path) (n : ℕ) (free : IsFree m p
 
   -- what is kept of the numbers
   module _ (conf : Conf) (h : AreNumbered conf old m) where
-    abbrev IsGoodSlot : Option Entry → Type 0
-    IsGoodSlot o = IsSomeAnd o (λ e. IsMade conf.types e.attrs)
+    abbrev IsGoodCell : Option Entry → Type 0
+    IsGoodCell o = IsSomeAnd o (λ e. IsMade conf.types e.attrs)
 
     pub numbered_put : (e : Entry) → IsSet old new n (Some e) → IsMade conf.types e.attrs → AreNumbered conf new (finite.insert m p n)
     numbered_put e sets made = record {
       filled = λ q k is. elim (inserted m p n q k is) [
-        | inl a ↦ subst (λ j. IsGoodSlot (slot new j)) a.1 (subst IsGoodSlot (sym sets.at) made)
-        | inr a ↦ subst IsGoodSlot (sym (sets.others k (free q k a.0 a.1))) (h.filled q k a.1)
+        | inl a ↦ subst (λ j. IsGoodCell (cell new j)) a.1 (subst IsGoodCell (sym sets.at) made)
+        | inr a ↦ subst IsGoodCell (sym (sets.others k (free q k a.0 a.1))) (h.filled q k a.1)
       ];
       apart = λ q r k is js. elim (inserted m p n q k is) [
         | inl a ↦ elim (inserted m p n r k js) [
@@ -162,20 +162,20 @@ module _ (old new : Slots) (m : Numbers) (p : Path) (n : ℕ) (free : IsFree m p
 
     pub numbered_remove : (o : Option Entry) → IsSet old new n o → AreNumbered conf new (finite.remove m p)
     numbered_remove o sets = record {
-      filled = λ q k is. let a = removed m p q k is in subst IsGoodSlot (sym (sets.others k (free q k a.0 a.1))) (h.filled q k a.1);
+      filled = λ q k is. let a = removed m p q k is in subst IsGoodCell (sym (sets.others k (free q k a.0 a.1))) (h.filled q k a.1);
       apart = λ q r k is js. h.apart q r k (removed m p q k is).1 (removed m p r k js).1;
     }
 
 -- ---- numbers that are free
 
-module _ (conf : Conf) (slots : Slots) (m : Numbers) (h : AreNumbered conf slots m) where
-  -- the number of an empty slot is at no path
-  pub free_new : (p : Path) (n : ℕ) → slot slots n ≡ None → IsFree m p n
-  free_new p n none q k apart is same = let f = subst (λ o. IsSomeAnd o (λ e. IsMade conf.types e.attrs)) (ap (slot slots) same ∙ none) (h.filled q k is) in f
+module _ (conf : Conf) (cells : Cells) (m : Numbers) (h : AreNumbered conf cells m) where
+  -- the number of an empty cell is at no path
+  pub free_new : (p : Path) (n : ℕ) → cell cells n ≡ None → IsFree m p n
+  free_new p n none q k apart is same = let f = subst (λ o. IsSomeAnd o (λ e. IsMade conf.types e.attrs)) (ap (cell cells) same ∙ none) (h.filled q k is) in f
 
   -- that of an entry is at its path alone
   pub free_own : (p : Path) (n : ℕ) → finite.get m p ≡ Some n → IsFree m p n
   free_own p n own q k apart is same = apart (h.apart q p n (is ∙ ap (λ (j : ℕ). Some j) same) own)
 
-pub nothing_set : (slots : Slots) (n : ℕ) → IsSet slots slots n (slot slots n)
-nothing_set slots n = record { at = refl; others = λ k _. refl }
+pub nothing_set : (cells : Cells) (n : ℕ) → IsSet cells cells n (cell cells n)
+nothing_set cells n = record { at = refl; others = λ k _. refl }

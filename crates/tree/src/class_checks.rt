@@ -11,19 +11,23 @@ ghost use Rattle.tree.specs.StoredEntries.{attributes_of, raws, IsMade};
 use crate::attributes::has_class;
 use crate::entry::Attributes;
 use schema::{Conf, TypeId};
+use smallvec::SmallVec;
 use std::alloc::{AllocError, Global};
 use values::Values;
+
+// An entry names few classes: up to eight take no allocation.
+type ClassNumbers = SmallVec<usize, 8>;
 
 // The classes that values name, or None where one of them names none.
 fn named_classes(
     alloc: Global,
     conf: &Conf,
     values: &Values,
-) -> Result<Option<Vec<usize>>, AllocError>
+) -> Result<Option<ClassNumbers>, AllocError>
     ensures named { IfOk result (λ found. MatchOption found (are_classes conf.now.classes (raws values.now) ≡ false) (λ cs. (are_classes conf.now.classes (raws values.now) ≡ true) × (cs.items ≡ named_classes conf.now.classes (raws values.now)))) }
     ensures known { IfOk result (λ found. MatchOption found Unit (λ cs. AllByRecursion (λ c. c < length conf.now.classes) cs.items)) }
 {
-    let mut classes = Vec::new(alloc);
+    let mut classes = SmallVec::new(alloc);
     for value in values.iter() {
         match conf.class_of(value.raw()) {
             Some(class) => classes.push(class)?,
@@ -38,13 +42,13 @@ fn own_classes(
     alloc: Global,
     conf: &Conf,
     attrs: &Attributes,
-) -> Result<Option<Vec<usize>>, AllocError>
+) -> Result<Option<ClassNumbers>, AllocError>
     ensures named { IfOk result (λ found. MatchOption found (are_classes conf.now.classes (raws (values_of attrs.now.entries 0)) ≡ false) (λ cs. (are_classes conf.now.classes (raws (values_of attrs.now.entries 0)) ≡ true) × (cs.items ≡ named_classes conf.now.classes (raws (values_of attrs.now.entries 0))))) }
     ensures known { IfOk result (λ found. MatchOption found Unit (λ cs. AllByRecursion (λ c. c < length conf.now.classes) cs.items)) }
 {
     match attrs.get(&TypeId::OBJECT_CLASS) {
         Some(values) => named_classes(alloc, conf, values),
-        None => Ok(Some(Vec::new(alloc))),
+        None => Ok(Some(SmallVec::new(alloc))),
     }
 }
 

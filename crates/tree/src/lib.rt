@@ -38,7 +38,7 @@ pub use laws::{
 pub use names::Names;
 pub use planner::plan;
 pub use plans::Plan;
-pub use range::Below;
+pub use range::{Below, NumberedEntries};
 pub use refusal::Refusal;
 pub use tree::Tree;
 pub use values::Values;

@@ -1,5 +1,5 @@
 -- A change as a plan keeps it: values come with their normal forms, and a new entry is told from one in place of another.
-use Rattle.std.specs.Prelude.{◌≡◌, ℕ, true, false, Option, Some}
+use Rattle.std.specs.Prelude.{◌≡◌, ◌≢◌, ℕ, true, false, Option, Some}
 use Rattle.std.specs.FinMap as finite
 use Rattle.paths.specs.Paths.{Path, begins}
 use Rattle.tree.specs.declared.plans.Change as stored
@@ -7,7 +7,7 @@ use Rattle.tree.specs.declared.plans.Change.TheVariants as changes
 use Rattle.tree.specs.Directories.{IsDirectory}
 use Rattle.tree.specs.StoredEntries.{content_of, IsMade}
 use Rattle.tree.specs.Changes.{Change, Nothing, Put, Remove, Move, changed}
-use Rattle.tree.specs.Trees.{Tree}
+use Rattle.tree.specs.Trees.{Tree, IsNumbered}
 use Rattle.tree.specs.Plans.{Planned, number_of}
 
 abbrev pub seen_change : stored.Change → Change
@@ -45,4 +45,6 @@ IsSpare d (changes.Move from to entry) = (q : Path) (n : ℕ) → finite.get d.n
 pub record IsPlan (d : Tree) (c : stored.Change) (n : Option ℕ) : Type 0 where
   pub change : IsChange d c
   pub spare : IsSpare d c
+  pub numbered : IsNumbered d.entries d.numbers
+  pub free : (q : Path) → finite.get d.numbers q ≢ Some d.next_number
   pub number : n ≡ number_of (planned d c)

@@ -1,4 +1,4 @@
-use Rattle.std.proofs.Common.{◌≡◌, ◌<◌, ℕ, List, true, false, length, Option, Some, None, sym, ap, subst, ◌∙◌}
+use Rattle.std.proofs.Common.{◌≡◌, ◌<◌, ℕ, List, true, false, length, Option, Some, None, sym, subst, ◌∙◌}
 use Rattle.std.specs.Prelude.{MatchOption}
 use Rattle.std.specs.List.{AllByRecursion}
 use Rattle.tree.specs.Entries.{values_of}
@@ -15,7 +15,7 @@ at_some o P Q x is h = subst (λ y. MatchOption y P Q) is h
 
 pub fits_each-requires-clause-classes : goal.fits_each-requires-clause-classes
 fits_each-requires-clause-classes c =
-    subst (λ (xs : List ℕ). AllByRecursion (λ k. k < length c.args.conf.now.classes) xs) (sym c.deref.ensures.value)
+    subst (λ (xs : List ℕ). AllByRecursion (λ k. k < length c.args.conf.now.classes) xs) (sym c.deref.ensures)
     (at_some c.in_ok-found.found Unit (λ cs. AllByRecursion (λ k. k < length c.args.conf.now.classes) cs.items) c.in-Some.named c.in-Some.is c.in_ok-found.ensures.known)
 
 pub returns-in-None : goal.returns-in-None
@@ -29,4 +29,4 @@ returns-in-Some c =
     let classes = c.args.conf.now.classes in
     let texts : List (List ℕ) = raws (values_of c.args.attrs.now.entries 0) in
     let named = at_some c.in_ok-found.found (are_classes classes texts ≡ false) (λ cs. (are_classes classes texts ≡ true) × (cs.items ≡ named_classes classes texts)) c.in-Some.named c.in-Some.is c.in_ok-found.ensures.named in
-    c.fits_each.ensures ∙ fits_as_asked c.args.conf.now c.args.attrs.now.entries c.deref.result.now named.0 (c.deref.ensures.value ∙ named.1)
+    c.fits_each.ensures ∙ fits_as_asked c.args.conf.now c.args.attrs.now.entries c.deref.result.now named.0 (c.deref.ensures ∙ named.1)

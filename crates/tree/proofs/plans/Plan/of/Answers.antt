@@ -8,5 +8,7 @@ pub invariant_of-result : goal.invariant_of-result
 invariant_of-result c = subst (λ (d : Tree). IsPlan d c.args.change c.number_of-number.result) (sym c.of.ensures) (record {
   change = c.requires;
   spare = spare c.args.tree.now c.args.change c.is_directory.ensures c.is_numbered.ensures c.requires.fit;
+  numbered = c.is_numbered.ensures;
+  free = c.next_number.ensures.free;
   number = c.number_of-number.ensures;
 })

@@ -1,14 +1,14 @@
 use Rattle.std.proofs.Common.{◌∙◌, sym}
 use Rattle.std.specs.FinMap as finite
-use Rattle.tree.proofs.Carried.{IsCarried, slot_there, take_done, number_is}
+use Rattle.tree.proofs.Carried.{IsCarried, cell_there, take_done, number_is}
 use Rattle.tree.proofs.tree.Tree.remove.Goals as goal
 
 pub remove-requires-2 : goal.remove-requires-2
-remove-requires-2 c = slot_there c.self.inside.made.value c.self.inside.slots.slots c.self.inside.slots.next c.self.inside.numbers.entries c.self.invariant c.args.self.now c.self.view_is c.args.path.now c.number_there-number.result c.number_there-number.ensures
+remove-requires-2 c = cell_there c.self.inside.made.value c.self.inside.cells.cells c.self.inside.cells.next c.self.inside.numbers.entries c.self.invariant c.args.self.now c.self.view_is c.args.path.now c.number_there-number.result c.number_there-number.ensures
 
-carried : (c : goal.After-drop) → IsCarried c.self.inside.made.value c.remove-2.new.self.slots c.remove.new.self.entries (finite.remove c.args.self.now.entries c.args.path.now) (finite.remove c.args.self.now.numbers c.args.path.now)
+carried : (c : goal.After-drop) → IsCarried c.self.inside.made.value c.remove-2.new.self.cells c.remove.new.self.entries (finite.remove c.args.self.now.entries c.args.path.now) (finite.remove c.args.self.now.numbers c.args.path.now)
 carried c =
-    take_done c.self.inside.made.value c.self.inside.slots.slots c.self.inside.slots.next c.self.inside.numbers.entries c.self.invariant c.remove-2.new.self.slots c.args.path.now c.number_there-number.result c.remove-2.ensures.set c.remove-2.ensures.taken _ c.remove.ensures.entries
+    take_done c.self.inside.made.value c.self.inside.cells.cells c.self.inside.cells.next c.self.inside.numbers.entries c.self.invariant c.remove-2.new.self.cells c.args.path.now c.number_there-number.result c.remove-2.ensures.set c.remove-2.ensures.taken _ c.remove.ensures.entries
     c.args.self.now c.self.view_is c.number_there-number.ensures c.requires.directory
 
 pub invariant_of-self : goal.invariant_of-self

@@ -4,7 +4,7 @@ use Rattle.paths.specs.Paths.{Path, begins}
 use Rattle.tree.specs.StoredEntries.{content_of}
 use Rattle.tree.specs.Changes.{moved}
 use Rattle.tree.specs.Trees.{Tree}
-use Rattle.tree.proofs.Carried.{IsCarried, slot_there, number_is}
+use Rattle.tree.proofs.Carried.{IsCarried, cell_there, number_is}
 use Rattle.tree.proofs.Moved.{spare_of, of_numbers}
 use Rattle.tree.proofs.Rekeyed.{exchange_done}
 use Rattle.tree.proofs.tree.Tree.rename_all.Goals as goal
@@ -21,11 +21,11 @@ pub move_numbers-requires-clause-spare : goal.move_numbers-requires-clause-spare
 move_numbers-requires-clause-spare c = λ q n at. spare (goal.at.move_numbers-requires-clause-spare c).After-is_numbered q n (sym (ap (λ (d : Tree). finite.get d.numbers q) c.self.view_is) ∙ at)
 
 pub replace-requires : goal.replace-requires
-replace-requires c = slot_there c.self.inside.made.value c.self.inside.slots.slots c.self.inside.slots.next c.self.inside.numbers.entries c.self.invariant c.args.self.now c.self.view_is c.args.from.now c.number_there-number.result c.number_there-number.ensures
+replace-requires c = cell_there c.self.inside.made.value c.self.inside.cells.cells c.self.inside.cells.next c.self.inside.numbers.entries c.self.invariant c.args.self.now c.self.view_is c.args.from.now c.number_there-number.result c.number_there-number.ensures
 
-carried : (c : goal.After-drop-2) → IsCarried c.self.inside.made.value c.replace.new.self.slots c.move_numbers.new.numbers.entries (finite.insert (moved c.args.from.now c.args.to.now c.args.self.now.entries) c.args.to.now (content_of c.args.entry)) (finite.insert (moved c.args.from.now c.args.to.now c.args.self.now.numbers) c.args.to.now c.number_there-number.result)
+carried : (c : goal.After-drop-2) → IsCarried c.self.inside.made.value c.replace.new.self.cells c.move_numbers.new.numbers.entries (finite.insert (moved c.args.from.now c.args.to.now c.args.self.now.entries) c.args.to.now (content_of c.args.entry)) (finite.insert (moved c.args.from.now c.args.to.now c.args.self.now.numbers) c.args.to.now c.number_there-number.result)
 carried c =
-    exchange_done c.self.inside.made.value c.self.inside.slots.slots c.self.inside.slots.next c.self.inside.numbers.entries c.self.invariant c.replace.new.self.slots c.args.from.now c.args.to.now c.number_there-number.result c.args.entry
+    exchange_done c.self.inside.made.value c.self.inside.cells.cells c.self.inside.cells.next c.self.inside.numbers.entries c.self.invariant c.replace.new.self.cells c.args.from.now c.args.to.now c.number_there-number.result c.args.entry
     c.replace.ensures.set c.replace.ensures.taken c.move_numbers.new.numbers.entries c.move_numbers.ensures.sorted c.in_ok-move_numbers.ensures.moved
     c.args.self.now c.self.view_is c.number_there-number.ensures
     (of_numbers c.args.self.now.entries c.args.self.now.numbers c.is_numbered.ensures (λ p. begins c.args.to.now p ≡ false) (spare_of c.args.self.now.conf c.args.self.now.entries c.is_directory.ensures c.args.to.now c.requires.new))
