@@ -1,0 +1,17 @@
+//! Sets of `u32` numbers in several forms under one trait.
+#![tactic(auto)]
+
+mod id_set;
+mod key_set;
+mod list_set;
+mod lists;
+mod members;
+mod merges;
+mod word_set;
+mod words;
+
+pub use id_set::IdSet;
+pub use key_set::KeySet;
+pub use list_set::ListSet;
+pub use members::{Members, walk};
+pub use word_set::WordSet;
