@@ -1,6 +1,7 @@
 //! Sets of `u32` numbers in several forms under one trait.
 #![tactic(auto)]
 
+mod forms;
 mod id_set;
 mod key_set;
 mod list_set;
@@ -13,5 +14,5 @@ mod words;
 pub use id_set::IdSet;
 pub use key_set::KeySet;
 pub use list_set::ListSet;
-pub use members::{Members, walk};
+pub use members::Members;
 pub use word_set::WordSet;
