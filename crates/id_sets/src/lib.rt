@@ -1,4 +1,5 @@
-//! Sets of `u32` numbers in several forms under one trait.
+//! Sets of entry numbers, as an index keeps them under its keys: ascending lists, bits of words, and a set that is one or the other,
+//! whichever serves. One trait says what each of them does.
 #![tactic(auto)]
 
 mod forms;

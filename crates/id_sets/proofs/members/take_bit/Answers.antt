@@ -7,11 +7,11 @@ use Rattle.id_sets.proofs.members.take_bit.Goals as goal
 pub returns-in_err-id : goal.returns-in_err-id
 returns-in_err-id c =
     let members = set_of_words c.args.words.now in
-    let none : ids_left members c.args.place.now ≡ [] = ap (ids_left members) c.in_ok-from.was ∙ ids_none members c.in_ok-from.from c.in_err-id.ensures.next in
+    let none : ids_left members c.args.from.now ≡ [] = ap (ids_left members) c.in_ok-first.was ∙ ids_none members c.in_ok-first.first c.in_err-id.ensures.next in
     rw c.from_residual-in_err-id.ensures (none, none)
 
 pub returns : goal.returns
 returns c =
     let members = set_of_words c.args.words.now in
-    ap (ids_left members) c.in_ok-from.was
-    ∙ ids_step members c.in_ok-from.from c.in_ok-id.id c.checked_add.result c.in_ok-id.ensures.ids c.in_ok-id.ensures.next c.checked_add.ensures
+    ap (ids_left members) c.in_ok-first.was
+    ∙ ids_step members c.in_ok-first.first c.in_ok-id.id c.checked_add.result c.in_ok-id.ensures.ids c.in_ok-id.ensures.next c.checked_add.ensures
