@@ -1,6 +1,6 @@
-//! Tests of public calls that read and write records, names and values, on what no command of the program shows: sources, sinks and
-//! memory that fail in the middle of a call, and calls that no command makes yet. They need no configuration, and so they are proved
-//! while others are.
+//! Tests of public calls that read and write records, names and values, or keep sets of entry numbers, on what no command of the program
+//! shows: sources, sinks and memory that fail in the middle of a call, and calls that no command makes yet. They need no configuration,
+//! and so they are proved while others are.
 #![tactic(auto)]
 
 #[cfg(test)]
@@ -26,6 +26,10 @@ mod readers;
 mod record_text;
 #[cfg(test)]
 mod records_in_little_memory;
+#[cfg(test)]
+mod sets;
+#[cfg(test)]
+mod sets_in_little_memory;
 #[cfg(test)]
 mod written_filter;
 
