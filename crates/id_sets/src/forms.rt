@@ -9,7 +9,7 @@ use crate::{IdSet, ListSet, WordSet, lists};
 use std::alloc::{AllocError, Global};
 use std::slice;
 
-/// The members as they are kept.
+/// The members of a key as they are kept.
 #[derive(Drop)]
 pub enum Form {
     Empty,
@@ -18,7 +18,7 @@ pub enum Form {
     Words(Box<WordSet>),
 }
 
-/// The same, lent: up to one member and a list are both a slice, which is ascending.
+/// The same, lent. None, one and a list are an ascending slice.
 pub enum Lent<'a> {
     List(&'a [u32]),
     Words(&'a WordSet),
@@ -48,19 +48,16 @@ fn without_all(mut words: WordSet, ids: &[u32]) -> WordSet
 fn sift(alloc: Global, ids: &[u32], words: &WordSet, wanted: bool) -> Result<Vec<u32>, AllocError>
     ensures { IfOk result (λ kept. kept.items ≡ filter (λ q. beq (set.contains words.now q) wanted) ids.now) }
 {
-    let mut kept = Vec::new(alloc);
-    for id in ids {
-        if words.contains(*id) == wanted {
-            kept.push(*id)?;
-        }
-    }
-    Ok(kept)
+    ids.iter()
+        .copied()
+        .filter(|id| words.contains(*id) == wanted)
+        .collect(alloc)
 }
 
 impl Form {
     ghost use Rattle.id_sets.specs.inner.Forms.{kept_as, lent_as, members_of, IsInOrder};
 
-    // an ascending list
+    /// An ascending list, in the form that its length asks for.
     pub fn of_list(alloc: Global, ids: Vec<u32>) -> Result<Form, AllocError>
         requires { IsAscending ids.items }
         ensures { IfOk result (λ form. kept_as form ≡ record { members = set.from_list ids.items; is_words = false }) }
@@ -72,12 +69,14 @@ impl Form {
         }
     }
 
+    /// Words, which stay words.
     pub fn of_words(alloc: Global, words: WordSet) -> Result<Form, AllocError>
         ensures { IfOk result (λ form. kept_as form ≡ record { members = words; is_words = true }) }
     {
         Ok(Form::Words(Box::new(alloc, words)?))
     }
 
+    /// The members, to look at.
     pub fn lend(&self) -> Lent<'_>
         ensures same { lent_as result ≡ kept_as self.now }
         ensures ascending { IsInOrder result }
