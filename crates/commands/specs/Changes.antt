@@ -50,7 +50,8 @@ pub record RunsInput (task : Task) (run : Run) (w w' : World) : Type 0 where
   pub gave : GaveSome w.input w'.input
   pub failures : Failures run.answer w.input.failed w'.input.failed w.messages.failed w'.messages.failed
   pub runs : Runs run.conf task.mode task.go_on run.old run.new (option_map records w.input.left) run.answer w.messages w'.messages
-  pub read : IfErr run.answer (λ fault. StopsReading fault closed_records run.conf task.mode task.go_on run.old run.new w.input w'.input w.messages w'.messages)
+  pub read :
+      IfErr run.answer (λ fault. StopsReading fault closed_records run.conf task.mode task.go_on run.old run.new w.input w'.input w.messages w'.messages)
   pub stays : w' ≡ record w { input = w'.input; messages = w'.messages }
 
 -- the source is the input; or it is the file of this name, and then the input stays as it is

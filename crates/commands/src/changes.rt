@@ -73,7 +73,7 @@ fn stop_of(alloc: Global, fault: RunFault, name: &str) -> Stop
     }
 }
 
-/// Runs the records of a source that has this name.
+/// Runs the records of a source that has this name, and answers how many were accepted and refused, or why the command stops.
 #[tactic(auto, using(crate::proofs::Stopping::can_tell))]
 fn run_source<S: Source, E: Sink>(
     alloc: Global,
@@ -102,7 +102,7 @@ fn run_source<S: Source, E: Sink>(
     }
 }
 
-/// Runs the records of the source that is asked for over the directory of the folder.
+/// Runs the records of the source that is asked for over the directory of the folder, likewise.
 fn run_records<F: Folder, S: Source, E: Sink>(
     alloc: Global,
     task: &Task<'_>,
@@ -131,6 +131,7 @@ fn run_records<F: Folder, S: Source, E: Sink>(
     run_source(alloc, task, dir, &mut source, name, err)
 }
 
+/// Runs the records, and stores what they leave.
 fn run_and_store<F: Folder, S: Source, E: Sink>(
     alloc: Global,
     task: &Task<'_>,
@@ -158,8 +159,9 @@ fn run_and_store<F: Folder, S: Source, E: Sink>(
     Ok(Status::of_tally(tally))
 }
 
-/// Carries out the records of the file, or of the input, on the directory in a folder, with a line on `err` for each that is refused,
-/// and stores the directory, unless a device or memory failed.
+/// Carries out the records of the file, or of the input, on the directory in a folder, with a line on `err` for each that is refused, and
+/// stores the directory. It ends as `Refused` where a record was refused, and else as `Done`. It stops where the directory can't be loaded,
+/// a device or memory fails, or a file can't be stored.
 pub fn change<F: Folder, S: Source, E: Sink>(
     alloc: Global,
     task: &Task<'_>,

@@ -90,8 +90,9 @@ fn load_and_print<F: Folder, O: Sink>(
 }
 
 /// Prints the entries of the directory in a folder that are in scope of the base and that the filter is True of, with the attributes that
-/// are asked for (RFC 4511, 4.5.1). Where more than the limit match, the first ones are printed, and the code is 4 sizeLimitExceeded; where
-/// the base isn't there, it is 32 noSuchObject.
+/// are asked for (RFC 4511, 4.5.1). Where more than the limit match, the first ones are printed, the code 4 sizeLimitExceeded is told on
+/// `err`, and it ends as `Refused`. It stops where the filter is none, the directory can't be loaded, the base isn't there (its code is
+/// 32 noSuchObject then), or `out` or memory fails.
 pub fn search<F: Folder, O: Sink, E: Sink>(
     alloc: Global,
     asked: &SearchOptions<'_>,

@@ -23,7 +23,8 @@ pub fn run_command<W: AsStr>(
     requires out { (sink_written out.old).failed < 2 ^ 64 - 1 }
     requires err { (sink_written err.old).failed < 2 ^ 64 - 1 }
     // What the words ask for is done, and it says of all files what they are then.
-    ensures { CommandEnds (map W.text words.now) (world_of folder.old input.old out.old err.old) (world_of folder.new input.new out.new err.new) result }
+    ensures { CommandEnds (map W.text words.now)
+        (world_of folder.old input.old out.old err.old) (world_of folder.new input.new out.new err.new) result }
 {
     command(alloc, words, folder, input, out, err)
 }

@@ -13,12 +13,13 @@ CanTell (stops.Fault fault) failed = failed < 2 ^ 64 - 1
 CanTell (stops.Usage text) failed = failed < 2 ^ 64 - 1
 CanTell stops.Messages failed = ⊤
 
--- it came to this world and stops there
+-- it came to this world, had stored these files, and stops
 pub record HasStopped (ComesTo : World → StoppedAt → Type 0) (w w' : World) (why : Stop) : Type 0 where
   pub stored : List File
   pub comes : ComesTo w (record { why = why; stored = stored; world = w' })
   pub files : w'.files ≡ with_files w.files stored
 
+-- it went through, or stops
 abbrev pub HasEnded : (World → World → Status → Type 0) → (World → StoppedAt → Type 0) → World → World → Result Status Stop → Type 0
 HasEnded GoesThrough ComesTo w w' (Ok s) = GoesThrough w w' s
 HasEnded GoesThrough ComesTo w w' (Err why) = HasStopped ComesTo w w' why
