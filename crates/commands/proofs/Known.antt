@@ -1,18 +1,24 @@
 -- What slapadd and ldapmodify come to over files that are known.
-use Rattle.std.proofs.Common.{◌≡◌, Bool, true, false, ℕ, List, Option, None, Some, inl, inr, refl, ap, subst, ◌∙◌}
-use Rattle.std.specs.Prelude.{if◌then◌else◌}
-use Rattle.std.specs.Option.{option_map}
+use Rattle.std.proofs.Common.{◌≡◌, ℕ, List, Option, None, Some, refl, sym, ap, subst, ◌∙◌}
+use Rattle.std.specs.Prelude.{Result, Ok, Err, IfSome}
+use Rattle.std.specs.Option.{option_copied, option_map}
 use Rattle.std.specs.FinMap as finite
 use Rattle.device.specs.Device.{Seen, Written}
 use Rattle.ldif_lines.specs.Records.{RawRecord, records}
 use Rattle.schema.specs.Conf.{Conf}
 use Rattle.tree.specs.Directories.{Entries}
 use Rattle.directory.specs.Runs.{LoadsRecords}
-use Rattle.directory.specs.Folds.{Over, Ran}
+use Rattle.directory.specs.Folds.{Over, Ran, Runs}
+use Rattle.directory.specs.declared.runs.Tally.{Tally}
+use Rattle.directory.specs.declared.runs.RunFault.{RunFault}
+use Rattle.commands.specs.declared.changes.Task.{Task}
 use Rattle.commands.specs.declared.messages.Status.{Status}
-use Rattle.commands.specs.Folders.{Files}
+use Rattle.commands.specs.declared.messages.Stop.{Stop}
+use Rattle.commands.specs.Folders.{Files, Finds, with_files}
+use Rattle.commands.specs.Worlds.{World}
 use Rattle.commands.specs.Loaded.{IsLoaded, LoadsFiles, LoadsFound, LoadsFile}
-use Rattle.commands.specs.Changes.{Task, IsSource, KnowsText, text_of, LoadedAndRan, ChangeEnds, Changes, ChangesKnown}
+use Rattle.commands.specs.Changes.{IsSource, KnowsText, text_of, stored_by, RunsAndStores, Changes, ChangeGoesThrough, ChangeStops}
+use Rattle.commands.specs.inner.Stopped.{HasEnded}
 
 -- the records of a source are those of its text
 of_text : {P : List RawRecord → Type 0} (bytes : List ℕ) → Over (Some (records bytes)) P → P (records bytes)
@@ -44,13 +50,9 @@ of_input : (there left : Option (List ℕ)) → KnowsText None there → left �
 of_input None left knows e = absurd knows
 of_input (Some bytes) left knows e = record { bytes = bytes; there_is = refl; left_is = e }
 
-has_text : (m : Files) (name : Option (List ℕ)) (input input' source source' : Seen) → KnowsText name input.left → IsSource (Some m) name input input' source source' → HasText (text_of m name input.left) source.left
-has_text m None input input' source source' knows is = of_input input.left source.left knows (ap (λ (s : Seen). s.left) is.0)
-has_text m (Some name) input input' source source' knows is = of_file (finite.get m name) source.left is.0
-
-stored_same : (dry : Bool) (m n : Files) → (if dry then Some m else Some n) ≡ Some (if dry then m else n)
-stored_same true m n = refl
-stored_same false m n = refl
+has_text : (m : Files) (file : Option (List ℕ)) (w w' : World) (source source' : Seen) → w.files ≡ Some m → KnowsText file w.input.left → IsSource file w w' source source' → HasText (text_of m file w.input.left) source.left
+has_text m None w w' source source' tells knows is = of_input w.input.left source.left knows (ap (λ (s : Seen). s.left) is.0)
+has_text m (Some name) w w' source source' tells knows is = of_file (finite.get m name) source.left (subst (λ (fs : Option Files). Finds fs name (Some source.left)) tells is.0)
 
 loads_files : (m : Files) (db : List ℕ) (conf : Conf) (d : Entries) → IsLoaded (Some m) db conf d → LoadsFiles m db conf d
 loads_files m db conf d l = record {
@@ -60,23 +62,31 @@ loads_files m db conf d l = record {
   loads = loads_file _ _ _ _ l.there l.loads;
 }
 
-changes : (task : Task) (m : Files) (files' : Option Files) (input input' : Seen) (a b : Written) (s : Status) → KnowsText task.file input.left → LoadedAndRan task (Some m) files' input input' a b s → Changes task m files' input.left a b s
-changes task m files' input input' a b s knows did =
-    let has = has_text m task.file input input' did.ran.records.source did.ran.records.source' knows did.ran.records.source_is in
+-- what was done, where the files are these
+changes : (task : Task) (m : Files) (w w' : World) (s : Status) → w.files ≡ Some m → RunsAndStores task w w' s → KnowsText (option_copied task.file) w.input.left → Changes task m w w' s
+changes task m w w' s tells did knows =
+    let run = did.run in
+    let runs = did.runs in
+    let has = has_text m (option_copied task.file) w did.mid runs.source runs.source' tells knows runs.source_is in
+    let answered = subst (λ (r : Result Tally RunFault). Runs run.conf task.mode task.go_on run.old run.new (option_map records runs.source.left) r w.messages did.mid.messages) did.answer_is runs.ran.runs in
+    let same : did.mid.files ≡ w.files = ap (λ (x : World). x.files) runs.ran.stays in
+    let said : w'.messages ≡ did.mid.messages = ap (λ (x : World). x.messages) did.stores in
     record {
-      conf = did.conf;
-      old = did.old;
-      loaded = loads_files _ _ _ _ did.loaded;
+      run = run;
+      loaded = loads_files _ _ _ _ (subst (λ (fs : Option Files). IsLoaded fs task.db.now run.conf run.old) tells runs.loaded);
       text = has.bytes;
       text_is = has.there_is;
-      new = did.ran.new;
-      tally = did.ran.tally;
-      ran = of_text has.bytes (subst (λ (t : Option (List ℕ)). Over (option_map records t) (λ given. Ran did.conf task.mode task.go_on did.old did.ran.new given did.ran.tally a b)) has.left_is did.ran.records.ran.ran);
-      status = did.ran.status;
-      stored_is = did.ran.stored_is ∙ stored_same task.dry_run m _;
+      tally = did.tally;
+      ran = subst (λ (b : Written). Ran run.conf task.mode task.go_on run.old run.new (records has.bytes) did.tally w.messages b) (sym said)
+          (of_text has.bytes (subst (λ (t : Option (List ℕ)). Over (option_map records t) (λ given. Ran run.conf task.mode task.go_on run.old run.new given did.tally w.messages did.mid.messages)) has.left_is answered));
+      status = did.status;
+      stored_is = ap (λ (x : World). x.files) did.stores ∙ ap (λ (fs : Option Files). with_files fs (stored_by task run)) (same ∙ tells);
     }
 
-pub known : (task : Task) (files files' : Option Files) (input input' : Seen) (a b : Written) (s : Status) → ChangeEnds task files files' input input' a b s → ChangesKnown task files files' input input' a b s
-known task None files' input input' a b s ends = tt
-known task (Some m) files' input input' a b s (inl did) = λ knows. inl (changes task m files' input input' a b s knows did)
-known task (Some m) files' input input' a b s (inr same) = λ knows. inr same
+known : (task : Task) (w w' : World) (s : Status) (files : Option Files) → w.files ≡ files → RunsAndStores task w w' s → IfSome files (λ m. KnowsText (option_copied task.file) w.input.left → Changes task m w w' s)
+known task w w' s None tells did = tt
+known task w w' s (Some m) tells did = changes task m w w' s tells did
+
+pub ended_known : (task : Task) (w w' : World) (r : Result Status Stop) → HasEnded (RunsAndStores task) (ChangeStops task) w w' r → HasEnded (ChangeGoesThrough task) (ChangeStops task) w w' r
+ended_known task w w' (Ok s) did = (did, known task w w' s w.files refl did)
+ended_known task w w' (Err why) stopped = stopped

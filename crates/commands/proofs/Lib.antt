@@ -1,4 +1,5 @@
 pub mod Ends
 pub mod Known
 pub mod Loading
+pub mod Running
 pub mod Stopping

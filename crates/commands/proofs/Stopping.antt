@@ -1,5 +1,5 @@
 -- Why a command stops, from what its parts say.
-use Rattle.std.proofs.Common.{◌≡◌, ℕ, ◌<◌, ◌-◌, ◌^◌, inl, inr, List, Option, Some, IfErr, sym, subst, ◌∙◌}
+use Rattle.std.proofs.Common.{◌≡◌, ℕ, ◌<◌, ◌-◌, ◌^◌, inl, inr, List, [], Option, Some, IfErr, refl, sym, subst, ◌∙◌}
 use Rattle.std.specs.Prelude.{Result, Ok, Err, codes, string_bytes}
 use Rattle.std.specs.Option.{option_map}
 use Rattle.std.specs.FinMap as finite
@@ -20,20 +20,21 @@ use Rattle.directory.specs.declared.loading.LoadFault.TheVariants as loads
 use Rattle.filter_text.specs.Spells.{Tree}
 use Rattle.commands.specs.Asked.{IsFilter, HasFilter}
 use Rattle.commands.specs.Folders.{Files, Finds, conf_name, data_name}
-use Rattle.commands.specs.Loaded.{IsConfigured, IsLoaded, LoadFails, IsNotLoaded}
-use Rattle.commands.specs.Statuses.{status_of_fault}
-use Rattle.commands.specs.Messages.{IsSaid, IsTold, fault_text}
-use Rattle.commands.specs.Failures.{IsMemory, FailsToRead, FailsToWrite, IsToldUnread, IsToldUnwritten, IsToldMemory}
-use Rattle.commands.specs.Stops.{PrintsPartly, Stops, IsStopped}
+use Rattle.commands.specs.Worlds.{World}
+use Rattle.commands.specs.Endings.{StoppedAt, Tells, Stops}
+use Rattle.commands.specs.Loaded.{IsConfigured, IsLoaded, LoadFails}
+use Rattle.commands.specs.Failures.{IsMemory, FailsToRead, FailsToWrite}
+use Rattle.commands.specs.Changes.{Breaks}
+use Rattle.commands.specs.Queries.{Query, LacksBase, target_of, StopsWith, IsBegun, HasBegun, PrintsPartly, QueryStops}
 use Rattle.commands.specs.inner.Refusals.{FilterFails, Refuses, RefusesOrBreaks}
-use Rattle.commands.specs.Prints.{IsBegun}
 use Rattle.commands.specs.inner.LoadFaults.{TellsLoadFault}
 use Rattle.commands.specs.inner.WriteFaults.{TellsWriteFault}
-use Rattle.commands.specs.inner.Tasks.{CanTell}
+use Rattle.commands.specs.inner.Stopped.{CanTell, HasStopped}
 use Rattle.commands.specs.declared.messages.Status.{Status}
-use Rattle.commands.specs.declared.messages.Status.TheVariants.{Failed}
 use Rattle.commands.specs.declared.messages.CommandFault.{CommandFault}
 use Rattle.commands.specs.declared.messages.CommandFault.TheVariants as faults
+use Rattle.commands.specs.declared.messages.Stop.{Stop}
+use Rattle.commands.specs.declared.messages.Stop.TheVariants as stops
 
 -- ---- the faults that a failure becomes
 
@@ -70,31 +71,33 @@ of_unwritten P name unwritten p (faults.CannotRead n) h = absurd h
 of_unwritten P name unwritten p (faults.CannotWrite n) h = unwritten n h
 of_unwritten P name unwritten p faults.OutOfMemory h = p
 
--- ---- what is said of a failure
+-- ---- what is said of a stop
 
-module _ (a b : Written) (s : Status) where
-  abbrev Told : CommandFault → Type 0
-  Told f = IsTold a b (fault_text f) (status_of_fault f) s
-
-  -- want of memory is said in the same words, wherever it comes
-  memory_told : IsTold a b (codes "out of memory") Failed s → IsSaid a b (codes "out of memory\n") Failed s
-  memory_told (inl said) = said
-  memory_told (inr said) = said
-
-  pub told_memory : (f : CommandFault) → f ≡ faults.OutOfMemory → Told f → IsToldMemory a b s
-  told_memory f is told = subst Told is told
-
-  pub told_unread : (name : List ℕ) (f : CommandFault) → FailsToRead name f → Told f → IsToldUnread name a b s
-  told_unread name = of_unread (λ f. Told f → IsToldUnread name a b s) name (λ n is told. subst (λ (n : List ℕ). IsToldUnread n a b s) is told) (λ told. inr (memory_told told))
-
-  pub told_unwritten : (name : List ℕ) (f : CommandFault) → FailsToWrite name f → Told f → IsToldUnwritten name a b s
-  told_unwritten name = of_unwritten (λ f. Told f → IsToldUnwritten name a b s) name (λ n is told. subst (λ (n : List ℕ). IsToldUnwritten n a b s) is told) (λ told. inr (memory_told told))
+-- standard error can fail once more, so anything can be said
+pub fits_tells : (why : Stop) (n : ℕ) → n < 2 ^ 64 - 1 → CanTell why n
+fits_tells (stops.Fault fault) n fits = fits
+fits_tells (stops.Usage text) n fits = fits
+fits_tells stops.Messages n fits = tt
 
 -- where standard error can fail once more before a run, it can afterwards, unless it is what failed
-pub can_tell : (f : RunFault) (s s' w w' : ℕ) → w < 2 ^ 64 - 1 → Failures (Err f) s s' w w' → CanTell f w'
-can_tell (run_faults.Read t) s s' w w' fits h = subst (λ (n : ℕ). n < 2 ^ 64 - 1) (sym h.1) fits
-can_tell (run_faults.Write t) s s' w w' fits h = tt
-can_tell (run_faults.OutOfMemory t) s s' w w' fits h = subst (λ (n : ℕ). n < 2 ^ 64 - 1) (sym h.1) fits
+pub can_tell : (f : RunFault) (name : List ℕ) (why : Stop) (s s' w w' : ℕ) → w < 2 ^ 64 - 1 → Failures (Err f) s s' w w' → Breaks f name why → CanTell why w'
+can_tell (run_faults.Read t) name why s s' w w' fits h breaks = fits_tells why w' (subst (λ (n : ℕ). n < 2 ^ 64 - 1) (sym h.1) fits)
+can_tell (run_faults.Write t) name why s s' w w' fits h breaks = subst (λ (o : Stop). CanTell o w') (sym breaks) tt
+can_tell (run_faults.OutOfMemory t) name why s s' w w' fits h breaks = fits_tells why w' (subst (λ (n : ℕ). n < 2 ^ 64 - 1) (sym h.1) fits)
+
+-- it stops, and no file was stored
+pub stopped : (ComesTo : World → StoppedAt → Type 0) (w w' : World) (why : Stop) → ComesTo w (record { why = why; stored = []; world = w' }) → w'.files ≡ w.files → HasStopped ComesTo w w' why
+stopped ComesTo w w' why comes same = record { stored = []; comes = comes; files = same }
+
+-- and then it says why
+pub told : (ComesTo : World → StoppedAt → Type 0) (w mid : World) (messages : Written) (why : Stop) (s : Status) → HasStopped ComesTo w mid why → Tells why mid.messages messages s → Stops ComesTo w (record mid { messages = messages }) s
+told ComesTo w mid messages why s has tells = record {
+  at = record { why = why; stored = has.stored; world = mid };
+  comes = has.comes;
+  files = has.files;
+  told = tells;
+  stays = refl;
+}
 
 -- ---- loading
 
@@ -124,12 +127,12 @@ module _ (files : Option Files) (db : List ℕ) where
 -- ---- search and slapcat
 
 -- of each fault that an answer may hold
-pub of_faults : {A : Type 0} {P Q : CommandFault → Type 0} (r : Result A CommandFault) → ((f : CommandFault) → P f → Q f) → IfErr r P → IfErr r Q
-of_faults {A} {P} {Q} (Ok x) goes h = tt
-of_faults {A} {P} {Q} (Err f) goes h = goes f h
+pub of_faults : {A E : Type 0} {P Q : E → Type 0} (r : Result A E) → ((f : E) → P f → Q f) → IfErr r P → IfErr r Q
+of_faults {A} {E} {P} {Q} (Ok x) goes h = tt
+of_faults {A} {E} {P} {Q} (Err f) goes h = goes f h
 
-module _ (command target : List ℕ) (filter : Option (List ℕ)) (files : Option Files) (db : List ℕ) (Holds : Conf → Entries → Code → Type 0) where
-  pub filter_stops : (f : CommandFault) → FilterFails filter f → Stops command target filter files db Holds f
+module _ (q : Query) (files : Option Files) where
+  pub filter_stops : (f : CommandFault) → FilterFails q.filter f → StopsWith q files f
   filter_stops faults.Words h = h
   filter_stops (faults.Filter fault) h = h
   filter_stops (faults.Code by code) h = absurd h
@@ -139,15 +142,15 @@ module _ (command target : List ℕ) (filter : Option (List ℕ)) (files : Optio
   filter_stops (faults.CannotWrite name) h = absurd h
   filter_stops faults.OutOfMemory h = h
 
-  unwritten_stops : (f : CommandFault) → FailsToWrite target f → Stops command target filter files db Holds f
-  unwritten_stops = of_unwritten (Stops command target filter files db Holds) target (λ n named. named) tt
+  unwritten_stops : (f : CommandFault) → FailsToWrite (target_of q.file) f → StopsWith q files f
+  unwritten_stops = of_unwritten (StopsWith q files) (target_of q.file) (λ n named. named) tt
 
   -- behind the filter
-  module _ (t : Tree) (spelled : IsFilter filter t) where
-    has : HasFilter filter
+  module _ (t : Tree) (spelled : IsFilter q.filter t) where
+    has : HasFilter q.filter
     has = (t, spelled)
 
-    pub load_stops : (f : CommandFault) → LoadFails files db f → Stops command target filter files db Holds f
+    pub load_stops : (f : CommandFault) → LoadFails files q.db f → StopsWith q files f
     load_stops faults.Words h = h
     load_stops (faults.Filter fault) h = absurd h
     load_stops (faults.Code by code) h = absurd h
@@ -157,7 +160,7 @@ module _ (command target : List ℕ) (filter : Option (List ℕ)) (files : Optio
     load_stops (faults.CannotWrite name) h = absurd h
     load_stops faults.OutOfMemory h = tt
 
-    refused_so : (conf : Conf) (d : Entries) → IsLoaded files db conf d → (f : CommandFault) → Refuses command (Holds conf d) f → Stops command target filter files db Holds f
+    refused_so : (conf : Conf) (d : Entries) → IsLoaded files q.db conf d → (f : CommandFault) → Refuses q.command (LacksBase q conf d) f → StopsWith q files f
     refused_so conf d loaded faults.Words h = h
     refused_so conf d loaded (faults.Filter fault) h = absurd h
     refused_so conf d loaded (faults.Code by code) h = (has, h.0, record { conf = conf; entries = d; loaded = loaded; refused = h.1 })
@@ -167,9 +170,14 @@ module _ (command target : List ℕ) (filter : Option (List ℕ)) (files : Optio
     refused_so conf d loaded (faults.CannotWrite name) h = absurd h
     refused_so conf d loaded faults.OutOfMemory h = tt
 
-    pub refused_stops : (conf : Conf) (d : Entries) → IsLoaded files db conf d → (f : CommandFault) → RefusesOrBreaks command target (Holds conf d) f → Stops command target filter files db Holds f
+    pub refused_stops : (conf : Conf) (d : Entries) → IsLoaded files q.db conf d → (f : CommandFault) → RefusesOrBreaks q conf d f → StopsWith q files f
     refused_stops conf d loaded f (inl refuses) = refused_so conf d loaded f refuses
     refused_stops conf d loaded f (inr unwritten) = unwritten_stops f unwritten
+
+-- a query stops with this fault
+pub query_stops : (q : Query) (IsText : List ℕ → Type 0) (w w' : World) (f : CommandFault) → StopsWith q w.files f → PrintsPartly (HasBegun IsText q.file) w.output w'.output f → w' ≡ record w { output = w'.output }
+    → QueryStops q IsText w (record { why = stops.Fault f; stored = []; world = w' })
+query_stops q IsText w w' f why printed stays = record { fault = f; fault_is = refl; why = why; printed = printed; only = record { stored = refl; stays = stays } }
 
 -- ---- what was printed by then
 
@@ -218,10 +226,3 @@ begun_told writes.OutOfMemory f a b text told begun = of_memory (λ f. IsBegun f
 pub write_told : (fault : WriteFault) (f : CommandFault) → TellsWriteFault fault f → FailsToWrite (codes "output") f
 write_told writes.Device f told = told
 write_told writes.OutOfMemory f told = of_memory (FailsToWrite (codes "output")) tt f told
-
--- the line of why was said
-pub stopped : (Why : CommandFault → Type 0) (Partly : CommandFault → Written → Written → Type 0) (a b e e' : Written) (s : Status) (f : CommandFault) → Why f → PrintsPartly Partly a b f → IsTold e e' (fault_text f) (status_of_fault f) s → IsStopped Why Partly a b e e' s
-stopped Why Partly a b e e' s f why printed told = record { fault = f; why = why; printed = printed; told = told }
-
-pub not_loaded : (files : Option Files) (db : List ℕ) (a b : Written) (s : Status) (f : CommandFault) → LoadFails files db f → IsTold a b (fault_text f) (status_of_fault f) s → IsNotLoaded files db a b s
-not_loaded files db a b s f why told = record { fault = f; why = why; told = told }

@@ -1,52 +1,63 @@
 -- What a command comes to, by what its words ask for.
-use Rattle.std.specs.Prelude.{◌≡◌, ℕ, ◌≤◌, ◌⊎◌, List, length, Option, Result, Ok, Err, IfOk, IfErr, string_bytes, codes}
-use Rattle.device.specs.Device.{Seen, Written, Took, Broke}
+use Rattle.std.specs.Prelude.{◌≡◌, ℕ, ◌≤◌, List, length, Result, Ok, Err, IfOk, IfErr, string_bytes, codes}
+use Rattle.device.specs.Device.{Broke}
 use Rattle.command_line.specs.Requests.{AsksForHelp, AskFor, IsFaultOf}
 use Rattle.command_line.specs.declared.request.Request.{Request}
 use Rattle.command_line.specs.declared.request.Request.TheVariants.{Help, Add, Modify, Search, Cat}
 use Rattle.command_line.specs.declared.request.UsageFault.{UsageFault}
 use Rattle.command_line.specs.declared.request.UsageFault.TheVariants.{Words, OutOfMemory}
-use Rattle.commands.specs.Folders.{Files}
-use Rattle.commands.specs.Messages.{IsSaid}
-use Rattle.commands.specs.Failures.{IsToldUnwritten, IsToldMemory}
-use Rattle.commands.specs.Changes.{add_task, modify_task, ChangeEnds, ChangesKnown}
-use Rattle.commands.specs.Prints.{CatEnds, SearchEnds}
+use Rattle.commands.specs.Worlds.{World, IsPrinted}
+use Rattle.commands.specs.Endings.{StoppedAt, IsAtOnce, HasOnlyPrinted, IsFault, Ends}
+use Rattle.commands.specs.Failures.{IsMemory, FailsToWrite}
+use Rattle.commands.specs.Changes.{add_task, modify_task, ChangeGoesThrough, ChangeStops}
+use Rattle.commands.specs.Prints.{CatGoesThrough, CatStops, SearchGoesThrough, SearchStops}
 use Rattle.commands.specs.Statuses.{status_number}
 use Rattle.commands.specs.declared.messages.Status.{Status}
-use Rattle.commands.specs.declared.messages.Status.TheVariants.{Done, Usage}
+use Rattle.commands.specs.declared.messages.Status.TheVariants.{Done}
+use Rattle.commands.specs.declared.messages.Stop.TheVariants as stops
 
--- the streams before and after: what is seen of the input, and what the output and the messages hold
-pub record Streams : Type 0 where
-  pub input : Seen
-  pub input' : Seen
-  pub out : Written
-  pub out' : Written
-  pub err : Written
-  pub err' : Written
+-- ---- help, and faults of the words
 
--- a text was printed, and nothing said; or it was broken off, and that is said
-abbrev pub IsPrintedText : List ℕ → Written → Written → Written → Written → Status → Type 0
-IsPrintedText text a b e e' s = ((s ≡ Done) × Took a b text × (e' ≡ e)) ⊎ (Broke a b text × IsToldUnwritten (codes "output") e e' s)
+-- the help was printed
+abbrev pub HelpGoesThrough : List ℕ → World → World → Status → Type 0
+HelpGoesThrough text w w' s = (s ≡ Done) × IsPrinted text w w'
 
--- what is asked for was done to the files and the streams, and this is the status
-abbrev pub RequestEnds : Result Request UsageFault → Option Files → Option Files → Streams → Status → Type 0
-RequestEnds (Ok (Help text)) files files' t s = (files' ≡ files) × (t.input' ≡ t.input) × IsPrintedText (string_bytes text) t.out t.out' t.err t.err' s
-RequestEnds (Ok (Add asked)) files files' t s =
-    (t.out' ≡ t.out) × ChangesKnown (add_task asked) files files' t.input t.input' t.err t.err' s × ChangeEnds (add_task asked) files files' t.input t.input' t.err t.err' s
-RequestEnds (Ok (Modify asked)) files files' t s =
-    (t.out' ≡ t.out) × ChangesKnown (modify_task asked) files files' t.input t.input' t.err t.err' s × ChangeEnds (modify_task asked) files files' t.input t.input' t.err t.err' s
-RequestEnds (Ok (Search asked)) files files' t s = (files' ≡ files) × (t.input' ≡ t.input) × SearchEnds asked files t.out t.out' t.err t.err' s
-RequestEnds (Ok (Cat asked)) files files' t s = (t.input' ≡ t.input) × CatEnds asked files files' t.out t.out' t.err t.err' s
-RequestEnds (Err (Words text)) files files' t s = (files' ≡ files) × (t.input' ≡ t.input) × (t.out' ≡ t.out) × IsSaid t.err t.err' (string_bytes text) Usage s
-RequestEnds (Err OutOfMemory) files files' t s = (files' ≡ files) × (t.input' ≡ t.input) × (t.out' ≡ t.out) × IsToldMemory t.err t.err' s
+-- it was broken off
+pub record HelpStops (text : List ℕ) (w : World) (at : StoppedAt) : Type 0 where
+  pub why : IsFault (FailsToWrite (codes "output")) at.why
+  pub broke : Broke w.output at.world.output text
+  pub only : HasOnlyPrinted w at
 
--- The words, the first of which is the program's name, asked for this, or this is wrong with them: it was done, or said, and this is the
--- number of its status.
-pub record CommandEnds (words : List (List ℕ)) (files files' : Option Files) (t : Streams) (number : ℕ) : Type 0 where
+-- the words are at fault, and this text says how; or memory ran out
+abbrev pub WordsStop : UsageFault → World → StoppedAt → Type 0
+WordsStop (Words text) w at = (at.why ≡ stops.Usage text) × IsAtOnce w at
+WordsStop OutOfMemory w at = IsFault IsMemory at.why × IsAtOnce w at
+
+-- ---- what is asked for
+
+abbrev pub RequestGoesThrough : Result Request UsageFault → World → World → Status → Type 0
+RequestGoesThrough (Ok (Help text)) = HelpGoesThrough (string_bytes text)
+RequestGoesThrough (Ok (Add asked)) = ChangeGoesThrough (add_task asked)
+RequestGoesThrough (Ok (Modify asked)) = ChangeGoesThrough (modify_task asked)
+RequestGoesThrough (Ok (Search asked)) = SearchGoesThrough asked
+RequestGoesThrough (Ok (Cat asked)) = CatGoesThrough asked
+RequestGoesThrough (Err fault) = λ w w' s. ⊥
+
+abbrev pub RequestStops : Result Request UsageFault → World → StoppedAt → Type 0
+RequestStops (Ok (Help text)) = HelpStops (string_bytes text)
+RequestStops (Ok (Add asked)) = ChangeStops (add_task asked)
+RequestStops (Ok (Modify asked)) = ChangeStops (modify_task asked)
+RequestStops (Ok (Search asked)) = SearchStops asked
+RequestStops (Ok (Cat asked)) = CatStops asked
+RequestStops (Err fault) = WordsStop fault
+
+-- The words, the first of which is the program's name, asked for this, or this is wrong with them: it was done, or the command stopped, and
+-- this is the number of its status.
+pub record CommandEnds (words : List (List ℕ)) (w w' : World) (number : ℕ) : Type 0 where
   pub asked : Result Request UsageFault
   pub asks : IfOk asked (AskFor words)
   pub faulty : IfErr asked (IsFaultOf words)
   pub help : length words ≤ 1 → AsksForHelp asked
   pub status : Status
-  pub ends : RequestEnds asked files files' t status
+  pub ends : Ends (RequestGoesThrough asked) (RequestStops asked) w w' status
   pub number_is : number ≡ status_number status

@@ -1,5 +1,5 @@
 -- Files by their names, and what stands at a name.
-use Rattle.std.specs.Prelude.{◌≡◌, ℕ, List, ◌++◌, Option, Some, IfSome, codes}
+use Rattle.std.specs.Prelude.{◌≡◌, ℕ, List, [], ◌∷◌, ◌++◌, Option, Some, IfSome, codes}
 use Rattle.std.specs.Option.{option_map}
 use Rattle.std.specs.Ordering.{nat_cmp}
 use Rattle.std.specs.Cmp.Lexicographic.{slice_cmp}
@@ -16,6 +16,16 @@ Finds files name found = IfSome files (λ m. found ≡ option_map (λ bytes. Som
 -- with this file, in place of the one of its name, if there is one
 abbrev pub with_file : Option Files → List ℕ → List ℕ → Option Files
 with_file files name text = option_map (λ m. finite.insert m name text) files
+
+-- a file: its name and its bytes
+pub record File : Type 0 where
+  pub name : List ℕ
+  pub text : List ℕ
+
+-- with these files, one after the other
+abbrev pub with_files : Option Files → List File → Option Files
+with_files files [] = files
+with_files files (file ∷ rest) = with_files (with_file files file.name file.text) rest
 
 -- ---- the files of a directory
 

@@ -4,8 +4,10 @@ pub mod Failures
 pub mod Asked
 pub mod Parts
 pub mod Folders
+pub mod Worlds
+pub mod Endings
 pub mod Loaded
-pub mod Stops
+pub mod Queries
 pub mod Changes
 pub mod Prints
 pub mod Commands

@@ -3,7 +3,6 @@
 use Rattle.std.specs.Prelude.{◌≡◌, ℕ, ◌⊎◌, List, [], ◌∷◌, Option, None, Some, Ok, Err, string_bytes}
 use Rattle.std.specs.Option.{option_map}
 use Rattle.std.specs.FinMap as finite
-use Rattle.device.specs.Device.{Written}
 use Rattle.ldif_lines.specs.Records.{records}
 use Rattle.schema.specs.Conf.{Conf}
 use Rattle.schema.specs.Configurations.{conf_of}
@@ -13,12 +12,9 @@ use Rattle.directory.specs.Runs.{LoadsRecords, Loads, loaded_after}
 use Rattle.directory.specs.Folds.{Over}
 use Rattle.directory.specs.declared.reason.Reason.{Reason}
 use Rattle.commands.specs.Folders.{Files, Finds, conf_name, data_name}
-use Rattle.commands.specs.Messages.{IsTold, fault_text}
 use Rattle.commands.specs.Failures.{IsMemory}
-use Rattle.commands.specs.Statuses.{status_of_fault}
 use Rattle.commands.specs.declared.messages.CommandFault.{CommandFault}
 use Rattle.commands.specs.declared.messages.CommandFault.TheVariants as faults
-use Rattle.commands.specs.declared.messages.Status.{Status}
 
 -- the text of this file says this configuration
 pub record IsConfigured (files : Option Files) (name : List ℕ) (conf : Conf) : Type 0 where
@@ -65,12 +61,6 @@ LoadFails files db (faults.Configuration line kind) = ConfFails files db line ki
 LoadFails files db (faults.Data line why) = DataFails files db line why
 LoadFails files db (faults.CannotRead name) = (string_bytes name ≡ conf_name db) ⊎ DataUnread files db (string_bytes name)
 LoadFails files db fault = IsMemory fault
-
--- no directory was loaded: the line of why was said, with its status
-pub record IsNotLoaded (files : Option Files) (db : List ℕ) (a b : Written) (s : Status) : Type 0 where
-  pub fault : CommandFault
-  pub why : LoadFails files db fault
-  pub told : IsTold a b (fault_text fault) (status_of_fault fault) s
 
 -- ---- over files that are known
 

@@ -1,4 +1,6 @@
 pub mod LoadFaults
 pub mod WriteFaults
-pub mod Tasks
 pub mod Refusals
+pub mod Views
+pub mod Printed
+pub mod Stopped

@@ -1,11 +1,15 @@
 //! slapadd and ldapmodify: the records of an LDIF text are carried out on a directory in a folder.
-ghost use Rattle.std.specs.Prelude.{◌≡◌, ◌<◌, ◌-◌, ◌^◌, OnOk, IfOk, IfErr};
-ghost use Rattle.commands.specs.Changes.{add_task, modify_task, SourceRan, HaveRun, TellsBreak, SourceBreaksOff, SourceFails, ChangeEnds, ChangesKnown};
-ghost use Rattle.commands.specs.inner.Tasks.{task_of, CanTell, RunEnds};
+ghost use Rattle.std.specs.Prelude.{◌≡◌, ◌<◌, ◌-◌, ◌^◌, Ok, Err, OnOk, IfOk, IfErr};
+ghost use Rattle.directory.specs.declared.runs.RunFault.{RunFault};
+ghost use Rattle.commands.specs.Worlds.{World};
+ghost use Rattle.commands.specs.Loaded.{IsLoaded};
+ghost use Rattle.commands.specs.Changes.{Breaks, RunsInput, RunsSource, RunsAndStores, ChangeGoesThrough, ChangeStops};
+ghost use Rattle.commands.specs.inner.Views.{run_of};
+ghost use Rattle.commands.specs.inner.Stopped.{CanTell, HasStopped, HasEnded};
 
 use crate::database::{load_directory, open_present, store_directory};
 use crate::folder::Folder;
-use crate::messages::{CommandFault, Status, tell};
+use crate::messages::{CommandFault, Status, Stop};
 use command_line::{AddOptions, ModifyOptions};
 use device::{Sink, Source};
 use directory::{Directory, RunFault, Tally, run};
@@ -15,7 +19,7 @@ use std::mem;
 
 /// Which records are to run over which directory, and how.
 #[derive(Clone, Copy, Debug, Drop)]
-struct Task<'a> {
+pub struct Task<'a> {
     db: &'a str,
     // none for the input
     file: Option<&'a str>,
@@ -24,158 +28,154 @@ struct Task<'a> {
     dry_run: bool,
 }
 
-/// Says why a run over a source that has this name was broken off, unless it is `err` that failed, and answers how the command ends.
-#[tactic(auto, using(crate::proofs::Stopping::told_memory, crate::proofs::Stopping::told_unread))]
-fn tell_break<E: Sink>(alloc: Global, err: &mut E, fault: RunFault, name: &str) -> Status
-    requires { CanTell fault (E.written err.old).failed }
-    ensures { TellsBreak fault name.now (E.written err.old) (E.written err.new) result }
-{
-    match fault {
-        RunFault::Write(_) => Status::Failed,
-        RunFault::Read(_) => tell(alloc, err, &CommandFault::cannot_read(alloc, name)),
-        RunFault::OutOfMemory(_) => tell(alloc, err, &CommandFault::OutOfMemory),
+impl<'a> From<AddOptions<'a>> for Task<'a> {
+    ghost use Rattle.std.specs.Prelude.{◌≡◌};
+    ghost use Rattle.commands.specs.Changes.{add_task};
+
+    ghost from_gives = { λ asked task. task ≡ add_task asked };
+
+    fn from(asked: AddOptions<'a>) -> Task<'a> {
+        Task {
+            db: asked.db,
+            file: asked.file,
+            mode: Mode::Content,
+            go_on: asked.go_on,
+            dry_run: asked.dry_run,
+        }
     }
 }
 
-/// Runs the records of a source that has this name, or answers how the command ends.
+impl<'a> From<ModifyOptions<'a>> for Task<'a> {
+    ghost use Rattle.std.specs.Prelude.{◌≡◌};
+    ghost use Rattle.commands.specs.Changes.{modify_task};
+
+    ghost from_gives = { λ asked task. task ≡ modify_task asked };
+
+    fn from(asked: ModifyOptions<'a>) -> Task<'a> {
+        Task {
+            db: asked.db,
+            file: asked.file,
+            mode: Mode::Changes { add: asked.add },
+            go_on: asked.go_on,
+            dry_run: asked.dry_run,
+        }
+    }
+}
+
+/// Why the command stops where a run over a source of this name was broken off.
+fn stop_of(alloc: Global, fault: RunFault, name: &str) -> Stop
+    ensures { Breaks fault name.now result }
+{
+    match fault {
+        RunFault::Write(_) => Stop::Messages,
+        RunFault::Read(_) => Stop::Fault(CommandFault::cannot_read(alloc, name)),
+        RunFault::OutOfMemory(_) => Stop::Fault(CommandFault::OutOfMemory),
+    }
+}
+
+/// Runs the records of a source that has this name, and answers how many were accepted and refused, or why the command stops.
 #[tactic(auto, using(crate::proofs::Stopping::can_tell))]
 fn run_source<S: Source, E: Sink>(
     alloc: Global,
+    task: &Task<'_>,
     dir: &mut Directory,
     source: &mut S,
     name: &str,
-    asked: &Task<'_>,
     err: &mut E,
-) -> Result<Tally, Status>
+) -> Result<Tally, Stop>
     requires source { (S.seen source.old).failed < 2 ^ 64 - 1 }
     requires err { (E.written err.old).failed < 2 ^ 64 - 1 }
     ensures same_conf { dir.new.conf ≡ dir.old.conf }
-    ensures ran { IfOk result (λ t. SourceRan (task_of asked.now) dir.old.conf dir.old.entries dir.new.entries (S.seen source.old) (S.seen source.new) t (E.written err.old) (E.written err.new)) }
-    ensures ok { OnOk result ((E.written err.new).failed ≡ (E.written err.old).failed) }
-    ensures err { IfErr result (SourceBreaksOff (task_of asked.now) name.now dir.old.conf dir.old.entries (S.seen source.old) (S.seen source.new) (E.written err.old) (E.written err.new)) }
+    ensures ran { IfOk result (λ t. (w : World) → RunsInput task.now
+        (run_of dir.old dir.new (Ok t))
+        (record w { input = S.seen source.old; messages = E.written err.old })
+        (record w { input = S.seen source.new; messages = E.written err.new })) }
+    ensures broke { IfErr result (λ why. (fault : RunFault) × Breaks fault name.now why × ((w : World) → RunsInput task.now
+        (run_of dir.old dir.new (Err fault))
+        (record w { input = S.seen source.old; messages = E.written err.old })
+        (record w { input = S.seen source.new; messages = E.written err.new }))) }
+    ensures can_tell { IfErr result (λ why. CanTell why (E.written err.new).failed) }
 {
-    match run(alloc, dir, source, err, asked.mode, asked.go_on) {
+    match run(alloc, dir, source, err, task.mode, task.go_on) {
         Ok(tally) => Ok(tally),
-        Err(fault) => Err(tell_break(alloc, err, fault, name)),
+        Err(fault) => Err(stop_of(alloc, fault, name)),
     }
 }
 
-#[tactic(auto, using(crate::proofs::Stopping::told_unread))]
+/// Runs the records of the source that is asked for over the directory of the folder, likewise.
 fn run_records<F: Folder, S: Source, E: Sink>(
     alloc: Global,
-    asked: &Task<'_>,
+    task: &Task<'_>,
     dir: &mut Directory,
     folder: &F,
     input: &mut S,
     err: &mut E,
-) -> Result<Tally, Status>
+) -> Result<Tally, Stop>
     requires input { (S.seen input.old).failed < 2 ^ 64 - 1 }
     requires err { (E.written err.old).failed < 2 ^ 64 - 1 }
+    requires loaded { IsLoaded (F.files folder.now) task.now.db.now dir.old.conf dir.old.entries }
     ensures same_conf { dir.new.conf ≡ dir.old.conf }
-    ensures ran { IfOk result (λ t. HaveRun (task_of asked.now) (F.files folder.now) (S.seen input.old) (S.seen input.new) dir.old.conf dir.old.entries dir.new.entries t (E.written err.old) (E.written err.new)) }
-    ensures ok { OnOk result ((E.written err.new).failed ≡ (E.written err.old).failed) }
-    ensures err { IfErr result (SourceFails (task_of asked.now) (F.files folder.now) (S.seen input.old) (S.seen input.new) dir.old.conf dir.old.entries (E.written err.old) (E.written err.new)) }
+    ensures ran { IfOk result (λ t. (w : World) → RunsSource task.now
+        (run_of dir.old dir.new (Ok t))
+        (record w { files = F.files folder.now; input = S.seen input.old; messages = E.written err.old })
+        (record w { files = F.files folder.now; input = S.seen input.new; messages = E.written err.new })) }
+    ensures stops { IfErr result (λ why. (w : World) → HasStopped (ChangeStops task.now)
+        (record w { files = F.files folder.now; input = S.seen input.old; messages = E.written err.old })
+        (record w { files = F.files folder.now; input = S.seen input.new; messages = E.written err.new }) why) }
+    ensures can_tell { IfErr result (λ why. CanTell why (E.written err.new).failed) }
 {
-    let Some(name) = asked.file else {
-        return run_source(alloc, dir, input, "input", asked, err);
+    let Some(name) = task.file else {
+        return run_source(alloc, task, dir, input, "input", err);
     };
-    match open_present(alloc, folder, name) {
-        Ok(mut source) => run_source(alloc, dir, &mut source, name, asked, err),
-        Err(fault) => Err(tell(alloc, err, &fault)),
-    }
+    let mut source = open_present(alloc, folder, name)?;
+    run_source(alloc, task, dir, &mut source, name, err)
 }
 
-#[tactic(auto, using(crate::proofs::Stopping::told_unwritten))]
+/// Runs the records, and stores what they leave.
 fn run_and_store<F: Folder, S: Source, E: Sink>(
     alloc: Global,
-    asked: &Task<'_>,
+    task: &Task<'_>,
     mut dir: Directory,
     folder: &mut F,
     input: &mut S,
     err: &mut E,
-) -> Status
+) -> Result<Status, Stop>
     requires input { (S.seen input.old).failed < 2 ^ 64 - 1 }
     requires err { (E.written err.old).failed < 2 ^ 64 - 1 }
-    ensures { RunEnds (task_of asked.now) (F.files folder.old) (F.files folder.new) (S.seen input.old) (S.seen input.new) dir.conf dir.entries (E.written err.old) (E.written err.new) result }
+    requires loaded { IsLoaded (F.files folder.old) task.now.db.now dir.conf dir.entries }
+    ensures ends { (w : World) → HasEnded (RunsAndStores task.now) (ChangeStops task.now)
+        (record w { files = F.files folder.old; input = S.seen input.old; messages = E.written err.old })
+        (record w { files = F.files folder.new; input = S.seen input.new; messages = E.written err.new }) result }
+    ensures can_tell { IfErr result (λ why. CanTell why (E.written err.new).failed) }
 {
-    let tally = match run_records(alloc, asked, &mut dir, folder, input, err) {
-        Ok(tally) => tally,
-        Err(status) => return status,
-    };
-    if asked.dry_run {
-        return Status::of_tally(tally);
+    let tally = run_records(alloc, task, &mut dir, folder, input, err)?;
+    if task.dry_run {
+        return Ok(Status::of_tally(tally));
     }
-    let stored = store_directory(alloc, folder, asked.db, &dir);
+    let stored = store_directory(alloc, folder, task.db, &dir);
     // The program ends with its command, and that frees the entries at once.
     mem::forget(dir);
-    match stored {
-        Ok(()) => Status::of_tally(tally),
-        Err(fault) => tell(alloc, err, &fault),
-    }
+    stored?;
+    Ok(Status::of_tally(tally))
 }
 
-#[tactic(auto, using(crate::proofs::Stopping::not_loaded))]
-fn carry_out<F: Folder, S: Source, E: Sink>(
+/// Carries out the records of the file, or of the input, on the directory in a folder, with a line on `err` for each that is refused, and
+/// stores the directory. It ends as `Refused` where a record was refused, and else as `Done`. It stops where the directory can't be loaded,
+/// a device or memory fails, or a file can't be stored.
+pub fn change<F: Folder, S: Source, E: Sink>(
     alloc: Global,
-    asked: &Task<'_>,
+    task: &Task<'_>,
     folder: &mut F,
     input: &mut S,
     err: &mut E,
-) -> Status
+) -> Result<Status, Stop>
     requires input { (S.seen input.old).failed < 2 ^ 64 - 1 }
     requires err { (E.written err.old).failed < 2 ^ 64 - 1 }
-    ensures { ChangeEnds (task_of asked.now) (F.files folder.old) (F.files folder.new) (S.seen input.old) (S.seen input.new) (E.written err.old) (E.written err.new) result }
+    ensures ends { (w : World) → HasEnded (ChangeGoesThrough task.now) (ChangeStops task.now)
+        (record w { files = F.files folder.old; input = S.seen input.old; messages = E.written err.old })
+        (record w { files = F.files folder.new; input = S.seen input.new; messages = E.written err.new }) result }
+    ensures can_tell { IfErr result (λ why. CanTell why (E.written err.new).failed) }
 {
-    match load_directory(alloc, folder, asked.db) {
-        Ok(dir) => run_and_store(alloc, asked, dir, folder, input, err),
-        Err(fault) => tell(alloc, err, &fault),
-    }
-}
-
-/// Adds the records of the file, or of the input, to the directory in a folder, with a line on `err` for each that is
-/// refused, and stores the directory, unless a device or memory failed.
-pub fn slapadd<F: Folder, S: Source, E: Sink>(
-    alloc: Global,
-    asked: &AddOptions<'_>,
-    folder: &mut F,
-    input: &mut S,
-    err: &mut E,
-) -> Status
-    requires input { (S.seen input.old).failed < 2 ^ 64 - 1 }
-    requires err { (E.written err.old).failed < 2 ^ 64 - 1 }
-    ensures known { ChangesKnown (add_task asked.now) (F.files folder.old) (F.files folder.new) (S.seen input.old) (S.seen input.new) (E.written err.old) (E.written err.new) result }
-    ensures ends { ChangeEnds (add_task asked.now) (F.files folder.old) (F.files folder.new) (S.seen input.old) (S.seen input.new) (E.written err.old) (E.written err.new) result }
-{
-    let task = Task {
-        db: asked.db,
-        file: asked.file,
-        mode: Mode::Content,
-        go_on: asked.go_on,
-        dry_run: asked.dry_run,
-    };
-    carry_out(alloc, &task, folder, input, err)
-}
-
-/// Carries out the change records of the file, or of the input, on the directory in a folder, with a line on `err` for each that
-/// is refused, and stores the directory, unless a device or memory failed.
-pub fn ldapmodify<F: Folder, S: Source, E: Sink>(
-    alloc: Global,
-    asked: &ModifyOptions<'_>,
-    folder: &mut F,
-    input: &mut S,
-    err: &mut E,
-) -> Status
-    requires input { (S.seen input.old).failed < 2 ^ 64 - 1 }
-    requires err { (E.written err.old).failed < 2 ^ 64 - 1 }
-    ensures known { ChangesKnown (modify_task asked.now) (F.files folder.old) (F.files folder.new) (S.seen input.old) (S.seen input.new) (E.written err.old) (E.written err.new) result }
-    ensures ends { ChangeEnds (modify_task asked.now) (F.files folder.old) (F.files folder.new) (S.seen input.old) (S.seen input.new) (E.written err.old) (E.written err.new) result }
-{
-    let task = Task {
-        db: asked.db,
-        file: asked.file,
-        mode: Mode::Changes { add: asked.add },
-        go_on: asked.go_on,
-        dry_run: asked.dry_run,
-    };
-    carry_out(alloc, &task, folder, input, err)
+    let dir = load_directory(alloc, folder, task.db)?;
+    run_and_store(alloc, task, dir, folder, input, err)
 }

@@ -1,10 +1,12 @@
 //! One command, from its words to its status.
-ghost use Rattle.std.specs.Prelude.{◌≡◌, ◌<◌, ◌≤◌, ◌-◌, ◌^◌, map};
-ghost use Rattle.commands.specs.Commands.{IsPrintedText, RequestEnds, CommandEnds};
+ghost use Rattle.std.specs.Prelude.{◌≡◌, ◌<◌, ◌≤◌, ◌-◌, ◌^◌, IfErr, map};
+ghost use Rattle.commands.specs.Worlds.{World};
+ghost use Rattle.commands.specs.Commands.{HelpGoesThrough, HelpStops, RequestGoesThrough, RequestStops, CommandEnds};
+ghost use Rattle.commands.specs.inner.Stopped.{CanTell, HasEnded};
 
-use crate::changes::{ldapmodify, slapadd};
+use crate::changes::{Task, change};
 use crate::folder::Folder;
-use crate::messages::{CommandFault, Status, say, tell};
+use crate::messages::{CommandFault, Status, Stop, tell_stop};
 use crate::searching::search;
 use crate::slapcat::slapcat;
 use command_line::{Request, UsageFault, read};
@@ -13,19 +15,18 @@ use std::alloc::Global;
 use std::convert::AsStr;
 
 /// Prints a text on standard output.
-#[tactic(auto, using(crate::proofs::Stopping::told_unwritten))]
-fn print<O: Sink, E: Sink>(alloc: Global, text: &str, out: &mut O, err: &mut E) -> Status
-    requires out { (O.written out.old).failed < 2 ^ 64 - 1 }
-    requires err { (E.written err.old).failed < 2 ^ 64 - 1 }
-    ensures { IsPrintedText text.now (O.written out.old) (O.written out.new) (E.written err.old) (E.written err.new) result }
+fn print<O: Sink>(alloc: Global, text: &str, out: &mut O) -> Result<Status, Stop>
+    requires { (O.written out.old).failed < 2 ^ 64 - 1 }
+    ensures { (w : World) → HasEnded (HelpGoesThrough text.now) (HelpStops text.now)
+        (record w { output = O.written out.old }) (record w { output = O.written out.new }) result }
 {
     match push_all(out, text.as_bytes()) {
-        Ok(()) => Status::Done,
-        Err(Device) => tell(alloc, err, &CommandFault::cannot_write(alloc, "output")),
+        Ok(()) => Ok(Status::Done),
+        Err(Device) => Err(Stop::Fault(CommandFault::cannot_write(alloc, "output"))),
     }
 }
 
-/// Carries out what the words of a command asked for.
+/// Carries out what the words of a command asked for, and answers how it ends, or why it stops.
 fn carry_out<F: Folder, S: Source, O: Sink, E: Sink>(
     alloc: Global,
     asked: Result<Request<'_>, UsageFault>,
@@ -33,20 +34,24 @@ fn carry_out<F: Folder, S: Source, O: Sink, E: Sink>(
     input: &mut S,
     out: &mut O,
     err: &mut E,
-) -> Status
+) -> Result<Status, Stop>
     requires input { (S.seen input.old).failed < 2 ^ 64 - 1 }
     requires out { (O.written out.old).failed < 2 ^ 64 - 1 }
     requires err { (E.written err.old).failed < 2 ^ 64 - 1 }
-    ensures { RequestEnds asked.entry (F.files folder.old) (F.files folder.new) (record { input = S.seen input.old; input' = S.seen input.new; out = O.written out.old; out' = O.written out.new; err = E.written err.old; err' = E.written err.new }) result }
+    ensures ends { HasEnded (RequestGoesThrough asked.entry) (RequestStops asked.entry)
+        (record { files = F.files folder.old; input = S.seen input.old; output = O.written out.old; messages = E.written err.old })
+        (record { files = F.files folder.new; input = S.seen input.new; output = O.written out.new; messages = E.written err.new })
+        result }
+    ensures can_tell { IfErr result (λ why. CanTell why (E.written err.new).failed) }
 {
     match asked {
-        Ok(Request::Help(text)) => print(alloc, text.as_str(), out, err),
-        Ok(Request::Add(asked)) => slapadd(alloc, &asked, folder, input, err),
-        Ok(Request::Modify(asked)) => ldapmodify(alloc, &asked, folder, input, err),
+        Ok(Request::Help(text)) => print(alloc, text.as_str(), out),
+        Ok(Request::Add(asked)) => change(alloc, &Task::from(asked), folder, input, err),
+        Ok(Request::Modify(asked)) => change(alloc, &Task::from(asked), folder, input, err),
         Ok(Request::Search(asked)) => search(alloc, &asked, folder, out, err),
-        Ok(Request::Cat(asked)) => slapcat(alloc, &asked, folder, out, err),
-        Err(UsageFault::Words(text)) => say(err, text.as_str(), Status::Usage),
-        Err(UsageFault::OutOfMemory) => tell(alloc, err, &CommandFault::OutOfMemory),
+        Ok(Request::Cat(asked)) => slapcat(alloc, &asked, folder, out),
+        Err(UsageFault::Words(text)) => Err(Stop::Usage(text)),
+        Err(UsageFault::OutOfMemory) => Err(Stop::Fault(CommandFault::OutOfMemory)),
     }
 }
 
@@ -65,9 +70,15 @@ pub fn command<W: AsStr, F: Folder, S: Source, O: Sink, E: Sink>(
     requires out { (O.written out.old).failed < 2 ^ 64 - 1 }
     requires err { (E.written err.old).failed < 2 ^ 64 - 1 }
     ensures range { result ≤ 3 }
-    // What the words ask for is done, to the files as well.
-    ensures ends { CommandEnds (map W.text words.now) (F.files folder.old) (F.files folder.new) (record { input = S.seen input.old; input' = S.seen input.new; out = O.written out.old; out' = O.written out.new; err = E.written err.old; err' = E.written err.new }) result }
+    // What the words ask for is done, or the command stops; and what becomes of the files and the streams.
+    ensures ends { CommandEnds (map W.text words.now)
+        (record { files = F.files folder.old; input = S.seen input.old; output = O.written out.old; messages = E.written err.old })
+        (record { files = F.files folder.new; input = S.seen input.new; output = O.written out.new; messages = E.written err.new })
+        result }
 {
     let asked = read(alloc, words);
-    carry_out(alloc, asked, folder, input, out, err).number()
+    match carry_out(alloc, asked, folder, input, out, err) {
+        Ok(status) => status.number(),
+        Err(stop) => tell_stop(alloc, err, &stop).number(),
+    }
 }

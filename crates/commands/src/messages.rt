@@ -1,9 +1,12 @@
 //! How a command ends, and what it says on standard error.
 ghost use Rattle.std.specs.Prelude.{◌≡◌, ◌≤◌, ◌<◌, ◌-◌, ◌^◌, ◌⊎◌, Some, IfOk, string_bytes};
 ghost use Rattle.commands.specs.declared.messages.CommandFault.TheVariants.{OutOfMemory};
+ghost use Rattle.commands.specs.declared.messages.Stop.TheVariants.{Fault};
 ghost use Rattle.commands.specs.Messages.{IsSaid, IsTold, fault_text, line_of};
+ghost use Rattle.commands.specs.Endings.{Tells};
 ghost use Rattle.commands.specs.Failures.{FailsToRead, FailsToWrite};
 ghost use Rattle.commands.specs.Statuses.{status_number, status_of_fault, status_of_tally};
+ghost use Rattle.commands.specs.inner.Stopped.{CanTell};
 ghost use Rattle.commands.specs.inner.WriteFaults.{TellsWriteFault};
 
 use device::{Sink, push_all};
@@ -152,6 +155,25 @@ impl<T: Drop> From<AllocFailed<T>> for CommandFault {
     }
 }
 
+/// Why a command stops before its work is done, and what it says of that.
+#[derive(Debug, Drop)]
+pub enum Stop {
+    /// This fault, of which the line is said.
+    Fault(CommandFault),
+    /// The words are at fault, as this text says.
+    Usage(String),
+    /// Standard error failed, so nothing more is said.
+    Messages,
+}
+
+impl From<CommandFault> for Stop {
+    ghost from_gives = { λ fault stop. stop ≡ Fault fault };
+
+    fn from(fault: CommandFault) -> Stop {
+        Stop::Fault(fault)
+    }
+}
+
 fn line_of(alloc: Global, fault: &CommandFault) -> Result<String, AllocError>
     ensures { IfOk result (λ s. string_bytes s ≡ line_of (fault_text fault.now)) }
 {
@@ -179,5 +201,17 @@ pub fn tell<E: Sink>(alloc: Global, err: &mut E, fault: &CommandFault) -> Status
     match line_of(alloc, fault) {
         Ok(line) => say(err, line.as_str(), fault.status()),
         Err(_) => say(err, "out of memory\n", Status::Failed),
+    }
+}
+
+/// Says why a command stops, and answers how it ends.
+pub fn tell_stop<E: Sink>(alloc: Global, err: &mut E, stop: &Stop) -> Status
+    requires { CanTell stop.now (E.written err.old).failed }
+    ensures { Tells stop.now (E.written err.old) (E.written err.new) result }
+{
+    match stop {
+        Stop::Fault(fault) => tell(alloc, err, fault),
+        Stop::Usage(text) => say(err, text.as_str(), Status::Usage),
+        Stop::Messages => Status::Failed,
     }
 }

@@ -1,18 +1,20 @@
 //! search: the entries that a filter finds are printed as LDIF.
-ghost use Rattle.std.specs.Prelude.{◌≡◌, ◌<◌, ◌-◌, ◌^◌, IfOk, IfErr, codes};
-ghost use Rattle.device.specs.Device.{Took};
+ghost use Rattle.std.specs.Prelude.{◌≡◌, ℕ, ◌<◌, ◌-◌, ◌^◌, Bool, List, None, IfOk, IfErr, codes};
 ghost use Rattle.schema.specs.declared.code.Code.TheVariants.{SizeLimitExceeded};
-ghost use Rattle.filter_text.specs.Spells.{view};
+ghost use Rattle.commands.specs.Worlds.{World};
 ghost use Rattle.commands.specs.Messages.{code_text, fault_text};
 ghost use Rattle.commands.specs.Statuses.{status_of_fault};
-ghost use Rattle.commands.specs.Stops.{PrintsPartly};
+ghost use Rattle.commands.specs.Queries.{HasBegun, PrintsPartly, StopsWith};
+ghost use Rattle.commands.specs.Prints.{search_query, IsFoundText, SearchText, SearchGoesThrough, SearchStops};
 ghost use Rattle.commands.specs.inner.Refusals.{RefusesOrBreaks};
-ghost use Rattle.commands.specs.Prints.{HasFound, HasFoundPartly, IsSearched, IsSearchedPartly, SearchRefuses, SearchStops, SearchEnds};
+ghost use Rattle.commands.specs.inner.Printed.{HasPrinted};
+ghost use Rattle.commands.specs.inner.Views.{basis_of};
+ghost use Rattle.commands.specs.inner.Stopped.{CanTell, HasEnded};
 
 use crate::database::load_directory;
 use crate::finding::{filter_of, path_of, refused};
 use crate::folder::Folder;
-use crate::messages::{CommandFault, Status, tell};
+use crate::messages::{CommandFault, Status, Stop, tell};
 use command_line::SearchOptions;
 use device::Sink;
 use directory::{Directory, Selection};
@@ -45,9 +47,13 @@ fn print_found<O: Sink>(
     out: &mut O,
 ) -> Result<bool, CommandFault>
     requires { (O.written out.old).failed < 2 ^ 64 - 1 }
-    ensures found { IfOk result (λ past. HasFound Took asked.now dir.now.conf dir.now.entries (view filter.now) past (O.written out.old) (O.written out.new)) }
-    ensures fault { IfErr result (RefusesOrBreaks (codes "search") (codes "output") (SearchRefuses asked.now dir.now.conf dir.now.entries)) }
-    ensures partly { IfErr result (PrintsPartly (HasFoundPartly asked.now dir.now.conf dir.now.entries (view filter.now)) (O.written out.old) (O.written out.new)) }
+    ensures found { IfOk result (λ past. HasPrinted
+        (IsFoundText asked.now (basis_of filter.now dir.now) past)
+        (O.written out.old) (O.written out.new)) }
+    ensures fault { IfErr result (RefusesOrBreaks (search_query asked.now) dir.now.conf dir.now.entries) }
+    ensures partly { IfErr result (PrintsPartly (HasBegun
+        (λ text. (past : Bool) × IsFoundText asked.now (basis_of filter.now dir.now) past text) None)
+        (O.written out.old) (O.written out.new)) }
 {
     let base = path_of(alloc, dir.conf(), asked.base, NAME)?;
     let selection = Selection::of(alloc, dir.conf(), asked.attributes.as_slice())?;
@@ -70,9 +76,10 @@ fn load_and_print<F: Folder, O: Sink>(
     out: &mut O,
 ) -> Result<bool, CommandFault>
     requires { (O.written out.old).failed < 2 ^ 64 - 1 }
-    ensures searched { IfOk result (λ past. IsSearched asked.now (F.files folder.now) past (O.written out.old) (O.written out.new)) }
-    ensures stops { IfErr result (SearchStops asked.now (F.files folder.now)) }
-    ensures partly { IfErr result (PrintsPartly (IsSearchedPartly asked.now (F.files folder.now)) (O.written out.old) (O.written out.new)) }
+    ensures searched { IfOk result (λ past. HasPrinted (SearchText asked.now (F.files folder.now) past) (O.written out.old) (O.written out.new)) }
+    ensures stops { IfErr result (StopsWith (search_query asked.now) (F.files folder.now)) }
+    ensures partly { IfErr result (PrintsPartly (HasBegun (λ text. (past : Bool) × SearchText asked.now (F.files folder.now) past text) None)
+        (O.written out.old) (O.written out.new)) }
 {
     let filter = filter_of(alloc, asked.filter)?;
     let dir = load_directory(alloc, folder, asked.db)?;
@@ -83,23 +90,26 @@ fn load_and_print<F: Folder, O: Sink>(
 }
 
 /// Prints the entries of the directory in a folder that are in scope of the base and that the filter is True of, with the attributes that
-/// are asked for (RFC 4511, 4.5.1). Where more than the limit match, the first ones are printed, and the code is 4 sizeLimitExceeded; where
-/// the base isn't there, it is 32 noSuchObject.
-#[tactic(auto, using(crate::proofs::Stopping::stopped))]
+/// are asked for (RFC 4511, 4.5.1). Where more than the limit match, the first ones are printed, the code 4 sizeLimitExceeded is told on
+/// `err`, and it ends as `Refused`. It stops where the filter is none, the directory can't be loaded, the base isn't there (its code is
+/// 32 noSuchObject then), or `out` or memory fails.
 pub fn search<F: Folder, O: Sink, E: Sink>(
     alloc: Global,
     asked: &SearchOptions<'_>,
     folder: &F,
     out: &mut O,
     err: &mut E,
-) -> Status
+) -> Result<Status, Stop>
     requires out { (O.written out.old).failed < 2 ^ 64 - 1 }
     requires err { (E.written err.old).failed < 2 ^ 64 - 1 }
-    ensures { SearchEnds asked.now (F.files folder.now) (O.written out.old) (O.written out.new) (E.written err.old) (E.written err.new) result }
+    ensures ends { (w : World) → HasEnded (SearchGoesThrough asked.now) (SearchStops asked.now)
+        (record w { files = F.files folder.now; output = O.written out.old; messages = E.written err.old })
+        (record w { files = F.files folder.now; output = O.written out.new; messages = E.written err.new }) result }
+    ensures can_tell { IfErr result (λ why. CanTell why (E.written err.new).failed) }
 {
     match load_and_print(alloc, asked, folder, out) {
-        Ok(false) => Status::Done,
-        Ok(true) => tell(alloc, err, &past_limit()),
-        Err(fault) => tell(alloc, err, &fault),
+        Ok(false) => Ok(Status::Done),
+        Ok(true) => Ok(tell(alloc, err, &past_limit())),
+        Err(fault) => Err(Stop::Fault(fault)),
     }
 }

@@ -3,17 +3,19 @@ ghost use Rattle.std.specs.Prelude.{◌≡◌, ◌<◌, ◌-◌, ◌^◌, true, 
 ghost use Rattle.std.specs.FinMap as finite;
 ghost use Rattle.std.specs.Option.{option_copied};
 ghost use Rattle.device.specs.Device.{Took};
-ghost use Rattle.filter_text.specs.Spells.{view};
+ghost use Rattle.commands.specs.Worlds.{World};
 ghost use Rattle.commands.specs.Asked.{IsBase};
 ghost use Rattle.commands.specs.Failures.{FailsToWrite};
-ghost use Rattle.commands.specs.Stops.{PrintsPartly};
+ghost use Rattle.commands.specs.Queries.{LacksBase, target_of, IsBegun, Begins, HasBegun, PrintsPartly, StopsWith};
+ghost use Rattle.commands.specs.Prints.{cat_query, is_whole, IsCatText, CatText, Puts, HasPut, CatGoesThrough, CatStops};
 ghost use Rattle.commands.specs.inner.Refusals.{Refuses, RefusesOrBreaks};
-ghost use Rattle.commands.specs.Prints.{IsBegun, is_whole, target_of, Puts, PutsPartly, HasPutAll, HasPutPartly, IsPrinted, IsPrintedPartly, CatRefuses, CatStops, CatEnds};
+ghost use Rattle.commands.specs.inner.Views.{basis_of};
+ghost use Rattle.commands.specs.inner.Stopped.{HasEnded};
 
 use crate::database::{load_directory, store};
 use crate::finding::{filter_of, path_of};
 use crate::folder::{FileText, Folder};
-use crate::messages::{CommandFault, Status, tell};
+use crate::messages::{CommandFault, Status, Stop};
 use crate::part::Part;
 use command_line::CatOptions;
 use device::Sink;
@@ -49,9 +51,11 @@ fn put<T: FileText, F: Folder, O: Sink>(
 ) -> Result<(), CommandFault>
     requires { (O.written out.old).failed < 2 ^ 64 - 1 }
     ensures same { OnErr result (F.files folder.new ≡ F.files folder.old) }
-    ensures put { OnOk result (Puts (option_copied file.entry) (F.files folder.old) (F.files folder.new) (O.written out.old) (O.written out.new) (T.text text.now)) }
+    ensures put { (w : World) → OnOk result (Puts (option_copied file.entry) (T.text text.now)
+        (record w { files = F.files folder.old; output = O.written out.old })
+        (record w { files = F.files folder.new; output = O.written out.new })) }
     ensures err { IfErr result (FailsToWrite (target_of (option_copied file.entry))) }
-    ensures partly { IfErr result (λ f. PutsPartly f (option_copied file.entry) (O.written out.old) (O.written out.new) (T.text text.now)) }
+    ensures begins { IfErr result (λ f. Begins (option_copied file.entry) f (O.written out.old) (O.written out.new) (T.text text.now)) }
 {
     match file {
         Some(name) => store(alloc, folder, name, text),
@@ -63,7 +67,7 @@ fn put<T: FileText, F: Folder, O: Sink>(
 fn base_of(alloc: Global, asked: &CatOptions<'_>, dir: &Directory) -> Result<Path, CommandFault>
     ensures found { IfOk result (IsBase dir.now.conf (option_copied asked.now.base)) }
     ensures there { IfOk result (λ base. is_some asked.now.base ≡ true → finite.contains_key dir.now.entries base ≡ true) }
-    ensures fault { IfErr result (Refuses (codes "slapcat") (CatRefuses asked.now dir.now.conf dir.now.entries)) }
+    ensures fault { IfErr result (Refuses (codes "slapcat") (LacksBase (cat_query asked.now) dir.now.conf dir.now.entries)) }
 {
     let base = path_of(alloc, dir.conf(), asked.base, NAME)?;
     if asked.base.is_some() && dir.tree().get(&base).is_none() {
@@ -85,9 +89,14 @@ fn put_part<F: Folder, O: Sink>(
 ) -> Result<(), CommandFault>
     requires { (O.written out.old).failed < 2 ^ 64 - 1 }
     ensures same { OnErr result (F.files folder.new ≡ F.files folder.old) }
-    ensures put { OnOk result (HasPutAll false asked.now (view filter.now) dir.now.conf dir.now.entries (F.files folder.old) (F.files folder.new) (O.written out.old) (O.written out.new)) }
-    ensures fault { IfErr result (RefusesOrBreaks (codes "slapcat") (target_of (option_copied asked.now.file)) (CatRefuses asked.now dir.now.conf dir.now.entries)) }
-    ensures partly { IfErr result (PrintsPartly (HasPutPartly false asked.now (view filter.now) dir.now.conf dir.now.entries) (O.written out.old) (O.written out.new)) }
+    ensures put { (w : World) → OnOk result (HasPut (IsCatText false asked.now
+        (basis_of filter.now dir.now)) (option_copied asked.now.file)
+        (record w { files = F.files folder.old; output = O.written out.old })
+        (record w { files = F.files folder.new; output = O.written out.new })) }
+    ensures fault { IfErr result (RefusesOrBreaks (cat_query asked.now) dir.now.conf dir.now.entries) }
+    ensures partly { IfErr result (PrintsPartly (HasBegun (IsCatText false asked.now
+        (basis_of filter.now dir.now)) (option_copied asked.now.file))
+        (O.written out.old) (O.written out.new)) }
 {
     let base = base_of(alloc, asked, dir)?;
     let prepared = prepare(alloc, filter, dir.conf())?;
@@ -105,9 +114,14 @@ fn put_entries<F: Folder, O: Sink>(
 ) -> Result<(), CommandFault>
     requires { (O.written out.old).failed < 2 ^ 64 - 1 }
     ensures same { OnErr result (F.files folder.new ≡ F.files folder.old) }
-    ensures put { OnOk result (HasPutAll (is_whole asked.now) asked.now (view filter.now) dir.now.conf dir.now.entries (F.files folder.old) (F.files folder.new) (O.written out.old) (O.written out.new)) }
-    ensures fault { IfErr result (RefusesOrBreaks (codes "slapcat") (target_of (option_copied asked.now.file)) (CatRefuses asked.now dir.now.conf dir.now.entries)) }
-    ensures partly { IfErr result (PrintsPartly (HasPutPartly (is_whole asked.now) asked.now (view filter.now) dir.now.conf dir.now.entries) (O.written out.old) (O.written out.new)) }
+    ensures put { (w : World) → OnOk result (HasPut (IsCatText (is_whole asked.now) asked.now
+        (basis_of filter.now dir.now)) (option_copied asked.now.file)
+        (record w { files = F.files folder.old; output = O.written out.old })
+        (record w { files = F.files folder.new; output = O.written out.new })) }
+    ensures fault { IfErr result (RefusesOrBreaks (cat_query asked.now) dir.now.conf dir.now.entries) }
+    ensures partly { IfErr result (PrintsPartly (HasBegun (IsCatText (is_whole asked.now) asked.now
+        (basis_of filter.now dir.now)) (option_copied asked.now.file))
+        (O.written out.old) (O.written out.new)) }
 {
     if asked.filter.is_none() && asked.base.is_none() {
         return put(alloc, dir, asked.file, folder, out);
@@ -124,9 +138,12 @@ fn load_and_put<F: Folder, O: Sink>(
 ) -> Result<(), CommandFault>
     requires { (O.written out.old).failed < 2 ^ 64 - 1 }
     ensures same { OnErr result (F.files folder.new ≡ F.files folder.old) }
-    ensures printed { OnOk result (IsPrinted asked.now (F.files folder.old) (F.files folder.new) (O.written out.old) (O.written out.new)) }
-    ensures stops { IfErr result (CatStops asked.now (F.files folder.old)) }
-    ensures partly { IfErr result (PrintsPartly (IsPrintedPartly asked.now (F.files folder.old)) (O.written out.old) (O.written out.new)) }
+    ensures put { (w : World) → OnOk result (HasPut (CatText asked.now (F.files folder.old)) (option_copied asked.now.file)
+        (record w { files = F.files folder.old; output = O.written out.old })
+        (record w { files = F.files folder.new; output = O.written out.new })) }
+    ensures stops { IfErr result (StopsWith (cat_query asked.now) (F.files folder.old)) }
+    ensures partly { IfErr result (PrintsPartly (HasBegun (CatText asked.now (F.files folder.old)) (option_copied asked.now.file))
+        (O.written out.old) (O.written out.new)) }
 {
     let filter = filter_of(alloc, asked.filter)?;
     let dir = load_directory(alloc, folder, asked.db)?;
@@ -136,22 +153,22 @@ fn load_and_put<F: Folder, O: Sink>(
     done
 }
 
-/// Writes the directory in a folder to the file, or to `out`: all entries, or those at the base and below it that the filter is True of.
-/// Where the base isn't there, the code is 32 noSuchObject.
-#[tactic(auto, using(crate::proofs::Stopping::stopped))]
-pub fn slapcat<F: Folder, O: Sink, E: Sink>(
+/// Writes the directory in a folder to the file, or to `out`: all entries, or those at the base and below it that the filter is True of. It
+/// stops where the filter is none, the directory can't be loaded, the base isn't there (its code is 32 noSuchObject then), or what it
+/// writes to or memory fails.
+pub fn slapcat<F: Folder, O: Sink>(
     alloc: Global,
     asked: &CatOptions<'_>,
     folder: &mut F,
     out: &mut O,
-    err: &mut E,
-) -> Status
-    requires out { (O.written out.old).failed < 2 ^ 64 - 1 }
-    requires err { (E.written err.old).failed < 2 ^ 64 - 1 }
-    ensures { CatEnds asked.now (F.files folder.old) (F.files folder.new) (O.written out.old) (O.written out.new) (E.written err.old) (E.written err.new) result }
+) -> Result<Status, Stop>
+    requires { (O.written out.old).failed < 2 ^ 64 - 1 }
+    ensures { (w : World) → HasEnded (CatGoesThrough asked.now) (CatStops asked.now)
+        (record w { files = F.files folder.old; output = O.written out.old })
+        (record w { files = F.files folder.new; output = O.written out.new }) result }
 {
     match load_and_put(alloc, asked, folder, out) {
-        Ok(()) => Status::Done,
-        Err(fault) => tell(alloc, err, &fault),
+        Ok(()) => Ok(Status::Done),
+        Err(fault) => Err(Stop::Fault(fault)),
     }
 }

@@ -7,7 +7,11 @@ use Rattle.std.specs.FinMap as finite
 use Rattle.std.specs.Io.Cursor.{cursor_remaining}
 use Rattle.std.specs.declared.string.String.{String}
 use Rattle.std.specs.declared.vec.Vec.{Vec}
+use Rattle.device.specs.Memory.{source_seen, sink_written}
+use Rattle.device.specs.declared.memory.TrySource.{TrySource}
+use Rattle.device.specs.declared.memory.TrySink.{TrySink}
 use Rattle.commands.specs.Folders.{Files}
+use Rattle.commands.specs.Worlds.{World}
 use Rattle.commands.specs.declared.folder.FolderFault.{FolderFault}
 use Rattle.commands.specs.declared.folder.FolderFault.TheVariants as folder_faults
 use denote.Ref.{Bor}
@@ -31,6 +35,15 @@ files_of m = files_in m.files
 
 abbrev pub folder_files : MemoryFolder → Files
 folder_files f = files_of f.files
+
+-- the world of a command over a folder and streams in memory
+abbrev pub world_of : MemoryFolder → TrySource → TrySink → TrySink → World
+world_of folder input output messages = record {
+  files = Some (folder_files folder);
+  input = source_seen input;
+  output = sink_written output;
+  messages = sink_written messages;
+}
 
 -- the bytes of the file that are left, also those behind the place where reading is going to fail
 abbrev pub left_of : Contents → Option (List ℕ)

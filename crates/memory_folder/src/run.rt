@@ -1,8 +1,8 @@
 //! A command over a folder in memory.
-ghost use Rattle.std.specs.Prelude.{◌<◌, ◌-◌, ◌^◌, Some, map};
+ghost use Rattle.std.specs.Prelude.{◌<◌, ◌-◌, ◌^◌, map};
 ghost use Rattle.device.specs.Memory.{source_seen, sink_written};
 ghost use Rattle.commands.specs.Commands.{CommandEnds};
-ghost use Rattle.memory_folder.specs.Memory.{folder_files};
+ghost use Rattle.memory_folder.specs.Memory.{world_of};
 
 use crate::folder::MemoryFolder;
 use commands::command;
@@ -23,7 +23,8 @@ pub fn run_command<W: AsStr>(
     requires out { (sink_written out.old).failed < 2 ^ 64 - 1 }
     requires err { (sink_written err.old).failed < 2 ^ 64 - 1 }
     // What the words ask for is done, and it says of all files what they are then.
-    ensures { CommandEnds (map W.text words.now) (Some (folder_files folder.old)) (Some (folder_files folder.new)) (record { input = source_seen input.old; input' = source_seen input.new; out = sink_written out.old; out' = sink_written out.new; err = sink_written err.old; err' = sink_written err.new }) result }
+    ensures { CommandEnds (map W.text words.now)
+        (world_of folder.old input.old out.old err.old) (world_of folder.new input.new out.new err.new) result }
 {
     command(alloc, words, folder, input, out, err)
 }

@@ -1,11 +1,14 @@
 -- The faults that the parts of search and slapcat answer.
 use Rattle.std.specs.Prelude.{◌≡◌, ℕ, ◌⊎◌, List, Option}
 use Rattle.std.specs.Borrow.{Bor}
+use Rattle.schema.specs.Conf.{Conf}
 use Rattle.schema.specs.declared.code.Code.{Code}
+use Rattle.tree.specs.Directories.{Entries}
 use Rattle.tree.specs.declared.refusal.Refusal.{Refusal}
 use Rattle.tree.specs.declared.refusal.Refusal.TheVariants as refusals
 use Rattle.commands.specs.Asked.{IsNoFilterFor}
 use Rattle.commands.specs.Failures.{IsMemory, FailsToWrite}
+use Rattle.commands.specs.Queries.{Query, LacksBase, target_of}
 use Rattle.commands.specs.declared.messages.CommandFault.{CommandFault}
 use Rattle.commands.specs.declared.messages.CommandFault.TheVariants as faults
 
@@ -24,6 +27,6 @@ abbrev pub Refuses : List ℕ → (Code → Type 0) → CommandFault → Type 0
 Refuses command Holds (faults.Code by code) = (by.now ≡ command) × Holds code
 Refuses command Holds fault = IsMemory fault
 
--- likewise, or what has this name can't be written
-abbrev pub RefusesOrBreaks : List ℕ → List ℕ → (Code → Type 0) → CommandFault → Type 0
-RefusesOrBreaks command target Holds fault = Refuses command Holds fault ⊎ FailsToWrite target fault
+-- the directory lacks the base, or what is printed to can't be written, or memory ran out
+abbrev pub RefusesOrBreaks : Query → Conf → Entries → CommandFault → Type 0
+RefusesOrBreaks q conf d fault = Refuses q.command (LacksBase q conf d) fault ⊎ FailsToWrite (target_of q.file) fault

@@ -1,23 +1,44 @@
-use Rattle.std.proofs.Common.{inl, inr, rules}
-use Rattle.commands.specs.Folders.{data_name}
-use Rattle.commands.proofs.Stopping.{told_unwritten}
+use Rattle.std.proofs.Common.{ℕ, ◌<◌, ◌-◌, ◌^◌, Option, refl, sym, ap, subst}
+use Rattle.std.specs.Prelude.{Ok}
+use Rattle.std.proofs.lemmas.Result.{err_from_is_err_and}
+use Rattle.commands.specs.Folders.{Files}
+use Rattle.commands.specs.Worlds.{World}
+use Rattle.commands.specs.inner.Views.{run_of}
+use Rattle.commands.proofs.Running.{dry_stores, stores, not_stored}
 use Rattle.commands.proofs.changes.run_and_store.Goals as goal
 
-pub returns-then-asked : goal.returns-then-asked
-returns-then-asked g c = inl (record { new = _; tally = c.in-Ok.tally; records = c.in-Ok.ensures.ran; stored_is = search rules; status = c.of_tally.ensures })
+pub returns-then-task-clause-ends : goal.returns-then-task-clause-ends
+returns-then-task-clause-ends g c = λ w.
+    let run = run_of c.args.dir c.run_records.new.dir (Ok c.in_ok-tally.tally) in
+    let mid : World = record w { files = g.F.Folder.files c.args.folder.now; input = g.S.Source.seen c.run_records.new.input; messages = g.E.Sink.written c.run_records.new.err } in
+    record { run = run; tally = c.in_ok-tally.tally; answer_is = refl; mid = mid; runs = c.in_ok-tally.ensures.ran w; stores = dry_stores c.args.task.now run mid c.if-task.true; status = c.of_tally.ensures }
 
-pub returns-in-Ok-stored : goal.returns-in-Ok-stored
-returns-in-Ok-stored g c = inl (record { new = _; tally = c.in-Ok.tally; records = c.in-Ok.ensures.ran; stored_is = search rules; status = c.of_tally-in-Ok-stored.ensures })
+pub returns-clause-ends : goal.returns-clause-ends
+returns-clause-ends g c = λ w.
+    let run = run_of c.args.dir c.run_records.new.dir (Ok c.in_ok-tally.tally) in
+    let mid : World = record w { files = g.F.Folder.files c.args.folder.now; input = g.S.Source.seen c.run_records.new.input; messages = g.E.Sink.written c.run_records.new.err } in
+    record {
+      run = run;
+      tally = c.in_ok-tally.tally;
+      answer_is = refl;
+      mid = mid;
+      runs = c.in_ok-tally.ensures.ran w;
+      stores = stores c.args.task.now run mid (g.F.Folder.files c.store_directory-stored.new.folder) c.run_records.new.dir.conf c.if-task.false c.run_records.ensures.same_conf c.in_ok-stored.ensures.ok;
+      status = c.of_tally-2.ensures;
+    }
 
-pub returns-in-Err-stored : goal.returns-in-Err-stored
-returns-in-Err-stored g c = inr (
-  inr (record {
-    new = _;
-    tally = c.in-Ok.tally;
-    mid = _;
-    records = c.in-Ok.ensures.ran;
-    stores = c.if-asked.false;
-    told = told_unwritten _ _ _ (data_name c.args.asked.now.db.now) _ c.in-Err-stored.ensures.err c.tell.ensures.told;
-  }),
-  c.in-Err-stored.ensures.same,
-)
+pub returns-in_err-stored-clause-ends : goal.returns-in_err-stored-clause-ends
+returns-in_err-stored-clause-ends g c =
+    let p = err_from_is_err_and c.from_residual-in_err-stored.result c.from_residual-in_err-stored.ensures.1 in
+    rw (p.1, p.2) (λ w.
+    let run = run_of c.args.dir c.run_records.new.dir (Ok c.in_ok-tally.tally) in
+    let mid : World = record w { files = g.F.Folder.files c.args.folder.now; input = g.S.Source.seen c.run_records.new.input; messages = g.E.Sink.written c.run_records.new.err } in
+    let w₁ : World = record w { files = g.F.Folder.files c.args.folder.now; input = g.S.Source.seen c.args.input.now; messages = g.E.Sink.written c.args.err.now } in
+    let w₂ : World = record mid { files = g.F.Folder.files c.store_directory-stored.new.folder } in
+    not_stored c.args.task.now run c.in_ok-tally.tally w₁ mid w₂ _ refl (c.in_ok-tally.ensures.ran w) c.if-task.false c.in_err-stored.ensures.err (ap (λ (fs : Option Files). record mid { files = fs }) c.in_err-stored.ensures.same))
+
+pub returns-in_err-stored-clause-can_tell : goal.returns-in_err-stored-clause-can_tell
+returns-in_err-stored-clause-can_tell g c =
+    let p = err_from_is_err_and c.from_residual-in_err-stored.result c.from_residual-in_err-stored.ensures.1 in
+    let runs = c.in_ok-tally.ensures.ran (record { files = g.F.Folder.files c.args.folder.now; input = g.S.Source.seen c.args.input.now; output = g.E.Sink.written c.args.err.now; messages = g.E.Sink.written c.args.err.now }) in
+    rw (p.1, p.2) (subst (λ (n : ℕ). n < 2 ^ 64 - 1) (sym runs.ran.failures.1) c.requires.err)

@@ -1,6 +1,42 @@
-use Rattle.std.proofs.Common.{inl, refl}
-use Rattle.commands.proofs.Stopping.{told_unread}
+use Rattle.std.proofs.Common.{Option, ℕ, List, refl, sym, ap, subst}
+use Rattle.std.specs.Prelude.{Err}
+use Rattle.std.specs.Option.{option_copied}
+use Rattle.std.proofs.lemmas.Result.{IfOk-weaker, err_from_is_err_and}
+use Rattle.commands.specs.Changes.{Breaks, source_name, HasNoSource}
+use Rattle.commands.specs.inner.Views.{run_of}
+use Rattle.commands.proofs.Running.{of_input, of_file, not_opened, broken_off}
+use Rattle.commands.specs.declared.messages.Stop.TheVariants as stops
+use Rattle.commands.proofs.Stopping.{of_faults}
 use Rattle.commands.proofs.changes.run_records.Goals as goal
 
-pub returns-in-Err-clause-err : goal.returns-in-Err-clause-err
-returns-in-Err-clause-err g c = rw c.in-Some.is (inl (told_unread _ _ _ c.in-Some.name.now _ c.in-Err.ensures.err c.tell.ensures.told, refl))
+pub returns-in_default-clause-ran : goal.returns-in_default-clause-ran
+returns-in_default-clause-ran g c = IfOk-weaker c.run_source.result _ _
+    (λ t ran w. of_input c.args.task.now _ _ _ c.requires.loaded (ap option_copied c.in_default.is) (ran (record w { files = g.F.Folder.files c.args.folder.now })))
+    c.run_source.ensures.ran
+
+pub returns-in_default-clause-stops : goal.returns-in_default-clause-stops
+returns-in_default-clause-stops g c = of_faults c.run_source.result
+    (λ why broke w. broken_off c.args.task.now (run_of c.args.dir.now c.run_source.new.dir (Err broke.0)) _ _ broke.0 why refl
+    (of_input c.args.task.now _ _ _ c.requires.loaded (ap option_copied c.in_default.is) (broke.2 (record w { files = g.F.Folder.files c.args.folder.now })))
+    (subst (λ (file : Option (List ℕ)). Breaks broke.0 (source_name file) why) (sym (ap option_copied c.in_default.is)) broke.1))
+    c.run_source.ensures.broke
+
+pub returns-clause-ran : goal.returns-clause-ran
+returns-clause-ran g c = IfOk-weaker c.run_source-2.result _ _
+    (λ t ran w. of_file c.args.task.now _ _ _ c.requires.loaded c.in-Some.name.now _ _ (ap option_copied c.in-Some.is) c.in_ok-source.ensures.finds refl
+    (ran (record w { files = g.F.Folder.files c.args.folder.now })))
+    c.run_source-2.ensures.ran
+
+pub returns-clause-stops : goal.returns-clause-stops
+returns-clause-stops g c = of_faults c.run_source-2.result
+    (λ why broke w. broken_off c.args.task.now (run_of c.args.dir.now c.run_source-2.new.dir (Err broke.0)) _ _ broke.0 why refl
+    (of_file c.args.task.now _ _ _ c.requires.loaded c.in-Some.name.now _ _ (ap option_copied c.in-Some.is) c.in_ok-source.ensures.finds refl
+    (broke.2 (record w { files = g.F.Folder.files c.args.folder.now })))
+    (subst (λ (file : Option (List ℕ)). Breaks broke.0 (source_name file) why) (sym (ap option_copied c.in-Some.is)) broke.1))
+    c.run_source-2.ensures.broke
+
+pub returns-in_err-source-clause-stops : goal.returns-in_err-source-clause-stops
+returns-in_err-source-clause-stops g c =
+    let p = err_from_is_err_and c.from_residual.result c.from_residual.ensures.1 in
+    rw (p.1, p.2) (λ w. not_opened c.args.task.now _ _ _ _ c.requires.loaded
+    (subst (λ (file : Option (List ℕ)). HasNoSource file (stops.Fault c.in_err-source.field-0.0)) (sym (ap option_copied c.in-Some.is)) c.in_err-source.ensures.err))

@@ -1,16 +1,16 @@
+use Rattle.std.proofs.Common.{refl}
+use Rattle.commands.proofs.Stopping.{can_tell}
 use Rattle.commands.proofs.changes.run_source.Goals as goal
 
 pub returns-in-Ok-clause-ran : goal.returns-in-Ok-clause-ran
-returns-in-Ok-clause-ran g c = record { gave = c.in-Ok.ensures.gave; failures = c.in-Ok.ensures.failures; ran = c.in-Ok.ensures.runs }
+returns-in-Ok-clause-ran g c = λ w. record { gave = c.in-Ok.ensures.gave; failures = c.in-Ok.ensures.failures; runs = c.in-Ok.ensures.runs; read = tt; stays = refl }
 
-pub returns-in-Err-clause-err : goal.returns-in-Err-clause-err
-returns-in-Err-clause-err g c = record {
-  new = _;
-  fault = c.in-Err.fault;
-  mid = _;
-  gave = c.in-Err.ensures.gave;
-  failures = c.in-Err.ensures.failures;
-  broke = c.in-Err.ensures.runs;
-  read = c.in-Err.ensures.read;
-  told = c.tell_break.ensures;
-}
+pub returns-in-Err-clause-broke : goal.returns-in-Err-clause-broke
+returns-in-Err-clause-broke g c = (
+  c.in-Err.fault,
+  c.stop_of.ensures,
+  λ w. record { gave = c.in-Err.ensures.gave; failures = c.in-Err.ensures.failures; runs = c.in-Err.ensures.runs; read = c.in-Err.ensures.read; stays = refl },
+)
+
+pub returns-in-Err-clause-can_tell : goal.returns-in-Err-clause-can_tell
+returns-in-Err-clause-can_tell g c = can_tell c.in-Err.fault _ _ _ _ _ _ c.requires.err c.in-Err.ensures.failures c.stop_of.ensures

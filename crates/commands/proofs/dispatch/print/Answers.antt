@@ -1,8 +1,15 @@
-use Rattle.std.proofs.Common.{inr, subst}
-use Rattle.device.specs.Device.{Broke}
-use Rattle.std.specs.Prelude.{codes}
-use Rattle.commands.proofs.Stopping.{told_unwritten}
+use Rattle.std.proofs.Common.{refl, subst}
+use Rattle.device.specs.Device.{Took, Broke}
+use Rattle.commands.specs.Commands.{HelpStops}
+use Rattle.commands.proofs.Stopping.{stopped}
 use Rattle.commands.proofs.dispatch.print.Goals as goal
 
+pub returns-in-Ok : goal.returns-in-Ok
+returns-in-Ok g c = λ w. (refl, record { took = subst (Took _ _) c.as_bytes.ensures.value c.in-Ok.ensures.ok; stays = refl })
+
 pub returns-in-Err : goal.returns-in-Err
-returns-in-Err g c = inr (subst (Broke _ _) c.as_bytes.ensures.value c.in-Err.ensures.device, told_unwritten _ _ _ (codes "output") _ c.cannot_write.ensures c.tell.ensures.told)
+returns-in-Err g c = λ w. stopped (HelpStops c.args.text.now) _ _ _ (record {
+  why = c.cannot_write.ensures;
+  broke = subst (Broke _ _) c.as_bytes.ensures.value c.in-Err.ensures.device;
+  only = record { stored = refl; stays = refl };
+}) refl

@@ -1,17 +1,30 @@
-use Rattle.std.specs.Prelude.{codes}
+use Rattle.std.proofs.Common.{ℕ, List}
 use Rattle.std.specs.Option.{option_copied}
-use Rattle.commands.specs.Prints.{target_of, CatRefuses}
-use Rattle.commands.proofs.Ends.{loaded_and_printed, printed_partly}
+use Rattle.std.proofs.lemmas.Result.{on_ok_weaker}
+use Rattle.commands.specs.Prints.{cat_query, is_whole, IsCatText, CatText}
+use Rattle.commands.specs.inner.Views.{basis_of}
+use Rattle.commands.proofs.Ends.{has_basis, put_more, partly_more}
 use Rattle.commands.proofs.Stopping.{of_faults, refused_stops}
 use Rattle.commands.proofs.slapcat.load_and_put.Goals as goal
 
-pub returns-clause-printed : goal.returns-clause-printed
-returns-clause-printed g c = loaded_and_printed c.put_entries-done.result _ _ _ _ _ _ _ _ c.in_ok-filter.ensures.found c.in_ok-dir.ensures.loaded c.put_entries-done.ensures.put
+pub returns-clause-put : goal.returns-clause-put
+returns-clause-put g c = λ w.
+    let asked = c.args.asked.now in
+    let files = g.F.Folder.files c.args.folder.now in
+    let basis = basis_of c.in_ok-filter.filter c.in_ok-dir.dir in
+    let holds : (text : List ℕ) → IsCatText (is_whole asked) asked basis text → CatText asked files text = λ text. has_basis (cat_query asked) files basis c.in_ok-filter.ensures.found c.in_ok-dir.ensures.loaded (λ basis. IsCatText (is_whole asked) asked basis text) in
+    on_ok_weaker c.put_entries-done.result (put_more (IsCatText (is_whole asked) asked basis) (CatText asked files) holds (option_copied asked.file) _ _) (c.put_entries-done.ensures.put w)
 
 pub returns-clause-stops : goal.returns-clause-stops
 returns-clause-stops g c = of_faults c.put_entries-done.result
-    (refused_stops (codes "slapcat") (target_of (option_copied c.args.asked.now.file)) (option_copied c.args.asked.now.filter) (g.F.Folder.files c.args.folder.now) c.args.asked.now.db.now (CatRefuses c.args.asked.now) _ c.in_ok-filter.ensures.found _ _ c.in_ok-dir.ensures.loaded)
+    (refused_stops (cat_query c.args.asked.now) (g.F.Folder.files c.args.folder.now) _ c.in_ok-filter.ensures.found _ _ c.in_ok-dir.ensures.loaded)
     c.put_entries-done.ensures.fault
 
 pub returns-clause-partly : goal.returns-clause-partly
-returns-clause-partly g c = printed_partly c.put_entries-done.result _ _ _ _ _ _ _ c.in_ok-filter.ensures.found c.in_ok-dir.ensures.loaded c.put_entries-done.ensures.partly
+returns-clause-partly g c =
+    let asked = c.args.asked.now in
+    let files = g.F.Folder.files c.args.folder.now in
+    let basis = basis_of c.in_ok-filter.filter c.in_ok-dir.dir in
+    partly_more (IsCatText (is_whole asked) asked basis) (CatText asked files)
+    (λ text. has_basis (cat_query asked) files basis c.in_ok-filter.ensures.found c.in_ok-dir.ensures.loaded (λ basis. IsCatText (is_whole asked) asked basis text))
+    c.put_entries-done.result (option_copied asked.file) _ _ c.put_entries-done.ensures.partly

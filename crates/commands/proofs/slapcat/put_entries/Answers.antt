@@ -1,0 +1,19 @@
+use Rattle.std.proofs.Common.{◌≡◌, Bool, true, refl, sym, ap, subst, ◌∙◌}
+use Rattle.std.specs.Prelude.{OnOk, is_none, not}
+use Rattle.std.specs.Option.{option_copied}
+use Rattle.std.proofs.lemmas.Bool.{and_from}
+use Rattle.std.proofs.lemmas.Result.{on_ok_weaker}
+use Rattle.commands.specs.Prints.{IsCatText, HasPut}
+use Rattle.commands.specs.Worlds.{World}
+use Rattle.commands.specs.inner.Views.{basis_of}
+use Rattle.commands.proofs.slapcat.put_entries.Goals as goal
+
+pub returns-then-is_none-2-clause-put : goal.returns-then-is_none-2-clause-put
+returns-then-is_none-2-clause-put g c = λ w.
+    let asked = c.args.asked.now in
+    let w₁ : World = record w { files = g.F.Folder.files c.args.folder.now; output = g.O.Sink.written c.args.out.now } in
+    let w₂ : World = record w { files = g.F.Folder.files c.put.new.folder; output = g.O.Sink.written c.put.new.out } in
+    let no_filter : is_none asked.filter ≡ true = ap not c.is_none.ensures ∙ ap (λ b. not (not b)) c.if-is_none.true in
+    let no_base : is_none asked.base ≡ true = ap not c.is_none-then-is_none.ensures ∙ ap (λ b. not (not b)) c.if-is_none-2.true in
+    subst (λ (whole : Bool). OnOk c.put.result (HasPut (IsCatText whole asked (basis_of c.args.filter.now c.args.dir.now)) (option_copied asked.file) w₁ w₂)) (sym (and_from _ _ no_filter no_base))
+    (on_ok_weaker c.put.result (λ put. record { text = _; is = refl; put = put }) (c.put.ensures.put w))

@@ -1,0 +1,25 @@
+-- How a command has ended, before it says why it stops.
+use Rattle.std.specs.Prelude.{◌≡◌, ℕ, ◌<◌, ◌-◌, ◌^◌, List, Result, Ok, Err, ⊤}
+use Rattle.commands.specs.Folders.{File, with_files}
+use Rattle.commands.specs.Worlds.{World}
+use Rattle.commands.specs.Endings.{StoppedAt}
+use Rattle.commands.specs.declared.messages.Status.{Status}
+use Rattle.commands.specs.declared.messages.Stop.{Stop}
+use Rattle.commands.specs.declared.messages.Stop.TheVariants as stops
+
+-- how often standard error may have failed where it is to say this: it can fail once more, unless nothing is said
+abbrev pub CanTell : Stop → ℕ → Type 0
+CanTell (stops.Fault fault) failed = failed < 2 ^ 64 - 1
+CanTell (stops.Usage text) failed = failed < 2 ^ 64 - 1
+CanTell stops.Messages failed = ⊤
+
+-- it came to this world, had stored these files, and stops
+pub record HasStopped (ComesTo : World → StoppedAt → Type 0) (w w' : World) (why : Stop) : Type 0 where
+  pub stored : List File
+  pub comes : ComesTo w (record { why = why; stored = stored; world = w' })
+  pub files : w'.files ≡ with_files w.files stored
+
+-- it went through, or stops
+abbrev pub HasEnded : (World → World → Status → Type 0) → (World → StoppedAt → Type 0) → World → World → Result Status Stop → Type 0
+HasEnded GoesThrough ComesTo w w' (Ok s) = GoesThrough w w' s
+HasEnded GoesThrough ComesTo w w' (Err why) = HasStopped ComesTo w w' why
