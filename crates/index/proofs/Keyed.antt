@@ -1,0 +1,229 @@
+-- Sets under keys, one of which changes.
+use Rattle.std.proofs.Common.{◌≡◌, ◌≢◌, ℕ, zero, suc, get_or, Bool, true, false, cond, not, ◌&&◌, ◌||◌, List, [], ◌∷◌, map, Result, Ok, Err, Option, Some, None, refl, sym, ap, subst, ◌∙◌, arith}
+use Rattle.std.specs.Prelude.{unwrap_or, OnOk, OnErr, MatchOption}
+use Rattle.std.specs.declared.cmp.Ordering.TheVariants.{Less}
+use Rattle.std.specs.declared.vec.Vec.{Vec}
+use Rattle.std.specs.Option.{option_map}
+use Rattle.std.specs.Ordering.{nat_cmp, is_eq, eq_by_cmp}
+use Rattle.std.specs.Cmp.{nat_cmp_total, eq_by_cmp_equiv}
+use Rattle.std.specs.Cmp.Lexicographic.{slice_cmp, nat_list_cmp_total, nat_list_eq_equiv, bytes_decides}
+use Rattle.std.specs.Str.{bytes_eq}
+use Rattle.std.specs.Map.{lookup, keys_of, IsKeyTest, AreApart, KeepsOthers}
+use Rattle.std.specs.List.{All, AllByRecursion}
+use Rattle.std.specs.List.Sorted.{IsStrictlySortedBy}
+use Rattle.std.specs.BTreeMap.{BTreeMap, UpdatesBy}
+use Rattle.std.specs.FinMap as finite
+use Rattle.std.specs.FinSet as set
+use Rattle.std.proofs.lemmas.Map.Text.{is_eq-slice_cmp}
+use Rattle.id_sets.specs.declared.key_set.KeySet.{KeySet}
+use Rattle.index.specs.KeySets.{Members, SetsByKey, Row, members_in, members_at, AreRowsOf}
+use Rattle.index.specs.inner.StoredSets.{rows_of, sets_of, HaveMembers}
+
+abbrev pub at : List Row → List ℕ → Option Members
+at rows q = lookup (bytes_eq q) rows
+
+-- one key has this now, and each other key what it had
+abbrev pub Updated : List Row → List Row → List ℕ → Option Members → Type 0
+Updated old new key o = (q : List ℕ) → at new q ≡ cond (bytes_eq key q) o (at old q)
+
+pub same_bytes : (a b : List ℕ) → bytes_eq a b ≡ true → a ≡ b
+same_bytes a b e = (bytes_decides a b).0 e
+
+-- ---- rows
+
+or_empty : (b : Bool) (o p : Option Members) → unwrap_or (cond b o p) set.empty ≡ cond b (unwrap_or o set.empty) (unwrap_or p set.empty)
+or_empty true o p = refl
+or_empty false o p = refl
+
+either : (b : Bool) (x y z : Members) → (b ≡ true → x ≡ y) → cond b x z ≡ cond b y z
+either true x y z same = same refl
+either false x y z same = refl
+
+pub changed : (f : Members → Members) (old new : List Row) (key : List ℕ) (o : Option Members) → Updated old new key o → unwrap_or o set.empty ≡ f (members_at old key)
+    → (q : List ℕ) → members_at new q ≡ cond (bytes_eq key q) (f (members_at old q)) (members_at old q)
+changed f old new key o h is q =
+    ap (λ x. unwrap_or x set.empty) (h q)
+    ∙ or_empty (bytes_eq key q) o (at old q)
+    ∙ either (bytes_eq key q) _ _ _ (λ e. is ∙ ap (λ k. f (members_at old k)) (same_bytes key q e))
+
+cond_same : {X : Type 0} (b : Bool) (x : X) → cond b x x ≡ x
+cond_same true x = refl
+cond_same false x = refl
+
+pub unchanged : (old new : List Row) (key : List ℕ) (o : Option Members) → Updated old new key o → unwrap_or o set.empty ≡ members_at old key → (q : List ℕ) → members_at new q ≡ members_at old q
+unchanged old new key o h is q = changed (λ s. s) old new key o h is q ∙ cond_same (bytes_eq key q) (members_at old q)
+
+pub full : (old new : List Row) (key : List ℕ) (o : Option Members) → Updated old new key o → o ≢ Some set.empty → HaveMembers old → HaveMembers new
+full old new key o h apart all q is = by (bytes_eq key q) (sym (h q) ∙ is)
+  where
+    by : (b : Bool) → cond b o (at old q) ≡ Some set.empty → ⊥
+    by true e = apart e
+    by false e = all q e
+
+-- an entry is put in place, and that place is emptied
+pub twice : (old mid new : List Row) (key : List ℕ) (o p : Option Members) → Updated old mid key o → Updated mid new key p → Updated old new key p
+twice old mid new key o p first second q = second q ∙ ap (cond (bytes_eq key q) p) (first q) ∙ by (bytes_eq key q)
+  where
+    by : (b : Bool) → cond b p (cond b o (at old q)) ≡ cond b p (at old q)
+    by true = refl
+    by false = refl
+
+pub some_is : (a b : Members) → Some a ≡ Some b → a ≡ b
+some_is a b e = ap (λ o. unwrap_or o set.empty) e
+
+pub insert_full : (s : Members) (n : ℕ) → set.insert s n ≢ set.empty
+insert_full s n is =
+    let has : set.contains (set.insert s n) n ≡ true = set.contains-insert nat_cmp_total s n n ∙ ap (λ b. b || set.contains s n) ((eq_by_cmp_equiv nat_cmp_total).refl n) in
+    let none : set.contains (set.insert s n) n ≡ false = ap (λ (x : Members). set.contains x n) is ∙ set.contains-empty nat_cmp n in
+    let bad : true ≡ false = sym has ∙ none in
+    cc
+
+pub put_full : {X E : Type 0} (r : Result X E) (s w : Members) (n : ℕ) → Some s ≢ Some set.empty → OnOk r (w ≡ set.insert s n) → OnErr r (w ≡ s) → Some w ≢ Some set.empty
+put_full (Ok x) s w n apart ok err is = insert_full s n (sym ok ∙ some_is _ _ is)
+put_full (Err x) s w n apart ok err is = apart (ap (λ (x : Members). Some x) (sym err) ∙ is)
+
+pub none_has : (rows : List Row) (key : List ℕ) (n : ℕ) → at rows key ≡ None → set.contains (members_at rows key) n ≡ false
+none_has rows key n is = ap (λ o. set.contains (unwrap_or o set.empty) n) is ∙ set.contains-empty nat_cmp n
+
+pub not_empty : (w : Members) → Some w ≡ Some set.empty → set.len w ≡ 0
+not_empty w is = ap set.len (some_is _ _ is) ∙ set.len-empty nat_cmp
+
+pub emptied : (w f : Members) → w ≡ f → set.len w ≡ 0 → set.empty ≡ f
+emptied w f is none = sym (set.empty_of_len w none) ∙ is
+
+remove_none : (n : ℕ) → set.empty ≡ set.remove (set.empty {R = nat_cmp}) n
+remove_none n = set.same_set nat_cmp_total set.nat_cmp-IsAntisymmetric _ _ (λ q. set.contains-empty nat_cmp q ∙ sym (set.contains-remove nat_cmp_total set.empty n q ∙ ap (λ b. not (eq_by_cmp nat_cmp q n) && b) (set.contains-empty nat_cmp q) ∙ and_false (not (eq_by_cmp nat_cmp q n))))
+  where
+    and_false : (b : Bool) → (b && false) ≡ false
+    and_false true = refl
+    and_false false = refl
+
+-- a key that has no member loses none
+pub take_none : (old new : List Row) (key : List ℕ) (n : ℕ) → at old key ≡ None → new ≡ old → (q : List ℕ) → members_at new q ≡ cond (bytes_eq key q) (set.remove (members_at old q) n) (members_at old q)
+take_none old new key n none is q =
+    ap (λ rows. members_at rows q) is
+    ∙ by (bytes_eq key q) (λ e. ap (λ k. unwrap_or (at old k) set.empty) (sym (same_bytes key q e)) ∙ ap (λ o. unwrap_or o set.empty) none)
+  where
+    by : (b : Bool) → (b ≡ true → members_at old q ≡ set.empty) → members_at old q ≡ cond b (set.remove (members_at old q) n) (members_at old q)
+    by true none = none refl ∙ remove_none n ∙ ap (λ (s : Members). set.remove s n) (sym (none refl))
+    by false none = refl
+
+-- ---- as they are stored
+
+abbrev pub members_of : Option KeySet → Option Members
+members_of o = option_map (λ s. s.members) o
+
+map_cond : {X Y : Type 0} (f : X → Y) (b : Bool) (x y : Option X) → option_map f (cond b x y) ≡ cond b (option_map f x) (option_map f y)
+map_cond f true x y = refl
+map_cond f false x y = refl
+
+-- g is w at bs, and f at other bytes
+by_bytes : {W : Type 0} (f g : List ℕ → W) (bs : List ℕ) (w : W) → g bs ≡ w → ((cs : List ℕ) → bytes_eq bs cs ≡ false → g cs ≡ f cs) → (cs : List ℕ) → g cs ≡ cond (bytes_eq bs cs) w (f cs)
+by_bytes {W} f g bs w here other cs = by (bytes_eq bs cs) refl
+  where
+    by : (b : Bool) → bytes_eq bs cs ≡ b → g cs ≡ cond b w (f cs)
+    by true e = ap g (sym (same_bytes bs cs e)) ∙ here
+    by false e = other cs e
+
+apart_in_order : (bs cs ks : List ℕ) → bytes_eq bs cs ≡ false → is_eq (slice_cmp nat_cmp bs ks) ≡ true → is_eq (slice_cmp nat_cmp cs ks) ≡ false
+apart_in_order bs cs ks n y = is_eq-slice_cmp cs ks ∙ nat_list_eq_equiv.symm cs ks ∙ sym (nat_list_eq_equiv.congr bs ks cs (sym (is_eq-slice_cmp bs ks) ∙ y)) ∙ n
+
+find_is : (rows : List Row) (q : List ℕ) → finite.find (slice_cmp nat_cmp) q rows ≡ at rows q
+find_is [] q = refl
+find_is (row ∷ rows) q =
+    ap (λ b. cond b (Some row.1) (finite.find (slice_cmp nat_cmp) q rows)) (is_eq-slice_cmp q row.0)
+    ∙ ap (cond (bytes_eq q row.0) (Some row.1)) (find_is rows q)
+
+module _ {A : Type 0} where
+  abbrev pub found : BTreeMap (Vec ℕ A) KeySet → List ℕ → Option KeySet
+  found m q = lookup (λ k. is_eq (slice_cmp nat_cmp q k.items)) m.entries
+
+  pub at_rows : (q : List ℕ) (es : List (Vec ℕ A × KeySet)) → at (rows_of es) q ≡ members_of (lookup (λ k. is_eq (slice_cmp nat_cmp q k.items)) es)
+  at_rows q [] = refl
+  at_rows q (e ∷ es) =
+      ap (λ b. cond b (Some e.1.members) (at (rows_of es) q)) (sym (is_eq-slice_cmp q e.0.items))
+      ∙ ap (cond (is_eq (slice_cmp nat_cmp q e.0.items)) (Some e.1.members)) (at_rows q es)
+      ∙ sym (map_cond (λ s. s.members) (is_eq (slice_cmp nat_cmp q e.0.items)) (Some e.1) (lookup (λ k. is_eq (slice_cmp nat_cmp q k.items)) es))
+
+  -- what a look-up finds
+  pub at_found : (m : BTreeMap (Vec ℕ A) KeySet) (key : List ℕ) (o : Option KeySet) → o ≡ found m key → at (rows_of m.entries) key ≡ members_of o
+  at_found m key o is = at_rows key m.entries ∙ ap members_of (sym is)
+
+  pub members_found : (m : BTreeMap (Vec ℕ A) KeySet) (key : List ℕ) (s : KeySet) → Some s ≡ found m key → members_at (rows_of m.entries) key ≡ s.members
+  members_found m key s is = ap (λ o. unwrap_or o set.empty) (at_found m key (Some s) is)
+
+  other_entries : (eq : Vec ℕ A → Vec ℕ A → Bool) (test : Vec ℕ A → Bool) (old new : List (Vec ℕ A × KeySet)) → KeepsOthers eq test old new → (other : Vec ℕ A → Bool) → IsKeyTest eq other → AreApart test other → lookup other new ≡ lookup other old
+  unfolding KeepsOthers
+  other_entries eq test old new h = h
+
+  pub updated : (key : List ℕ) (m n : BTreeMap (Vec ℕ A) KeySet) (w : Option KeySet) → UpdatesBy (λ a b. slice_cmp nat_cmp a.items b.items) (λ k. slice_cmp nat_cmp key k.items) m n w
+      → Updated (rows_of m.entries) (rows_of n.entries) key (members_of w)
+  updated key m n w h q =
+      at_rows q n.entries
+      ∙ ap members_of (by_bytes (found m) (found n) key w h.1 (λ cs e. other_entries _ _ _ _ h.3 (λ k. is_eq (slice_cmp nat_cmp cs k.items)) (λ x y. (eq_by_cmp_equiv nat_list_cmp_total).congr cs x.items y.items) (λ k. apart_in_order key cs k.items e)) q)
+      ∙ map_cond (λ s. s.members) (bytes_eq key q) w (found m q)
+      ∙ ap (cond (bytes_eq key q) (members_of w)) (sym (at_rows q m.entries))
+
+  -- the same, of a map that is this one, and by a copy of the key
+  pub fresh : (old mid new : BTreeMap (Vec ℕ A) KeySet) (key copied : List ℕ) (w : Option KeySet) → mid ≡ old → copied ≡ key → UpdatesBy (λ a b. slice_cmp nat_cmp a.items b.items) (λ k. slice_cmp nat_cmp copied k.items) mid new w
+      → Updated (rows_of old.entries) (rows_of new.entries) key (members_of w)
+  fresh old mid new key copied w is same h =
+      subst (λ (m : BTreeMap (Vec ℕ A) KeySet). Updated (rows_of m.entries) (rows_of new.entries) key (members_of w)) is (subst (λ k. Updated (rows_of mid.entries) (rows_of new.entries) k (members_of w)) same (updated copied mid new w h))
+
+  -- ---- the map that they are seen as
+
+  pub get_is : (m : BTreeMap (Vec ℕ A) KeySet) (s : SetsByKey) → sets_of m ≡ s → (q : List ℕ) → finite.get s q ≡ at (rows_of m.entries) q
+  get_is m s is q = ap (λ (x : SetsByKey). finite.get x q) (sym is) ∙ finite.get-from_entries nat_list_cmp_total (rows_of m.entries) q ∙ find_is (rows_of m.entries) q
+
+  pub seen : (m : BTreeMap (Vec ℕ A) KeySet) (s : SetsByKey) → sets_of m ≡ s → (q : List ℕ) → members_in s q ≡ members_at (rows_of m.entries) q
+  seen m s is q = ap (λ o. unwrap_or o set.empty) (get_is m s is q)
+
+  pub got : (m : BTreeMap (Vec ℕ A) KeySet) (s : SetsByKey) (key : List ℕ) {R : Type 0} (r : Option R) (set_in : R → KeySet) → sets_of m ≡ s → option_map set_in r ≡ found m key
+      → MatchOption r (members_in s key ≡ set.empty) (λ x. (set_in x).members ≡ members_in s key)
+  got m s key None set_in is value = seen m s is key ∙ ap (λ o. unwrap_or o set.empty) (at_found m key None value)
+  got m s key (Some x) set_in is value = sym (seen m s is key ∙ members_found m key (set_in x) value)
+
+  pub moved : (f : Members → Members) (old new : BTreeMap (Vec ℕ A) KeySet) (s : SetsByKey) (key : List ℕ) → sets_of old ≡ s
+      → ((q : List ℕ) → members_at (rows_of new.entries) q ≡ cond (bytes_eq key q) (f (members_at (rows_of old.entries) q)) (members_at (rows_of old.entries) q))
+      → (q : List ℕ) → members_in (sets_of new) q ≡ cond (bytes_eq key q) (f (members_in s q)) (members_in s q)
+  moved f old new s key is h q = seen new (sets_of new) refl q ∙ h q ∙ ap (λ x. cond (bytes_eq key q) (f x) x) (sym (seen old s is q))
+
+  -- ---- all of them
+
+  keys_are : (es : List (Vec ℕ A × KeySet)) → keys_of (rows_of es) ≡ map (λ k. k.items) (keys_of es)
+  keys_are [] = refl
+  keys_are (e ∷ es) = ap (λ ks. e.0.items ∷ ks) (keys_are es)
+
+  rise_is : (ks : List (Vec ℕ A)) → IsStrictlySortedBy (λ a b. slice_cmp nat_cmp a.items b.items) ks → IsStrictlySortedBy (slice_cmp nat_cmp) (map (λ k. k.items) ks)
+  unfolding IsStrictlySortedBy
+  rise_is [] rise = tt
+  rise_is (k ∷ ks) rise = (less ks rise.0, rise_is ks rise.1)
+    where
+      less : (others : List (Vec ℕ A)) → AllByRecursion (λ y. slice_cmp nat_cmp k.items y.items ≡ Less) others → AllByRecursion (λ y. slice_cmp nat_cmp k.items y ≡ Less) (map (λ y. y.items) others)
+      less [] all = tt
+      less (y ∷ others) all = (all.0, less others all.1)
+
+  each_full : (m : BTreeMap (Vec ℕ A) KeySet) (es : List (Vec ℕ A × KeySet)) → HaveMembers (rows_of m.entries) → All (λ e. found m e.0.items ≡ Some e.1) es → AllByRecursion (λ row. row.1 ≢ set.empty) (rows_of es)
+  each_full m [] all h = tt
+  each_full m (e ∷ es) all h = (λ is. all e.0.items (at_found m e.0.items (Some e.1) (sym (h 0 e (omega arith))) ∙ ap (λ (x : Members). Some x) is), each_full m es all (λ k d lt. h (suc k) d (omega (arith, lt))))
+
+  pub rows_are : (m : BTreeMap (Vec ℕ A) KeySet) (s : SetsByKey) → sets_of m ≡ s → HaveMembers (rows_of m.entries) → IsStrictlySortedBy (λ a b. slice_cmp nat_cmp a.items b.items) (keys_of m.entries)
+      → All (λ e. found m e.0.items ≡ Some e.1) m.entries → AreRowsOf s (rows_of m.entries)
+  rows_are m s is all rise each = record {
+    rise = subst (IsStrictlySortedBy (slice_cmp nat_cmp)) (sym (keys_are m.entries)) (rise_is (keys_of m.entries) rise);
+    full = each_full m m.entries all each;
+    exact = λ key. sym (seen m s is key);
+  }
+
+-- ---- slots without keys
+
+pub none_in : (key : List ℕ) → members_in finite.empty key ≡ set.empty
+none_in key = ap (λ o. unwrap_or o set.empty) (finite.get-empty (slice_cmp nat_cmp) key)
+
+pub all_empty : (slots : List SetsByKey) → AllByRecursion (λ s. s ≡ finite.empty) slots → (i : ℕ) (key : List ℕ) → members_in (get_or slots i finite.empty) key ≡ set.empty
+all_empty slots all i key = ap (λ (s : SetsByKey). members_in s key) (by slots all i) ∙ none_in key
+  where
+    by : (slots : List SetsByKey) → AllByRecursion (λ s. s ≡ finite.empty) slots → (i : ℕ) → get_or slots i finite.empty ≡ finite.empty
+    by [] all i = refl
+    by (s ∷ ss) all zero = all.0
+    by (s ∷ ss) all (suc i) = by ss all.1 i

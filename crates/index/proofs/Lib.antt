@@ -1,0 +1,13 @@
+pub mod Agreement
+pub mod Changed
+pub mod Distinct
+pub mod Fronts
+pub mod KeyTests
+pub mod Keyed
+pub mod Listed
+pub mod OneByOne
+pub mod Search
+pub mod SlotKeyOrder
+pub mod StoredKeys
+pub mod SubtypeTests
+pub mod WindowSteps

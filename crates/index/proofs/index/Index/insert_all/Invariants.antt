@@ -1,0 +1,11 @@
+use Rattle.std.proofs.Common.{◌≡◌, ◌+◌, take}
+use Rattle.index.specs.SlotKeys.{is_among}
+use Rattle.index.specs.Indexes.{Inserts}
+use Rattle.index.proofs.index.Index.insert_all.Given as goal
+
+abbrev pub invariant-loop-done : goal.invariant-loop-done
+invariant-loop-done l = record {
+  same_conf : l.self.conf ≡ l.fn.self.conf;
+  came : Inserts (λ p. is_among p (take l.done l.keys)) l.number l.fn.self l.self;
+  edits : l.self.edits ≡ l.fn.self.edits + l.done;
+}

@@ -1,0 +1,11 @@
+use Rattle.std.proofs.Common.{◌≡◌}
+use Rattle.index.specs.declared.slot_key.SlotKey.{SlotKey}
+use Rattle.index.specs.Indexes.{members}
+use Rattle.index.proofs.OneByOne.{with_keys}
+use Rattle.index.proofs.index.Index.insert_under.Given as goal
+
+abbrev pub invariant-loop-key : goal.invariant-loop-key
+invariant-loop-key l = record {
+  same_conf : l.self.conf ≡ l.fn.self.conf;
+  rest : (p : SlotKey) → with_keys (members l.self) l.slot.0 l.number l.key-iterator p ≡ with_keys (members l.fn.self) l.slot.0 l.number l.fn.keys p;
+}

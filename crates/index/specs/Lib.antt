@@ -1,0 +1,8 @@
+pub mod EntryKeys
+pub mod Indexes
+pub mod KeyChanges
+pub mod KeySets
+pub mod Postings
+pub mod SlotKeys
+pub mod Subtypes
+pub mod inner

@@ -1,0 +1,18 @@
+-- Subtypes as a test (RFC 4512, 2.5.1).
+use Rattle.std.specs.Prelude.{ℕ, zero, suc, Bool, false, ◌==◌, ◌||◌, List, length, Option, Some, None}
+use Rattle.values.specs.declared.types.AttributeType.{AttributeType}
+use Rattle.values.specs.Types.{type_at}
+
+-- whether there is a number, and it passes the test
+abbrev pub passes : (ℕ → Bool) → Option ℕ → Bool
+passes test None = false
+passes test (Some n) = test n
+
+-- whether a type is another one, or leads up to it by so many steps at most
+abbrev pub leads_within : List AttributeType → ℕ → ℕ → ℕ → Bool
+leads_within types zero t u = t == u
+leads_within types (suc steps) t u = (t == u) || passes (λ s. leads_within types steps s u) (type_at types t).superior
+
+-- whether a type is another one, or stands below it; no type has more types above it than there are
+abbrev pub is_subtype : List AttributeType → ℕ → ℕ → Bool
+is_subtype types t u = leads_within types (length types) t u

@@ -1,0 +1,5 @@
+pub mod EditCounts
+pub mod KeyLists
+pub mod SlotTests
+pub mod StoredKeys
+pub mod StoredSets

@@ -1,0 +1,26 @@
+-- Lists of keys in order, each once.
+use Rattle.std.specs.Prelude.{◌≡◌, ℕ, ◌<◌, Bool, ◌&&◌, nat_lt, List, ◌++◌, map}
+use Rattle.std.specs.List.{list_any, AllByRecursion}
+use Rattle.std.specs.List.Sorted.{IsStrictlySortedBy}
+use Rattle.std.specs.Cmp.Lexicographic.{slice_cmp}
+use Rattle.std.specs.Ordering.{nat_cmp}
+use Rattle.std.specs.Str.{bytes_eq}
+use Rattle.index.specs.declared.slot_key.SlotKey.{SlotKey}
+use Rattle.index.specs.SlotKeys.{slot_key, slot_key_cmp, is_among}
+
+-- the keys that pass the test
+pub record AreKeys (test : List ℕ → Bool) (keys : List (List ℕ)) : Type 0 where
+  pub rise : IsStrictlySortedBy (slice_cmp nat_cmp) keys
+  pub exact : (q : List ℕ) → list_any (λ k. bytes_eq k q) keys ≡ test q
+
+-- behind a list, the keys under one slot that pass the test
+pub record IsWithKeys (slot : ℕ) (test : List ℕ → Bool) (old new : List SlotKey) : Type 0 where
+  pub keys : List (List ℕ)
+  pub are : AreKeys test keys
+  pub is : new ≡ old ++ map (slot_key slot) keys
+
+-- the keys under the slots before this one that pass the test
+pub record AreSlotKeys (slots : ℕ) (test : SlotKey → Bool) (ps : List SlotKey) : Type 0 where
+  pub rise : IsStrictlySortedBy slot_key_cmp ps
+  pub within : AllByRecursion (λ p. p.slot.0 < slots) ps
+  pub exact : (p : SlotKey) → is_among p ps ≡ (nat_lt p.slot.0 slots && test p)

@@ -1,0 +1,28 @@
+-- Whether an entry, or none, has a key under a slot.
+use Rattle.std.specs.Prelude.{ℕ, Bool, false, not, ◌&&◌, List, [], Option, Some, None}
+use Rattle.std.specs.List.{slice_get}
+use Rattle.values.specs.declared.types.AttributeType.{AttributeType}
+use Rattle.schema.specs.declared.slots.Slot.{Slot}
+use Rattle.schema.specs.Conf.{Conf}
+use Rattle.tree.specs.Entries.{EntryContent}
+use Rattle.index.specs.declared.slot_key.SlotKey.{SlotKey}
+use Rattle.index.specs.EntryKeys.{norms_under, gives_key}
+
+abbrev pub norms_in : List AttributeType → Option EntryContent → ℕ → List (List ℕ)
+norms_in types None t = []
+norms_in types (Some e) t = norms_under types e.attrs t
+
+abbrev pub is_slot_that : (Slot → Bool) → Option Slot → Bool
+is_slot_that test None = false
+is_slot_that test (Some s) = test s
+
+abbrev pub has_slot_key : Conf → Option EntryContent → SlotKey → Bool
+has_slot_key conf e p = is_slot_that (λ s. gives_key s.kind (norms_in conf.types e s.type_id) p.key) (slice_get conf.slots p.slot.0)
+
+-- whether a slot's key is one of the first entry and none of the second
+abbrev pub is_only_in : List AttributeType → Slot → Option EntryContent → Option EntryContent → List ℕ → Bool
+is_only_in types s a b key = gives_key s.kind (norms_in types a s.type_id) key && not (gives_key s.kind (norms_in types b s.type_id) key)
+
+-- the same, under any slot
+abbrev pub has_only : Conf → Option EntryContent → Option EntryContent → SlotKey → Bool
+has_only conf a b p = has_slot_key conf a p && not (has_slot_key conf b p)

@@ -1,0 +1,26 @@
+//! Indexes: which entries have which keys.
+//!
+//! The function of `laws` does nothing: a call of it is made for what it states alone.
+#![tactic(auto)]
+
+mod batches;
+mod changes;
+mod distinct_keys;
+mod edit_count;
+mod entry_keys;
+mod index;
+mod key_lists;
+mod key_sets;
+mod laws;
+mod norms;
+mod postings;
+mod slot_key;
+mod windows;
+
+pub use changes::{KeyChanges, key_changes, keys_of};
+pub use index::Index;
+pub use key_sets::Keys;
+pub use laws::keys_are_told;
+pub use postings::Postings;
+pub use slot_key::{SlotKey, SlotNumber};
+pub use windows::first_window;

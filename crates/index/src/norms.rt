@@ -1,0 +1,173 @@
+//! The normal forms of an entry's values.
+
+ghost use Rattle.std.specs.Prelude.{◌≡◌, ◌<◌, ◌++◌, [], if◌then◌else◌, take, drop, length};
+ghost use Rattle.std.specs.List.{AllByRecursion};
+ghost use Rattle.std.specs.Map.Iter.{TakesFirst, deref};
+ghost use Rattle.tree.specs.StoredEntries.{IsMade, IsMadeAttribute};
+ghost use Rattle.index.specs.Subtypes.{is_subtype};
+ghost use Rattle.index.specs.inner.StoredKeys.{norms_left, norms_of, stored_norms};
+
+use indexmap::map::Iter;
+use schema::{Conf, TypeId};
+use std::marker::Model;
+use tree::{Entry, Values};
+use values::ValuesIter;
+
+/// The normal forms of the values of a type and of its subtypes, as an entry has them in order; they are lent. A contract sees the
+/// list of those that are still to come.
+#[derive(Drop)]
+pub(crate) struct Norms<'a> {
+    conf: &'a Conf,
+    above: TypeId,
+    // what is left of the attribute in hand
+    values: Option<ValuesIter<'a>>,
+    // the attributes behind it
+    attrs: Iter<'a, TypeId, Values>,
+}
+
+impl<'a> Model for Norms<'a> {
+    ghost use Rattle.std.specs.Prelude.{List, ℕ, ◌++◌};
+    ghost use Rattle.std.specs.List.{AllByRecursion};
+    ghost use Rattle.tree.specs.StoredEntries.{IsMadeAttribute};
+    ghost use Rattle.index.specs.inner.StoredKeys.{norms_left, stored_norms};
+
+    ghost Value = { List (List ℕ) };
+
+    ghost view = { λ n. norms_left n.values ++ stored_norms n.conf.now.types n.attrs n.above };
+
+    ghost invariant = { λ n. AllByRecursion (IsMadeAttribute n.conf.now.types) n.attrs };
+}
+
+fn is_under(conf: &Conf, t: TypeId, above: TypeId) -> bool
+    requires { t < length conf.now.types }
+    ensures { result ≡ is_subtype conf.now.types t above }
+{
+    conf.holds();
+    conf.is_subtype(t, above)
+}
+
+// the next normal form of the attribute in hand
+fn next_in<'a>(values: &mut Option<ValuesIter<'a>>) -> Option<&'a [u8]>
+    ensures { TakesFirst deref (norms_left values.old) result (norms_left values.new) }
+{
+    match values {
+        None => None,
+        Some(left) => match left.next() {
+            Some(value) => Some(value.norm()),
+            None => None,
+        },
+    }
+}
+
+// the values of an attribute, where its type is this one or below it
+fn values_under<'a>(
+    conf: &Conf,
+    above: TypeId,
+    t: TypeId,
+    values: &'a Values,
+) -> Option<ValuesIter<'a>>
+    requires { t < length conf.now.types }
+    ensures { norms_left result ≡ (if is_subtype conf.now.types t above then norms_of values.now else []) }
+{
+    if is_under(conf, t, above) {
+        Some(values.iter())
+    } else {
+        None
+    }
+}
+
+fn next_norm<'a>(
+    conf: &Conf,
+    above: TypeId,
+    values: &mut Option<ValuesIter<'a>>,
+    attrs: &mut Iter<'a, TypeId, Values>,
+) -> Option<&'a [u8]>
+    requires { AllByRecursion (IsMadeAttribute conf.now.types) attrs.old }
+    ensures made { AllByRecursion (IsMadeAttribute conf.now.types) attrs.new }
+    ensures next { TakesFirst deref (norms_left values.old ++ stored_norms conf.now.types attrs.old above) result (norms_left values.new ++ stored_norms conf.now.types attrs.new above) }
+{
+    if let Some(norm) = next_in(values) {
+        return Some(norm);
+    }
+    while let Some(attribute) = attrs.next() {
+        let (t, of_type) = attribute;
+        *values = values_under(conf, above, *t, of_type);
+        if let Some(norm) = next_in(values) {
+            return Some(norm);
+        }
+    }
+    None
+}
+
+impl<'a> Norms<'a> {
+    pub(crate) fn of(conf: &'a Conf, entry: &'a Entry, above: TypeId) -> Norms<'a>
+        requires { IsMade conf.now.types entry.now.attrs }
+        ensures { result ≡ stored_norms conf.now.types entry.now.attrs above }
+    {
+        Norms {
+            conf,
+            above,
+            values: None,
+            attrs: entry.attrs(),
+        }
+    }
+
+    /// Those behind so many.
+    pub(crate) fn behind(conf: &'a Conf, entry: &'a Entry, above: TypeId, front: usize) -> Norms<'a>
+        requires { IsMade conf.now.types entry.now.attrs }
+        ensures { result ≡ drop front (stored_norms conf.now.types entry.now.attrs above) }
+    {
+        let mut norms = Norms::of(conf, entry, above);
+        for _ in 0..front {
+            let _ = norms.next();
+        }
+        norms
+    }
+}
+
+impl<'a> Iterator for Norms<'a> {
+    ghost use Rattle.std.specs.Prelude.{length};
+    ghost use Rattle.std.specs.Iterator.{at_most};
+    ghost use Rattle.std.specs.Map.Iter.{TakesFirst, deref};
+
+    type Item = &'a [u8];
+
+    ghost next_gives = { TakesFirst deref };
+
+    ghost remaining = { λ n. at_most (length n) };
+
+    fn next(&mut self) -> Option<&'a [u8]> {
+        next_norm(self.conf, self.above, &mut self.values, &mut self.attrs)
+    }
+}
+
+// how many normal forms are the same in both, from the first on
+fn common_front<'a>(left: Norms<'a>, right: Norms<'a>) -> usize
+    ensures { take result left.entry ≡ take result right.entry }
+{
+    let mut left = left;
+    let mut right = right;
+    for count in 0..usize::MAX {
+        match left.next() {
+            Some(norm) => match right.next() {
+                Some(other) => {
+                    if norm != other {
+                        return count;
+                    }
+                }
+                None => return count,
+            },
+            None => return count,
+        }
+    }
+    0
+}
+
+/// How many normal forms of the values of a type and of its subtypes are the same in two entries, from the first on.
+pub(crate) fn same_norms(conf: &Conf, one: &Entry, other: &Entry, above: TypeId) -> usize
+    requires one { IsMade conf.now.types one.now.attrs }
+    requires other { IsMade conf.now.types other.now.attrs }
+    ensures { take result (stored_norms conf.now.types one.now.attrs above) ≡ take result (stored_norms conf.now.types other.now.attrs above) }
+{
+    common_front(Norms::of(conf, one, above), Norms::of(conf, other, above))
+}

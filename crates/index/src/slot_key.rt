@@ -1,0 +1,14 @@
+//! Keys under slots.
+
+use base::Bytes;
+
+/// A slot, by its place among those of the configuration.
+#[derive(Clone, Copy, Debug, PartialEq, Eq, PartialOrd, Ord)]
+pub struct SlotNumber(pub usize);
+
+/// A key under a slot. They are ordered by slot, and then by the bytes of the key.
+#[derive(Debug, Drop, PartialEq, Eq, PartialOrd, Ord)]
+pub struct SlotKey {
+    pub slot: SlotNumber,
+    pub key: Bytes,
+}
