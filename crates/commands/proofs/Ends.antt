@@ -9,7 +9,7 @@ use Rattle.paths.specs.Paths.{Path}
 use Rattle.schema.specs.Conf.{Conf}
 use Rattle.schema.specs.declared.code.Code.TheVariants.{SizeLimitExceeded}
 use Rattle.tree.specs.Entries.{EntryContent}
-use Rattle.tree.specs.Trees.{Tree as Directory}
+use Rattle.tree.specs.Trees.{Tree}
 use Rattle.filter_text.specs.Spells.{view}
 use Rattle.filter.specs.Made.{Made}
 use Rattle.search.specs.Searches.{scan}
@@ -60,12 +60,12 @@ text_begun {A} IsText file text is (Err f) target a b fails begins = unwritten_p
 -- ---- a part
 
 -- what was found at the base stands there
-pub found_there : {A : Type 0} (dir dir' : Directory) (base : Path) (as_content : A → EntryContent) (found : Option A) → dir' ≡ dir → option_map as_content found ≡ finite.get dir'.entries base → is_some found ≡ true → finite.contains_key dir.entries base ≡ true
-found_there {A} dir dir' base as_content None same is some = cc
-found_there {A} dir dir' base as_content (Some x) same is some = subst (λ (d : Directory). finite.contains_key d.entries base ≡ true) same (ap is_some (sym is))
+pub found_there : {A : Type 0} (d : Tree) (base : Path) (as_content : A → EntryContent) (found : Option A) → option_map as_content found ≡ finite.get d.entries base → is_some found ≡ true → finite.contains_key d.entries base ≡ true
+found_there {A} d base as_content None is some = cc
+found_there {A} d base as_content (Some x) is some = ap is_some (sym is)
 
--- the text of a part of the same directory, by the same base and filter
-pub part_same : (dir dir' : Directory) (base base' : Path) (made made' : Made) → dir' ≡ dir → base' ≡ base → made' ≡ made → part_text dir'.conf dir'.entries base' (view made'.filter) ≡ part_text dir.conf dir.entries base (view made.filter)
+-- the text of a part of the same entries, by the same base and filter
+pub part_same : (dir dir' : Tree) (base base' : Path) (made made' : Made) → dir' ≡ dir → base' ≡ base → made' ≡ made → part_text dir'.conf dir'.entries base' (view made'.filter) ≡ part_text dir.conf dir.entries base (view made.filter)
 part_same dir dir' base base' made made' same_dir same_base same_made = rw (same_dir, same_base, same_made) refl
 
 -- ---- what is found

@@ -10,13 +10,30 @@ ghost use Rattle.commands.specs.inner.LoadFaults.{TellsLoadFault};
 use crate::folder::{FileText, Folder, FolderFault};
 use crate::messages::CommandFault;
 use device::{Device, Sink, Source};
-use directory::{Directory, LoadFault, load};
+use directory::{Directory, LoadFault, load_tree, write_dump};
 use ldif::WriteFault;
 use schema::{Conf, ConfFault, read_conf};
 use std::alloc::{AllocError, Global};
+use tree::Tree;
 
 /// How many bytes are asked of a file at a time.
 const PIECE: usize = 65536;
+
+/// What the files of a folder say: entries, and the configuration that they were made with. It has no index.
+#[derive(Drop)]
+pub struct Database {
+    pub conf: Conf,
+    pub tree: Tree,
+    ghost same_conf: { tree.conf ≡ conf },
+}
+
+impl FileText for Database {
+    ghost text = { λ d. dump d.tree.conf d.tree.entries };
+
+    fn write<W: Sink>(&self, alloc: Global, sink: &mut W) -> Result<(), WriteFault> {
+        write_dump(alloc, &self.tree, &self.conf, sink)
+    }
+}
 
 impl FileText for Directory {
     ghost text = { λ d. dump d.conf d.entries };
@@ -117,8 +134,29 @@ fn fault_of(alloc: Global, name: &str, fault: LoadFault) -> CommandFault
     }
 }
 
-/// The directory in the folder `db`. Where it has no data.ldif, the directory has no entry.
+/// The entries in the folder `db`. Where it has no data.ldif, there is none.
 #[tactic(auto, using(crate::proofs::Stopping::data_unread))]
+pub fn load_database<F: Folder>(
+    alloc: Global,
+    folder: &F,
+    db: &str,
+) -> Result<Database, CommandFault>
+    ensures err { IfErr result (LoadFails (F.files folder.now) db.now) }
+    ensures loaded { IfOk result (λ d. IsLoaded (F.files folder.now) db.now d.tree.conf d.tree.entries) }
+{
+    let conf = configuration(alloc, folder, db)?;
+    let name = path(alloc, db, "data.ldif")?;
+    let Some(mut source) = open(alloc, folder, name.as_str())? else {
+        let tree = Tree::new(alloc, &conf);
+        return Ok(Database { conf, tree });
+    };
+    match load_tree(alloc, &conf, &mut source) {
+        Ok(tree) => Ok(Database { conf, tree }),
+        Err(fault) => Err(fault_of(alloc, name.as_str(), fault)),
+    }
+}
+
+/// The directory in the folder `db`: its entries, with their index.
 pub fn load_directory<F: Folder>(
     alloc: Global,
     folder: &F,
@@ -127,15 +165,8 @@ pub fn load_directory<F: Folder>(
     ensures err { IfErr result (LoadFails (F.files folder.now) db.now) }
     ensures loaded { IfOk result (λ d. IsLoaded (F.files folder.now) db.now d.conf d.entries) }
 {
-    let conf = configuration(alloc, folder, db)?;
-    let name = path(alloc, db, "data.ldif")?;
-    let Some(mut source) = open(alloc, folder, name.as_str())? else {
-        return Ok(Directory::new(alloc, conf)?);
-    };
-    match load(alloc, conf, &mut source) {
-        Ok(found) => Ok(found),
-        Err(fault) => Err(fault_of(alloc, name.as_str(), fault)),
-    }
+    let Database { conf, tree } = load_database(alloc, folder, db)?;
+    Ok(Directory::from_tree(alloc, conf, tree)?)
 }
 
 /// Puts the dump of a directory in place of the folder's data.ldif.

@@ -11,13 +11,13 @@ ghost use Rattle.commands.specs.inner.Printed.{HasPrinted};
 ghost use Rattle.commands.specs.inner.Views.{basis_of};
 ghost use Rattle.commands.specs.inner.Stopped.{CanTell, HasEnded};
 
-use crate::database::load_directory;
+use crate::database::{Database, load_database};
 use crate::finding::{filter_of, path_of, refused};
 use crate::folder::Folder;
 use crate::messages::{CommandFault, Status, Stop, tell};
 use command_line::SearchOptions;
 use device::Sink;
-use directory::{Directory, Selection};
+use directory::{Selection, search_tree, write_found};
 use filter::prepare;
 use filter_text::Filter;
 use schema::Code;
@@ -43,26 +43,34 @@ fn print_found<O: Sink>(
     alloc: Global,
     asked: &SearchOptions<'_>,
     filter: &Filter,
-    dir: &Directory,
+    database: &Database,
     out: &mut O,
 ) -> Result<bool, CommandFault>
     requires { (O.written out.old).failed < 2 ^ 64 - 1 }
     ensures found { IfOk result (λ past. HasPrinted
-        (IsFoundText asked.now (basis_of filter.now dir.now) past)
+        (IsFoundText asked.now (basis_of filter.now database.now.tree) past)
         (O.written out.old) (O.written out.new)) }
-    ensures fault { IfErr result (RefusesOrBreaks (search_query asked.now) dir.now.conf dir.now.entries) }
+    ensures fault { IfErr result (RefusesOrBreaks (search_query asked.now) database.now.tree.conf database.now.tree.entries) }
     ensures partly { IfErr result (PrintsPartly (HasBegun
-        (λ text. (past : Bool) × IsFoundText asked.now (basis_of filter.now dir.now) past text) None)
+        (λ text. (past : Bool) × IsFoundText asked.now (basis_of filter.now database.now.tree) past text) None)
         (O.written out.old) (O.written out.new)) }
 {
-    let base = path_of(alloc, dir.conf(), asked.base, NAME)?;
-    let selection = Selection::of(alloc, dir.conf(), asked.attributes.as_slice())?;
-    let prepared = prepare(alloc, filter, dir.conf())?;
-    let hits = match dir.search(&base, asked.scope, &prepared) {
+    let base = path_of(alloc, &database.conf, asked.base, NAME)?;
+    let selection = Selection::of(alloc, &database.conf, asked.attributes.as_slice())?;
+    let prepared = prepare(alloc, filter, &database.conf)?;
+    let hits = match search_tree(&database.tree, &base, asked.scope, &prepared) {
         Ok(hits) => hits,
         Err(refusal) => return Err(refused(refusal, NAME)),
     };
-    match dir.write_found(alloc, out, hits, asked.limit, &selection) {
+    match write_found(
+        alloc,
+        &database.tree,
+        &database.conf,
+        out,
+        hits,
+        asked.limit,
+        &selection,
+    ) {
         Ok(past) => Ok(past),
         Err(fault) => Err(CommandFault::of_output(alloc, fault)),
     }
@@ -82,10 +90,10 @@ fn load_and_print<F: Folder, O: Sink>(
         (O.written out.old) (O.written out.new)) }
 {
     let filter = filter_of(alloc, asked.filter)?;
-    let dir = load_directory(alloc, folder, asked.db)?;
-    let printed = print_found(alloc, asked, &filter, &dir, out);
+    let database = load_database(alloc, folder, asked.db)?;
+    let printed = print_found(alloc, asked, &filter, &database, out);
     // The program ends with its command, and that frees the entries at once.
-    mem::forget(dir);
+    mem::forget(database);
     printed
 }
 

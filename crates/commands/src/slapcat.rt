@@ -12,14 +12,13 @@ ghost use Rattle.commands.specs.inner.Refusals.{Refuses, RefusesOrBreaks};
 ghost use Rattle.commands.specs.inner.Views.{basis_of};
 ghost use Rattle.commands.specs.inner.Stopped.{HasEnded};
 
-use crate::database::{load_directory, store};
+use crate::database::{Database, load_database, store};
 use crate::finding::{filter_of, path_of};
 use crate::folder::{FileText, Folder};
 use crate::messages::{CommandFault, Status, Stop};
 use crate::part::Part;
 use command_line::CatOptions;
 use device::Sink;
-use directory::Directory;
 use filter::prepare;
 use filter_text::Filter;
 use schema::{Code, Path};
@@ -64,13 +63,13 @@ fn put<T: FileText, F: Folder, O: Sink>(
 }
 
 /// The path of the entry that is asked for, which has to be there; where none is, that of the suffix's entry.
-fn base_of(alloc: Global, asked: &CatOptions<'_>, dir: &Directory) -> Result<Path, CommandFault>
-    ensures found { IfOk result (IsBase dir.now.conf (option_copied asked.now.base)) }
-    ensures there { IfOk result (λ base. is_some asked.now.base ≡ true → finite.contains_key dir.now.entries base ≡ true) }
-    ensures fault { IfErr result (Refuses (codes "slapcat") (LacksBase (cat_query asked.now) dir.now.conf dir.now.entries)) }
+fn base_of(alloc: Global, asked: &CatOptions<'_>, database: &Database) -> Result<Path, CommandFault>
+    ensures found { IfOk result (IsBase database.now.tree.conf (option_copied asked.now.base)) }
+    ensures there { IfOk result (λ base. is_some asked.now.base ≡ true → finite.contains_key database.now.tree.entries base ≡ true) }
+    ensures fault { IfErr result (Refuses (codes "slapcat") (LacksBase (cat_query asked.now) database.now.tree.conf database.now.tree.entries)) }
 {
-    let base = path_of(alloc, dir.conf(), asked.base, NAME)?;
-    if asked.base.is_some() && dir.tree().get(&base).is_none() {
+    let base = path_of(alloc, &database.conf, asked.base, NAME)?;
+    if asked.base.is_some() && database.tree.get(&base).is_none() {
         return Err(CommandFault::Code {
             command: NAME,
             code: Code::NoSuchObject,
@@ -83,24 +82,24 @@ fn put_part<F: Folder, O: Sink>(
     alloc: Global,
     asked: &CatOptions<'_>,
     filter: &Filter,
-    dir: &Directory,
+    database: &Database,
     folder: &mut F,
     out: &mut O,
 ) -> Result<(), CommandFault>
     requires { (O.written out.old).failed < 2 ^ 64 - 1 }
     ensures same { OnErr result (F.files folder.new ≡ F.files folder.old) }
     ensures put { (w : World) → OnOk result (HasPut (IsCatText false asked.now
-        (basis_of filter.now dir.now)) (option_copied asked.now.file)
+        (basis_of filter.now database.now.tree)) (option_copied asked.now.file)
         (record w { files = F.files folder.old; output = O.written out.old })
         (record w { files = F.files folder.new; output = O.written out.new })) }
-    ensures fault { IfErr result (RefusesOrBreaks (cat_query asked.now) dir.now.conf dir.now.entries) }
+    ensures fault { IfErr result (RefusesOrBreaks (cat_query asked.now) database.now.tree.conf database.now.tree.entries) }
     ensures partly { IfErr result (PrintsPartly (HasBegun (IsCatText false asked.now
-        (basis_of filter.now dir.now)) (option_copied asked.now.file))
+        (basis_of filter.now database.now.tree)) (option_copied asked.now.file))
         (O.written out.old) (O.written out.new)) }
 {
-    let base = base_of(alloc, asked, dir)?;
-    let prepared = prepare(alloc, filter, dir.conf())?;
-    let part = Part::new(dir, &base, &prepared);
+    let base = base_of(alloc, asked, database)?;
+    let prepared = prepare(alloc, filter, &database.conf)?;
+    let part = Part::new(database, &base, &prepared);
     put(alloc, &part, asked.file, folder, out)
 }
 
@@ -108,25 +107,25 @@ fn put_entries<F: Folder, O: Sink>(
     alloc: Global,
     asked: &CatOptions<'_>,
     filter: &Filter,
-    dir: &Directory,
+    database: &Database,
     folder: &mut F,
     out: &mut O,
 ) -> Result<(), CommandFault>
     requires { (O.written out.old).failed < 2 ^ 64 - 1 }
     ensures same { OnErr result (F.files folder.new ≡ F.files folder.old) }
     ensures put { (w : World) → OnOk result (HasPut (IsCatText (is_whole asked.now) asked.now
-        (basis_of filter.now dir.now)) (option_copied asked.now.file)
+        (basis_of filter.now database.now.tree)) (option_copied asked.now.file)
         (record w { files = F.files folder.old; output = O.written out.old })
         (record w { files = F.files folder.new; output = O.written out.new })) }
-    ensures fault { IfErr result (RefusesOrBreaks (cat_query asked.now) dir.now.conf dir.now.entries) }
+    ensures fault { IfErr result (RefusesOrBreaks (cat_query asked.now) database.now.tree.conf database.now.tree.entries) }
     ensures partly { IfErr result (PrintsPartly (HasBegun (IsCatText (is_whole asked.now) asked.now
-        (basis_of filter.now dir.now)) (option_copied asked.now.file))
+        (basis_of filter.now database.now.tree)) (option_copied asked.now.file))
         (O.written out.old) (O.written out.new)) }
 {
     if asked.filter.is_none() && asked.base.is_none() {
-        return put(alloc, dir, asked.file, folder, out);
+        return put(alloc, database, asked.file, folder, out);
     }
-    put_part(alloc, asked, filter, dir, folder, out)
+    put_part(alloc, asked, filter, database, folder, out)
 }
 
 #[tactic(auto, using(crate::proofs::Stopping::filter_stops, crate::proofs::Stopping::load_stops))]
@@ -146,10 +145,10 @@ fn load_and_put<F: Folder, O: Sink>(
         (O.written out.old) (O.written out.new)) }
 {
     let filter = filter_of(alloc, asked.filter)?;
-    let dir = load_directory(alloc, folder, asked.db)?;
-    let done = put_entries(alloc, asked, &filter, &dir, folder, out);
+    let database = load_database(alloc, folder, asked.db)?;
+    let done = put_entries(alloc, asked, &filter, &database, folder, out);
     // The program ends with its command, and that frees the entries at once.
-    mem::forget(dir);
+    mem::forget(database);
     done
 }
 

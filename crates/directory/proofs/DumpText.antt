@@ -15,7 +15,7 @@ use Rattle.directory.specs.inner.Dumps.{IsThere, entries_text}
 use Rattle.directory.proofs.EntryText.{all_selected}
 use Rattle.directory.proofs.LoadLaw.{all_there, flat_map-map}
 
-all_begin : (es : List (Path × EntryContent)) → filter (λ e. begins [] e.0) es ≡ es
+pub all_begin : (es : List (Path × EntryContent)) → filter (λ e. begins [] e.0) es ≡ es
 all_begin [] = refl
 all_begin (e ∷ es) = ap (λ xs. e ∷ xs) (all_begin es)
 

@@ -9,3 +9,9 @@ pub mod LoadSteps
 pub mod Examples
 pub mod SelectedTypes
 pub mod FoundText
+pub mod KeptIndex
+pub mod WholeIndex
+pub mod RankLists
+pub mod RanksByNumber
+pub mod IndexRows
+pub mod WrittenLines

@@ -1,7 +1,10 @@
 pub mod Reports
 pub mod Runs
 pub mod Faults
+pub mod Directories
 pub mod Dumps
+pub mod Indexes
+pub mod IndexTexts
 pub mod Loading
 pub mod Folds
 pub mod FailedReads

@@ -4,3 +4,5 @@ pub mod Loading
 pub mod Stands
 pub mod Found
 pub mod Pulls
+pub mod Indexes
+pub mod IndexRows

@@ -1,19 +1,89 @@
-//! One record on a tree.
+//! One record: on a tree with its index, or on a tree alone.
 
-ghost use Rattle.std.specs.Prelude.{◌≡◌, IfOk, OnErr, if◌then◌else◌};
+ghost use Rattle.std.specs.Prelude.{◌≡◌, ◌+◌, IfOk, OnOk, OnErr, if◌then◌else◌};
 ghost use Rattle.ldif.specs.Reading.{reading};
+ghost use Rattle.tree.specs.Changes.{changed};
 ghost use Rattle.tree.specs.Operations.{apply};
 ghost use Rattle.tree.specs.Gives.{Gives};
+ghost use Rattle.directory.specs.Indexes.{IsIndexOf, edits_of, record_edits};
 ghost use Rattle.directory.specs.Runs.{is_empty, outcome};
 
 use crate::reason::{Outcome, Reason};
+use index::{Index, KeyChanges, key_changes};
 use ldif::{LdifFault, Mode, RawRecord, Record, read_record};
 use schema::Conf;
 use std::alloc::{AllocError, Global};
-use tree::{Refusal, Tree, plan};
+use tree::{Plan, Refusal, Tree, plan};
 
-// Carries out a record, or refuses it and changes nothing.
+/// What a record changed in the index.
+#[derive(Clone, Copy, Debug, PartialEq, Eq)]
+pub struct Edits {
+    /// How many keys under slots the entry that changed has either before or after, and not both.
+    pub count: u128,
+}
+
+// Carries out a plan, or changes neither the tree nor a member of the index.
+fn carry_out_plan(
+    alloc: Global,
+    tree: &mut Tree,
+    index: &mut Index,
+    conf: &Conf,
+    plan: Plan,
+) -> Result<Edits, AllocError>
+    requires same_conf { tree.old.conf ≡ conf.now }
+    requires of { plan.tree ≡ tree.old }
+    requires indexed { IsIndexOf conf.now tree.old.entries tree.old.numbers index.old }
+    ensures same_conf { tree.new.conf ≡ tree.old.conf }
+    ensures indexed { IsIndexOf conf.now tree.new.entries tree.new.numbers index.new }
+    ensures entries { OnOk result (tree.new.entries ≡ changed tree.old.entries plan.change) }
+    ensures count { IfOk result (λ e. e.count ≡ edits_of conf.now tree.old.entries plan.change) }
+    ensures edits { IfOk result (λ e. index.new.edits ≡ index.old.edits + e.count) }
+    ensures err { OnErr result (tree.new ≡ tree.old) }
+{
+    plan.keeps_entries();
+    let Some(number) = plan.number() else {
+        return Ok(Edits { count: 0 });
+    };
+    let KeyChanges { came, gone } = key_changes(alloc, conf, plan.before(tree), plan.after())?;
+    index.insert_all(&came, number)?;
+    match tree.commit(plan) {
+        Ok(()) => {}
+        Err(error) => {
+            index.remove_all(&came, number);
+            return Err(error);
+        }
+    }
+    index.remove_all(&gone, number);
+    Ok(Edits {
+        count: came.len() as u128 + gone.len() as u128,
+    })
+}
+
+// Carries out a record on a tree and its index, or refuses it and changes neither the tree nor a member of the index.
 pub(crate) fn apply_record(
+    alloc: Global,
+    tree: &mut Tree,
+    index: &mut Index,
+    conf: &Conf,
+    asked: &Record<'_>,
+    mode: Mode,
+) -> Result<Edits, Refusal>
+    requires same_conf { tree.old.conf ≡ conf.now }
+    requires indexed { IsIndexOf conf.now tree.old.entries tree.old.numbers index.old }
+    ensures same_conf { tree.new.conf ≡ tree.old.conf }
+    ensures indexed { IsIndexOf conf.now tree.new.entries tree.new.numbers index.new }
+    ensures gives { Gives (λ _. tree.new.entries) result (apply conf.now mode tree.old.entries asked.now) }
+    ensures count { IfOk result (λ e. e.count ≡ record_edits conf.now mode tree.old.entries asked.now) }
+    ensures edits { IfOk result (λ e. index.new.edits ≡ index.old.edits + e.count) }
+    ensures err { OnErr result (tree.new ≡ tree.old) }
+{
+    let plan = plan(alloc, tree, conf, asked, mode)?;
+    let edits = carry_out_plan(alloc, tree, index, conf, plan)?;
+    Ok(edits)
+}
+
+// Carries out a record on a tree alone, or refuses it and changes nothing.
+fn apply_alone(
     alloc: Global,
     tree: &mut Tree,
     conf: &Conf,
@@ -22,7 +92,7 @@ pub(crate) fn apply_record(
 ) -> Result<(), Refusal>
     requires { tree.old.conf ≡ conf.now }
     ensures same_conf { tree.new.conf ≡ tree.old.conf }
-    ensures gives { Gives (λ _. tree.new.entries) result (apply tree.old.conf mode tree.old.entries asked.now) }
+    ensures gives { Gives (λ _. tree.new.entries) result (apply conf.now mode tree.old.entries asked.now) }
     ensures err { OnErr result (tree.new ≡ tree.old) }
 {
     let plan = plan(alloc, tree, conf, asked, mode)?;
@@ -30,9 +100,38 @@ pub(crate) fn apply_record(
     Ok(())
 }
 
-// Reads a record from its lines and carries it out.
+// Reads a record from its lines and carries it out on a tree and its index.
 #[tactic(auto, unfolding(crate::specs::Runs::outcome))]
 pub(crate) fn carry_out(
+    alloc: Global,
+    tree: &mut Tree,
+    index: &mut Index,
+    conf: &Conf,
+    raw: &RawRecord,
+    mode: Mode,
+) -> Result<Outcome, AllocError>
+    requires same_conf { tree.old.conf ≡ conf.now }
+    requires indexed { IsIndexOf conf.now tree.old.entries tree.old.numbers index.old }
+    ensures same_conf { tree.new.conf ≡ tree.old.conf }
+    ensures indexed { IsIndexOf conf.now tree.new.entries tree.new.numbers index.new }
+    ensures outcome { IfOk result (λ o. outcome conf.now mode tree.old.entries (reading mode raw.now.first raw.now.lines) ≡ (tree.new.entries, o)) }
+    ensures err { OnErr result (tree.new ≡ tree.old) }
+{
+    let asked = match read_record(alloc, raw, mode) {
+        Ok(asked) => asked,
+        Err(LdifFault::Fault(fault)) => return Ok(Outcome::Refused(Reason::Fault(fault))),
+        Err(LdifFault::OutOfMemory) => return Err(AllocError),
+    };
+    match apply_record(alloc, tree, index, conf, &asked, mode) {
+        Ok(_) => Ok(accepted(&asked)),
+        Err(Refusal::Code(code)) => Ok(Outcome::Refused(Reason::Code(code))),
+        Err(Refusal::OutOfMemory) => Err(AllocError),
+    }
+}
+
+// The same on a tree alone.
+#[tactic(auto, unfolding(crate::specs::Runs::outcome))]
+pub(crate) fn carry_out_alone(
     alloc: Global,
     tree: &mut Tree,
     conf: &Conf,
@@ -49,7 +148,7 @@ pub(crate) fn carry_out(
         Err(LdifFault::Fault(fault)) => return Ok(Outcome::Refused(Reason::Fault(fault))),
         Err(LdifFault::OutOfMemory) => return Err(AllocError),
     };
-    match apply_record(alloc, tree, conf, &asked, mode) {
+    match apply_alone(alloc, tree, conf, &asked, mode) {
         Ok(()) => Ok(accepted(&asked)),
         Err(Refusal::Code(code)) => Ok(Outcome::Refused(Reason::Code(code))),
         Err(Refusal::OutOfMemory) => Err(AllocError),

@@ -1,43 +1,50 @@
 //! Directories.
 
-ghost use Rattle.std.specs.Prelude.{◌≡◌, IfOk, OnErr};
+ghost use Rattle.std.specs.Prelude.{◌≡◌, ◌+◌, IfOk, OnErr};
 ghost use Rattle.std.specs.FinMap as finite;
 ghost use Rattle.ldif.specs.Reading.{reading};
 ghost use Rattle.tree.specs.Operations.{apply};
 ghost use Rattle.tree.specs.Gives.{Gives};
+ghost use Rattle.directory.specs.Directories.{tree_of};
+ghost use Rattle.directory.specs.Indexes.{IsIndexOf, record_edits};
 ghost use Rattle.directory.specs.Runs.{outcome};
 
-use crate::applying::{apply_record, carry_out};
+use crate::applying::{Edits, apply_record, carry_out};
+use crate::indexing::index_of;
 use crate::reason::Outcome;
+use index::Index;
 use ldif::{Mode, RawRecord, Record};
 use schema::Conf;
 use std::alloc::{AllocError, Global};
 use std::marker::Model;
 use tree::{Refusal, Tree};
 
-/// A directory under a configuration. A contract sees its rules and its entries by their paths.
+/// A directory under a configuration, with its index. A contract sees its rules, its entries by their paths, their numbers, and how many
+/// edits of the index were made; the index is that of the entries at all times.
 #[derive(Drop)]
 pub struct Directory {
     alloc: Global,
     conf: Conf,
     tree: Tree,
+    index: Index,
 }
 
 impl Model for Directory {
     ghost use Rattle.std.specs.Prelude.{◌≡◌};
-    ghost use Rattle.tree.specs.Trees as trees;
+    ghost use Rattle.directory.specs.Directories as seen;
+    ghost use Rattle.directory.specs.Indexes.{IsIndexOf};
 
-    ghost Value = { trees.Tree };
+    ghost Value = { seen.Directory };
 
-    ghost coded = { trees.tree_code };
+    ghost coded = { seen.directory_code };
 
-    ghost view = { λ d. d.tree };
+    ghost view = { λ d. seen.with_edits d.tree d.index.edits };
 
-    ghost invariant = { λ d. d.tree.conf ≡ d.conf };
+    ghost invariant = { λ d. (d.tree.conf ≡ d.conf) × IsIndexOf d.conf d.tree.entries d.tree.numbers d.index };
 }
 
 impl Directory {
-    /// The directory with no entry. It takes no memory yet, and so it is never refused.
+    /// The directory with no entry.
     pub fn new(alloc: Global, conf: Conf) -> Result<Directory, AllocError>
         ensures same_conf { IfOk result (λ d. d.conf ≡ conf) }
         ensures entries { IfOk result (λ d. d.entries ≡ finite.empty) }
@@ -46,12 +53,18 @@ impl Directory {
         Directory::from_tree(alloc, conf, tree)
     }
 
-    /// The directory of a tree that was made with this configuration. It takes no memory yet, and so it is never refused.
+    /// The directory of a tree that was made with this configuration.
     pub fn from_tree(alloc: Global, conf: Conf, tree: Tree) -> Result<Directory, AllocError>
         requires { tree.conf ≡ conf }
-        ensures { IfOk result (λ d. d ≡ tree) }
+        ensures { IfOk result (λ d. tree_of d ≡ tree) }
     {
-        Ok(Directory { alloc, conf, tree })
+        let index = index_of(alloc, &conf, &tree)?;
+        Ok(Directory {
+            alloc,
+            conf,
+            tree,
+            index,
+        })
     }
 
     /// The configuration.
@@ -63,19 +76,35 @@ impl Directory {
 
     /// The entries.
     pub fn tree(&self) -> &Tree
-        ensures { result.now ≡ self.now }
+        ensures { result.now ≡ tree_of self.now }
     {
         &self.tree
     }
 
-    /// Carries out a record (RFC 4511, 4.6 to 4.9), or refuses it with the code of the first check that fails. A refusal,
-    /// also for want of memory, changes nothing.
-    pub fn apply(&mut self, asked: &Record<'_>, mode: Mode) -> Result<(), Refusal>
+    /// The index of the entries.
+    pub(crate) fn index(&self) -> &Index
+        ensures { IsIndexOf self.now.conf self.now.entries self.now.numbers result.now }
+    {
+        &self.index
+    }
+
+    /// Carries out a record (RFC 4511, 4.6 to 4.9) and edits the index, or refuses it with the code of the first check that fails. A refusal,
+    /// also for want of memory, changes no entry and no member of the index.
+    pub fn apply(&mut self, asked: &Record<'_>, mode: Mode) -> Result<Edits, Refusal>
         ensures same_conf { self.new.conf ≡ self.old.conf }
         ensures gives { Gives (λ _. self.new.entries) result (apply self.old.conf mode self.old.entries asked.now) }
-        ensures err { OnErr result (self.new ≡ self.old) }
+        ensures count { IfOk result (λ e. e.count ≡ record_edits self.old.conf mode self.old.entries asked.now) }
+        ensures edits { IfOk result (λ e. self.new.edits ≡ self.old.edits + e.count) }
+        ensures err { OnErr result (tree_of self.new ≡ tree_of self.old) }
     {
-        apply_record(self.alloc, &mut self.tree, &self.conf, asked, mode)
+        apply_record(
+            self.alloc,
+            &mut self.tree,
+            &mut self.index,
+            &self.conf,
+            asked,
+            mode,
+        )
     }
 
     // Reads a record from its lines and carries it out.
@@ -87,8 +116,15 @@ impl Directory {
     ) -> Result<Outcome, AllocError>
         ensures same_conf { self.new.conf ≡ self.old.conf }
         ensures outcome { IfOk result (λ o. outcome self.old.conf mode self.old.entries (reading mode raw.now.first raw.now.lines) ≡ (self.new.entries, o)) }
-        ensures err { OnErr result (self.new ≡ self.old) }
+        ensures err { OnErr result (tree_of self.new ≡ tree_of self.old) }
     {
-        carry_out(alloc, &mut self.tree, &self.conf, raw, mode)
+        carry_out(
+            alloc,
+            &mut self.tree,
+            &mut self.index,
+            &self.conf,
+            raw,
+            mode,
+        )
     }
 }

@@ -15,10 +15,10 @@ use device::{Device, Sink, push_all};
 use ldif::{WriteFault, put_line};
 use schema::{Conf, Path, TypeId};
 use std::alloc::{AllocError, Global};
-use tree::{Entry, Names, Values};
+use tree::{Entry, Names, Tree, Values};
 
 // so many bytes are handed on at once
-const PIECE: usize = 65536;
+pub(crate) const PIECE: usize = 65536;
 
 // the lines of values under one name
 fn put_values(
@@ -102,31 +102,56 @@ pub(crate) fn pass_on<W: Sink>(sink: &mut W, text: &mut Vec<u8>) -> Result<(), W
     }
 }
 
-impl Directory {
+// hands on a text that is long
+pub(crate) fn pass_on_long<W: Sink>(sink: &mut W, text: &mut Vec<u8>) -> Result<(), WriteFault>
+    requires { (W.written sink.old).failed < 2 ^ 64 - 1 }
+    ensures { WritesOn result (W.written sink.old) (W.written sink.new) text.old.items text.new.items }
+{
+    if text.len() < PIECE {
+        return Ok(());
+    }
+    pass_on(sink, text)
+}
+
+/// The entries of a tree, and the configuration that they are printed under: the one that they were made with.
+#[derive(Drop)]
+pub(crate) struct Printer<'a> {
+    pub(crate) alloc: Global,
+    pub(crate) tree: &'a Tree,
+    pub(crate) conf: &'a Conf,
+    ghost same_conf: { tree.now.conf ≡ conf.now },
+}
+
+impl Printer<'_> {
     // the content record of the entry at a path, behind what `out` holds
-    fn put_record(
+    pub(crate) fn put_record(
         &self,
-        alloc: Global,
         names: &mut Names<'_>,
         selection: &Selection,
         path: &Path,
         entry: &Entry,
         out: &mut Vec<u8>,
     ) -> Result<(), AllocError>
-        requires names { names.old ≡ self.now }
-        requires there { finite.get self.now.entries path.now ≡ Some (content_of entry.now) }
-        ensures names { names.new ≡ self.now }
-        ensures text { OnOk result (out.new.items ≡ out.old.items ++ entry_text self.now.conf self.now.entries selection.now (path.now, entry.now)) }
+        requires names { names.old ≡ self.now.tree.now }
+        requires there { finite.get self.now.tree.now.entries path.now ≡ Some (content_of entry.now) }
+        ensures names { names.new ≡ self.now.tree.now }
+        ensures text { OnOk result (out.new.items ≡ out.old.items ++ entry_text self.now.tree.now.conf self.now.tree.now.entries selection.now (path.now, entry.now)) }
     {
-        self.tree().is_directory();
-        let name = names.name_of(alloc, path, entry)?;
-        put_entry(alloc, out, self.conf(), selection, name.as_slice(), entry)
+        self.tree.is_directory();
+        let name = names.name_of(self.alloc, path, entry)?;
+        put_entry(
+            self.alloc,
+            out,
+            self.conf,
+            selection,
+            name.as_slice(),
+            entry,
+        )
     }
 
     // puts the content record of the entry at a path behind a text, and hands the text on where it is long
     pub(crate) fn write_entry<W: Sink>(
         &self,
-        alloc: Global,
         sink: &mut W,
         names: &mut Names<'_>,
         selection: &Selection,
@@ -134,24 +159,52 @@ impl Directory {
         text: &mut Vec<u8>,
     ) -> Result<(), WriteFault>
         requires can_fail { (W.written sink.old).failed < 2 ^ 64 - 1 }
-        requires names { names.old ≡ self.now }
-        requires there { finite.get self.now.entries found.0.now ≡ Some (content_of found.1.now) }
-        ensures names { names.new ≡ self.now }
-        ensures writes { WritesOn result (W.written sink.old) (W.written sink.new) (text.old.items ++ entry_text self.now.conf self.now.entries selection.now (found.entry.0.now, found.entry.1.now)) text.new.items }
+        requires names { names.old ≡ self.now.tree.now }
+        requires there { finite.get self.now.tree.now.entries found.0.now ≡ Some (content_of found.1.now) }
+        ensures names { names.new ≡ self.now.tree.now }
+        ensures writes { WritesOn result (W.written sink.old) (W.written sink.new) (text.old.items ++ entry_text self.now.tree.now.conf self.now.tree.now.entries selection.now (found.entry.0.now, found.entry.1.now)) text.new.items }
     {
         let (path, entry) = found;
         if self
-            .put_record(alloc, names, selection, path, entry, text)
+            .put_record(names, selection, path, entry, text)
             .is_err()
         {
             return Err(WriteFault::OutOfMemory);
         }
-        if text.len() < PIECE {
-            return Ok(());
-        }
-        pass_on(sink, text)
+        pass_on_long(sink, text)
     }
+}
 
+/// Writes each entry of a tree as a content record, in the order of paths (RFC 2849), in pieces of some 64 KiB. The tree was made with
+/// this configuration. On a fault a beginning was written.
+///
+/// Loading what a whole dump holds gives these entries again, and refuses none of its records.
+pub fn write_dump<W: Sink>(
+    alloc: Global,
+    tree: &Tree,
+    conf: &Conf,
+    sink: &mut W,
+) -> Result<(), WriteFault>
+    requires made { tree.now.conf ≡ conf.now }
+    requires can_fail { (W.written sink.old).failed < 2 ^ 64 - 1 }
+    ensures writes { Writes result (W.written sink.old) (W.written sink.new) (dump tree.now.conf tree.now.entries) }
+    ensures loads { LoadsBack tree.now.conf tree.now.entries }
+{
+    tree.is_directory();
+    conf.holds();
+    loading_a_dump();
+    schema::order_of_paths();
+    let root = Path::root(alloc);
+    let printer = Printer { alloc, tree, conf };
+    let mut names = Names::new(alloc, tree, conf);
+    let mut text = Vec::new(alloc);
+    for found in tree.range(&root) {
+        printer.write_entry(sink, &mut names, &Selection::all(), found, &mut text)?;
+    }
+    pass_on(sink, &mut text)
+}
+
+impl Directory {
     /// Writes each entry as a content record, in the order of paths (RFC 2849), in pieces of some 64 KiB. On a fault a
     /// beginning was written.
     ///
@@ -161,16 +214,6 @@ impl Directory {
         ensures writes { Writes result (W.written sink.old) (W.written sink.new) (dump self.now.conf self.now.entries) }
         ensures loads { LoadsBack self.now.conf self.now.entries }
     {
-        self.tree().is_directory();
-        self.conf().holds();
-        loading_a_dump();
-        schema::order_of_paths();
-        let root = Path::root(alloc);
-        let mut names = Names::new(alloc, self.tree(), self.conf());
-        let mut text = Vec::new(alloc);
-        for found in self.tree().range(&root) {
-            self.write_entry(alloc, sink, &mut names, &Selection::all(), found, &mut text)?;
-        }
-        pass_on(sink, &mut text)
+        write_dump(alloc, self.tree(), self.conf(), sink)
     }
 }

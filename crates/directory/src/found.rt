@@ -5,14 +5,14 @@ ghost use Rattle.search.specs.Walks.{seen};
 ghost use Rattle.directory.specs.Found.{AreThere, found_text, up_to, goes_past, WritesFound};
 ghost use Rattle.directory.specs.inner.Found.{is_used_up, one_fewer};
 
-use crate::directory::Directory;
-use crate::dump::pass_on;
+use crate::dump::{Printer, pass_on};
 use crate::selection::Selection;
 use device::Sink;
 use ldif::WriteFault;
+use schema::Conf;
 use search::Hits;
 use std::alloc::Global;
-use tree::Names;
+use tree::{Names, Tree};
 
 fn is_used_up(left: Option<u32>) -> bool
     ensures { result ≡ is_used_up left }
@@ -34,34 +34,35 @@ fn one_fewer(left: Option<u32>) -> Option<u32>
     }
 }
 
-impl Directory {
-    /// Writes entries that a search of this directory found, each as a content record with the attributes that are selected (RFC 2849;
-    /// RFC 4511, 4.5.1.8), in pieces of some 64 KiB. With a limit it writes the first ones up to it, and answers whether there are more
-    /// (RFC 4511, 4.5.1.4). On a fault a beginning was written.
-    pub fn write_found<W: Sink>(
-        &self,
-        alloc: Global,
-        sink: &mut W,
-        hits: Hits<'_>,
-        limit: Option<u32>,
-        selection: &Selection,
-    ) -> Result<bool, WriteFault>
-        requires can_fail { (W.written sink.old).failed < 2 ^ 64 - 1 }
-        requires there { AreThere self.now.entries (map seen hits.to_come) }
-        ensures { WritesFound result (goes_past limit hits.entry.to_come) (W.written sink.old) (W.written sink.new) (found_text self.now.conf self.now.entries selection.now (up_to limit (map seen hits.entry.to_come))) }
-    {
-        let mut names = Names::new(alloc, self.tree(), self.conf());
-        let mut text = Vec::new(alloc);
-        let mut left = limit;
-        for found in hits {
-            if is_used_up(left) {
-                pass_on(sink, &mut text)?;
-                return Ok(true);
-            }
-            self.write_entry(alloc, sink, &mut names, selection, found, &mut text)?;
-            left = one_fewer(left);
+/// Writes entries that a search of a tree found, each as a content record with the attributes that are selected (RFC 2849;
+/// RFC 4511, 4.5.1.8), in pieces of some 64 KiB. The tree was made with this configuration. With a limit it writes the first ones up to
+/// it, and answers whether there are more (RFC 4511, 4.5.1.4). On a fault a beginning was written.
+pub fn write_found<W: Sink>(
+    alloc: Global,
+    tree: &Tree,
+    conf: &Conf,
+    sink: &mut W,
+    hits: Hits<'_>,
+    limit: Option<u32>,
+    selection: &Selection,
+) -> Result<bool, WriteFault>
+    requires made { tree.now.conf ≡ conf.now }
+    requires can_fail { (W.written sink.old).failed < 2 ^ 64 - 1 }
+    requires there { AreThere tree.now.entries (map seen hits.to_come) }
+    ensures { WritesFound result (goes_past limit hits.entry.to_come) (W.written sink.old) (W.written sink.new) (found_text tree.now.conf tree.now.entries selection.now (up_to limit (map seen hits.entry.to_come))) }
+{
+    let printer = Printer { alloc, tree, conf };
+    let mut names = Names::new(alloc, tree, conf);
+    let mut text = Vec::new(alloc);
+    let mut left = limit;
+    for found in hits {
+        if is_used_up(left) {
+            pass_on(sink, &mut text)?;
+            return Ok(true);
         }
-        pass_on(sink, &mut text)?;
-        Ok(false)
+        printer.write_entry(sink, &mut names, selection, found, &mut text)?;
+        left = one_fewer(left);
     }
+    pass_on(sink, &mut text)?;
+    Ok(false)
 }

@@ -1,4 +1,4 @@
-//! A directory: records carried out in turn, searches, the dump, and loading it.
+//! A directory: records carried out in turn, searches, the dump, loading it, and the text of the index.
 //!
 //! The functions of `laws` do nothing: a call of one is made for what it states alone.
 #![tactic(auto)]
@@ -7,17 +7,27 @@ mod applying;
 mod directory;
 mod dump;
 mod found;
+mod index_texts;
+mod indexing;
 mod laws;
 mod loading;
+mod ranks;
 mod reason;
 mod runs;
 mod searching;
 mod selection;
+mod stamps;
 
+pub use applying::Edits;
 pub use directory::Directory;
+pub use dump::write_dump;
+pub use found::write_found;
+pub use index_texts::write_index_text;
 pub use laws::loading_a_dump;
 pub use loading::{LoadFault, load, load_tree};
 pub use reason::Reason;
 pub use runs::{RunFault, Tally, run};
 pub use search::{Hits, Scope};
+pub use searching::search_tree;
 pub use selection::Selection;
+pub use stamps::stamp_of;

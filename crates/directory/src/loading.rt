@@ -14,7 +14,7 @@ ghost use Rattle.directory.specs.FailedReads.{LoadedUpTo};
 ghost use Rattle.directory.specs.inner.Pulls.{closed_with};
 ghost use Rattle.directory.specs.inner.Loading.{IsLoaded, Explains};
 
-use crate::applying::carry_out;
+use crate::applying::carry_out_alone;
 use crate::directory::Directory;
 use crate::reason::{Outcome, Reason};
 use device::Source;
@@ -45,7 +45,7 @@ fn load_record(
     ensures loaded { OnOk result (IsLoaded (outcome tree.old.conf Content tree.old.entries (reading Content raw.now.first raw.now.lines)) tree.new.entries) }
     ensures refused { IfErr result (λ f. Explains f raw.now.line (outcome tree.old.conf Content tree.old.entries (reading Content raw.now.first raw.now.lines))) }
 {
-    match carry_out(alloc, tree, conf, raw, Mode::Content) {
+    match carry_out_alone(alloc, tree, conf, raw, Mode::Content) {
         Ok(Outcome::Refused(reason)) => Err(LoadFault::Refused {
             line: raw.line,
             reason,

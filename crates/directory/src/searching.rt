@@ -13,7 +13,30 @@ use crate::directory::Directory;
 use filter::Prepared;
 use schema::{Code, Path};
 use search::{Hits, Scope};
-use tree::Refusal;
+use tree::{Refusal, Tree};
+
+/// The entries of a tree in scope of which the filter is True, in dump order (RFC 4511, 4.5.1). The filter was prepared under the
+/// configuration that the tree was made with. `NoSuchObject` where the base isn't there, and no other refusal.
+pub fn search_tree<'a>(
+    tree: &'a Tree,
+    base: &'a Path,
+    scope: Scope,
+    filter: &'a Prepared,
+) -> Result<Hits<'a>, Refusal>
+    requires { filter.now.conf ≡ tree.now.conf }
+    ensures there { is_ok result ≡ finite.contains_key tree.now.entries base.now }
+    ensures refused { IfErr result (λ r. r ≡ refused_with NoSuchObject) }
+    ensures found { IfOk result (λ h. map seen h.to_come ≡ scan tree.now.conf tree.now.entries base.now scope (view filter.now.filter)) }
+    ensures tested { IfOk result (λ h. h.in_the_end ≡ count_in_scope tree.now.entries base.now scope) }
+    ensures entries { IfOk result (λ h. AreThere tree.now.entries (map seen h.to_come)) }
+{
+    tree.is_directory();
+    schema::order_of_paths();
+    match search::search(tree, base, scope, filter) {
+        Some(hits) => Ok(hits),
+        None => Err(Refusal::Code(Code::NoSuchObject)),
+    }
+}
 
 impl Directory {
     /// The entries in scope of which the filter is True, in dump order (RFC 4511, 4.5.1). The filter was prepared under the
@@ -31,11 +54,6 @@ impl Directory {
         ensures tested { IfOk result (λ h. h.in_the_end ≡ count_in_scope self.now.entries base.now scope) }
         ensures entries { IfOk result (λ h. AreThere self.now.entries (map seen h.to_come)) }
     {
-        self.tree().is_directory();
-        schema::order_of_paths();
-        match search::search(self.tree(), base, scope, filter) {
-            Some(hits) => Ok(hits),
-            None => Err(Refusal::Code(Code::NoSuchObject)),
-        }
+        search_tree(self.tree(), base, scope, filter)
     }
 }

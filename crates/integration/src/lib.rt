@@ -6,6 +6,8 @@
 #[cfg(test)]
 mod failing_devices;
 #[cfg(test)]
+mod indexes;
+#[cfg(test)]
 mod places;
 #[cfg(test)]
 mod runs;

@@ -1,15 +1,16 @@
--- A directory as the definitions of commands see it.
+-- Entries and directories as the definitions of commands see them.
 use Rattle.std.specs.Prelude.{Result}
-use Rattle.tree.specs.Trees.{Tree as Directory}
+use Rattle.tree.specs.Trees.{Tree}
 use Rattle.filter_text.specs.Spells.{view}
 use Rattle.filter_text.specs.declared.filters.Filter.{Filter}
+use Rattle.directory.specs.Directories.{Directory}
 use Rattle.directory.specs.declared.runs.Tally.{Tally}
 use Rattle.directory.specs.declared.runs.RunFault.{RunFault}
 use Rattle.commands.specs.Queries.{Basis}
 use Rattle.commands.specs.Changes.{Run}
 
 -- with a filter
-abbrev pub basis_of : Filter → Directory → Basis
+abbrev pub basis_of : Filter → Tree → Basis
 basis_of filter d = record { filter = view filter; conf = d.conf; entries = d.entries }
 
 -- before and after a run, with what that answers

@@ -1,5 +1,5 @@
 -- What calls of a reader took, one after the other.
-use Rattle.std.specs.Prelude.{◌≡◌, ℕ, Bool, false, List, ◌++◌}
+use Rattle.std.specs.Prelude.{◌≡◌, ℕ, false, List, ◌++◌}
 use Rattle.device.specs.Device.{Seen, Pulled}
 use Rattle.device.specs.declared.source.Source.{Ghosts}
 use Rattle.ldif_lines.specs.Records.{RawRecord}

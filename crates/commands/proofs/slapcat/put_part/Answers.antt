@@ -1,6 +1,7 @@
-use Rattle.std.proofs.Common.{◌∙◌}
+use Rattle.std.proofs.Common.{ap, ◌∙◌}
 use Rattle.std.specs.Option.{option_copied}
 use Rattle.std.proofs.lemmas.Result.{on_ok_weaker}
+use Rattle.commands.specs.declared.database.Database.{Database}
 use Rattle.commands.specs.Prints.{IsPartText}
 use Rattle.commands.specs.Queries.{target_of}
 use Rattle.commands.specs.inner.Views.{basis_of}
@@ -9,12 +10,12 @@ use Rattle.commands.proofs.slapcat.put_part.Goals as goal
 
 pub returns-clause-put : goal.returns-clause-put
 returns-clause-put g c = λ w.
-    let same = part_same c.args.dir.now _ c.in_ok-base.base _ _ c.new-part.result.filter.now c.new-part.ensures.dir c.new-part.ensures.base (c.new-part.ensures.filter ∙ c.in_ok-prepared.ensures) in
-    let is : IsPartText c.args.asked.now (basis_of c.args.filter.now c.args.dir.now) _ = record { base = c.in_ok-base.base; base_is = c.in_ok-base.ensures.found; there = c.in_ok-base.ensures.there; text_is = same } in
+    let same = part_same c.args.database.now.tree _ c.in_ok-base.base _ _ c.new-part.result.filter.now (ap (λ (d : Database). d.tree) c.new-part.ensures.database) c.new-part.ensures.base (c.new-part.ensures.filter ∙ c.in_ok-prepared.ensures) in
+    let is : IsPartText c.args.asked.now (basis_of c.args.filter.now c.args.database.now.tree) _ = record { base = c.in_ok-base.base; base_is = c.in_ok-base.ensures.found; there = c.in_ok-base.ensures.there; text_is = same } in
     on_ok_weaker c.put.result (λ put. record { text = _; is = is; put = put }) (c.put.ensures.put w)
 
 pub returns-clause-partly : goal.returns-clause-partly
 returns-clause-partly g c =
-    let same = part_same c.args.dir.now _ c.in_ok-base.base _ _ c.new-part.result.filter.now c.new-part.ensures.dir c.new-part.ensures.base (c.new-part.ensures.filter ∙ c.in_ok-prepared.ensures) in
-    text_begun (IsPartText c.args.asked.now (basis_of c.args.filter.now c.args.dir.now)) (option_copied c.args.asked.now.file) _ (record { base = c.in_ok-base.base; base_is = c.in_ok-base.ensures.found; there = c.in_ok-base.ensures.there; text_is = same })
+    let same = part_same c.args.database.now.tree _ c.in_ok-base.base _ _ c.new-part.result.filter.now (ap (λ (d : Database). d.tree) c.new-part.ensures.database) c.new-part.ensures.base (c.new-part.ensures.filter ∙ c.in_ok-prepared.ensures) in
+    text_begun (IsPartText c.args.asked.now (basis_of c.args.filter.now c.args.database.now.tree)) (option_copied c.args.asked.now.file) _ (record { base = c.in_ok-base.base; base_is = c.in_ok-base.ensures.found; there = c.in_ok-base.ensures.there; text_is = same })
     c.put.result (target_of (option_copied c.args.asked.now.file)) _ _ c.put.ensures.err c.put.ensures.begins

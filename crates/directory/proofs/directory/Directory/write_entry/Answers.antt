@@ -1,7 +1,0 @@
-use Rattle.std.proofs.Common.{◌++◌}
-use Rattle.directory.specs.inner.Dumps.{entry_text}
-use Rattle.directory.proofs.Pieces.{want_at_once}
-use Rattle.directory.proofs.directory.Directory.write_entry.Goals as goal
-
-pub returns-then-is_err-clause-writes : goal.returns-then-is_err-clause-writes
-returns-then-is_err-clause-writes g c = want_at_once (g.W.Sink.written c.args.sink.now) (c.args.text.now.items ++ entry_text c.args.self.now.conf c.args.self.now.entries c.args.selection.now (c.args.found.0.now, c.args.found.1.now))

@@ -1,0 +1,36 @@
+use Rattle.std.proofs.Common.{◌≡◌, ℕ, ◌<◌, List, ◌++◌, length, sym, ap, ◌∙◌, subst, append_assoc}
+use Rattle.std.specs.List.{flat_map}
+use Rattle.std.proofs.lemmas.Option.{slice_get_within}
+use Rattle.schema.specs.Conf.{Conf}
+use Rattle.tree.specs.Trees.{Tree}
+use Rattle.tree.proofs.Order.{path_total}
+use Rattle.index_text.specs.IndexTexts.{ended, slot_line, key_line}
+use Rattle.directory.specs.IndexTexts.{slot_rows, contents}
+use Rattle.directory.specs.inner.Dumps.{WritesOn}
+use Rattle.directory.specs.inner.IndexRows.{slot_lines, rows_text}
+use Rattle.directory.proofs.IndexRows.{lines_are}
+use Rattle.directory.proofs.Pieces.{want_at_once}
+use Rattle.directory.proofs.WrittenLines.{where_ok}
+use Rattle.directory.proofs.index_texts.Listing.write_slot.Goals as goal
+
+pub returns-then-is_err : goal.returns-then-is_err
+returns-then-is_err g c = want_at_once (g.W.Sink.written c.args.sink.now) (c.args.text.now.items ++ slot_lines c.args.self.now.conf.now c.args.self.now.tree.now.entries c.args.slot.now)
+
+pub keys-keys-requires : goal.keys-keys-requires
+keys-keys-requires g c =
+    subst (λ (n : ℕ). c.args.place < n) (ap (λ (r : Conf). length r.slots) (sym c.requires.listing.indexed.same_conf))
+    (slice_get_within c.args.self.now.conf.now.slots c.args.place c.args.slot.now c.requires.place)
+
+pub returns : goal.returns
+returns g c =
+    let conf : Conf = c.args.self.now.conf.now in
+    let t : Tree = c.args.self.now.tree.now in
+    let text : List ℕ = c.args.text.now.items in
+    let line : List ℕ = ended (slot_line conf.types c.args.slot.now) in
+    let put : c.put_slot.new.out.items ≡ text ++ line = where_ok c.put_slot.result (c.put_slot.new.out.items ≡ text ++ line) c.put_slot.ensures (sym c.is_err.ensures.value ∙ c.if-is_err.false) in
+    let rows : List ℕ = rows_text c.args.self.now.ranks.now c.keys-keys.result in
+    let is : rows ≡ flat_map (λ row. ended (key_line row)) (slot_rows conf.types (contents t.entries) c.args.slot.now) =
+    lines_are conf t c.args.self.now.index.now c.args.self.now.ranks.now c.requires.listing.indexed path_total c.is_numbered.ensures c.is_directory.ensures c.requires.listing.ranked c.args.place c.args.slot.now c.requires.place c.keys-keys.result c.keys-keys.ensures in
+    subst (λ (bs : List ℕ). WritesOn c.write_rows.result (g.W.Sink.written c.args.sink.now) (g.W.Sink.written c.write_rows.new.sink) bs c.write_rows.new.text.items)
+    (ap (λ (bs : List ℕ). bs ++ rows) put ∙ append_assoc text line rows ∙ ap (λ (bs : List ℕ). text ++ (line ++ bs)) is)
+    c.write_rows.ensures

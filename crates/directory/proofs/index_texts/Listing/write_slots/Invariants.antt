@@ -1,0 +1,12 @@
+use Rattle.std.proofs.Common.{◌≡◌, ◌++◌, drop}
+use Rattle.directory.specs.Dumps.{SoFar}
+use Rattle.directory.specs.inner.IndexRows.{slots_lines}
+use Rattle.directory.proofs.index_texts.Listing.write_slots.Given as goal
+
+abbrev pub invariant-loop-place : goal.invariant-loop-place
+invariant-loop-place g l = record {
+  failures : (g.W.Sink.written l.sink).failed ≡ (g.W.Sink.written l.fn.sink).failed;
+  so_far : SoFar (g.W.Sink.written l.fn.sink) (g.W.Sink.written l.sink)
+      (l.fn.text.items ++ slots_lines l.self.conf.now l.self.tree.now.entries l.self.conf.now.slots)
+      (l.text.items ++ slots_lines l.self.conf.now l.self.tree.now.entries (drop l.place l.slot-items));
+}

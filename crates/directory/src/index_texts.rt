@@ -1,0 +1,177 @@
+//! The text of a directory's index, as it is written.
+
+ghost use Rattle.std.specs.Prelude.{◌≡◌, ◌<◌, ◌-◌, ◌^◌, ◌++◌, Some, IfOk, OnOk};
+ghost use Rattle.std.specs.List.{slice_get};
+ghost use Rattle.directory.specs.Dumps.{Writes};
+ghost use Rattle.directory.specs.Indexes.{IsIndexOf};
+ghost use Rattle.directory.specs.IndexTexts.{index_text};
+ghost use Rattle.directory.specs.inner.Dumps.{WritesOn};
+ghost use Rattle.directory.specs.inner.IndexRows.{row_text, rows_text, first_line, slot_lines, slots_lines, IsListing};
+
+use crate::directory::Directory;
+use crate::dump::{pass_on, pass_on_long};
+use crate::ranks::{ranks_by_number, ranks_of};
+use crate::stamps::stamp_of;
+use device::Sink;
+use id_sets::KeySet;
+use index::{Index, Keys, SlotNumber};
+use index_text::{put_end, put_header, put_key, put_slot};
+use ldif::WriteFault;
+use schema::{Conf, Slot};
+use std::alloc::{AllocError, Global};
+use tree::Tree;
+
+// the line of a key with its members, behind what `text` holds
+fn put_row(
+    alloc: Global,
+    ranks: &[u32],
+    key: &[u8],
+    members: &KeySet,
+    text: &mut Vec<u8>,
+) -> Result<(), AllocError>
+    ensures { OnOk result (text.new.items ≡ text.old.items ++ row_text ranks.now (key.now, members.now.members)) }
+{
+    let found = ranks_of(alloc, ranks, members)?;
+    put_key(alloc, text, key, found.as_slice())
+}
+
+// puts the line of a key with its members behind a text, and hands the text on where it is long
+fn write_row<W: Sink>(
+    alloc: Global,
+    sink: &mut W,
+    ranks: &[u32],
+    row: (&[u8], &KeySet),
+    text: &mut Vec<u8>,
+) -> Result<(), WriteFault>
+    requires { (W.written sink.old).failed < 2 ^ 64 - 1 }
+    ensures { WritesOn result (W.written sink.old) (W.written sink.new) (text.old.items ++ row_text ranks.now (row.entry.0.now, row.entry.1.now.members)) text.new.items }
+{
+    let (key, members) = row;
+    if put_row(alloc, ranks, key, members, text).is_err() {
+        return Err(WriteFault::OutOfMemory);
+    }
+    pass_on_long(sink, text)
+}
+
+// the same of all these keys
+fn write_rows<W: Sink>(
+    alloc: Global,
+    sink: &mut W,
+    ranks: &[u32],
+    keys: Keys<'_>,
+    text: &mut Vec<u8>,
+) -> Result<(), WriteFault>
+    requires { (W.written sink.old).failed < 2 ^ 64 - 1 }
+    ensures { WritesOn result (W.written sink.old) (W.written sink.new) (text.old.items ++ rows_text ranks.now keys.entry) text.new.items }
+{
+    for row in keys {
+        write_row(alloc, sink, ranks, row, text)?;
+    }
+    Ok(())
+}
+
+/// The index of a tree's entries, with the configuration that both were made with, and the rank of each entry at its number.
+#[derive(Drop)]
+struct Listing<'a> {
+    alloc: Global,
+    tree: &'a Tree,
+    conf: &'a Conf,
+    index: &'a Index,
+    ranks: &'a [u32],
+    ghost same_conf: { tree.now.conf ≡ conf.now },
+}
+
+impl Listing<'_> {
+    // puts the lines of the slot at a place behind a text, and hands the text on where it is long
+    fn write_slot<W: Sink>(
+        &self,
+        sink: &mut W,
+        place: usize,
+        slot: &Slot,
+        text: &mut Vec<u8>,
+    ) -> Result<(), WriteFault>
+        requires can_fail { (W.written sink.old).failed < 2 ^ 64 - 1 }
+        requires listing { IsListing self.now.conf.now self.now.tree.now self.now.index.now self.now.ranks.now }
+        requires place { slice_get self.now.conf.now.slots place ≡ Some slot.now }
+        ensures { WritesOn result (W.written sink.old) (W.written sink.new) (text.old.items ++ slot_lines self.now.conf.now self.now.tree.now.entries slot.now) text.new.items }
+    {
+        self.tree.is_directory();
+        self.tree.is_numbered();
+        self.conf.holds();
+        if put_slot(text, self.conf, slot).is_err() {
+            return Err(WriteFault::OutOfMemory);
+        }
+        let keys = self.index.keys(SlotNumber(place));
+        write_rows(self.alloc, sink, self.ranks, keys, text)
+    }
+
+    // the same of all slots
+    fn write_slots<W: Sink>(&self, sink: &mut W, text: &mut Vec<u8>) -> Result<(), WriteFault>
+        requires can_fail { (W.written sink.old).failed < 2 ^ 64 - 1 }
+        requires listing { IsListing self.now.conf.now self.now.tree.now self.now.index.now self.now.ranks.now }
+        ensures { WritesOn result (W.written sink.old) (W.written sink.new) (text.old.items ++ slots_lines self.now.conf.now self.now.tree.now.entries self.now.conf.now.slots) text.new.items }
+    {
+        for (place, slot) in self.conf.slots().iter().enumerate() {
+            self.write_slot(sink, place, slot, text)?;
+        }
+        Ok(())
+    }
+}
+
+// a text that begins with the first line
+fn first_line(alloc: Global, tree: &Tree, conf: &Conf) -> Result<Vec<u8>, AllocError>
+    requires { tree.now.conf ≡ conf.now }
+    ensures { IfOk result (λ text. text.items ≡ first_line conf.now tree.now.entries) }
+{
+    let stamp = stamp_of(alloc, tree, conf)?;
+    let mut text = Vec::new(alloc);
+    put_header(alloc, &mut text, tree.len(), &stamp)?;
+    Ok(text)
+}
+
+/// Writes the text of the index of a tree's entries, in pieces of some 64 KiB: how many entries there are, the digest of their dump, and
+/// for each slot the keys that the entries have, each with the places in the dump of the entries that have it. The tree and the index
+/// were made with this configuration. On a fault a beginning was written.
+pub fn write_index_text<W: Sink>(
+    alloc: Global,
+    tree: &Tree,
+    conf: &Conf,
+    index: &Index,
+    sink: &mut W,
+) -> Result<(), WriteFault>
+    requires made { tree.now.conf ≡ conf.now }
+    requires indexed { IsIndexOf conf.now tree.now.entries tree.now.numbers index.now }
+    requires can_fail { (W.written sink.old).failed < 2 ^ 64 - 1 }
+    ensures writes { Writes result (W.written sink.old) (W.written sink.new) (index_text conf.now tree.now.entries) }
+{
+    let Ok(mut text) = first_line(alloc, tree, conf) else {
+        return Err(WriteFault::OutOfMemory);
+    };
+    let Ok(ranks) = ranks_by_number(alloc, tree) else {
+        return Err(WriteFault::OutOfMemory);
+    };
+    let listing = Listing {
+        alloc,
+        tree,
+        conf,
+        index,
+        ranks: ranks.as_slice(),
+    };
+    listing.write_slots(sink, &mut text)?;
+    if put_end(&mut text).is_err() {
+        return Err(WriteFault::OutOfMemory);
+    }
+    pass_on(sink, &mut text)
+}
+
+impl Directory {
+    /// Writes the text of the index, in pieces of some 64 KiB: how many entries there are, the digest of the dump, and for each slot of the
+    /// configuration the keys that the entries have, each with the places in the dump of the entries that have it. On a fault a beginning
+    /// was written.
+    pub fn index_text<W: Sink>(&self, alloc: Global, sink: &mut W) -> Result<(), WriteFault>
+        requires { (W.written sink.old).failed < 2 ^ 64 - 1 }
+        ensures { Writes result (W.written sink.old) (W.written sink.new) (index_text self.now.conf self.now.entries) }
+    {
+        write_index_text(alloc, self.tree(), self.conf(), self.index(), sink)
+    }
+}

@@ -1,0 +1,63 @@
+//! The ranks of entries: their places in the dump, from 0 on.
+
+ghost use Rattle.std.specs.Prelude.{◌≡◌, ◌==◌, ℕ, if◌then◌else◌, IfOk, OnOk};
+ghost use Rattle.directory.specs.inner.IndexRows.{rank_at, AreRanked, numbers_in_order, ranks_of};
+
+use id_sets::{IdSet, KeySet};
+use schema::Path;
+use std::alloc::{AllocError, Global};
+use tree::Tree;
+
+// keeps the rank of the entry with a number, at that number
+fn put_rank(ranks: &mut Vec<u32>, number: u32, rank: u32) -> Result<(), AllocError>
+    ensures { OnOk result ((n : ℕ) → rank_at ranks.new.items n ≡ (if n == number then rank else rank_at ranks.old.items n)) }
+{
+    let place = number as usize;
+    if ranks.len() <= place {
+        ranks.resize(place + 1, 0)?;
+    }
+    ranks[place] = rank;
+    Ok(())
+}
+
+/// The rank of each entry of a tree, at its number.
+pub(crate) fn ranks_by_number(alloc: Global, tree: &Tree) -> Result<Vec<u32>, AllocError>
+    ensures { IfOk result (λ ranks. AreRanked ranks.items 0 (numbers_in_order tree.now)) }
+{
+    tree.is_directory();
+    tree.is_numbered();
+    let root = Path::root(alloc);
+    let mut ranks = Vec::new(alloc);
+    let mut rank: u32 = 0;
+    for (_, number, _) in tree.numbered(&root) {
+        put_rank(&mut ranks, number, rank)?;
+        rank += 1;
+    }
+    Ok(ranks)
+}
+
+fn rank_of(ranks: &[u32], number: u32) -> u32
+    ensures { result ≡ rank_at ranks.now number }
+{
+    match ranks.get(number as usize) {
+        Some(rank) => *rank,
+        None => 0,
+    }
+}
+
+/// The ranks of the entries with these numbers, ascending.
+pub(crate) fn ranks_of(
+    alloc: Global,
+    ranks: &[u32],
+    numbers: &KeySet,
+) -> Result<Vec<u32>, AllocError>
+    ensures { IfOk result (λ found. found.items ≡ ranks_of ranks.now numbers.now.members) }
+{
+    let mut found = Vec::new(alloc);
+    for number in numbers.walk() {
+        found.push(rank_of(ranks, number))?;
+    }
+    found.sort_unstable();
+    found.dedup();
+    Ok(found)
+}

@@ -1,0 +1,142 @@
+//! The index that is kept with a directory: its text, and how many keys each record edits.
+
+use crate::runs::loaded_under;
+use device::{Source, TrySink, TrySource};
+use directory::Directory;
+use ldif::{Mode, Reader, read_record};
+use schema::{Conf, read_conf};
+use std::alloc::Global;
+use std::test::Fail;
+
+const CONF: &str = "suffix \"dc=ex\"
+attributetype ( 2.5.4.41 NAME 'name' EQUALITY caseIgnoreMatch SUBSTR caseIgnoreSubstringsMatch SYNTAX 1.3.6.1.4.1.1466.115.121.1.15{32768} )
+attributetype ( 2.5.4.3 NAME ( 'cn' 'commonName' ) SUP name )
+attributetype ( 2.5.4.4 NAME ( 'sn' 'surname' ) SUP name )
+attributetype ( 0.9.2342.19200300.100.1.25 NAME ( 'dc' 'domainComponent' ) EQUALITY caseIgnoreIA5Match SUBSTR caseIgnoreIA5SubstringsMatch SYNTAX 1.3.6.1.4.1.1466.115.121.1.26 SINGLE-VALUE )
+attributetype ( 1.3.6.1.1.1.1.0 NAME 'uidNumber' EQUALITY integerMatch ORDERING integerOrderingMatch SYNTAX 1.3.6.1.4.1.1466.115.121.1.27 SINGLE-VALUE )
+attributetype ( 2.5.4.13 NAME 'description' EQUALITY caseIgnoreMatch SUBSTR caseIgnoreSubstringsMatch SYNTAX 1.3.6.1.4.1.1466.115.121.1.15 )
+index cn eq,pres,sub
+index sn,uidNumber eq
+index description eq,sub
+";
+
+const PEOPLE: &str =
+    "dn: dc=ex\nobjectClass: domain\ndc: ex\n\ndn: cn=aba,dc=ex\nobjectClass: person\ncn: aba\n\ndn: cn=abba,dc=ex\nobjectClass: person\ncn: abba\n\ndn: cn=abc bcd,dc=ex\nobjectClass: person\ncn: abc bcd\n\ndn: cn=Bob,dc=ex\nobjectClass: person\nuidNumber: 7\ncn: Bob\n\n";
+
+// the same entries, those below the suffix the other way round
+const TURNED: &str =
+    "dn: dc=ex\nobjectClass: domain\n\ndn: cn=Bob,dc=ex\nobjectClass: person\nuidNumber: 7\n\ndn: cn=abc bcd,dc=ex\nobjectClass: person\n\ndn: cn=abba,dc=ex\nobjectClass: person\n\ndn: cn=aba,dc=ex\nobjectClass: person\n\n";
+
+const INDEX: &str = "slapindex 1 5 8693d50c14ee25d36384190df2bf9729b1b64588da8486e24a3292b94e5bbb2b
+slot cn eq
+616261 1
+61626261 2
+61626320626364 3
+626f62 4
+slot cn pres
+- 1 2 3 4
+slot cn sub
+206263 3
+616261 1
+616262 2
+616263 3
+626261 2
+626320 3
+626364 3
+626f62 4
+632062 3
+slot sn eq
+slot uidNumber eq
+37 4
+slot description eq
+slot description sub
+end
+";
+
+const EMPTY: &str = "slapindex 1 0 e3b0c44298fc1c149afbf4c8996fb92427ae41e4649b934ca495991b7852b855
+slot cn eq
+slot cn pres
+slot cn sub
+slot sn eq
+slot uidNumber eq
+slot description eq
+slot description sub
+end
+";
+
+fn conf(alloc: Global) -> Result<Conf, Fail> {
+    Ok(read_conf(alloc, CONF.as_bytes())?)
+}
+
+fn index_of(alloc: Global, dir: &Directory) -> Result<Vec<u8>, Fail> {
+    let mut sink = TrySink::new(alloc, 100, None);
+    dir.index_text(alloc, &mut sink)?;
+    Ok(Vec::from_slice(alloc, sink.bytes())?)
+}
+
+// the counts of the records of a source, carried out in turn, as digits
+fn counts<S: Source>(
+    alloc: Global,
+    dir: &mut Directory,
+    source: &mut S,
+    mode: Mode,
+) -> Result<Vec<u8>, Fail> {
+    let mut reader = Reader::new(alloc, source);
+    let mut found = Vec::new(alloc);
+    for _ in 0..9 {
+        let Ok(Some(raw)) = reader.next() else {
+            return Ok(found);
+        };
+        let Ok(record) = read_record(alloc, &raw, mode) else {
+            return Err(Fail::from("the record can be read"));
+        };
+        match dir.apply(&record, mode) {
+            Ok(edits) => found.push(b'0' + (edits.count % 10) as u8)?,
+            Err(_) => found.push(b'-')?,
+        }
+    }
+    Ok(found)
+}
+
+fn counts_in(alloc: Global, dir: &mut Directory, text: &str, mode: Mode) -> Result<Vec<u8>, Fail> {
+    let mut source = TrySource::new(text.as_bytes(), 100, None);
+    counts(alloc, dir, &mut source, mode)
+}
+
+#[test]
+fn the_index_of_no_entry_is_written(rt: HostRuntime) -> Result<(), Fail> {
+    let dir = Directory::new(rt.alloc(), conf(rt.alloc())?)?;
+    assert_eq!(rt; index_of(rt.alloc(), &dir)?.as_slice(), EMPTY.as_bytes());
+    Ok(())
+}
+
+#[test]
+fn the_index_of_loaded_entries_is_written(rt: HostRuntime) -> Result<(), Fail> {
+    for text in [PEOPLE, TURNED] {
+        let dir = loaded_under(rt.alloc(), conf(rt.alloc())?, text)?;
+        assert_eq!(rt; index_of(rt.alloc(), &dir)?.as_slice(), INDEX.as_bytes());
+    }
+    Ok(())
+}
+
+#[test]
+fn records_edit_the_index(rt: HostRuntime) -> Result<(), Fail> {
+    let mut dir = Directory::new(rt.alloc(), conf(rt.alloc())?)?;
+    let added = counts_in(rt.alloc(), &mut dir, PEOPLE, Mode::Content)?;
+    assert_eq!(rt; added.as_slice(), b"03474".as_slice());
+    assert_eq!(rt; index_of(rt.alloc(), &dir)?.as_slice(), INDEX.as_bytes());
+    Ok(())
+}
+
+#[test]
+fn changes_edit_the_index(rt: HostRuntime) -> Result<(), Fail> {
+    let mut dir = loaded_under(rt.alloc(), conf(rt.alloc())?, PEOPLE)?;
+    let changed = counts_in(rt.alloc(), &mut dir, CHANGES, Mode::Changes { add: false })?;
+    assert_eq!(rt; changed.as_slice(), b"0204-".as_slice());
+    Ok(())
+}
+
+// the same value in another case; two values, one of which is too short for a window; what isn't there is replaced by nothing; an entry
+// goes; it is gone
+const CHANGES: &str =
+    "dn: cn=aba,dc=ex\nchangetype: modify\ndelete: cn\ncn: aba\n-\nadd: cn\ncn: ABA\n\ndn: cn=aba,dc=ex\nchangetype: modify\nadd: sn\nsn: xy\n-\nadd: description\ndescription: ab\n\ndn: cn=aba,dc=ex\nchangetype: modify\nreplace: uidNumber\n\ndn: cn=Bob,dc=ex\nchangetype: delete\n\ndn: cn=Bob,dc=ex\nchangetype: delete\n";
