@@ -15,3 +15,4 @@ pub mod RankLists
 pub mod RanksByNumber
 pub mod IndexRows
 pub mod WrittenLines
+pub mod IndexExamples
