@@ -15,10 +15,10 @@ use Rattle.filter_text.specs.declared.items.Item.TheVariants as items
 use Rattle.filter.specs.declared.truth.Truth.TheVariants as truths
 use Rattle.filter.specs.declared.assertion.Assertion.{Assertion}
 use Rattle.filter.specs.declared.assertion.Assertion.TheVariants.{Equality, GreaterOrEqual, LessOrEqual, Present, Substrings}
-use Rattle.filter.specs.Subtypes.{subtypes}
+use Rattle.schema.specs.Subtypes.{subtypes}
 use Rattle.filter.specs.Items.{item_type, item_pieces, texts_of, order_of, asks_for, attribute_of, values_under, true_or_false, truth_at, item_truth}
 use Rattle.filter.specs.Prepared.{only_if, assertion_of, settled, settled_at, prepared_item, matches, has_match, item_test}
-use Rattle.filter.proofs.SubtypeTests.{AreTypes}
+use Rattle.schema.proofs.SubtypeTests.{AreTypes}
 use Rattle.filter.proofs.SubtypeRules.{same_norm}
 use Rattle.filter.proofs.Values.{AsksFor, of_entry}
 

@@ -1,7 +1,7 @@
 pub mod Told
 pub mod PieceTests
 pub mod OrderTests
-pub mod SubtypeTests
+pub mod SubtypeLists
 pub mod SubtypeRules
 pub mod Values
 pub mod Items

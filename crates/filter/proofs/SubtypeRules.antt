@@ -8,12 +8,11 @@ use Rattle.values.specs.declared.types.AttributeType.{AttributeType}
 use Rattle.values.specs.declared.types.EqualityRule.{EqualityRule}
 use Rattle.values.specs.declared.types.EqualityRule.TheVariants as rules
 use Rattle.values.specs.Types.{type_at, no_type, has_equality}
-use Rattle.schema.specs.Subtypes.{LeadsTo, IsSubtype}
+use Rattle.schema.specs.Subtypes.{LeadsTo, IsSubtype, is_subtype}
 use Rattle.schema.specs.TypeRules.{rule_number, is_equality, leaves_rule, leaves_family, breaks_with, is_syntax, up_of}
 use Rattle.schema.specs.Values.{norm_at, norm_with}
 use Rattle.schema.proofs.Subtypes.{above_lower}
-use Rattle.filter.specs.Subtypes.{is_subtype}
-use Rattle.filter.proofs.SubtypeTests.{AreTypes, subtype_told}
+use Rattle.schema.proofs.SubtypeTests.{AreTypes, subtype_told}
 
 -- ---- rules with one number are one rule
 

@@ -12,7 +12,7 @@ use Rattle.filter.specs.declared.truth.Truth.{Truth}
 use Rattle.filter.specs.Truths.{and_of, or_of, opposite}
 use Rattle.filter.specs.Filters.{truth, truths}
 use Rattle.filter.specs.Prepared.{Tree, Trees, And_then, trees_then, tree_of, trees_of, prepared_tree, prepared_trees, filter_test, filter_tests}
-use Rattle.filter.proofs.SubtypeTests.{AreTypes}
+use Rattle.schema.proofs.SubtypeTests.{AreTypes}
 use Rattle.filter.proofs.Items.{item_law}
 use Rattle.filter.proofs.Truths.{lesser, greater, and_of_more, or_of_more}
 

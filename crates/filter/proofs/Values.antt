@@ -7,10 +7,10 @@ use Rattle.values.specs.Values.{Value}
 use Rattle.schema.specs.Values.{norm_at}
 use Rattle.tree.specs.StoredEntries.{EntryAttribute, raws, attributes_of, AreNormal, IsMadeAttribute}
 use Rattle.filter.specs.declared.assertion.Assertion.{Assertion}
-use Rattle.filter.specs.Subtypes.{is_subtype, subtypes}
+use Rattle.schema.specs.Subtypes.{is_subtype, subtypes}
 use Rattle.filter.specs.Items.{values_under}
 use Rattle.filter.specs.Prepared.{matches, has_match}
-use Rattle.filter.proofs.SubtypeTests.{among_subtypes}
+use Rattle.filter.proofs.SubtypeLists.{among_subtypes}
 
 -- an assertion asks for these values of a type and its subtypes
 abbrev pub AsksFor : List AttributeType → ℕ → Assertion → (List ℕ → Bool) → Type 0

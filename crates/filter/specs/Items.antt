@@ -15,7 +15,7 @@ use Rattle.filter.specs.declared.truth.Truth.{Truth}
 use Rattle.filter.specs.declared.truth.Truth.TheVariants.{True, Undefined, False}
 use Rattle.filter.specs.Orders.{comes_before}
 use Rattle.filter.specs.Pieces.{fits}
-use Rattle.filter.specs.Subtypes.{is_subtype}
+use Rattle.schema.specs.Subtypes.{is_subtype}
 
 -- ---- the type that an item is about
 

@@ -1,5 +1,4 @@
 pub mod Truths
-pub mod Subtypes
 pub mod Orders
 pub mod Pieces
 pub mod Items

@@ -20,7 +20,7 @@ use Rattle.filter.specs.declared.prepared_filter.PreparedFilter.TheOpen.{Prepare
 use Rattle.filter.specs.declared.prepared_filter.PreparedFilter.TheFolds.{fold-PreparedFilter}
 use Rattle.filter.specs.Truths.{and_of, or_of, opposite}
 use Rattle.filter.specs.Orders.{comes_before}
-use Rattle.filter.specs.Subtypes.{subtypes}
+use Rattle.schema.specs.Subtypes.{subtypes}
 use Rattle.filter.specs.Items.{item_type, item_pieces, texts_of, contains, order_of, true_or_false}
 
 -- ---- items

@@ -1,12 +1,11 @@
 //! Laws of what filters ask, for the crates above.
 
-ghost use Rattle.std.specs.Prelude.{◌≡◌, ◌<◌, ◌↔◌, true, Bool, ℕ, List, length};
+ghost use Rattle.std.specs.Prelude.{◌≡◌, ◌↔◌, true, Bool, ℕ, List};
 ghost use Rattle.matching.specs.Orders.{Before};
 ghost use Rattle.matching.specs.Substrings.{Fits};
 ghost use Rattle.matching.specs.declared.family.Family.{Family};
 ghost use Rattle.values.specs.declared.types.AttributeType.{AttributeType};
 ghost use Rattle.schema.specs.Conf.{Conf, IsConf};
-ghost use Rattle.schema.specs.Subtypes.{IsSubtype};
 ghost use Rattle.tree.specs.Entries.{Attributes};
 ghost use Rattle.tree.specs.StoredEntries.{EntryAttribute, attributes_of, IsMade};
 ghost use Rattle.filter_text.specs.Spells.{Tree, Not_of};
@@ -14,12 +13,6 @@ ghost use Rattle.filter.specs.Filters.{truth};
 ghost use Rattle.filter.specs.Orders.{comes_before};
 ghost use Rattle.filter.specs.Pieces.{fits};
 ghost use Rattle.filter.specs.Prepared.{filter_test, prepared_tree};
-ghost use Rattle.filter.specs.Subtypes.{is_subtype};
-
-/// The test for subtypes tells them.
-pub fn subtypes_are_told()
-    ensures { (conf : Conf) (t u : ℕ) → IsConf conf → t < length conf.types → (is_subtype conf.types t u ≡ true) ↔ IsSubtype conf.types t u }
-{}
 
 /// The test for pieces tells where they fit.
 pub fn pieces_are_told()

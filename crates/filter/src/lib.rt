@@ -17,7 +17,6 @@ pub use assertion::Assertion;
 pub use filter_text::{Filter, Item};
 pub use laws::{
     negating_twice_changes_nothing, orders_are_told, pieces_are_told, settled_filters_say_the_same,
-    subtypes_are_told,
 };
 pub use meter::Meter;
 pub use prepared::Prepared;

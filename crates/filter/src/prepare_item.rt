@@ -6,12 +6,11 @@ ghost use Rattle.std.specs.Option.{option_map};
 ghost use Rattle.schema.specs.Values.{is_valid_at, norm_at, pieces_of};
 ghost use Rattle.values.specs.Types.{type_at, has_equality};
 ghost use Rattle.filter.specs.Items.{attribute_of, item_type, one_or_none, order_of, texts_of};
-ghost use Rattle.filter.specs.Subtypes.{subtypes};
+ghost use Rattle.schema.specs.Subtypes.{subtypes};
 ghost use Rattle.filter.specs.Prepared.{only_if, assertion_of, prepared_item};
 ghost use Rattle.filter.specs.declared.assertion.Assertion.TheVariants.{Equality, GreaterOrEqual, LessOrEqual, Substrings};
 
 use crate::assertion::Assertion;
-use crate::laws::subtypes_are_told;
 use crate::prepared_item::PreparedItem;
 use base::{Bytes, Sequence};
 use filter_text::Item;
@@ -197,7 +196,7 @@ fn assertion_of(
 fn subtypes(alloc: Global, conf: &Conf, t: TypeId) -> Result<Sequence<TypeId>, AllocError>
     ensures { IfOk result (λ ts. ts ≡ subtypes conf.now.types t) }
 {
-    subtypes_are_told();
+    schema::subtypes_are_told();
     conf.holds();
     let mut found = Sequence::new(alloc);
     for number in 0..conf.types().len() {

@@ -7,7 +7,7 @@ use Rattle.values.specs.declared.types.AttributeType.{AttributeType}
 use Rattle.schema.specs.declared.slots.IndexKind.TheVariants.{Equality, Presence, Substrings}
 use Rattle.schema.specs.Values.{norm_at}
 use Rattle.tree.specs.Entries.{Attributes}
-use Rattle.index.specs.Subtypes.{is_subtype}
+use Rattle.schema.specs.Subtypes.{is_subtype}
 use Rattle.index.specs.EntryKeys.{norms_under, windows, empty_key, has_key}
 
 -- whether an entry has a value of a type or of a subtype whose normal form passes the test

@@ -9,5 +9,4 @@ pub mod OneByOne
 pub mod Search
 pub mod SlotKeyOrder
 pub mod StoredKeys
-pub mod SubtypeTests
 pub mod WindowSteps

@@ -11,7 +11,7 @@ use Rattle.schema.specs.Conf.{Conf}
 use Rattle.schema.specs.Values.{norm_at}
 use Rattle.tree.specs.Entries.{Attributes, EntryContent}
 use Rattle.index.specs.declared.slot_key.SlotKey.{SlotKey}
-use Rattle.index.specs.Subtypes.{is_subtype}
+use Rattle.schema.specs.Subtypes.{is_subtype}
 use Rattle.index.specs.SlotKeys.{SlotKeys, slot_key}
 
 -- ---- the keys for a type and a kind of index

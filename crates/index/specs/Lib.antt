@@ -4,5 +4,4 @@ pub mod KeyChanges
 pub mod KeySets
 pub mod Postings
 pub mod SlotKeys
-pub mod Subtypes
 pub mod inner

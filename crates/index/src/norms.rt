@@ -4,7 +4,7 @@ ghost use Rattle.std.specs.Prelude.{◌≡◌, ◌<◌, ◌++◌, [], if◌then�
 ghost use Rattle.std.specs.List.{AllByRecursion};
 ghost use Rattle.std.specs.Map.Iter.{TakesFirst, deref};
 ghost use Rattle.tree.specs.StoredEntries.{IsMade, IsMadeAttribute};
-ghost use Rattle.index.specs.Subtypes.{is_subtype};
+ghost use Rattle.schema.specs.Subtypes.{is_subtype};
 ghost use Rattle.index.specs.inner.StoredKeys.{norms_left, norms_of, stored_norms};
 
 use indexmap::map::Iter;
@@ -43,6 +43,7 @@ fn is_under(conf: &Conf, t: TypeId, above: TypeId) -> bool
     ensures { result ≡ is_subtype conf.now.types t above }
 {
     conf.holds();
+    schema::subtypes_are_told();
     conf.is_subtype(t, above)
 }
 

@@ -1,6 +1,7 @@
 pub mod Below
 pub mod Parts
 pub mod Subtypes
+pub mod SubtypeTests
 pub mod Named
 pub mod Locating
 pub mod Steps

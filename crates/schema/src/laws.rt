@@ -1,6 +1,6 @@
 //! Laws of names and configurations, for the crates above.
 
-ghost use Rattle.std.specs.Prelude.{◌≡◌, ◌↔◌, ℕ, true, false, Ok, Err, Some, nat_lt, List, map};
+ghost use Rattle.std.specs.Prelude.{◌≡◌, ◌<◌, ◌↔◌, ℕ, true, false, length, Ok, Err, Some, nat_lt, List, map};
 ghost use Rattle.std.specs.List.{list_all, AllByRecursion};
 ghost use Rattle.std.specs.List.Sorted.{IsNonDecreasingBy, IsPermutation};
 ghost use Rattle.values.specs.Types.{type_of, name_of, is_known};
@@ -15,6 +15,7 @@ ghost use Rattle.schema.specs.declared.conf_fault.ConfFaultKind.{ConfFaultKind};
 ghost use Rattle.schema.specs.Configurations.{conf_of};
 ghost use Rattle.schema.specs.Superclasses.{has_number, with_superclasses, IsAtOrAboveOne};
 ghost use Rattle.schema.specs.FaultyLines.{IsConfFault};
+ghost use Rattle.schema.specs.Subtypes.{IsSubtype, is_subtype};
 
 use definitions::{spelled_classes_are_read, spelled_types_are_read};
 use dn::{spelled_names_are_read, written_names_are_read};
@@ -25,6 +26,11 @@ pub fn printed_names_name_their_types()
     ensures names { (conf : Conf) (t : ℕ) → IsConf conf → is_known conf.types t ≡ true → type_of conf.types (name_of conf.types t) ≡ Some t }
     ensures texts { (conf : Conf) (t : ℕ) → IsConf conf → is_known conf.types t ≡ true → is_type (name_of conf.types t) ≡ true }
     ensures free { (conf : Conf) (t : ℕ) → IsConf conf → is_known conf.types t ≡ true → is_reserved (name_of conf.types t) ≡ false }
+{}
+
+/// The test for subtypes tells them.
+pub fn subtypes_are_told()
+    ensures { (conf : Conf) (t u : ℕ) → IsConf conf → t < length conf.types → (is_subtype conf.types t u ≡ true) ↔ IsSubtype conf.types t u }
 {}
 
 /// Valid values are bytes.

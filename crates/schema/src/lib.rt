@@ -40,8 +40,8 @@ pub use dn::Name;
 pub use fault::PathFault;
 pub use laws::{
     conf_faults_stand_at_lines, keys_are_sorted, located_rdns_are_good,
-    printed_names_name_their_types, superclasses_are_listed, valid_values_are_bytes,
-    written_names_are_located,
+    printed_names_name_their_types, subtypes_are_told, superclasses_are_listed,
+    valid_values_are_bytes, written_names_are_located,
 };
 pub use locate::Located;
 pub use matching::{Family, Pieces, Syntax, contains_pieces, is_less};

@@ -6,7 +6,7 @@ use Rattle.values.specs.Values.{Value}
 use Rattle.schema.specs.declared.slots.IndexKind.{IndexKind}
 use Rattle.schema.specs.declared.slots.IndexKind.TheVariants.{Equality, Presence, Substrings}
 use Rattle.tree.specs.StoredEntries.{EntryAttribute}
-use Rattle.index.specs.Subtypes.{is_subtype}
+use Rattle.schema.specs.Subtypes.{is_subtype}
 use Rattle.index.specs.EntryKeys.{windows, empty_key}
 
 abbrev pub norms_of : List Value → List (List ℕ)

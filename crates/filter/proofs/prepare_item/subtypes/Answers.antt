@@ -1,7 +1,7 @@
 use Rattle.std.proofs.Common.{◌<◌, subst, length, ◌∙◌}
 use Rattle.values.specs.declared.types.AttributeType.{AttributeType}
 use Rattle.std.proofs.Common.{List}
-use Rattle.filter.proofs.SubtypeTests.{found_more, found_no_more}
+use Rattle.filter.proofs.SubtypeLists.{found_more, found_no_more}
 use Rattle.filter.proofs.prepare_item.subtypes.Goals as goal
 use Rattle.filter.proofs.prepare_item.subtypes.Goals.{then-is_subtype+in_ok-push, else-is_subtype}
 

@@ -1,6 +1,6 @@
 use Rattle.std.proofs.Common.{◌≡◌}
 use Rattle.std.specs.List.{filter, range_with_len}
-use Rattle.filter.specs.Subtypes.{is_subtype}
+use Rattle.schema.specs.Subtypes.{is_subtype}
 use Rattle.filter.proofs.prepare_item.subtypes.Given as goal
 
 abbrev pub invariant-loop-number : goal.invariant-loop-number

@@ -3,10 +3,9 @@ use Rattle.std.proofs.Common.{◌≡◌, ◌≢◌, ◌↔◌, ℕ, zero, suc, �
 use Rattle.std.proofs.lemmas.Bool.{eqb-true, eq-eqb}
 use Rattle.values.specs.declared.types.AttributeType.{AttributeType}
 use Rattle.values.specs.Types.{type_at}
-use Rattle.schema.specs.Subtypes.{IsSubtype}
+use Rattle.schema.specs.Subtypes.{IsSubtype, passes, leads_within, is_subtype}
 use Rattle.schema.specs.TypeRules.{FitsBehind}
 use Rattle.schema.proofs.Subtypes.{itself, one_up, no_more, above_lower}
-use Rattle.index.specs.Subtypes.{passes, leads_within, is_subtype}
 
 -- each type fits behind those before it
 abbrev pub AreTypes : List AttributeType → Type 0
