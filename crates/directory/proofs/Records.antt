@@ -93,7 +93,7 @@ module _ (conf : Conf) (mode : Mode) (go_on : Bool) (old : Entries) where
     settled = one_more front r ∙ step_going (at front) (read_as mode r) going ∙ ap (λ (d : Entries). take_up go_on (at front) r.line (outcome conf mode d (reading mode r.first r.lines))) (sym here)
 
     module _ (all mid left : Option (List RawRecord)) (t t' : Tally) (new : Entries) (h : IsReached conf mode go_on old now all mid t front) (taken : Takes mid left (r ∷ [])) (entries : new ≡ o.0) (counts : t' ≡ counts_after o.1 t) where
-      reached_more : IsReached conf mode go_on old new all left t' (front ++ r ∷ [])
+      pub reached_more : IsReached conf mode go_on old new all left t' (front ++ r ∷ [])
       reached_more = record {
         parts = takes_more all mid left front (r ∷ []) h.parts taken;
         entries = entries ∙ counted_entries go_on (at front) r.line o.0 o.1 ∙ ap (λ (s : State). s.entries) (sym settled);
@@ -123,14 +123,14 @@ module _ (conf : Conf) (mode : Mode) (go_on : Bool) (old : Entries) where
   }
 
   module _ (now new : Entries) (all mid left : Option (List RawRecord)) (t t' : Tally) (a b c : Written) (r : RawRecord) (P : List RawRecord → Type 0) (h : Stands P conf mode go_on old now all mid t a b) (taken : Takes mid left (r ∷ [])) where
-    pub goes_on : (Q : List RawRecord → Type 0) → ((front : List RawRecord) → P front → Q (front ++ r ∷ [])) → (ended : Bool) → IsTaken (outcome conf mode now (reading mode r.first r.lines)) go_on r.line new t t' b c ended → ended ≡ false
+    pub goes_on : (Q : List RawRecord → Type 0) → ((front : List RawRecord) → P front → (at front).ended ≡ false → now ≡ (at front).entries → Q (front ++ r ∷ [])) → (ended : Bool) → IsTaken (outcome conf mode now (reading mode r.first r.lines)) go_on r.line new t t' b c ended → ended ≡ false
         → Stands Q conf mode go_on old new all left t' a c
     goes_on Q more ended k off = record {
       front = h.front ++ r ∷ [];
       reached = reached_more now h.front r h.going h.reached.entries all mid left t t' new h.reached taken k.entries k.counts;
       going = ended_is now h.front r h.going h.reached.entries ∙ sym k.ended_is ∙ off;
       written = written_more now h.front r h.going h.reached.entries a b c h.written k.written;
-      so = more h.front h.so;
+      so = more h.front h.so h.going h.reached.entries;
     }
 
     pub ends_there : (ended : Bool) → IsTaken (outcome conf mode now (reading mode r.first r.lines)) go_on r.line new t t' b c ended → ended ≡ true → Runs conf mode go_on old new all (Ok t') a c

@@ -20,17 +20,17 @@ use Rattle.directory.specs.inner.Stands.{IsReached}
 use Rattle.directory.specs.declared.runs.Tally.{Tally}
 use Rattle.directory.specs.declared.runs.RunFault.{RunFault}
 
-others_of : Option (List RawRecord) → List RawRecord
+pub others_of : Option (List RawRecord) → List RawRecord
 others_of None = []
 others_of (Some left) = left
 
-parts_of : (rs front : List RawRecord) (left : Option (List RawRecord)) → Takes (Some rs) left front → rs ≡ front ++ others_of left
+pub parts_of : (rs front : List RawRecord) (left : Option (List RawRecord)) → Takes (Some rs) left front → rs ≡ front ++ others_of left
 unfolding others_of
 parts_of rs front None parts = absurd parts
 parts_of rs front (Some left) parts = parts
 
 module _ (conf : Conf) (mode : Mode) (go_on : Bool) (old : Entries) where
-  step_ended : (s : State) (r : ℕ × Result Record LdifFaultKind) → s.ended ≡ true → step conf mode go_on s r ≡ s
+  pub step_ended : (s : State) (r : ℕ × Result Record LdifFaultKind) → s.ended ≡ true → step conf mode go_on s r ≡ s
   unfolding step
   step_ended s r over = ap (λ b. cond b s (take_up go_on s r.0 (outcome conf mode s.entries r.1))) over
 

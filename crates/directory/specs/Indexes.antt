@@ -1,7 +1,5 @@
 -- The index that is kept with the entries of a directory, and what a change edits of it.
-use Rattle.std.specs.Prelude.{◌≡◌, ℕ, false, Option, Result, Ok, Err}
-use Rattle.std.specs.Option.{option_and_then}
-use Rattle.std.specs.FinMap as finite
+use Rattle.std.specs.Prelude.{◌≡◌, ℕ, false, Result, Ok, Err}
 use Rattle.std.specs.FinSet as set
 use Rattle.ldif.specs.declared.record.Mode.{Mode}
 use Rattle.ldif.specs.declared.record.Record.{Record}
@@ -9,7 +7,8 @@ use Rattle.schema.specs.declared.code.Code.{Code}
 use Rattle.schema.specs.Conf.{Conf}
 use Rattle.tree.specs.Entries.{EntryContent}
 use Rattle.tree.specs.Directories.{Entries}
-use Rattle.tree.specs.Changes.{Change, changed, path_before, path_after}
+use Rattle.tree.specs.Changes.{Change}
+use Rattle.tree.specs.Plans.{entry_before, entry_after}
 use Rattle.tree.specs.Operations.{change_of}
 use Rattle.tree.specs.Trees.{Numbers, HasEntry}
 use Rattle.index.specs.declared.slot_key.SlotKey.{SlotKey}
@@ -21,13 +20,6 @@ pub record IsIndexOf (conf : Conf) (d : Entries) (m : Numbers) (x : Index) : Typ
   pub same_conf : x.conf ≡ conf
   pub has : (n : ℕ) (e : EntryContent) → HasEntry d m n e → (k : SlotKey) → set.contains (members x k) n ≡ set.contains (slot_keys conf e.attrs) k
   pub none : (n : ℕ) → ((e : EntryContent) → HasEntry d m n e → ⊥) → (k : SlotKey) → set.contains (members x k) n ≡ false
-
--- the entry that changes, before and after
-abbrev pub entry_before : Entries → Change → Option EntryContent
-entry_before d c = option_and_then (finite.get d) (path_before c)
-
-abbrev pub entry_after : Entries → Change → Option EntryContent
-entry_after d c = option_and_then (finite.get (changed d c)) (path_after c)
 
 -- how many keys under slots it has either before or after, and not both
 abbrev pub edits_of : Conf → Entries → Change → ℕ

@@ -7,6 +7,7 @@ pub mod Indexes
 pub mod IndexTexts
 pub mod Loading
 pub mod Folds
+pub mod RunEdits
 pub mod FailedReads
 pub mod Selections
 pub mod Found

@@ -4,5 +4,6 @@ pub mod Loading
 pub mod Stands
 pub mod Found
 pub mod Pulls
+pub mod RecordEdits
 pub mod Indexes
 pub mod IndexRows

@@ -1,11 +1,13 @@
 //! One record: on a tree with its index, or on a tree alone.
 
-ghost use Rattle.std.specs.Prelude.{◌≡◌, ◌+◌, IfOk, OnOk, OnErr, if◌then◌else◌};
+ghost use Rattle.std.specs.Prelude.{◌≡◌, ◌+◌, Err, IfOk, OnOk, OnErr, if◌then◌else◌};
 ghost use Rattle.ldif.specs.Reading.{reading};
 ghost use Rattle.tree.specs.Changes.{changed};
 ghost use Rattle.tree.specs.Operations.{apply};
 ghost use Rattle.tree.specs.Gives.{Gives};
 ghost use Rattle.directory.specs.Indexes.{IsIndexOf, edits_of, record_edits};
+ghost use Rattle.schema.specs.declared.code.Code.{Code};
+ghost use Rattle.directory.specs.RunEdits.{read_edits};
 ghost use Rattle.directory.specs.Runs.{is_empty, outcome};
 
 use crate::reason::{Outcome, Reason};
@@ -75,6 +77,7 @@ pub(crate) fn apply_record(
     ensures gives { Gives (λ _. tree.new.entries) result (apply conf.now mode tree.old.entries asked.now) }
     ensures count { IfOk result (λ e. e.count ≡ record_edits conf.now mode tree.old.entries asked.now) }
     ensures edits { IfOk result (λ e. index.new.edits ≡ index.old.edits + e.count) }
+    ensures refused { (code : Code) → result ≡ Err (Refusal.Code code) → index.new.edits ≡ index.old.edits }
     ensures err { OnErr result (tree.new ≡ tree.old) }
 {
     let plan = plan(alloc, tree, conf, asked, mode)?;
@@ -114,6 +117,7 @@ pub(crate) fn carry_out(
     requires indexed { IsIndexOf conf.now tree.old.entries tree.old.numbers index.old }
     ensures same_conf { tree.new.conf ≡ tree.old.conf }
     ensures indexed { IsIndexOf conf.now tree.new.entries tree.new.numbers index.new }
+    ensures edits { OnOk result (index.new.edits ≡ index.old.edits + read_edits conf.now mode tree.old.entries (reading mode raw.now.first raw.now.lines)) }
     ensures outcome { IfOk result (λ o. outcome conf.now mode tree.old.entries (reading mode raw.now.first raw.now.lines) ≡ (tree.new.entries, o)) }
     ensures err { OnErr result (tree.new ≡ tree.old) }
 {

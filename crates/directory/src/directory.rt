@@ -1,12 +1,14 @@
 //! Directories.
 
-ghost use Rattle.std.specs.Prelude.{◌≡◌, ◌+◌, IfOk, OnErr};
+ghost use Rattle.std.specs.Prelude.{◌≡◌, ◌+◌, Err, IfOk, OnOk, OnErr};
 ghost use Rattle.std.specs.FinMap as finite;
 ghost use Rattle.ldif.specs.Reading.{reading};
 ghost use Rattle.tree.specs.Operations.{apply};
 ghost use Rattle.tree.specs.Gives.{Gives};
 ghost use Rattle.directory.specs.Directories.{tree_of};
 ghost use Rattle.directory.specs.Indexes.{IsIndexOf, record_edits};
+ghost use Rattle.schema.specs.declared.code.Code.{Code};
+ghost use Rattle.directory.specs.RunEdits.{read_edits};
 ghost use Rattle.directory.specs.Runs.{outcome};
 
 use crate::applying::{Edits, apply_record, carry_out};
@@ -95,6 +97,7 @@ impl Directory {
         ensures gives { Gives (λ _. self.new.entries) result (apply self.old.conf mode self.old.entries asked.now) }
         ensures count { IfOk result (λ e. e.count ≡ record_edits self.old.conf mode self.old.entries asked.now) }
         ensures edits { IfOk result (λ e. self.new.edits ≡ self.old.edits + e.count) }
+        ensures refused { (code : Code) → result ≡ Err (Refusal.Code code) → self.new.edits ≡ self.old.edits }
         ensures err { OnErr result (tree_of self.new ≡ tree_of self.old) }
     {
         apply_record(
@@ -115,6 +118,7 @@ impl Directory {
         mode: Mode,
     ) -> Result<Outcome, AllocError>
         ensures same_conf { self.new.conf ≡ self.old.conf }
+        ensures edits { OnOk result (self.new.edits ≡ self.old.edits + read_edits self.old.conf mode self.old.entries (reading mode raw.now.first raw.now.lines)) }
         ensures outcome { IfOk result (λ o. outcome self.old.conf mode self.old.entries (reading mode raw.now.first raw.now.lines) ≡ (self.new.entries, o)) }
         ensures err { OnErr result (tree_of self.new ≡ tree_of self.old) }
     {

@@ -8,8 +8,10 @@ ghost use Rattle.directory.specs.Runs.{outcome};
 ghost use Rattle.directory.specs.Reports.{report_line};
 ghost use Rattle.directory.specs.Faults.{Failures};
 ghost use Rattle.directory.specs.Folds.{Runs};
+ghost use Rattle.directory.specs.RunEdits.{read_edits, EditsRise};
 ghost use Rattle.directory.specs.FailedReads.{StopsReading};
 ghost use Rattle.directory.specs.inner.Pulls.{closed_with};
+ghost use Rattle.directory.specs.inner.RecordEdits.{RiseBy};
 ghost use Rattle.directory.specs.inner.Steps.{IsTaken, IsBrokenOff};
 ghost use Rattle.ldif_lines.specs.Reader.{source_of, loan_of, is_failed, records_left, bytes_left};
 
@@ -71,6 +73,7 @@ fn take_record<W: Sink>(
     requires room { tally.old.accepted + tally.old.refused < 2 ^ 64 - 1 }
     ensures same_conf { dir.new.conf ≡ dir.old.conf }
     ensures taken { IfOk result (λ ended. IsTaken (outcome dir.old.conf mode dir.old.entries (reading mode raw.now.first raw.now.lines)) go_on raw.now.line dir.new.entries tally.old tally.new (W.written sink.old) (W.written sink.new) ended) }
+    ensures edits { RiseBy (read_edits dir.old.conf mode dir.old.entries (reading mode raw.now.first raw.now.lines)) result dir.old.edits dir.new.edits }
     ensures broken { IfErr result (λ f. IsBrokenOff (outcome dir.old.conf mode dir.old.entries (reading mode raw.now.first raw.now.lines)) raw.now.line dir.old.entries dir.new.entries tally.old (W.written sink.old) (W.written sink.new) f) }
 {
     let Ok(outcome) = dir.carry_out(alloc, raw, mode) else {
@@ -109,6 +112,7 @@ fn run_rest<S: Source, W: Sink>(
     ensures same_loan { loan_of reader.new ≡ loan_of reader.old }
     ensures same_conf { dir.new.conf ≡ dir.old.conf }
     ensures runs { Runs dir.old.conf mode go_on dir.old.entries dir.new.entries (records_left S.seen reader.old) result (W.written sink.old) (W.written sink.new) }
+    ensures edits { EditsRise dir.old.conf mode go_on dir.old.entries dir.new.entries (records_left S.seen reader.old) result dir.old.edits dir.new.edits }
     ensures read { IfErr result (λ f. StopsReading f (closed_with reader.old) dir.old.conf mode go_on dir.old.entries dir.new.entries (S.seen (source_of reader.old)) (S.seen (source_of reader.new)) (W.written sink.old) (W.written sink.new)) }
     ensures failures { Failures result (S.seen (source_of reader.old)).failed (S.seen (source_of reader.new)).failed (W.written sink.old).failed (W.written sink.new).failed }
     ensures gave { GaveSome (S.seen (source_of reader.old)) (S.seen (source_of reader.new)) }
@@ -150,6 +154,7 @@ pub fn run<S: Source, W: Sink>(
     requires sink { (W.written sink.old).failed < 2 ^ 64 - 1 }
     ensures same_conf { dir.new.conf ≡ dir.old.conf }
     ensures runs { Runs dir.old.conf mode go_on dir.old.entries dir.new.entries (option_map records (S.seen source.old).left) result (W.written sink.old) (W.written sink.new) }
+    ensures edits { EditsRise dir.old.conf mode go_on dir.old.entries dir.new.entries (option_map records (S.seen source.old).left) result dir.old.edits dir.new.edits }
     ensures read { IfErr result (λ f. StopsReading f closed_records dir.old.conf mode go_on dir.old.entries dir.new.entries (S.seen source.old) (S.seen source.new) (W.written sink.old) (W.written sink.new)) }
     ensures failures { Failures result (S.seen source.old).failed (S.seen source.new).failed (W.written sink.old).failed (W.written sink.new).failed }
     ensures gave { GaveSome (S.seen source.old) (S.seen source.new) }

@@ -29,7 +29,7 @@ fn asks_for(conf: &Conf, t: TypeId, word: &str) -> bool
     requires { t < length conf.now.types }
     ensures { result ≡ asks_for conf.now.types t word.now }
 {
-    filter::subtypes_are_told();
+    schema::subtypes_are_told();
     conf.holds();
     if word == "*" {
         return !conf.operational(t);

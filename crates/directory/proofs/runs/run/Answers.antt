@@ -1,5 +1,6 @@
 use Rattle.std.proofs.Common.{subst, rules}
 use Rattle.directory.specs.Folds.{Runs}
+use Rattle.directory.specs.RunEdits.{EditsRise}
 use Rattle.directory.proofs.Pulled.{closed_when_fresh, stops_fresh}
 use Rattle.directory.proofs.runs.run.Goals as goal
 
@@ -12,3 +13,7 @@ returns-clause-read g c =
     let r = c.new-reader.result in
     let place = c.new-reader.ensures.place in
     stops_fresh c.run_rest.result _ _ _ _ _ _ _ _ _ _ _ _ (closed_when_fresh r place.0 place.1 place.2) (search rules) (search rules) c.run_rest.ensures.read
+
+pub returns-clause-edits : goal.returns-clause-edits
+returns-clause-edits g c =
+    subst (λ all. EditsRise c.args.dir.now.conf c.args.mode c.args.go_on c.args.dir.now.entries c.run_rest.new.dir.entries all c.run_rest.result c.args.dir.now.edits c.run_rest.new.dir.edits) c.new-reader.ensures.records c.run_rest.ensures.edits

@@ -1,16 +1,22 @@
-use Rattle.std.proofs.Common.{◌⊎◌, IfSome, [], ◌∷◌, ◌<◌, refl, sym, ◌∙◌, ap, subst, arith}
+use Rattle.std.proofs.Common.{Bool, ◌≡◌, ◌+◌, ◌⊎◌, IfSome, [], ◌∷◌, ◌<◌, refl, sym, ◌∙◌, ap, subst, arith}
+use Rattle.std.specs.Prelude.{Err}
 use Rattle.std.proofs.lemmas.Result.{err_from_is_err_and}
 use Rattle.device.specs.Device.{GaveSome}
 use Rattle.device.proofs.Pulls.{gave_none, gave_more}
 use Rattle.ldif_lines.specs.View.{view}
 use Rattle.ldif.specs.Reading.{reading}
+use Rattle.schema.specs.Conf.{Conf}
 use Rattle.ldif_lines.specs.Pulls.{TakesBlock, TakesRest}
 use Rattle.ldif_lines.specs.Reader.{Takes, source_of, records_left, bytes_left}
+use Rattle.directory.specs.RunEdits.{read_edits}
 use Rattle.directory.specs.Runs.{outcome}
+use Rattle.directory.specs.inner.RecordEdits.{RiseBy, TookAndEdited}
 use Rattle.directory.specs.inner.Steps.{IsBrokenOff}
 use Rattle.directory.proofs.Records.{begins, goes_on, ends_there, breaks_off, stops_reading, stops_up_to, stops_wanting, counts_few}
-use Rattle.directory.specs.inner.Pulls.{TookBeforeEnd, closed_with}
+use Rattle.directory.specs.inner.Pulls.{closed_with}
 use Rattle.directory.proofs.Pulled.{took_none, took_next, up_to}
+use Rattle.directory.proofs.RunEdits as edited
+use Rattle.directory.proofs.RunEdits.{none_edited, one_edited}
 use Rattle.directory.proofs.runs.run_rest.Goals as goal
 
 pub records-init : goal.records-init
@@ -21,7 +27,7 @@ records-init g c = record {
   same_loan = refl;
   gave = gave_none _;
   conf = refl;
-  stands = begins c.args.dir.now.conf c.args.mode c.args.go_on c.args.dir.now.entries (TookBeforeEnd g.S.Source.seen c.args.reader.now c.args.reader.now) (λ _. took_none g.S.Source.seen c.args.reader.now) (records_left g.S.Source.seen c.args.reader.now) (g.W.Sink.written c.args.sink.now);
+  stands = begins c.args.dir.now.conf c.args.mode c.args.go_on c.args.dir.now.entries (TookAndEdited g.S.Source.seen c.args.reader.now c.args.reader.now c.args.dir.now.conf c.args.mode c.args.go_on c.args.dir.now.entries c.args.dir.now.edits c.args.dir.now.edits) ((λ _. took_none g.S.Source.seen c.args.reader.now), none_edited c.args.dir.now.conf c.args.mode c.args.go_on c.args.dir.now.entries c.args.dir.now.edits) (records_left g.S.Source.seen c.args.reader.now) (g.W.Sink.written c.args.sink.now);
   few = let few = c.requires.bound in omega (arith, few);
 }
 
@@ -34,7 +40,7 @@ returns-in_err-take_record-in-Ok-Some-clause-runs g c =
     (records_left g.S.Source.seen c.args.reader.now) (records_left g.S.Source.seen c.records.reader) (records_left g.S.Source.seen c.next.new.self)
     c.records.tally c.take_record.new.tally
     (g.W.Sink.written c.args.sink.now) (g.W.Sink.written c.records.sink) (g.W.Sink.written c.take_record.new.sink)
-    (view c.in-Ok-Some.raw) (TookBeforeEnd g.S.Source.seen c.args.reader.now c.records.reader) c.records.invariant.stands (subst (λ o. IfSome o (λ r. Takes (records_left g.S.Source.seen c.records.reader) (records_left g.S.Source.seen c.next.new.self) (view r ∷ []))) c.in-Ok-Some.field-0-is c.in-Ok-Some.ensures.record)
+    (view c.in-Ok-Some.raw) (TookAndEdited g.S.Source.seen c.args.reader.now c.records.reader c.args.dir.now.conf c.args.mode c.args.go_on c.args.dir.now.entries c.args.dir.now.edits c.records.dir.edits) c.records.invariant.stands (subst (λ o. IfSome o (λ r. Takes (records_left g.S.Source.seen c.records.reader) (records_left g.S.Source.seen c.next.new.self) (view r ∷ []))) c.in-Ok-Some.field-0-is c.in-Ok-Some.ensures.record)
     c.in_err-take_record-in-Ok-Some.field-0.0
     (subst (λ r. IsBrokenOff (outcome r c.args.mode c.records.dir.entries (reading c.args.mode c.in-Ok-Some.raw.first c.in-Ok-Some.raw.lines)) c.in-Ok-Some.raw.line c.records.dir.entries c.take_record.new.dir.entries c.records.tally (g.W.Sink.written c.records.sink) (g.W.Sink.written c.take_record.new.sink) c.in_err-take_record-in-Ok-Some.field-0.0) c.records.invariant.conf c.in_err-take_record-in-Ok-Some.ensures.broken))
 
@@ -45,7 +51,7 @@ returns-then-branch-clause-runs g c =
     (records_left g.S.Source.seen c.args.reader.now) (records_left g.S.Source.seen c.records.reader) (records_left g.S.Source.seen c.next.new.self)
     c.records.tally c.take_record.new.tally
     (g.W.Sink.written c.args.sink.now) (g.W.Sink.written c.records.sink) (g.W.Sink.written c.take_record.new.sink)
-    (view c.in-Ok-Some.raw) (TookBeforeEnd g.S.Source.seen c.args.reader.now c.records.reader) c.records.invariant.stands (subst (λ o. IfSome o (λ r. Takes (records_left g.S.Source.seen c.records.reader) (records_left g.S.Source.seen c.next.new.self) (view r ∷ []))) c.in-Ok-Some.field-0-is c.in-Ok-Some.ensures.record)
+    (view c.in-Ok-Some.raw) (TookAndEdited g.S.Source.seen c.args.reader.now c.records.reader c.args.dir.now.conf c.args.mode c.args.go_on c.args.dir.now.entries c.args.dir.now.edits c.records.dir.edits) c.records.invariant.stands (subst (λ o. IfSome o (λ r. Takes (records_left g.S.Source.seen c.records.reader) (records_left g.S.Source.seen c.next.new.self) (view r ∷ []))) c.in-Ok-Some.field-0-is c.in-Ok-Some.ensures.record)
     c.in_ok-take_record-in-Ok-Some.field-0
     (subst (λ r. Rattle.directory.specs.inner.Steps.IsTaken (outcome r c.args.mode c.records.dir.entries (reading c.args.mode c.in-Ok-Some.raw.first c.in-Ok-Some.raw.lines)) c.args.go_on c.in-Ok-Some.raw.line c.take_record.new.dir.entries c.records.tally c.take_record.new.tally (g.W.Sink.written c.records.sink) (g.W.Sink.written c.take_record.new.sink) c.in_ok-take_record-in-Ok-Some.field-0) c.records.invariant.conf c.in_ok-take_record-in-Ok-Some.ensures.taken)
     c.if-branch.true
@@ -63,11 +69,16 @@ records-preserved g c = record {
       (records_left g.S.Source.seen c.args.reader.now) (records_left g.S.Source.seen c.records.reader) (records_left g.S.Source.seen c.next.new.self)
       c.records.tally c.take_record.new.tally
       (g.W.Sink.written c.args.sink.now) (g.W.Sink.written c.records.sink) (g.W.Sink.written c.take_record.new.sink)
-      (view c.in-Ok-Some.raw) (TookBeforeEnd g.S.Source.seen c.args.reader.now c.records.reader) c.records.invariant.stands (subst (λ o. IfSome o (λ r. Takes (records_left g.S.Source.seen c.records.reader) (records_left g.S.Source.seen c.next.new.self) (view r ∷ []))) c.in-Ok-Some.field-0-is c.in-Ok-Some.ensures.record)
-      (TookBeforeEnd g.S.Source.seen c.args.reader.now c.reuse.new.self)
-      (took_next g.S.Source.seen c.args.reader.now c.records.reader c.next.new.self c.reuse.new.self (view c.in-Ok-Some.raw)
-      (subst (λ o. IfSome o (λ r. TakesBlock g.S.Source.seen c.records.reader c.next.new.self (view r) ⊎ TakesRest g.S.Source.seen c.records.reader c.next.new.self (view r ∷ []))) c.in-Ok-Some.field-0-is c.in-Ok-Some.ensures.took)
-      (record { source = c.reuse.ensures.source; number = c.reuse.ensures.place.0; first = c.reuse.ensures.place.1; unread = c.reuse.ensures.place.2; ended = c.reuse.ensures.place.3 }))
+      (view c.in-Ok-Some.raw) (TookAndEdited g.S.Source.seen c.args.reader.now c.records.reader c.args.dir.now.conf c.args.mode c.args.go_on c.args.dir.now.entries c.args.dir.now.edits c.records.dir.edits) c.records.invariant.stands (subst (λ o. IfSome o (λ r. Takes (records_left g.S.Source.seen c.records.reader) (records_left g.S.Source.seen c.next.new.self) (view r ∷ []))) c.in-Ok-Some.field-0-is c.in-Ok-Some.ensures.record)
+      (TookAndEdited g.S.Source.seen c.args.reader.now c.reuse.new.self c.args.dir.now.conf c.args.mode c.args.go_on c.args.dir.now.entries c.args.dir.now.edits c.take_record.new.dir.edits)
+      (λ front so going here. (
+        took_next g.S.Source.seen c.args.reader.now c.records.reader c.next.new.self c.reuse.new.self (view c.in-Ok-Some.raw)
+            (subst (λ o. IfSome o (λ r. TakesBlock g.S.Source.seen c.records.reader c.next.new.self (view r) ⊎ TakesRest g.S.Source.seen c.records.reader c.next.new.self (view r ∷ []))) c.in-Ok-Some.field-0-is c.in-Ok-Some.ensures.took)
+            (record { source = c.reuse.ensures.source; number = c.reuse.ensures.place.0; first = c.reuse.ensures.place.1; unread = c.reuse.ensures.place.2; ended = c.reuse.ensures.place.3 })
+            front so.0,
+        one_edited c.args.dir.now.conf c.args.mode c.args.go_on c.args.dir.now.entries c.args.dir.now.edits c.records.dir.edits c.take_record.new.dir.edits c.records.dir.entries front (view c.in-Ok-Some.raw) going here so.1
+            (subst (λ (k : Conf). c.take_record.new.dir.edits ≡ c.records.dir.edits + read_edits k c.args.mode c.records.dir.entries (reading c.args.mode c.in-Ok-Some.raw.first c.in-Ok-Some.raw.lines)) c.records.invariant.conf c.in_ok-take_record-in-Ok-Some.ensures.edits),
+      ))
       c.in_ok-take_record-in-Ok-Some.field-0
       (subst (λ r. Rattle.directory.specs.inner.Steps.IsTaken (outcome r c.args.mode c.records.dir.entries (reading c.args.mode c.in-Ok-Some.raw.first c.in-Ok-Some.raw.lines)) c.args.go_on c.in-Ok-Some.raw.line c.take_record.new.dir.entries c.records.tally c.take_record.new.tally (g.W.Sink.written c.records.sink) (g.W.Sink.written c.take_record.new.sink) c.in_ok-take_record-in-Ok-Some.field-0) c.records.invariant.conf c.in_ok-take_record-in-Ok-Some.ensures.taken)
       c.if-branch.false);
@@ -95,16 +106,59 @@ returns-in-Err-OutOfMemory-clause-gave g c = gave_more _ _ _ c.records.invariant
 
 pub returns-in-Err-OutOfMemory-clause-runs : goal.returns-in-Err-OutOfMemory-clause-runs
 returns-in-Err-OutOfMemory-clause-runs g c =
-    stops_wanting c.args.dir.now.conf c.args.mode c.args.go_on c.args.dir.now.entries c.records.dir.entries (records_left g.S.Source.seen c.args.reader.now) (records_left g.S.Source.seen c.records.reader) c.records.tally (g.W.Sink.written c.args.sink.now) (g.W.Sink.written c.records.sink) (TookBeforeEnd g.S.Source.seen c.args.reader.now c.records.reader) c.records.invariant.stands
+    stops_wanting c.args.dir.now.conf c.args.mode c.args.go_on c.args.dir.now.entries c.records.dir.entries (records_left g.S.Source.seen c.args.reader.now) (records_left g.S.Source.seen c.records.reader) c.records.tally (g.W.Sink.written c.args.sink.now) (g.W.Sink.written c.records.sink) (TookAndEdited g.S.Source.seen c.args.reader.now c.records.reader c.args.dir.now.conf c.args.mode c.args.go_on c.args.dir.now.entries c.args.dir.now.edits c.records.dir.edits) c.records.invariant.stands
 
 pub returns-in-Err-Device-clause-gave : goal.returns-in-Err-Device-clause-gave
 returns-in-Err-Device-clause-gave g c = gave_more _ _ _ c.records.invariant.gave c.in-Err-Device.ensures.gave
 
 pub returns-in-Err-Device-clause-runs : goal.returns-in-Err-Device-clause-runs
 returns-in-Err-Device-clause-runs g c =
-    stops_reading c.args.dir.now.conf c.args.mode c.args.go_on c.args.dir.now.entries c.records.dir.entries (records_left g.S.Source.seen c.args.reader.now) (records_left g.S.Source.seen c.records.reader) c.records.tally (g.W.Sink.written c.args.sink.now) (g.W.Sink.written c.records.sink) (TookBeforeEnd g.S.Source.seen c.args.reader.now c.records.reader) c.records.invariant.stands
+    stops_reading c.args.dir.now.conf c.args.mode c.args.go_on c.args.dir.now.entries c.records.dir.entries (records_left g.S.Source.seen c.args.reader.now) (records_left g.S.Source.seen c.records.reader) c.records.tally (g.W.Sink.written c.args.sink.now) (g.W.Sink.written c.records.sink) (TookAndEdited g.S.Source.seen c.args.reader.now c.records.reader c.args.dir.now.conf c.args.mode c.args.go_on c.args.dir.now.entries c.args.dir.now.edits c.records.dir.edits) c.records.invariant.stands
 
 pub returns-in-Err-Device-clause-read : goal.returns-in-Err-Device-clause-read
 returns-in-Err-Device-clause-read g c =
-    stops_up_to c.args.dir.now.conf c.args.mode c.args.go_on c.args.dir.now.entries c.records.dir.entries (records_left g.S.Source.seen c.args.reader.now) (records_left g.S.Source.seen c.records.reader) c.records.tally (g.W.Sink.written c.args.sink.now) (g.W.Sink.written c.records.sink) (TookBeforeEnd g.S.Source.seen c.args.reader.now c.records.reader) c.records.invariant.stands
-    (closed_with c.args.reader.now) (g.S.Source.seen (source_of c.args.reader.now)) (g.S.Source.seen (source_of c.next.new.self)) (up_to g.S.Source.seen c.args.reader.now c.records.reader c.next.new.self (c.in-Err-Device.ensures.breaks (cc)))
+    stops_up_to c.args.dir.now.conf c.args.mode c.args.go_on c.args.dir.now.entries c.records.dir.entries (records_left g.S.Source.seen c.args.reader.now) (records_left g.S.Source.seen c.records.reader) c.records.tally (g.W.Sink.written c.args.sink.now) (g.W.Sink.written c.records.sink) (TookAndEdited g.S.Source.seen c.args.reader.now c.records.reader c.args.dir.now.conf c.args.mode c.args.go_on c.args.dir.now.entries c.args.dir.now.edits c.records.dir.edits) c.records.invariant.stands
+    (closed_with c.args.reader.now) (g.S.Source.seen (source_of c.args.reader.now)) (g.S.Source.seen (source_of c.next.new.self)) (λ front so. up_to g.S.Source.seen c.args.reader.now c.records.reader c.next.new.self (c.in-Err-Device.ensures.breaks (cc)) front so.0)
+
+-- ---- the edits
+
+pub returns-in_err-take_record-in-Ok-Some-clause-edits : goal.returns-in_err-take_record-in-Ok-Some-clause-edits
+returns-in_err-take_record-in-Ok-Some-clause-edits g c =
+    let p = err_from_is_err_and c.from_residual.result c.from_residual.ensures.1 in
+    rw (p.1, p.2) (edited.breaks_off c.args.dir.now.conf c.args.mode c.args.go_on c.args.dir.now.entries c.args.dir.now.edits c.records.dir.edits
+    (TookAndEdited g.S.Source.seen c.args.reader.now c.records.reader c.args.dir.now.conf c.args.mode c.args.go_on c.args.dir.now.entries c.args.dir.now.edits c.records.dir.edits) (λ front so. so.1)
+    c.records.dir.entries c.take_record.new.dir.entries
+    (records_left g.S.Source.seen c.args.reader.now) (records_left g.S.Source.seen c.records.reader) (records_left g.S.Source.seen c.next.new.self)
+    c.records.tally c.take_record.new.tally
+    (g.W.Sink.written c.args.sink.now) (g.W.Sink.written c.records.sink) (g.W.Sink.written c.take_record.new.sink)
+    (view c.in-Ok-Some.raw) c.records.invariant.stands (subst (λ o. IfSome o (λ r. Takes (records_left g.S.Source.seen c.records.reader) (records_left g.S.Source.seen c.next.new.self) (view r ∷ []))) c.in-Ok-Some.field-0-is c.in-Ok-Some.ensures.record)
+    c.take_record.new.dir.edits c.in_err-take_record-in-Ok-Some.field-0.0
+    (subst (λ r. IsBrokenOff (outcome r c.args.mode c.records.dir.entries (reading c.args.mode c.in-Ok-Some.raw.first c.in-Ok-Some.raw.lines)) c.in-Ok-Some.raw.line c.records.dir.entries c.take_record.new.dir.entries c.records.tally (g.W.Sink.written c.records.sink) (g.W.Sink.written c.take_record.new.sink) c.in_err-take_record-in-Ok-Some.field-0.0) c.records.invariant.conf c.in_err-take_record-in-Ok-Some.ensures.broken)
+    (subst (λ (k : Conf). RiseBy {A = Bool} (read_edits k c.args.mode c.records.dir.entries (reading c.args.mode c.in-Ok-Some.raw.first c.in-Ok-Some.raw.lines)) (Err c.in_err-take_record-in-Ok-Some.field-0.0) c.records.dir.edits c.take_record.new.dir.edits) c.records.invariant.conf c.in_err-take_record-in-Ok-Some.ensures.edits))
+
+pub returns-then-branch-clause-edits : goal.returns-then-branch-clause-edits
+returns-then-branch-clause-edits g c =
+    edited.ends_there c.args.dir.now.conf c.args.mode c.args.go_on c.args.dir.now.entries c.args.dir.now.edits c.records.dir.edits
+    (TookAndEdited g.S.Source.seen c.args.reader.now c.records.reader c.args.dir.now.conf c.args.mode c.args.go_on c.args.dir.now.entries c.args.dir.now.edits c.records.dir.edits) (λ front so. so.1)
+    c.records.dir.entries c.take_record.new.dir.entries
+    (records_left g.S.Source.seen c.args.reader.now) (records_left g.S.Source.seen c.records.reader) (records_left g.S.Source.seen c.next.new.self)
+    c.records.tally c.take_record.new.tally
+    (g.W.Sink.written c.args.sink.now) (g.W.Sink.written c.records.sink) (g.W.Sink.written c.take_record.new.sink)
+    (view c.in-Ok-Some.raw) c.records.invariant.stands (subst (λ o. IfSome o (λ r. Takes (records_left g.S.Source.seen c.records.reader) (records_left g.S.Source.seen c.next.new.self) (view r ∷ []))) c.in-Ok-Some.field-0-is c.in-Ok-Some.ensures.record)
+    c.take_record.new.dir.edits c.in_ok-take_record-in-Ok-Some.field-0
+    (subst (λ r. Rattle.directory.specs.inner.Steps.IsTaken (outcome r c.args.mode c.records.dir.entries (reading c.args.mode c.in-Ok-Some.raw.first c.in-Ok-Some.raw.lines)) c.args.go_on c.in-Ok-Some.raw.line c.take_record.new.dir.entries c.records.tally c.take_record.new.tally (g.W.Sink.written c.records.sink) (g.W.Sink.written c.take_record.new.sink) c.in_ok-take_record-in-Ok-Some.field-0) c.records.invariant.conf c.in_ok-take_record-in-Ok-Some.ensures.taken)
+    c.if-branch.true
+    (subst (λ (k : Conf). c.take_record.new.dir.edits ≡ c.records.dir.edits + read_edits k c.args.mode c.records.dir.entries (reading c.args.mode c.in-Ok-Some.raw.first c.in-Ok-Some.raw.lines)) c.records.invariant.conf c.in_ok-take_record-in-Ok-Some.ensures.edits)
+
+pub returns-in-Err-Device-clause-edits : goal.returns-in-Err-Device-clause-edits
+returns-in-Err-Device-clause-edits g c =
+    edited.stops_reading c.args.dir.now.conf c.args.mode c.args.go_on c.args.dir.now.entries c.args.dir.now.edits c.records.dir.edits
+    (TookAndEdited g.S.Source.seen c.args.reader.now c.records.reader c.args.dir.now.conf c.args.mode c.args.go_on c.args.dir.now.entries c.args.dir.now.edits c.records.dir.edits) (λ front so. so.1)
+    c.records.dir.entries (records_left g.S.Source.seen c.args.reader.now) (records_left g.S.Source.seen c.records.reader) c.records.tally (g.W.Sink.written c.args.sink.now) (g.W.Sink.written c.records.sink) c.records.invariant.stands
+
+pub returns-in-Ok-None-clause-edits : goal.returns-in-Ok-None-clause-edits
+returns-in-Ok-None-clause-edits g c =
+    edited.ends c.args.dir.now.conf c.args.mode c.args.go_on c.args.dir.now.entries c.args.dir.now.edits c.records.dir.edits
+    (TookAndEdited g.S.Source.seen c.args.reader.now c.records.reader c.args.dir.now.conf c.args.mode c.args.go_on c.args.dir.now.entries c.args.dir.now.edits c.records.dir.edits) (λ front so. so.1)
+    c.records.dir.entries (records_left g.S.Source.seen c.args.reader.now) (records_left g.S.Source.seen c.records.reader) c.records.tally (g.W.Sink.written c.args.sink.now) (g.W.Sink.written c.records.sink) c.records.invariant.stands
+    ((c.in-Ok-None.ensures.end (cc)).0)

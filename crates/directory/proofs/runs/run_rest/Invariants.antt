@@ -1,7 +1,7 @@
 use Rattle.std.proofs.Common.{◌≡◌, ◌+◌, ◌^◌, ◌≤◌, false}
 use Rattle.device.specs.Device.{GaveSome}
 use Rattle.ldif_lines.specs.Reader.{source_of, loan_of, is_failed, records_left, bytes_left}
-use Rattle.directory.specs.inner.Pulls.{TookBeforeEnd}
+use Rattle.directory.specs.inner.RecordEdits.{TookAndEdited}
 use Rattle.directory.specs.inner.Stands.{Stands}
 use Rattle.directory.proofs.runs.run_rest.Given as goal
 
@@ -13,7 +13,7 @@ invariant-records g l = record {
   same_loan : loan_of l.reader ≡ loan_of l.fn.reader;
   gave : GaveSome (g.S.Source.seen (source_of l.fn.reader)) (g.S.Source.seen (source_of l.reader));
   conf : l.dir.conf ≡ l.fn.dir.conf;
-  stands : Stands (TookBeforeEnd g.S.Source.seen l.fn.reader l.reader) l.fn.dir.conf l.mode l.go_on l.fn.dir.entries l.dir.entries (records_left g.S.Source.seen l.fn.reader) (records_left g.S.Source.seen l.reader) l.tally (g.W.Sink.written l.fn.sink) (g.W.Sink.written l.sink);
+  stands : Stands (TookAndEdited g.S.Source.seen l.fn.reader l.reader l.fn.dir.conf l.mode l.go_on l.fn.dir.entries l.fn.dir.edits l.dir.edits) l.fn.dir.conf l.mode l.go_on l.fn.dir.entries l.dir.entries (records_left g.S.Source.seen l.fn.reader) (records_left g.S.Source.seen l.reader) l.tally (g.W.Sink.written l.fn.sink) (g.W.Sink.written l.sink);
   few : l.tally.accepted + l.tally.refused + bytes_left g.S.Source.seen l.reader ≤ 2 ^ 64;
 }
 

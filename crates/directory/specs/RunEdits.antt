@@ -1,0 +1,50 @@
+-- How the edits of the index add up over the records of a run.
+use Rattle.std.specs.Prelude.{◌≡◌, ℕ, ◌+◌, Bool, List, [], ◌∷◌, ◌++◌, map, Option, Result, Ok, Err, ⊤, if◌then◌else◌}
+use Rattle.ldif_lines.specs.Records.{RawRecord}
+use Rattle.ldif.specs.declared.fault.LdifFaultKind.{LdifFaultKind}
+use Rattle.ldif.specs.declared.record.Record.{Record}
+use Rattle.ldif.specs.declared.record.Mode.{Mode}
+use Rattle.schema.specs.Conf.{Conf}
+use Rattle.tree.specs.Directories.{Entries}
+use Rattle.directory.specs.Folds.{Over}
+use Rattle.directory.specs.Indexes.{record_edits}
+use Rattle.directory.specs.Runs.{State, start, step, read_as, state_after}
+use Rattle.directory.specs.declared.runs.Tally.{Tally}
+use Rattle.directory.specs.declared.runs.RunFault.{RunFault}
+use Rattle.directory.specs.declared.runs.RunFault.TheVariants as faults
+
+-- how many edits of the index a record makes, by what was read of it
+abbrev pub read_edits : Conf → Mode → Entries → Result Record LdifFaultKind → ℕ
+read_edits conf mode d (Ok r) = record_edits conf mode d r
+read_edits conf mode d (Err fault) = 0
+
+-- in a run; none after its end
+abbrev pub step_edits : Conf → Mode → State → Result Record LdifFaultKind → ℕ
+step_edits conf mode s r = if s.ended then 0 else read_edits conf mode s.entries r
+
+-- of records, one after the other, from where the run stands
+abbrev pub edits_from : Conf → Mode → Bool → State → List (ℕ × Result Record LdifFaultKind) → ℕ
+edits_from conf mode go_on s [] = 0
+edits_from conf mode go_on s (r ∷ rs) = step_edits conf mode s r.1 + edits_from conf mode go_on (step conf mode go_on s r) rs
+
+abbrev pub run_edits : Conf → Mode → Bool → Entries → List RawRecord → ℕ
+run_edits conf mode go_on d given = edits_from conf mode go_on (start d) (map (read_as mode) given)
+
+-- these records leave these entries, and the edits rise by theirs
+pub record Edited (conf : Conf) (mode : Mode) (go_on : Bool) (old new : Entries) (given : List RawRecord) (edits edits' : ℕ) : Type 0 where
+  pub entries : new ≡ (state_after conf mode go_on old given).entries
+  pub rise : edits' ≡ edits + run_edits conf mode go_on old given
+
+-- the first ones do
+pub record EditedByFirst (conf : Conf) (mode : Mode) (go_on : Bool) (old new : Entries) (given : List RawRecord) (edits edits' : ℕ) : Type 0 where
+  pub front : List RawRecord
+  pub others : List RawRecord
+  pub parts : given ≡ front ++ others
+  pub edited : Edited conf mode go_on old new front edits edits'
+
+-- What a run over the records of a source makes of the edits. Where memory ran out, edits that were taken back may have been counted too.
+abbrev pub EditsRise : Conf → Mode → Bool → Entries → Entries → Option (List RawRecord) → Result Tally RunFault → ℕ → ℕ → Type 0
+EditsRise conf mode go_on old new all (Ok t) edits edits' = Over all (λ given. Edited conf mode go_on old new given edits edits')
+EditsRise conf mode go_on old new all (Err (faults.Read t)) edits edits' = Over all (λ given. EditedByFirst conf mode go_on old new given edits edits')
+EditsRise conf mode go_on old new all (Err (faults.Write t)) edits edits' = Over all (λ given. EditedByFirst conf mode go_on old new given edits edits')
+EditsRise conf mode go_on old new all (Err (faults.OutOfMemory t)) edits edits' = ⊤
