@@ -1,4 +1,4 @@
-"""Random folders and inputs for slapadd, ldapmodify and slapcat, the same for the same seed.
+"""Random folders and inputs for slapadd, ldapmodify, slapindex and slapcat, the same for the same seed.
 
 Most are good but for a fault or two: those of the lists in `pieces.py`, and those that come of cutting and mixing good
 texts. The configurations are those of `configs.py`. What comes of a case is the model's to say.
@@ -21,8 +21,8 @@ from pieces import (
 class Case:
     """The files of a folder, None for one that isn't there, and the input and options of a command."""
     # what a case is cut down to
-    OPTIONS: ClassVar = tuple((option, False) for option in ("by_file", "to_file", "go_on", "dry_run", "add_default"))
-    TEXTS: ClassVar = (("data", None), ("input", b""), ("conf", PLAIN_CONF))
+    OPTIONS: ClassVar = tuple((option, False) for option in ("by_file", "to_file", "index_first", "go_on", "dry_run", "add_default"))
+    TEXTS: ClassVar = (("index", None), ("data", None), ("input", b""), ("conf", PLAIN_CONF))
     conf: Optional[bytes]
     data: Optional[bytes]
     input: Optional[bytes]      # None: the command is to read a file that isn't there
@@ -32,6 +32,8 @@ class Case:
     dry_run: bool = False
     by_file: bool = False       # the input comes as a file
     to_file: bool = False       # slapcat writes to a file
+    index: Optional[bytes] = None
+    index_first: bool = False   # slapindex runs over the folder as it begins, too
 
 
 def value_line(rng, name, text, wild=True):
@@ -590,7 +592,7 @@ def types_case(rng, config, _):
         others = [b"cn", b"2.5.4.3", b"objectClass", b"no"][:rng.choice([2, 3, 4])]
         lines.append(random_definition(rng, b"1.%d" % at, name, names[:at] + others))
     lines.insert(rng.randrange(len(lines) + 1), b"suffix cn=ex")
-    for _ in range(rng.choice([0, 0, 0, 1, 2])):
+    for _ in range(rng.choice([0, 1, 1, 2, 3])):
         line = b"index %b %b" % (rng.choice(names), rng.choice(INDEX_KINDS + [b"sub"]))
         lines.insert(rng.randrange(len(lines) + 1), line)
     records = [[b"dn: cn=ex", b"objectClass: p"]]
@@ -620,7 +622,7 @@ def dumped(rng, config, records):
     if some(rng, .5):
         return None
     text = records.good_text(rng.randrange(5))
-    return text if some(rng, .2) else model.slapadd(config.text, None, text, True, False, "", "")[2]
+    return text if some(rng, .2) else model.slapadd(config.text, None, text, True, False, "", "")[2]["data.ldif"]
 
 
 def records_case(rng, config, records):
@@ -644,6 +646,14 @@ def soup_case(rng, config, records):
     return config.text, dumped(rng, config, records), rng.choice([soup, rng.choice(TINY)])
 
 
+def index_before(rng, conf, data):
+    """No index.txt, or that of a data.ldif, or of an empty one, or one with faults."""
+    if some(rng, .4):
+        return None
+    text = model.slapindex(conf, rng.choice([data, None]), "")[2].get("index.txt", b"end\n")
+    return mutated(rng, text) if some(rng, .4) else text
+
+
 KINDS = [conf_case] * 22 + [types_case] * 15 + [data_case] * 10 + [records_case] * 34 + [server_case] * 10 + \
     [mutated_case] * 23 + [soup_case] * 5
 
@@ -652,7 +662,7 @@ def case(rng):
     config = Config(rng)
     conf, data, text = rng.choice(KINDS)(rng, config, Records(rng, config))
     return Case(conf, data, text, go_on=some(rng, .7), dry_run=some(rng, .1), by_file=some(rng, .3),
-                to_file=some(rng, .1))
+                to_file=some(rng, .1), index=index_before(rng, conf, data), index_first=some(rng, .2))
 
 
 def change_case(rng):
@@ -667,4 +677,4 @@ def change_case(rng):
     text = None if some(rng, .02) else mutated(rng, text) if some(rng, .1) else text
     conf = config.broken_text() if some(rng, .03) else config.text
     return Case(conf, data, text, True, add_default, go_on=some(rng, .8), dry_run=some(rng, .1), by_file=some(rng, .3),
-                to_file=some(rng, .1))
+                to_file=some(rng, .1), index=index_before(rng, conf, data), index_first=some(rng, .2))

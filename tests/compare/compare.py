@@ -1,12 +1,13 @@
 #!/usr/bin/env python3
 """Compares a built program with a second reading of the rules: compare.py PROGRAM COUNT SEED .. [--changes] [--searches] [--only]
 
-The second reading is `model.py` with `schema.py`, `values.py`, `ldif.py` and `filters.py`. It was written apart from the program and shares
-no code with it, so that a rule that one of the two reads wrongly shows as a difference. For each SEED, COUNT random folders
-and inputs go through slapadd and then slapcat; statuses, outputs, messages, data.ldif and the names of the files are compared
-byte for byte. With --changes as many more go through ldapmodify and then slapcat, and with --searches as many through search or
-through slapcat with a filter or a name; with --only slapadd is left out. A case that differs is cut down and printed; at
-the end stands how often each status, code and fault came up. The exit status is 0 where nothing differs, else 1.
+The second reading is `model.py` with `schema.py`, `values.py`, `ldif.py`, `filters.py` and `indexes.py`. It was written apart from the
+program and shares no code with it, so that a rule that one of the two reads wrongly shows as a difference. For each SEED, COUNT random
+folders and inputs go through slapadd, slapcat and slapindex, and some through slapindex before all of them; statuses, outputs, messages
+and all files are compared byte for byte. With --changes as many more go through ldapmodify in place of slapadd, and with --searches as
+many through search or through slapcat with a filter or a name; with --only slapadd is left out. A case that differs is cut down and
+printed; at the end stands how often each status, code and fault came up, and how many slots of the index texts had keys. The exit
+status is 0 where nothing differs, else 1.
 """
 import argparse
 import collections
@@ -26,6 +27,7 @@ import model
 import searches
 import values
 
+FILES = ("dir.conf", "data.ldif", "index.txt")
 SECONDS = 10        # for one run of the program
 MOST_SHOWN = 3      # differences that are cut down and printed
 MOST_TRIES = 2000   # cases that are tried to cut down one of them
@@ -61,18 +63,25 @@ class Runner:
         """-> (seen, wanted)"""
         shutil.rmtree(self.db, ignore_errors=True)
         self.db.mkdir()
-        write(self.db / "dir.conf", case.conf)
-        write(self.db / "data.ldif", case.data)
+        for name, text in zip(FILES, (case.conf, case.data, case.index)):
+            write(self.db / name, text)
         seen, wanted = {}, {}
         if isinstance(case, searches.Search):
             self.search(case, seen, wanted)
-        else:
-            self.change(case, seen, wanted)
-            self.slapcat(case, seen, wanted)
+            return seen, wanted
+        if case.index_first:
+            self.slapindex(case, "first slapindex", seen, wanted)
+        self.change(case, seen, wanted)
+        self.slapcat(case, seen, wanted)
+        self.slapindex(case, "slapindex", seen, wanted)
         return seen, wanted
+
+    def files(self):
+        return {path.name: path.read_bytes() for path in sorted(self.db.iterdir())}
 
     def change(self, case, seen, wanted):
         """slapadd or ldapmodify"""
+        before = self.files()
         command, file, dry_run = ("ldapmodify", "-f", "-n") if case.changes else ("slapadd", "-l", "-u")
         words, text, source = [command, "--db", self.db], b"", "input"
         if case.input is None:
@@ -90,29 +99,44 @@ class Runner:
         wanted["status"], wanted["messages"], stored = read_by(
             case.conf, case.data, case.input, go_on=case.go_on, dry_run=case.dry_run, folder=self.db, source=source)
         wanted["output"] = b""
-        wanted["dir.conf"], wanted["data.ldif"] = case.conf, case.data if stored is None else stored
-        wanted["files"] = [name for name in ("data.ldif", "dir.conf") if wanted[name] is not None]
-        seen["dir.conf"], seen["data.ldif"] = read(self.db / "dir.conf"), read(self.db / "data.ldif")
-        seen["files"] = sorted(os.listdir(self.db))
+        self.compare_files("", {**before, **stored}, seen, wanted)
+
+    def compare_files(self, behind, files, seen, wanted):
+        """Each file that is wanted in the folder, and their names."""
+        there = self.files()
+        for name in FILES:
+            seen[name + behind], wanted[name + behind] = there.get(name), files.get(name)
+        seen["files" + behind], wanted["files" + behind] = sorted(there), sorted(files)
 
     def slapcat(self, case, seen, wanted):
         """Prints the folder as it was left."""
+        before = self.files()
         self.output.unlink(missing_ok=True)
         words = ["-l", self.output] if case.to_file else []
         status, output, messages = self.run("slapcat", "--db", self.db, *words)
         seen.update({"slapcat status": status, "slapcat output": output, "slapcat messages": messages,
-                     "slapcat file": read(self.output), "files after slapcat": sorted(os.listdir(self.db))})
-        status, output, messages = model.slapcat(case.conf, seen["data.ldif"], self.db)
+                     "slapcat file": read(self.output)})
+        status, output, messages = model.slapcat(case.conf, before.get("data.ldif"), self.db)
         to_file = case.to_file and status == 0
         wanted.update({"slapcat status": status, "slapcat output": b"" if to_file else output,
-                       "slapcat messages": messages, "slapcat file": output if to_file else None,
-                       "files after slapcat": seen["files"]})
+                       "slapcat messages": messages, "slapcat file": output if to_file else None})
+        self.compare_files(" behind slapcat", before, seen, wanted)
+
+    def slapindex(self, case, called, seen, wanted):
+        """Stores the index of the folder as it is. Behind a change that was stored it is there already."""
+        before = self.files()
+        status, output, messages = self.run("slapindex", "--db", self.db)
+        seen.update({f"{called} status": status, f"{called} output": output, f"{called} messages": messages})
+        status, messages, stored = model.slapindex(case.conf, before.get("data.ldif"), self.db)
+        wanted.update({f"{called} status": status, f"{called} output": b"", f"{called} messages": messages})
+        self.compare_files(f" behind {called}", {**before, **stored}, seen, wanted)
 
     def search(self, case, seen, wanted):
         """search, or slapcat for a part of the entries"""
+        before = self.files()
         self.output.unlink(missing_ok=True)
         seen["status"], seen["output"], seen["messages"] = self.run(*case.command(self.db, self.output))
-        seen["file"], seen["files"] = read(self.output), sorted(os.listdir(self.db))
+        seen["file"] = read(self.output)
         files = case.conf, case.data, self.db
         if not all(values.is_utf8(text) for text in case.texts()):
             answer = 2, b"", b"command line: not UTF-8\n"
@@ -127,7 +151,7 @@ class Runner:
         wanted["file"] = None
         if case.to_file and wanted["status"] == 0:
             wanted["output"], wanted["file"] = b"", wanted["output"]
-        wanted["files"] = [name for name, text in (("data.ldif", case.data), ("dir.conf", case.conf)) if text is not None]
+        self.compare_files("", before, seen, wanted)
 
 
 def differences(seen, wanted):
@@ -200,7 +224,27 @@ def count(counts, case, wanted):
         return
     counts[f"{'ldapmodify' if case.changes else 'slapadd'}: status {wanted['status']}"] += 1
     counts[f"slapcat: status {wanted['slapcat status']}"] += 1
+    for called in ("first slapindex", "slapindex"):
+        if f"{called} status" in wanted:
+            counts[f"{called}: status {wanted[f'{called} status']}"] += 1
+            count_messages(counts, called, wanted[f"{called} messages"])
+    if wanted["slapindex status"] == 0:
+        count_index(counts, case, wanted)
     count_messages(counts, "changes" if case.changes else "input", wanted["messages"])
+
+
+def count_index(counts, case, wanted):
+    """What was there before slapindex ran, and which slots it has."""
+    text = wanted["index.txt behind slapindex"]
+    before = wanted["index.txt"]
+    counts[f"index.txt: {'missing' if before is None else 'right' if before == text else 'wrong'} before the last slapindex"] += 1
+    slots = re.findall(rb"slot (.+) (eq|pres|sub)\n((?:[-0-9a-f]+ .*\n)*)", text)
+    for name, kind, keys in slots:
+        lines = keys.count(b"\n")
+        named = "" if re.search(rb"[a-z]", name) else " of an OID"
+        counts[f"slots: {kind.decode()}{named}, {lines if lines < 2 else 'more'} {'key' if lines == 1 else 'keys'}"] += 1
+    if not slots:
+        counts["slots: none"] += 1
 
 
 def count_search(counts, case, wanted):

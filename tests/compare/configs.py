@@ -43,6 +43,11 @@ SUBSTRINGS = [
     b"caseIgnoreSubstringsMatch", b"CASEIGNOREIA5SUBSTRINGSMATCH", b"caseExactSubstringsMatch", b"caseExactIA5SubstringsMatch",
     b"numericStringSubstringsMatch", b"telephoneNumberSubstringsMatch", b"'caseIgnoreSubstringsMatch'", b"caseIgnoreMatch",
     b"caseIgnoreOrderingMatch", b"2.5.13.4", b"caseIgnoreListSubstringsMatch"]
+# the substring rules that go with each family
+SUBSTRINGS_OF = {
+    "ignore": [b"caseIgnoreSubstringsMatch", b"caseIgnoreIA5SubstringsMatch"],
+    "exact": [b"caseExactSubstringsMatch", b"caseExactIA5SubstringsMatch"],
+    "numeric": [b"numericStringSubstringsMatch"], "telephone": [b"telephoneNumberSubstringsMatch"]}
 # the rules of types whose values are names
 NAME_RULES = [b"distinguishedNameMatch"] * 5 + [
     b"", b"uniqueMemberMatch", b"caseIgnoreMatch", b"caseExactMatch", b"octetStringMatch", b"numericStringMatch"]
@@ -133,7 +138,7 @@ class Config:
                 self.lines.insert(rng.randrange(len(self.lines) + 1), rng.choice(idle))
         place = rng.choice([0, 0, 0, len(self.lines), rng.randrange(len(self.lines) + 1)])
         self.lines.insert(place, self.suffix_line())
-        if some(rng, .4):
+        if some(rng, .8):
             self.add_index_lines()
         self.text = self.joined(self.lines)
 
@@ -141,7 +146,9 @@ class Config:
         """A type of its own, or one below another; or a type of a syntax and a rule."""
         rng, oid = self.rng, TYPES[name]
         if plain:
-            self.kinds[name] = Type(name, [name, oid], b"15", b"caseIgnoreMatch", definition(oid, name).partition(b" ")[2])
+            text = definition(oid, name).partition(b" ")[2]
+            text = text.replace(b" SYNTAX", b" SUBSTR caseIgnoreSubstringsMatch SYNTAX") if some(rng, .3) else text
+            self.kinds[name] = Type(name, [name, oid], b"15", b"caseIgnoreMatch", text)
             return
         syntax, rule = pair or rng.choice(PAIRED)
         fields = [b"SYNTAX " + rng.choice([b"%b", b"%b", b"%b{64}", b"'%b'", b"'%b{1}'"]) % (values.PREFIX + syntax)]
@@ -160,7 +167,11 @@ class Config:
         quoted = [b"'" + one + b"'" for one in names]
         if names:
             fields.append(b"NAME " + (quoted[0] if len(names) == 1 else b"( " + b" ".join(quoted) + b" )"))
-        fields += [b"SINGLE-VALUE"] * some(rng, .2) + distinct(rng.sample(IDLE_FIELDS, rng.choice([0, 0, 1, 3])))
+        idle = rng.sample(IDLE_FIELDS, rng.choice([0, 0, 1, 3]))
+        substrings = SUBSTRINGS_OF.get(values.FAMILIES.get(rule.lower()))
+        if substrings and some(rng, .5):
+            idle.append(b"SUBSTR " + rng.choice(substrings))
+        fields += [b"SINGLE-VALUE"] * some(rng, .2) + distinct(idle)
         if some(rng, .4):
             rng.shuffle(fields)
         printed = names[0] if names else oid
@@ -304,14 +315,18 @@ class Config:
         return word + rng.choice([b'"' + text + b'"', b'"' + text + b'" '] + plain)
 
     def add_index_lines(self):
-        """Good ones, anywhere. Which types take which kinds is read from the definitions."""
+        """Good ones, anywhere, mostly of types that stand above others or have no name. Which types take which kinds is read from
+        the definitions."""
         rng, conf = self.rng, schema.read_conf(b"\n".join(self.lines))
+        types = {name: conf.types[conf.type_of(name)] for name in self.types + [b"objectClass"]}
+        above = {kind.above for kind in conf.types}
+        weight_of = {name: 4 if not kind.names or conf.type_of(name) in above else 1 for name, kind in types.items()}
         for _ in range(rng.choice([1, 1, 2, 5])):
             kinds = rng.sample(INDEX_KINDS, rng.choice([1, 1, 2, 3]))
-            fit = [name for name in self.types + [b"objectClass"]
-                   if all(conf.types[conf.type_of(name)].takes_index(kind) for kind in kinds)]
+            fit = [name for name, taken in types.items() if all(taken.takes_index(kind) for kind in kinds)]
             if fit:
-                names = [self.type_text(name) for name in rng.choices(fit, k=rng.choice([1, 1, 2, 4]))]
+                weights = [weight_of[name] for name in fit]
+                names = [self.type_text(name) for name in rng.choices(fit, weights, k=rng.choice([1, 1, 2, 4]))]
                 words = [rng.choice([b"index", b"index", b"INDEX"]), b",".join(names), b",".join(kinds)]
                 line = rng.choice([b" ", b" ", b" ", b"\t", b"  ", b"\n "]).join(words) + rng.choice([b"", b"", b" ", b"\t"])
                 self.lines.insert(rng.randrange(len(self.lines) + 1), line)

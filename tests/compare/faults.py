@@ -4,10 +4,11 @@
 Alone: at the first line, at the last, and with its line continued at each blank. Together: on two lines in both orders, and on one
 line where one can have both. What must be told follows from the order of faults alone: lines answer in their order, those of the
 suffix and of indexes after all others; a definition C2, C10, C3, C9, C4, C5, C6; an index line C2, C4, C8. The second reading must say
-the same. Prints each difference and at the end the number of texts; the exit status is 0 where nothing differs, else 1.
+the same. slapcat and slapindex are asked in turn, and neither may make a file. Prints each difference and at the end the number of texts; the exit status is 0 where nothing differs, else 1.
 """
 import concurrent.futures
 import itertools
+import os
 import subprocess
 import sys
 import tempfile
@@ -129,12 +130,12 @@ def differences(work):
     """-> what differs: (the text's last lines, what was seen, what is wanted)"""
     program, home, batch = work
     with tempfile.TemporaryDirectory(dir=home) as db:
-        for text, line, fault in batch:
+        for number, (text, line, fault) in enumerate(batch):
             Path(db, "dir.conf").write_bytes(text)
-            done = subprocess.run([program, "slapcat", "--db", db], capture_output=True, timeout=60)
+            done = subprocess.run([program, ("slapcat", "slapindex")[number % 2], "--db", db], capture_output=True, timeout=60)
             wanted = 2, b"", f"dir.conf line {line}: {fault} {FAULTS[fault]}\n".encode()
             for who, seen in ("program", (done.returncode, done.stdout, done.stderr)), ("second reading", model.slapcat(text, None, db)):
-                if seen != wanted:
+                if seen != wanted or os.listdir(db) != ["dir.conf"]:
                     return [(text[-300:], who, seen, wanted)]
     return []
 

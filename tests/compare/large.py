@@ -2,8 +2,8 @@
 """Runs what is large through a built program and through a second reading: large.py PROGRAM
 
 Texts over 1 MiB, lines of 100,001 bytes, values over 64 KiB, names of 17 RDNs and more, RDNs of 9 parts and more, long filters and a long
-dir.conf, each whole and with a fault in its last part. Status, output, messages and the stored data.ldif must be the same, and none
-may be out of memory. Prints each difference and at the end the number of runs; the exit status is 0 where nothing differs, else 1.
+dir.conf, each whole and with a fault in its last part. Status, output, messages and the stored data.ldif and index.txt must be the
+same, and none may be out of memory. Prints each difference and at the end the number of runs; the exit status is 0 where nothing differs, else 1.
 """
 import base64
 import subprocess
@@ -18,7 +18,8 @@ TYPES = ["cn", "ou", "sn", "o", "l", "st", "title", "street", "uid", "mail", "dc
 CONF = b'suffix "dc=ex"\n' + b"".join(
     b"attributetype ( 1.3.%d NAME '%s' EQUALITY caseIgnoreMatch SUBSTR caseIgnoreSubstringsMatch "
     b"SYNTAX 1.3.6.1.4.1.1466.115.121.1.15 )\n" % (number, name.encode()) for number, name in enumerate(TYPES)) \
-    + b"attributetype ( 1.3.99 NAME 'photo' EQUALITY octetStringMatch SYNTAX 1.3.6.1.4.1.1466.115.121.1.40 )\n"
+    + b"attributetype ( 1.3.99 NAME 'photo' EQUALITY octetStringMatch SYNTAX 1.3.6.1.4.1.1466.115.121.1.40 )\n" \
+    + b"index objectClass,photo eq\nindex cn,l eq,pres,sub\nindex sn sub,eq\n"
 
 SUFFIX = b"dn: dc=ex\nobjectClass: top\ndc: ex\n"
 
@@ -101,6 +102,9 @@ def confs():
     yield "a line over 64 KiB", CONF + b"attributetype ( 1.4.1 NAME 'a' DESC '" + b"d" * 70000 + b"' SUP cn )\n", b"top"
     types = b"".join(b"attributetype ( 1.4.%d NAME 't%d' SUP cn )\n" % (number, number) for number in range(3000))
     yield "3,000 types", CONF + types, b"top"
+    yield "3,000 types that are indexed", CONF + types + b"index " + b",".join(b"t%d" % number for number in range(3000)) + b" sub,eq,pres\n", b"top"
+    yield "3,000 index lines", CONF + b"index dc,cn pres\nindex 1.3.0,DC eq,sub\n" * 1500, b"top"
+    yield "3,000 index lines and a fault", CONF + b"index dc,cn pres\nindex 1.3.0,DC eq,sub\n" * 1500 + b"index dc sup\n", b"top"
     first = b"objectclass ( 1.5.0 NAME 'c0' SUP top MUST dc )\nobjectclass ( 1.5.1 NAME 'c1' SUP c0 MAY cn )\n"
     lattice = first + b"".join(
         b"objectclass ( 1.5.%d NAME 'c%d' SUP ( c%d $ c%d ) MAY ( cn $ sn ) )\n" % (number, number, number - 1, number - 2) for number in range(2, 10000))
@@ -109,6 +113,16 @@ def confs():
     chain_of_types = first + b"".join(
         b"objectclass ( 1.5.%d NAME 'c%d' SUP c%d MAY t%d )\n" % (number, number, number - 1, number) for number in range(2, 3000))
     yield "3,000 classes below each other, each with a type of its own", CONF + types + chain_of_types, b"c2999"
+
+
+def indexed():
+    """-> (what it is, a data.ldif)"""
+    yield "a key of 30,000 entries", texts([SUFFIX] + [entry(b"cn=%d,dc=ex" % number, b"l: all\n") for number in range(30000)])
+    yield "a key of every third of 9,999 entries", texts([SUFFIX] + [entry(b"cn=%d,dc=ex" % number, b"l: all\n" * (number % 3 == 0)) for number in range(9999)])
+    runs = bytes(byte for high in range(97, 123) for low in range(97, 123) for byte in (high, low, 48 + low % 10))
+    yield "a value of 2,000 runs", texts([SUFFIX, entry(b"cn=a,dc=ex", b"l: " + runs + b"\n"), entry(b"cn=b,dc=ex", b"cn: " + runs.upper() + b"\n")])
+    yield "a value of all runs of a few letters", texts([SUFFIX] + [entry(b"cn=%d,dc=ex" % number, b"sn: " + bytes(97 + number * at * at % 26 for at in range(9000)) + b"\n") for number in range(40)])
+    yield "an index of a text with a fault at its end", texts([SUFFIX] + [entry(b"cn=%d,dc=ex" % number) for number in range(9000)] + [entry(b"cn=7,dc=ex")])
 
 
 def filters():
@@ -129,7 +143,10 @@ def runs():
     for what, text in changes():
         yield what, {"dir.conf": CONF, "data.ldif": SUFFIX, "in": text}, "ldapmodify", ["-c", "-f", "db/in"]
     for what, conf, name in confs():
-        yield what, {"dir.conf": conf, "data.ldif": SUFFIX.replace(b"top", name)}, "slapcat", []
+        for command in ("slapcat", "slapindex"):
+            yield what, {"dir.conf": conf, "data.ldif": SUFFIX.replace(b"top", name)}, command, []
+    for what, text in indexed():
+        yield what, {"dir.conf": CONF, "data.ldif": text, "index.txt": b"old"}, "slapindex", []
     data = texts([SUFFIX] + [entry(b"cn=%d,dc=ex" % number) for number in range(50)] + [entry(b"cn=" + b"a" * 70000 + b",dc=ex")])
     for what, text in filters():
         yield what, {"dir.conf": CONF, "data.ldif": data}, "slapcat", ["-a", text]

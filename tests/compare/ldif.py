@@ -33,17 +33,17 @@ def records(text):
     for number, line in enumerate(lines_of(text) + [b""], 1):
         if not line:
             if kept:
-                found.append((kept[0][0], not found, [line for _, line in kept]))
+                found.append((kept[0][0], not found, [b"".join(pieces) for _, pieces in kept]))
             kept, in_comment = [], False
         elif line.startswith(b"#"):
             in_comment = True
         elif not line.startswith(b" "):
-            kept.append([number, line])
+            kept.append((number, [line]))
             in_comment = False
         elif kept and not in_comment:
-            kept[-1][1] += line[1:]
+            kept[-1][1].append(line[1:])
         elif not in_comment:
-            kept.append([number, line])
+            kept.append((number, [line]))
     return found
 
 

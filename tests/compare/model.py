@@ -1,9 +1,10 @@
-"""What slapadd, ldapmodify, slapcat and search do, byte for byte. `schema.py` reads dir.conf and names, `values.py` compares values,
-`ldif.py` reads and writes records, `filters.py` reads and tests filters.
+"""What slapadd, ldapmodify, slapindex, slapcat and search do, byte for byte. `schema.py` reads dir.conf and names, `values.py` compares
+values, `ldif.py` reads and writes records, `filters.py` reads and tests filters, `indexes.py` makes index texts of dumps.
 """
 import re
 
 import filters
+import indexes
 import ldif
 import schema
 
@@ -312,15 +313,17 @@ def load(conf_text, data, folder):
 
 
 def run_and_store(conf_text, data, text, dry_run, folder, source, *how):
-    """A text of None can't be read. -> (status, messages, data.ldif as stored, or None where nothing is)"""
+    """A text of None can't be read. -> (status, messages, {name: text} of the files as stored)"""
     try:
         directory = load(conf_text, data, folder)
         if text is None:
             raise Ended(3, f"{source}: cannot read")
     except Ended as end:
-        return end.status, end.messages, None
+        return end.status, end.messages, {}
     report = run(directory, text, *how)
-    return (1 if report else 0), report.encode(), (None if dry_run else directory.dump())
+    dump = directory.dump()
+    stored = {"data.ldif": dump, "index.txt": indexes.index_text(directory.conf, dump)}
+    return (1 if report else 0), report.encode(), {} if dry_run else stored
 
 
 def slapadd(conf_text, data, text, go_on, dry_run, folder, source):
@@ -329,6 +332,15 @@ def slapadd(conf_text, data, text, go_on, dry_run, folder, source):
 
 def ldapmodify(conf_text, data, text, add_default, go_on, dry_run, folder, source):
     return run_and_store(conf_text, data, text, dry_run, folder, source, go_on, True, add_default)
+
+
+def slapindex(conf_text, data, folder):
+    """-> (status, messages, {name: text} of the files as stored)"""
+    try:
+        directory = load(conf_text, data, folder)
+        return 0, b"", {"index.txt": indexes.index_text(directory.conf, directory.dump())}
+    except Ended as end:
+        return end.status, end.messages, {}
 
 
 def read_filter(text):

@@ -8,8 +8,8 @@ import model
 
 # the options of each command: the one that names a file, those that have another value, and those that stand alone
 OPTIONS = {
-    "slapadd": ("-l", [], ["-c", "-u"]), "ldapmodify": ("-f", [], ["-a", "-c", "-n"]), "slapcat": ("-l", ["-a", "-s"], []),
-    "search": (None, ["-b", "-s", "-z"], []),
+    "slapadd": ("-l", [], ["-c", "-u"]), "ldapmodify": ("-f", [], ["-a", "-c", "-n"]), "slapindex": (None, [], []),
+    "search": (None, ["-b", "-s", "-z"], []), "slapcat": ("-l", ["-a", "-s"], []),
 }
 
 
@@ -61,8 +61,18 @@ def change(words):
         status, messages, stored = model.slapadd(*files, words.c, words.u, words.db, source)
     else:
         status, messages, stored = model.ldapmodify(*files, words.a, words.c, words.n, words.db, source)
-    if stored is not None:
-        write(f"{words.db}/data.ldif", stored)
+    store(words.db, stored)
+    return status, b"", messages
+
+
+def store(folder, files):
+    for name, text in files.items():
+        write(f"{folder}/{name}", text)
+
+
+def slapindex(words):
+    status, messages, stored = model.slapindex(read(f"{words.db}/dir.conf"), read(f"{words.db}/data.ldif"), words.db)
+    store(words.db, stored)
     return status, b"", messages
 
 
@@ -109,7 +119,8 @@ def main():
     if words.command == "search":
         status, output, messages = search(words, parsers["search"])
     else:
-        status, output, messages = slapcat(words) if words.command == "slapcat" else change(words)
+        run = {"slapcat": slapcat, "slapindex": slapindex}.get(words.command, change)
+        status, output, messages = run(words)
     sys.stdout.buffer.write(output)
     sys.stderr.buffer.write(messages)
     return status

@@ -8,6 +8,7 @@ import re
 from dataclasses import dataclass, field
 from typing import Optional
 
+import indexes
 import ldif
 import values
 
@@ -196,7 +197,7 @@ def read_class(text):
 
 def read_value(text, at):
     """-> (a value of a name, where it ends)"""
-    value, kept = b"", 0
+    value, kept = bytearray(), 0
     if text[at:at + 1] == b"#":
         raise ValueError
     while text[at:at + 1] not in (b"", b",", b"+"):
@@ -209,7 +210,7 @@ def read_value(text, at):
         if raw != b" ":
             kept = len(value)
         at = found.end()
-    return value[:kept], at
+    return bytes(value[:kept]), at
 
 
 def read_rdns(text):
@@ -241,14 +242,14 @@ def read_name(text):
 
 def written_value(value):
     """A value as it stands in a name (RFC 4514, 2.4)."""
-    out = b""
+    out = bytearray()
     for at, byte in enumerate(value):
         is_edge = byte == 32 and at in (0, len(value) - 1) or byte == 35 and at == 0
         if byte < 32 or byte > 126:
             out += b"\\%02X" % byte
         else:
             out += b"\\" * (is_edge or byte in b'"+,;<>\\') + bytes([byte])
-    return out
+    return bytes(out)
 
 
 @dataclass
@@ -260,6 +261,8 @@ class Conf:
     class_numbers: dict = field(default_factory=lambda: {
         b"top": TOP, b"2.5.6.0": TOP, b"extensibleobject": EXTENSIBLE_OBJECT, BUILT_IN[2]: EXTENSIBLE_OBJECT})
     suffix: Optional[list] = None
+    # of the index lines: {(type, place of a kind in indexes.KINDS)}
+    slots: set = field(default_factory=set)
 
     def type_of(self, text):
         """The number of the type that a name, in any case, or an OID says (RFC 4512, 2.5)."""
@@ -388,8 +391,8 @@ class Conf:
         except BadName:
             raise Wrong("C7") from None
 
-    def check_index(self, text):
-        """An index line: a list of types, and a list of kinds. Nothing comes of a good one so far."""
+    def add_index(self, text):
+        """An index line: a list of types, and a list of kinds."""
         lists = [word.split(b",") for word in WORD.findall(text)]
         if len(lists) != 2 or b"" in lists[0] or b"" in lists[1]:
             raise Wrong("C2")
@@ -398,6 +401,7 @@ class Conf:
             raise Wrong("C4")
         if not all(self.types[number].takes_index(kind) for number in numbers for kind in lists[1]):
             raise Wrong("C8")
+        self.slots.update((number, indexes.KINDS.index(kind)) for number in numbers for kind in lists[1])
 
     def pairs_of(self, name):
         """Looks at each part of a name before the next. -> its RDNs, each [(number, value)]"""
@@ -464,7 +468,7 @@ def read_conf(text):
     for number, word, rest in later:
         try:
             if word == b"index":
-                conf.check_index(rest)
+                conf.add_index(rest)
             else:
                 conf.add_suffix(rest)
         except Wrong as wrong:

@@ -9,17 +9,14 @@ from typing import ClassVar, Optional
 import model
 import values
 from cases import Changes, alike, mutated
-from configs import PLAIN_CONF, Config, other_case, some
+from configs import PLAIN_CONF, SUBSTRINGS_OF, Config, other_case, some
 from pieces import VALUES
 
 # the rules that go with each family
 ORDERINGS = {"ignore": [b"caseIgnoreOrderingMatch"], "exact": [b"caseExactOrderingMatch"], "numeric": [b"numericStringOrderingMatch"],
              "integer": [b"integerOrderingMatch"], "octet": [b"octetStringOrderingMatch"]}
-SUBSTRINGS = {"ignore": [b"caseIgnoreSubstringsMatch", b"caseIgnoreIA5SubstringsMatch"],
-              "exact": [b"caseExactSubstringsMatch", b"caseExactIA5SubstringsMatch"],
-              "numeric": [b"numericStringSubstringsMatch"], "telephone": [b"telephoneNumberSubstringsMatch"]}
 ANY_ORDERING = [rule for rules in ORDERINGS.values() for rule in rules]
-ANY_SUBSTRINGS = [rule for rules in SUBSTRINGS.values() for rule in rules]
+ANY_SUBSTRINGS = [rule for rules in SUBSTRINGS_OF.values() for rule in rules]
 EXTENSIBLE = [b"$T:=", b"$T:caseExactMatch:=", b"$T:dn:=", b"$T:dn:2.5.13.2:=", b":caseExactMatch:=", b":dn:x:=", b"no:=", b"$T;x:a:="]
 NO_EXTENSIBLE = [b":=", b"::=", b"$T::=", b"$T:a:b:c:=", b"$T:a:b=", b":a=", b"$T:a b:=", b"$T :=", b"$T:a:b::=", b":a:b:c="]
 NO_NAMES = [b"no", b"$T;x", b"$T;lang-en;y", b"1.2.3.4.5", b"-", b"_", b".", b";", b"0", b"dn", b"top"]
@@ -40,7 +37,7 @@ ODD_WORDS = [b"no", b"", b"$T;x", b"1.1", b"*", b"+", b"**", b" $T", b"$T ", b" 
 class Search:
     """The files of a folder, None for one that isn't there, and the words of a command."""
     OPTIONS: ClassVar = (("to_file", False), ("scope", None), ("limit", None), ("base", None), ("words", ()))
-    TEXTS: ClassVar = (("data", None), ("filter", None), ("conf", PLAIN_CONF))
+    TEXTS: ClassVar = (("index", None), ("data", None), ("filter", None), ("conf", PLAIN_CONF))
     conf: Optional[bytes]
     data: Optional[bytes]
     is_slapcat: bool
@@ -50,6 +47,7 @@ class Search:
     limit: Optional[bytes] = None
     words: tuple = ()           # attributes
     to_file: bool = False       # slapcat writes to a file
+    index: Optional[bytes] = None
 
     def command(self, db, output):
         """The words of the command line."""
@@ -78,7 +76,7 @@ class SearchConfig(Config):
         rng = self.rng
         super().define(name, plain and (not self.kinds or some(rng, .3)), pair)
         kind = list(self.kinds.values())[-1]
-        more = [(b"ORDERING", ORDERINGS, ANY_ORDERING, .5), (b"SUBSTR", SUBSTRINGS, ANY_SUBSTRINGS, .7)]
+        more = [(b"ORDERING", ORDERINGS, ANY_ORDERING, .5), (b"SUBSTR", SUBSTRINGS_OF, ANY_SUBSTRINGS, .7)]
         for field, rules, others, chance in more:
             if field not in kind.text and some(rng, chance):
                 fit = rules.get(kind.family(), others)
@@ -230,10 +228,12 @@ def search_case(rng):
     is_slapcat = some(rng, .25)
     base = searches.dn_of(searches.some_path(.1), .08) if some(rng, .35) else None
     text = None if some(rng, .08) else searches.text_of_filter()
+    # the one that slapindex stores, where it stores one
+    index = model.slapindex(conf, data, "")[2].get("index.txt") if some(rng, .5) else None
     if is_slapcat:
-        return Search(conf, data, True, sayable(text), sayable(base), to_file=some(rng, .1))
+        return Search(conf, data, True, sayable(text), sayable(base), to_file=some(rng, .1), index=index)
     scope = rng.choice(BAD_SCOPES) if some(rng, .01) else rng.choice(SCOPES)
     limit = rng.choice(BAD_LIMITS) if some(rng, .015) else rng.choice(LIMITS) if some(rng, .3) else None
     words = tuple(word.replace(b"\0", b"0") for word in searches.words())
     # a text that is neither in parentheses nor has an equals sign is an attribute
-    return Search(conf, data, False, sayable(text), sayable(base), scope, limit, words)
+    return Search(conf, data, False, sayable(text), sayable(base), scope, limit, words, index=index)

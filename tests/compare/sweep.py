@@ -3,8 +3,9 @@
 [--all]
 
 Each beginning of the text, and each single byte changed into others (with --all: into all that it may be), is a dir.conf of its own, with no
-data.ldif, or a filter of its own over a few entries. What slapcat answers, prints and says must be what `model.py` says, byte for byte: a
-configuration or a numbered fault with its line; entries or a fault at a place. Prints each difference and at the end the number of texts;
+data.ldif, or a filter of its own over a few entries. What slapindex answers and says, and the slots of the index.txt that it stores, and
+what slapcat answers, prints and says must be what `model.py` says, byte for byte: a configuration or a numbered fault with its line; entries
+or a fault at a place. Prints each difference and at the end the number of texts;
 the exit status is 0 where nothing differs, else 1.
 """
 import argparse
@@ -66,8 +67,12 @@ def conf_answers(program, home, text):
     db = home / str(os.getpid())
     db.mkdir(exist_ok=True)
     (db / "dir.conf").write_bytes(text)
-    done = subprocess.run([program, "slapcat", "--db", db], capture_output=True, timeout=10)
-    return (done.returncode, done.stdout, done.stderr), model.slapcat(text, None, db)
+    done = subprocess.run([program, "slapindex", "--db", db], capture_output=True, timeout=10)
+    stored = {path.name: path.read_bytes() for path in db.iterdir() if path.name != "dir.conf"}
+    for name in stored:
+        (db / name).unlink()
+    status, messages, wanted = model.slapindex(text, None, db)
+    return (done.returncode, done.stdout, done.stderr, stored), (status, b"", messages, wanted)
 
 
 def filter_answers(program, home, text):
@@ -88,8 +93,9 @@ def compared(work):
     told, different = collections.Counter(), []
     for text in batch:
         seen, wanted = answers(program, home, text)
-        status, output, said = seen
+        status, output, said, *stored = seen
         what = said.split(b":")[1].strip().split(b" at ")[0] if status == 2 else b"%d, with%s output" % (status, b"" if output else b"out")
+        what += b", %d slots" % stored[0]["index.txt"].count(b"\nslot ") if stored and "index.txt" in stored[0] else b""
         told[what] += 1
         if seen != wanted:
             different.append((text, seen, wanted))

@@ -55,6 +55,10 @@ ldapmodify = command (codes "ldapmodify")
     (folder_option ∷ file_option 102 ∷ flag (codes "add") 97 ∷ flag (codes "go_on") 99
     ∷ flag (codes "dry_run") 110 ∷ [])
 
+-- slapindex --db DIR
+abbrev pub slapindex : Shape
+slapindex = command (codes "slapindex") (folder_option ∷ [])
+
 -- search --db DIR [-b NAME] [-s SCOPE] [-z N] [WORD..]
 abbrev pub search : Shape
 search = command (codes "search")
@@ -71,5 +75,5 @@ slapcat = command (codes "slapcat")
 abbrev pub slaptools : App
 slaptools = record {
   top = record (new_shape (codes "slaptools")) { is_leaf = false; subcommand_required = true };
-  subs = slapadd ∷ ldapmodify ∷ search ∷ slapcat ∷ [];
+  subs = slapadd ∷ ldapmodify ∷ slapindex ∷ search ∷ slapcat ∷ [];
 }

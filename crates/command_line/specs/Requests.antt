@@ -13,10 +13,11 @@ use Rattle.search.specs.declared.scope.Scope.{Scope}
 use Rattle.search.specs.declared.scope.Scope.TheVariants.{Base, One, Sub, Children}
 use Rattle.command_line.specs.declared.request.AddOptions.{AddOptions}
 use Rattle.command_line.specs.declared.request.ModifyOptions.{ModifyOptions}
+use Rattle.command_line.specs.declared.request.IndexOptions.{IndexOptions}
 use Rattle.command_line.specs.declared.request.SearchOptions.{SearchOptions}
 use Rattle.command_line.specs.declared.request.CatOptions.{CatOptions}
 use Rattle.command_line.specs.declared.request.Request.{Request}
-use Rattle.command_line.specs.declared.request.Request.TheVariants.{Help, Add, Modify, Search, Cat}
+use Rattle.command_line.specs.declared.request.Request.TheVariants.{Help, Add, Modify, Index, Search, Cat}
 use Rattle.command_line.specs.declared.request.UsageFault.{UsageFault}
 use Rattle.command_line.specs.declared.request.UsageFault.TheVariants.{Words, OutOfMemory}
 use Rattle.command_line.specs.CommandLine.{slaptools}
@@ -96,6 +97,9 @@ pub record IsModify (rows : List Row) (asked : ModifyOptions) : Type 0 where
   pub go_on_is : asked.go_on ≡ is_given (codes "go_on") rows
   pub dry_run_is : asked.dry_run ≡ is_given (codes "dry_run") rows
 
+pub record IsIndex (rows : List Row) (asked : IndexOptions) : Type 0 where
+  pub db_is : text_of (codes "db") rows ≡ Some asked.db.now
+
 pub record IsSearch (rows : List Row) (asked : SearchOptions) : Type 0 where
   pub db_is : text_of (codes "db") rows ≡ Some asked.db.now
   pub base_is : option_copied asked.base ≡ text_of (codes "base") rows
@@ -120,6 +124,7 @@ abbrev pub IsRequest : Option (Text × List Row) → Request → Type 0
 IsRequest met (Help text) = ⊥
 IsRequest met (Add asked) = IsCommand met (codes "slapadd") (λ rows. IsAdd rows asked)
 IsRequest met (Modify asked) = IsCommand met (codes "ldapmodify") (λ rows. IsModify rows asked)
+IsRequest met (Index asked) = IsCommand met (codes "slapindex") (λ rows. IsIndex rows asked)
 IsRequest met (Search asked) = IsCommand met (codes "search") (λ rows. IsSearch rows asked)
 IsRequest met (Cat asked) = IsCommand met (codes "slapcat") (λ rows. IsCat rows asked)
 

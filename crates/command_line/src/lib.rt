@@ -6,4 +6,6 @@ mod reading;
 mod request;
 
 pub use reading::read;
-pub use request::{AddOptions, CatOptions, ModifyOptions, Request, SearchOptions, UsageFault};
+pub use request::{
+    AddOptions, CatOptions, IndexOptions, ModifyOptions, Request, SearchOptions, UsageFault,
+};

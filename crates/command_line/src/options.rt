@@ -112,6 +112,14 @@ fn ldapmodify<'a>(alloc: Global) -> Result<Command<'a>, AllocError>
         .arg(flag(alloc, "dry_run", 'n', DRY_RUN_HELP))
 }
 
+fn slapindex<'a>(alloc: Global) -> Result<Command<'a>, AllocError>
+    ensures { IfOk result (λ c. shape_of c ≡ commands.slapindex) }
+{
+    Command::new(alloc, "slapindex")
+        .about("Writes the index of the directory anew")
+        .arg(folder_option(alloc))
+}
+
 fn search<'a>(alloc: Global) -> Result<Command<'a>, AllocError>
     ensures { IfOk result (λ c. shape_of c ≡ commands.search) }
 {
@@ -144,6 +152,7 @@ pub(crate) fn slaptools<'a>(alloc: Global) -> Result<Command<'a>, AllocError>
         .subcommand_required(true)
         .subcommand(slapadd(alloc)?)?
         .subcommand(ldapmodify(alloc)?)?
+        .subcommand(slapindex(alloc)?)?
         .subcommand(search(alloc)?)?
         .subcommand(slapcat(alloc)?)
 }

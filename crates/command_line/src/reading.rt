@@ -6,7 +6,9 @@ ghost use Rattle.command_line.specs.Requests.{AsksForHelp};
 ghost use Rattle.command_line.specs.Requests as asks;
 
 use crate::options::slaptools;
-use crate::request::{AddOptions, CatOptions, ModifyOptions, Request, SearchOptions, UsageFault};
+use crate::request::{
+    AddOptions, CatOptions, IndexOptions, ModifyOptions, Request, SearchOptions, UsageFault,
+};
 use clap::error::ErrorKind;
 use clap::parser::ValueSource;
 use clap::{ArgMatches, Error};
@@ -70,6 +72,15 @@ fn modify_options<'a>(found: &ArgMatches<'a>) -> ModifyOptions<'a>
         add: is_given(found, "add"),
         go_on: is_given(found, "go_on"),
         dry_run: is_given(found, "dry_run"),
+    }
+}
+
+fn index_options<'a>(found: &ArgMatches<'a>) -> IndexOptions<'a>
+    requires { asks.HasFolder (rows_of (found_of found.now)) }
+    ensures { asks.IsIndex (rows_of (found_of found.now)) result }
+{
+    IndexOptions {
+        db: folder_of(found),
     }
 }
 
@@ -191,6 +202,7 @@ fn request_of<'a>(
     match name {
         "slapadd" => Ok(Request::Add(add_options(found))),
         "ldapmodify" => Ok(Request::Modify(modify_options(found))),
+        "slapindex" => Ok(Request::Index(index_options(found))),
         "search" => Ok(Request::Search(search_options(alloc, found)?)),
         "slapcat" => Ok(Request::Cat(cat_options(found))),
         _ => unreachable!(),

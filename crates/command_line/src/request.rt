@@ -33,6 +33,13 @@ pub struct ModifyOptions<'a> {
     pub dry_run: bool,
 }
 
+/// What slapindex is asked for.
+#[derive(Clone, Copy, Debug, Drop)]
+pub struct IndexOptions<'a> {
+    /// The folder of the directory.
+    pub db: &'a str,
+}
+
 /// What search is asked for (RFC 4511, 4.5.1).
 #[derive(Debug, Drop)]
 pub struct SearchOptions<'a> {
@@ -70,6 +77,7 @@ pub enum Request<'a> {
     Help(String),
     Add(AddOptions<'a>),
     Modify(ModifyOptions<'a>),
+    Index(IndexOptions<'a>),
     Search(SearchOptions<'a>),
     Cat(CatOptions<'a>),
 }

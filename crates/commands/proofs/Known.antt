@@ -54,7 +54,7 @@ has_text : (m : Files) (file : Option (List ℕ)) (w w' : World) (source source'
 has_text m None w w' source source' tells knows is = of_input w.input.left source.left knows (ap (λ (s : Seen). s.left) is.0)
 has_text m (Some name) w w' source source' tells knows is = of_file (finite.get m name) source.left (subst (λ (fs : Option Files). Finds fs name (Some source.left)) tells is.0)
 
-loads_files : (m : Files) (db : List ℕ) (conf : Conf) (d : Entries) → IsLoaded (Some m) db conf d → LoadsFiles m db conf d
+pub loads_files : (m : Files) (db : List ℕ) (conf : Conf) (d : Entries) → IsLoaded (Some m) db conf d → LoadsFiles m db conf d
 loads_files m db conf d l = record {
   text = l.configured.text;
   there = opened _ _ l.configured.there;

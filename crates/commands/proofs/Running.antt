@@ -1,23 +1,25 @@
 -- How slapadd and ldapmodify end, from what their parts say.
-use Rattle.std.proofs.Common.{◌≡◌, ℕ, true, false, inl, inr, List, [], ◌∷◌, Option, None, Some, refl, sym, ap, subst, ◌∙◌}
+use Rattle.std.proofs.Common.{◌≡◌, ℕ, true, false, inl, inr, List, [], Option, None, Some, refl, sym, ap, subst, ◌∙◌}
 use Rattle.std.specs.Prelude.{Ok, Err, if◌then◌else◌}
 use Rattle.std.specs.Option.{option_copied}
 use Rattle.device.specs.Device.{Seen}
 use Rattle.schema.specs.Conf.{Conf}
 use Rattle.tree.specs.Directories.{Entries}
-use Rattle.directory.specs.Runs.{dump}
 use Rattle.directory.specs.declared.runs.Tally.{Tally}
 use Rattle.directory.specs.declared.runs.RunFault.{RunFault}
 use Rattle.commands.specs.Changes.{Run, RunsInput, RunsSource, IsSource, stored_by, HasNoSource, Breaks, source_name, ChangeStops}
-use Rattle.commands.specs.Endings.{IsFault}
-use Rattle.commands.specs.Failures.{FailsToWrite}
-use Rattle.commands.specs.Folders.{File, Files, Finds, with_file, with_files, data_name}
+use Rattle.commands.specs.Folders.{File, Files, Finds, with_files}
 use Rattle.commands.specs.Loaded.{IsLoaded}
+use Rattle.commands.specs.Stored.{kept_files}
 use Rattle.commands.specs.Worlds.{World}
 use Rattle.commands.specs.inner.Stopped.{HasStopped}
+use Rattle.commands.specs.inner.Stores.{StoresPartly}
 use Rattle.commands.specs.declared.changes.Task.{Task}
+use Rattle.commands.specs.declared.messages.CommandFault.{CommandFault}
 use Rattle.commands.specs.declared.messages.Stop.{Stop}
+use Rattle.commands.specs.declared.messages.Stop.TheVariants as stops
 use Rattle.commands.proofs.Stopping.{stopped}
+use Rattle.commands.proofs.StoredFiles.{fails_partly}
 
 -- ---- the run
 
@@ -55,34 +57,25 @@ broken_off task run w w' fault why is runs breaks =
 
 -- ---- the store
 
-abbrev file_of : Task → Conf → Run → File
-file_of task conf run = record { name = data_name task.db.now; text = dump conf run.new }
-
 module _ (task : Task) (run : Run) where
   -- in a dry run nothing is stored
   pub dry_stores : (w : World) → task.dry_run ≡ true → w ≡ record w { files = with_files w.files (stored_by task run) }
-  dry_stores w dry = ap (λ b. record w { files = with_files w.files (if b then [] else file_of task run.conf run ∷ []) }) (sym dry)
+  dry_stores w dry = ap (λ b. record w { files = with_files w.files (if b then [] else kept_files task.db.now run.conf run.new) }) (sym dry)
 
-  pub stores : (w : World) (files : Option Files) (conf : Conf) → task.dry_run ≡ false → conf ≡ run.conf → files ≡ with_file w.files (data_name task.db.now) (dump conf run.new)
+  pub stores : (w : World) (files : Option Files) (conf : Conf) → task.dry_run ≡ false → conf ≡ run.conf → files ≡ with_files w.files (kept_files task.db.now conf run.new)
       → record w { files = files } ≡ record w { files = with_files w.files (stored_by task run) }
   stores w files conf wet same is =
       ap (λ (fs : Option Files). record w { files = fs })
-      (is ∙ ap (λ (k : Conf). with_file w.files (data_name task.db.now) (dump k run.new)) same ∙ ap (λ b. with_files w.files (if b then [] else file_of task run.conf run ∷ [])) (sym wet))
+      (is ∙ ap (λ (k : Conf). with_files w.files (kept_files task.db.now k run.new)) same ∙ ap (λ b. with_files w.files (if b then [] else kept_files task.db.now run.conf run.new)) (sym wet))
 
   -- it fails
-  pub not_stored : (tally : Tally) (w mid w' : World) (why : Stop) → run.answer ≡ Ok tally → RunsSource task run w mid → task.dry_run ≡ false → IsFault (FailsToWrite (data_name task.db.now)) why → w' ≡ mid → HasStopped (ChangeStops task) w w' why
-  not_stored tally w mid w' why is runs wet fails same =
-      stopped (ChangeStops task) w w' why (inr (inr (inr (record {
-        run = run;
-        tally = tally;
-        answer_is = is;
-        mid = mid;
-        runs = runs;
-        fails = record {
-          file = file_of task run.conf run;
-          rest = [];
-          files_are = ap (λ b. if b then [] else file_of task run.conf run ∷ []) wet;
-          why = fails;
-          stays = subst (λ (x : World). x ≡ record mid { files = x.files }) (sym same) refl;
-        };
-      })))) (ap (λ (x : World). x.files) same ∙ ap (λ (x : World). x.files) runs.ran.stays)
+  pub not_stored : (tally : Tally) (w mid w' : World) (conf : Conf) (f : CommandFault) → run.answer ≡ Ok tally → RunsSource task run w mid → task.dry_run ≡ false → conf ≡ run.conf
+      → StoresPartly (kept_files task.db.now conf run.new) mid.files w'.files f → w' ≡ record mid { files = w'.files } → HasStopped (ChangeStops task) w w' (stops.Fault f)
+  not_stored tally w mid w' conf f is runs wet same partly stays =
+      let files : kept_files task.db.now conf run.new ≡ stored_by task run = ap (λ (k : Conf). kept_files task.db.now k run.new) same ∙ ap (λ b. if b then [] else kept_files task.db.now run.conf run.new) (sym wet) in
+      let p = subst (λ (fs : List File). StoresPartly fs mid.files w'.files f) files partly in
+      record {
+        stored = p.stored;
+        comes = inr (inr (inr (record { run = run; tally = tally; answer_is = is; mid = mid; runs = runs; fails = fails_partly (stored_by task run) mid w' f p stays })));
+        files = p.after_is ∙ ap (λ (x : World). with_files x.files p.stored) runs.ran.stays;
+      }

@@ -1,5 +1,5 @@
 -- What slapadd and ldapmodify come to: the files that they leave, the report and the status.
-use Rattle.std.specs.Prelude.{◌≡◌, ℕ, ◌⊎◌, List, [], ◌∷◌, ◌++◌, Option, None, Some, Result, Ok, Err, ⊤, IfSome, IfErr, if◌then◌else◌, unwrap_or, codes}
+use Rattle.std.specs.Prelude.{◌≡◌, ℕ, ◌⊎◌, List, [], Option, None, Some, Result, Ok, Err, ⊤, IfSome, IfErr, if◌then◌else◌, unwrap_or, codes}
 use Rattle.std.specs.Option.{option_copied, option_map}
 use Rattle.std.specs.FinMap as finite
 use Rattle.device.specs.Device.{Seen, GaveSome}
@@ -7,7 +7,6 @@ use Rattle.ldif_lines.specs.Records.{records, closed_records}
 use Rattle.ldif.specs.declared.record.Mode.TheVariants as modes
 use Rattle.schema.specs.Conf.{Conf}
 use Rattle.tree.specs.Directories.{Entries}
-use Rattle.directory.specs.Runs.{dump}
 use Rattle.directory.specs.Faults.{Failures}
 use Rattle.directory.specs.FailedReads.{StopsReading}
 use Rattle.directory.specs.Folds.{Ran, Runs}
@@ -16,11 +15,12 @@ use Rattle.directory.specs.declared.runs.RunFault.{RunFault}
 use Rattle.directory.specs.declared.runs.RunFault.TheVariants as run_faults
 use Rattle.command_line.specs.declared.request.AddOptions.{AddOptions}
 use Rattle.command_line.specs.declared.request.ModifyOptions.{ModifyOptions}
-use Rattle.commands.specs.Folders.{File, Files, Finds, with_files, data_name}
+use Rattle.commands.specs.Folders.{File, Files, Finds, with_files}
 use Rattle.commands.specs.Worlds.{World}
 use Rattle.commands.specs.Endings.{StoppedAt, IsAtOnce, IsFault}
 use Rattle.commands.specs.Loaded.{IsLoaded, LoadsFiles, LoadFails}
-use Rattle.commands.specs.Failures.{IsMemory, FailsToRead, FailsToWrite}
+use Rattle.commands.specs.Stored.{kept_files, FailsToStore}
+use Rattle.commands.specs.Failures.{IsMemory, FailsToRead}
 use Rattle.commands.specs.Statuses.{status_of_tally}
 use Rattle.commands.specs.declared.changes.Task.{Task}
 use Rattle.commands.specs.declared.messages.Status.{Status}
@@ -69,9 +69,9 @@ pub record RunsSource (task : Task) (run : Run) (w w' : World) : Type 0 where
 
 -- ---- where it goes through
 
--- the file that is to be stored: data.ldif is the dump of the directory; in a dry run there is none
+-- the files that are to be stored, those of the directory that the run left; in a dry run there is none
 abbrev pub stored_by : Task → Run → List File
-stored_by task run = if task.dry_run then [] else record { name = data_name task.db.now; text = dump run.conf run.new } ∷ []
+stored_by task run = if task.dry_run then [] else kept_files task.db.now run.conf run.new
 
 -- the records ran, what they left is stored, no other file changed, and the status is that of their counts
 pub record RunsAndStores (task : Task) (w w' : World) (s : Status) : Type 0 where
@@ -90,8 +90,8 @@ abbrev pub text_of : Files → Option (List ℕ) → Option (List ℕ) → Optio
 text_of m None input = input
 text_of m (Some name) input = finite.get m name
 
--- The directory after the text, from the one that dir.conf and data.ldif say: its dump is what data.ldif is then, no other file changed,
--- the report and the status are those of the run. In a dry run no file changed.
+-- The directory after the text, from the one that dir.conf and data.ldif say: data.ldif is its dump then, index.txt the text of its index, no
+-- other file changed, the report and the status are those of the run. In a dry run no file changed.
 pub record Changes (task : Task) (m : Files) (w w' : World) (s : Status) : Type 0 where
   pub run : Run
   pub loaded : LoadsFiles m task.db.now run.conf run.old
@@ -152,14 +152,6 @@ pub record BreaksOff (task : Task) (w : World) (at : StoppedAt) : Type 0 where
   pub runs : RunsSource task run w at.world
   pub why : Breaks fault (source_name (option_copied task.file)) at.why
   pub stored : at.stored ≡ []
-
--- of these files, which are stored one after the other, one can't be written: those before it were stored
-pub record FailsToStore (files : List File) (w : World) (at : StoppedAt) : Type 0 where
-  pub file : File
-  pub rest : List File
-  pub files_are : files ≡ at.stored ++ file ∷ rest
-  pub why : IsFault (FailsToWrite file.name) at.why
-  pub stays : at.world ≡ record w { files = at.world.files }
 
 -- the records ran, and then what they left couldn't be stored
 pub record IsNotStored (task : Task) (w : World) (at : StoppedAt) : Type 0 where

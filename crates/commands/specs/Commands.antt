@@ -3,13 +3,14 @@ use Rattle.std.specs.Prelude.{◌≡◌, ℕ, ◌≤◌, List, length, Result, O
 use Rattle.device.specs.Device.{Broke}
 use Rattle.command_line.specs.Requests.{AsksForHelp, AskFor, IsFaultOf}
 use Rattle.command_line.specs.declared.request.Request.{Request}
-use Rattle.command_line.specs.declared.request.Request.TheVariants.{Help, Add, Modify, Search, Cat}
+use Rattle.command_line.specs.declared.request.Request.TheVariants.{Help, Add, Modify, Index, Search, Cat}
 use Rattle.command_line.specs.declared.request.UsageFault.{UsageFault}
 use Rattle.command_line.specs.declared.request.UsageFault.TheVariants.{Words, OutOfMemory}
 use Rattle.commands.specs.Worlds.{World, IsPrinted}
 use Rattle.commands.specs.Endings.{StoppedAt, IsAtOnce, HasOnlyPrinted, IsFault, Ends}
 use Rattle.commands.specs.Failures.{IsMemory, FailsToWrite}
 use Rattle.commands.specs.Changes.{add_task, modify_task, ChangeGoesThrough, ChangeStops}
+use Rattle.commands.specs.Indexing.{IndexGoesThrough, IndexStops}
 use Rattle.commands.specs.Prints.{CatGoesThrough, CatStops, SearchGoesThrough, SearchStops}
 use Rattle.commands.specs.Statuses.{status_number}
 use Rattle.commands.specs.declared.messages.Status.{Status}
@@ -39,6 +40,7 @@ abbrev pub RequestGoesThrough : Result Request UsageFault → World → World �
 RequestGoesThrough (Ok (Help text)) = HelpGoesThrough (string_bytes text)
 RequestGoesThrough (Ok (Add asked)) = ChangeGoesThrough (add_task asked)
 RequestGoesThrough (Ok (Modify asked)) = ChangeGoesThrough (modify_task asked)
+RequestGoesThrough (Ok (Index asked)) = IndexGoesThrough asked
 RequestGoesThrough (Ok (Search asked)) = SearchGoesThrough asked
 RequestGoesThrough (Ok (Cat asked)) = CatGoesThrough asked
 RequestGoesThrough (Err fault) = λ w w' s. ⊥
@@ -47,6 +49,7 @@ abbrev pub RequestStops : Result Request UsageFault → World → StoppedAt → 
 RequestStops (Ok (Help text)) = HelpStops (string_bytes text)
 RequestStops (Ok (Add asked)) = ChangeStops (add_task asked)
 RequestStops (Ok (Modify asked)) = ChangeStops (modify_task asked)
+RequestStops (Ok (Index asked)) = IndexStops asked
 RequestStops (Ok (Search asked)) = SearchStops asked
 RequestStops (Ok (Cat asked)) = CatStops asked
 RequestStops (Err fault) = WordsStop fault

@@ -37,3 +37,6 @@ conf_name db = file_in db (codes "dir.conf")
 
 abbrev pub data_name : List ℕ → List ℕ
 data_name db = file_in db (codes "data.ldif")
+
+abbrev pub index_name : List ℕ → List ℕ
+index_name db = file_in db (codes "index.txt")

@@ -7,8 +7,10 @@ pub mod Folders
 pub mod Worlds
 pub mod Endings
 pub mod Loaded
+pub mod Stored
 pub mod Queries
 pub mod Changes
+pub mod Indexing
 pub mod Prints
 pub mod Commands
 pub mod inner

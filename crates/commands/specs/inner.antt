@@ -4,3 +4,4 @@ pub mod Refusals
 pub mod Views
 pub mod Printed
 pub mod Stopped
+pub mod Stores

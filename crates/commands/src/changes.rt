@@ -1,5 +1,5 @@
 //! slapadd and ldapmodify: the records of an LDIF text are carried out on a directory in a folder.
-ghost use Rattle.std.specs.Prelude.{◌≡◌, ◌<◌, ◌-◌, ◌^◌, Ok, Err, OnOk, IfOk, IfErr};
+ghost use Rattle.std.specs.Prelude.{◌≡◌, ◌<◌, ◌-◌, ◌^◌, Ok, Err, IfOk, IfErr};
 ghost use Rattle.directory.specs.declared.runs.RunFault.{RunFault};
 ghost use Rattle.commands.specs.Worlds.{World};
 ghost use Rattle.commands.specs.Loaded.{IsLoaded};
@@ -7,9 +7,10 @@ ghost use Rattle.commands.specs.Changes.{Breaks, RunsInput, RunsSource, RunsAndS
 ghost use Rattle.commands.specs.inner.Views.{run_of};
 ghost use Rattle.commands.specs.inner.Stopped.{CanTell, HasStopped, HasEnded};
 
-use crate::database::{load_directory, open_present, store_directory};
+use crate::database::{load_directory, open_present};
 use crate::folder::Folder;
 use crate::messages::{CommandFault, Status, Stop};
+use crate::storing::store_directory;
 use command_line::{AddOptions, ModifyOptions};
 use device::{Sink, Source};
 use directory::{Directory, RunFault, Tally, run};

@@ -2,7 +2,7 @@
 ghost use Rattle.std.specs.Prelude.{◌≡◌, ◌<◌, ◌-◌, ◌^◌, IfOk, IfErr, IfSome, OnOk, OnErr, Some, string_bytes};
 ghost use Rattle.std.specs.Option.{option_map};
 ghost use Rattle.directory.specs.Runs.{dump};
-ghost use Rattle.commands.specs.Folders.{Finds, with_file, file_in, conf_name, data_name};
+ghost use Rattle.commands.specs.Folders.{Finds, with_file, file_in, conf_name};
 ghost use Rattle.commands.specs.Loaded.{IsConfigured, IsLoaded, LoadFails};
 ghost use Rattle.commands.specs.Failures.{FailsToRead, FailsToWrite};
 ghost use Rattle.commands.specs.inner.LoadFaults.{TellsLoadFault};
@@ -35,15 +35,8 @@ impl FileText for Database {
     }
 }
 
-impl FileText for Directory {
-    ghost text = { λ d. dump d.conf d.entries };
-
-    fn write<W: Sink>(&self, alloc: Global, sink: &mut W) -> Result<(), WriteFault> {
-        self.dump(alloc, sink)
-    }
-}
-
-fn path(alloc: Global, db: &str, name: &str) -> Result<String, AllocError>
+/// The path of a file in the folder `db`.
+pub fn path(alloc: Global, db: &str, name: &str) -> Result<String, AllocError>
     ensures { IfOk result (λ s. string_bytes s ≡ file_in db.now name.now) }
 {
     format!(in alloc; "{db}/{name}")
@@ -167,19 +160,4 @@ pub fn load_directory<F: Folder>(
 {
     let Database { conf, tree } = load_database(alloc, folder, db)?;
     Ok(Directory::from_tree(alloc, conf, tree)?)
-}
-
-/// Puts the dump of a directory in place of the folder's data.ldif.
-pub fn store_directory<F: Folder>(
-    alloc: Global,
-    folder: &mut F,
-    db: &str,
-    dir: &Directory,
-) -> Result<(), CommandFault>
-    ensures ok { OnOk result (F.files folder.new ≡ with_file (F.files folder.old) (data_name db.now) (dump dir.now.conf dir.now.entries)) }
-    ensures same { OnErr result (F.files folder.new ≡ F.files folder.old) }
-    ensures err { IfErr result (FailsToWrite (data_name db.now)) }
-{
-    let name = path(alloc, db, "data.ldif")?;
-    store(alloc, folder, name.as_str(), dir)
 }

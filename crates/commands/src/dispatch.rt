@@ -1,5 +1,5 @@
 //! One command, from its words to its status.
-ghost use Rattle.std.specs.Prelude.{◌≡◌, ◌<◌, ◌≤◌, ◌-◌, ◌^◌, IfErr, map};
+ghost use Rattle.std.specs.Prelude.{◌<◌, ◌≤◌, ◌-◌, ◌^◌, IfErr, map};
 ghost use Rattle.commands.specs.Worlds.{World};
 ghost use Rattle.commands.specs.Commands.{HelpGoesThrough, HelpStops, RequestGoesThrough, RequestStops, CommandEnds};
 ghost use Rattle.commands.specs.inner.Stopped.{CanTell, HasEnded};
@@ -9,6 +9,7 @@ use crate::folder::Folder;
 use crate::messages::{CommandFault, Status, Stop, tell_stop};
 use crate::searching::search;
 use crate::slapcat::slapcat;
+use crate::slapindex::slapindex;
 use command_line::{Request, UsageFault, read};
 use device::{Device, Sink, Source, push_all};
 use std::alloc::Global;
@@ -48,6 +49,7 @@ fn carry_out<F: Folder, S: Source, O: Sink, E: Sink>(
         Ok(Request::Help(text)) => print(alloc, text.as_str(), out),
         Ok(Request::Add(asked)) => change(alloc, &Task::from(asked), folder, input, err),
         Ok(Request::Modify(asked)) => change(alloc, &Task::from(asked), folder, input, err),
+        Ok(Request::Index(asked)) => slapindex(alloc, &asked, folder),
         Ok(Request::Search(asked)) => search(alloc, &asked, folder, out, err),
         Ok(Request::Cat(asked)) => slapcat(alloc, &asked, folder, out),
         Err(UsageFault::Words(text)) => Err(Stop::Usage(text)),

@@ -10,6 +10,8 @@ mod messages;
 mod part;
 mod searching;
 mod slapcat;
+mod slapindex;
+mod storing;
 
 pub use dispatch::command;
 pub use folder::{FileText, Folder, FolderFault};

@@ -1,6 +1,7 @@
 //! A case: files, and commands that run over them in turn.
 
 use crate::fault::CaseFault;
+use crate::indexes::NamedIndexes;
 use crate::mark::Mark;
 use crate::pattern::{bytes_of, put_lines};
 use crate::trouble::Troubles;
@@ -133,6 +134,7 @@ pub struct Case {
     pub line: usize,
     /// The files that it begins with.
     pub files: MemoryFiles,
+    pub indexes: NamedIndexes,
     pub steps: Vec<Step>,
 }
 
@@ -143,34 +145,38 @@ impl Case {
         title: &str,
         line: usize,
         files: MemoryFiles,
+        indexes: NamedIndexes,
     ) -> Result<Case, AllocError> {
         Ok(Case {
             alloc,
             title: String::from_str(alloc, title)?,
             line,
             files,
+            indexes,
             steps: Vec::new(alloc),
         })
     }
 
     /// Changes a file that its last command is to leave, or that it begins with.
     pub fn change(&mut self, name: &str, change: Change<'_>) -> Result<(), AllocError> {
+        self.indexes.add(name)?;
         match self.steps.last_mut() {
             Some(step) => step.files.change(name, change),
             None => self.files.change(name, change),
         }
     }
 
-    fn last_files(&self) -> Result<MemoryFiles, AllocError> {
+    /// The files as its last command is to leave them, or those that it begins with.
+    pub fn last_files(&self) -> &MemoryFiles {
         match self.steps.last() {
-            Some(step) => step.files.copy(),
-            None => self.files.copy(),
+            Some(step) => &step.files,
+            None => &self.files,
         }
     }
 
     /// Adds a command.
     pub fn begin_step(&mut self, command: &str) -> Result<(), CaseFault> {
-        let step = Step::new(self.alloc, command, self.last_files()?)?;
+        let step = Step::new(self.alloc, command, self.last_files().copy()?)?;
         self.steps.push(step)?;
         Ok(())
     }

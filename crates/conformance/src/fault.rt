@@ -12,6 +12,8 @@ pub enum CaseFault {
     End,
     /// A code in its text is wrong.
     Code,
+    /// It names the digest of a file that isn't there.
+    Stamp,
     /// It doesn't belong here, as a line of a file does without that file.
     Place,
     /// Its case has no command.
@@ -25,6 +27,7 @@ impl fmt::Display for CaseFault {
             CaseFault::Mark => "a line without a mark",
             CaseFault::End => "a space or CR at the end of a line",
             CaseFault::Code => "a wrong code",
+            CaseFault::Stamp => "a stamp of a file that isn't there",
             CaseFault::Place => "a line out of place",
             CaseFault::NoCommand => "a case without a command",
             CaseFault::OutOfMemory => "out of memory",

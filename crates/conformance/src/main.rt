@@ -5,6 +5,7 @@
 
 mod case;
 mod fault;
+mod indexes;
 mod mark;
 mod pattern;
 mod reader;

@@ -7,7 +7,7 @@ pub enum Mark {
     Comment,
     /// `=`: a case begins, and has this title.
     Case,
-    /// `+`: a file of this name is there.
+    /// `+`: a file of this name is there. An index text that neither this nor `-` names isn't looked at.
     File,
     /// `|`: a line of that file.
     Line,

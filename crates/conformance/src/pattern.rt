@@ -2,6 +2,8 @@
 ghost use Rattle.std.specs.Prelude.{◌<◌, IfSome};
 
 use crate::fault::CaseFault;
+use memory_folder::MemoryFiles;
+use sha2::{Digest, Sha256};
 use std::alloc::Global;
 
 /// Numbers from the first to the last, each so much more than the one before.
@@ -26,6 +28,26 @@ enum Piece<'t> {
     Numbers(Numbers),
     /// `%{#}`: that number once more.
     Number,
+    /// `%{stamp d/data.ldif}`: the SHA-256 (FIPS 180-4) of that file, in hexadecimal digits.
+    Stamp(&'t str),
+}
+
+/// What a code can name.
+#[derive(Clone, Copy)]
+struct Known<'f> {
+    /// The number for which the line stands, where it stands for some.
+    number: Option<u32>,
+    /// The files, in a line of a file.
+    files: Option<&'f MemoryFiles>,
+}
+
+impl<'f> Known<'f> {
+    fn nothing() -> Known<'f> {
+        Known {
+            number: None,
+            files: None,
+        }
+    }
 }
 
 fn many_of<'t>(text: &'t str, count: &str) -> Option<Piece<'t>> {
@@ -46,6 +68,9 @@ fn numbers_of<'t>(code: &str) -> Option<Piece<'t>> {
 
 /// What stands between `%{` and `}`.
 fn code_of(code: &str) -> Option<Piece<'_>> {
+    if let Some(name) = code.strip_prefix("stamp ") {
+        return Some(Piece::Stamp(name));
+    }
     if let Some((text, count)) = code.rsplit_once('*') {
         return many_of(text, count);
     }
@@ -99,6 +124,23 @@ fn put_number(alloc: Global, number: Option<u32>, into: &mut Vec<u8>) -> Result<
     Ok(())
 }
 
+fn put_stamp(
+    alloc: Global,
+    name: &str,
+    files: Option<&MemoryFiles>,
+    into: &mut Vec<u8>,
+) -> Result<(), CaseFault> {
+    let Some(files) = files else {
+        return Err(CaseFault::Code);
+    };
+    let Some(bytes) = files.get(name) else {
+        return Err(CaseFault::Stamp);
+    };
+    let digits = hex::encode(alloc, Sha256::digest(bytes))?;
+    into.extend_from_slice(digits.as_bytes())?;
+    Ok(())
+}
+
 fn pieces_of<'t>(alloc: Global, text: &'t str) -> Result<Vec<Piece<'t>>, CaseFault> {
     let mut pieces = Vec::new(alloc);
     let mut is_first = true;
@@ -123,7 +165,7 @@ fn pieces_of<'t>(alloc: Global, text: &'t str) -> Result<Vec<Piece<'t>>, CaseFau
 fn put_pieces(
     alloc: Global,
     pieces: &[Piece<'_>],
-    number: Option<u32>,
+    known: Known<'_>,
     into: &mut Vec<u8>,
 ) -> Result<(), CaseFault> {
     for piece in pieces {
@@ -131,7 +173,8 @@ fn put_pieces(
             Piece::Plain(text) => into.extend_from_slice(text.as_bytes())?,
             Piece::Bytes(digits) => put_bytes(digits, into)?,
             Piece::Many(text, count) => put_many(text, *count, into)?,
-            Piece::Numbers(_) | Piece::Number => put_number(alloc, number, into)?,
+            Piece::Numbers(_) | Piece::Number => put_number(alloc, known.number, into)?,
+            Piece::Stamp(name) => put_stamp(alloc, name, known.files, into)?,
         }
     }
     Ok(())
@@ -155,7 +198,7 @@ fn numbers_in(pieces: &[Piece<'_>]) -> Result<Option<Numbers>, CaseFault> {
 pub fn bytes_of(alloc: Global, text: &str) -> Result<Vec<u8>, CaseFault> {
     let pieces = pieces_of(alloc, text)?;
     let mut bytes = Vec::new(alloc);
-    put_pieces(alloc, pieces.as_slice(), None, &mut bytes)?;
+    put_pieces(alloc, pieces.as_slice(), Known::nothing(), &mut bytes)?;
     Ok(bytes)
 }
 
@@ -168,16 +211,44 @@ pub fn text_of(alloc: Global, text: &str) -> Result<String, CaseFault> {
 }
 
 /// Puts down the line that a text stands for, or the lines. `%{}` at its end leaves out the LF.
-pub fn put_lines(alloc: Global, text: &str, into: &mut Vec<u8>) -> Result<(), CaseFault> {
+fn put_known_lines(
+    alloc: Global,
+    text: &str,
+    known: Known<'_>,
+    into: &mut Vec<u8>,
+) -> Result<(), CaseFault> {
     let mut pieces = pieces_of(alloc, text)?;
     if !text.ends_with("%{}") {
         pieces.push(Piece::Plain("\n"))?;
     }
     let Some(numbers) = numbers_in(pieces.as_slice())? else {
-        return put_pieces(alloc, pieces.as_slice(), None, into);
+        return put_pieces(alloc, pieces.as_slice(), known, into);
     };
     for number in (numbers.first..=numbers.last).step_by(numbers.step) {
-        put_pieces(alloc, pieces.as_slice(), Some(number), into)?;
+        let known = Known {
+            number: Some(number),
+            files: known.files,
+        };
+        put_pieces(alloc, pieces.as_slice(), known, into)?;
     }
     Ok(())
+}
+
+/// Puts down the line of a stream that a text stands for, or the lines.
+pub fn put_lines(alloc: Global, text: &str, into: &mut Vec<u8>) -> Result<(), CaseFault> {
+    put_known_lines(alloc, text, Known::nothing(), into)
+}
+
+/// Puts down the line of a file that a text stands for, or the lines. It may name the digests of these files.
+pub fn put_file_lines(
+    alloc: Global,
+    text: &str,
+    files: &MemoryFiles,
+    into: &mut Vec<u8>,
+) -> Result<(), CaseFault> {
+    let known = Known {
+        number: None,
+        files: Some(files),
+    };
+    put_known_lines(alloc, text, known, into)
 }

@@ -2,8 +2,9 @@
 
 use crate::case::Case;
 use crate::fault::{CaseFault, LineFault};
+use crate::indexes::NamedIndexes;
 use crate::mark::Mark;
-use crate::pattern::{put_lines, text_of};
+use crate::pattern::{put_file_lines, text_of};
 use memory_folder::{Change, MemoryFiles};
 use std::alloc::{AllocError, Global};
 
@@ -13,6 +14,8 @@ struct Reader {
     alloc: Global,
     /// The files that each case begins with.
     files: MemoryFiles,
+    /// The index texts that are looked at in all of them.
+    indexes: NamedIndexes,
     cases: Vec<Case>,
     /// The file whose lines are being read.
     name: Option<String>,
@@ -23,6 +26,7 @@ impl Reader {
         Reader {
             alloc,
             files: MemoryFiles::new(alloc),
+            indexes: NamedIndexes::none(alloc),
             cases: Vec::new(alloc),
             name: None,
         }
@@ -32,12 +36,24 @@ impl Reader {
     fn change(&mut self, name: &str, change: Change<'_>) -> Result<(), AllocError> {
         match self.cases.last_mut() {
             Some(case) => case.change(name, change),
-            None => self.files.change(name, change),
+            None => {
+                self.indexes.add(name)?;
+                self.files.change(name, change)
+            }
+        }
+    }
+
+    /// The files at this place.
+    fn files(&self) -> &MemoryFiles {
+        match self.cases.last() {
+            Some(case) => case.last_files(),
+            None => &self.files,
         }
     }
 
     fn begin_case(&mut self, title: &str, line: usize) -> Result<(), CaseFault> {
-        let case = Case::new(self.alloc, title, line, self.files.copy()?)?;
+        let (files, indexes) = (self.files.copy()?, self.indexes.copy()?);
+        let case = Case::new(self.alloc, title, line, files, indexes)?;
         self.cases.push(case)?;
         Ok(())
     }
@@ -54,7 +70,7 @@ impl Reader {
             return Err(CaseFault::Place);
         };
         let mut lines = Vec::new(self.alloc);
-        put_lines(self.alloc, text, &mut lines)?;
+        put_file_lines(self.alloc, text, self.files(), &mut lines)?;
         self.change(name.as_str(), Change::Append(lines.as_slice()))?;
         self.name = Some(name);
         Ok(())

@@ -1,6 +1,7 @@
 //! Says what is otherwise than a case wants, as a case spells it.
 
 use crate::case::Wanted;
+use crate::indexes::NamedIndexes;
 use memory_folder::MemoryFiles;
 use std::alloc::{AllocError, Global};
 
@@ -90,11 +91,12 @@ fn put_file(
     }
 }
 
-/// Says which files aren't as they are wanted.
+/// Says which files aren't as they are wanted, of those that are looked at.
 pub fn put_files(
     alloc: Global,
     found: &MemoryFiles,
     wanted: &MemoryFiles,
+    indexes: &NamedIndexes,
     into: &mut String,
 ) -> Result<(), AllocError> {
     for (name, bytes) in wanted.all() {
@@ -107,7 +109,7 @@ pub fn put_files(
         )?;
     }
     for (name, _) in found.all() {
-        if wanted.get(name.as_str()).is_none() {
+        if indexes.looks_at(name.as_str()) && wanted.get(name.as_str()).is_none() {
             into.push_str(format!(in alloc; "  {name} is there\n")?.as_str())?;
         }
     }

@@ -10,12 +10,15 @@ use std::alloc::{AllocError, Global};
 /// How many bytes a stream gives or takes at a time: few, so that most texts come and go in several pieces.
 const PIECE: usize = 7;
 
-/// Runs a command over a folder, and answers what is otherwise than the case says, or nothing.
-fn run_step(
-    alloc: Global,
-    step: &Step,
-    folder: &mut MemoryFolder<'_>,
-) -> Result<String, AllocError> {
+/// What a command answered.
+#[derive(Drop)]
+struct Answer {
+    status: u8,
+    output: TrySink,
+    messages: TrySink,
+}
+
+fn answer_of(alloc: Global, step: &Step, folder: &mut MemoryFolder<'_>) -> Answer {
     let troubles = &step.troubles;
     let mut input = TrySource::new(step.input.as_slice(), PIECE, troubles.input);
     let mut output = TrySink::new(alloc, PIECE, troubles.output);
@@ -31,28 +34,47 @@ fn run_step(
         ),
         None => tell(alloc, &mut messages, &CommandFault::Words).number(),
     };
-    let mut report = String::new(alloc);
-    if status != step.status() {
-        let line = format!(in alloc; "  status is {status} and not {}\n", step.status())?;
-        report.push_str(line.as_str())?;
+    Answer {
+        status,
+        output,
+        messages,
     }
-    put_stream(
+}
+
+/// Says what is otherwise in an answer than a command is to give.
+fn put_answer(
+    alloc: Global,
+    answer: &Answer,
+    step: &Step,
+    into: &mut String,
+) -> Result<(), AllocError> {
+    if answer.status != step.status() {
+        let line = format!(in alloc; "  status is {} and not {}\n", answer.status, step.status())?;
+        into.push_str(line.as_str())?;
+    }
+    let output = answer.output.bytes();
+    put_stream(alloc, "standard output", '>', output, &step.output, into)?;
+    let messages = answer.messages.bytes();
+    put_stream(alloc, "standard error", '!', messages, &step.messages, into)
+}
+
+/// Runs a command over a folder, and answers what is otherwise than the case says, or nothing.
+fn run_step(
+    alloc: Global,
+    case: &Case,
+    step: &Step,
+    folder: &mut MemoryFolder<'_>,
+) -> Result<String, AllocError> {
+    let answer = answer_of(alloc, step, folder);
+    let mut report = String::new(alloc);
+    put_answer(alloc, &answer, step, &mut report)?;
+    put_files(
         alloc,
-        "standard output",
-        '>',
-        output.bytes(),
-        &step.output,
+        folder.files(),
+        &step.files,
+        &case.indexes,
         &mut report,
     )?;
-    put_stream(
-        alloc,
-        "standard error",
-        '!',
-        messages.bytes(),
-        &step.messages,
-        &mut report,
-    )?;
-    put_files(alloc, folder.files(), &step.files, &mut report)?;
     Ok(report)
 }
 
@@ -61,7 +83,7 @@ pub fn run(alloc: Global, case: &Case) -> Result<String, AllocError> {
     let mut folder = MemoryFolder::new(alloc, case.files.copy()?);
     for step in case.steps.iter() {
         folder.set_trouble(step.troubles.file());
-        let report = run_step(alloc, step, &mut folder)?;
+        let report = run_step(alloc, case, step, &mut folder)?;
         if !report.is_empty() {
             return format!(in alloc;
                 "line {}: {}\n $ {}\n{report}",

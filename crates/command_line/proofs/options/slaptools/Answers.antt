@@ -19,6 +19,7 @@ returns c =
     let start = ap app_of_fields c.subcommand_required.ensures ∙ ap required (ap app_of_fields c.about.ensures ∙ c.new.ensures.app) in
     let plain-slapadd = local c.in_ok-slapadd.field-0 (ap (λ (s : Shape). s.is_plain) c.in_ok-slapadd.ensures) in
     let plain-ldapmodify = local c.in_ok-ldapmodify.field-0 (ap (λ (s : Shape). s.is_plain) c.in_ok-ldapmodify.ensures) in
+    let plain-slapindex = local c.in_ok-slapindex.field-0 (ap (λ (s : Shape). s.is_plain) c.in_ok-slapindex.ensures) in
     let plain-search = local c.in_ok-search.field-0 (ap (λ (s : Shape). s.is_plain) c.in_ok-search.ensures) in
     let plain-slapcat = local c.in_ok-slapcat.field-0 (ap (λ (s : Shape). s.is_plain) c.in_ok-slapcat.ensures) in
-    IfOk-weaker c.subcommand-4.result _ _ (λ r h. h.shape plain-slapcat ∙ ap₂ with_subcommand (c.in_ok-subcommand-3.ensures.shape plain-search ∙ ap₂ with_subcommand (c.in_ok-subcommand-2.ensures.shape plain-ldapmodify ∙ ap₂ with_subcommand (c.in_ok-subcommand.ensures.shape plain-slapadd ∙ ap₂ with_subcommand (start) c.in_ok-slapadd.ensures) c.in_ok-ldapmodify.ensures) c.in_ok-search.ensures) c.in_ok-slapcat.ensures) c.subcommand-4.ensures
+    IfOk-weaker c.subcommand-5.result _ _ (λ r h. h.shape plain-slapcat ∙ ap₂ with_subcommand (c.in_ok-subcommand-4.ensures.shape plain-search ∙ ap₂ with_subcommand (c.in_ok-subcommand-3.ensures.shape plain-slapindex ∙ ap₂ with_subcommand (c.in_ok-subcommand-2.ensures.shape plain-ldapmodify ∙ ap₂ with_subcommand (c.in_ok-subcommand.ensures.shape plain-slapadd ∙ ap₂ with_subcommand (start) c.in_ok-slapadd.ensures) c.in_ok-ldapmodify.ensures) c.in_ok-slapindex.ensures) c.in_ok-search.ensures) c.in_ok-slapcat.ensures) c.subcommand-5.ensures

@@ -1,7 +1,6 @@
-use Rattle.std.proofs.Common.{ℕ, ◌<◌, ◌-◌, ◌^◌, Option, refl, sym, ap, subst}
+use Rattle.std.proofs.Common.{ℕ, ◌<◌, ◌-◌, ◌^◌, refl, sym, subst}
 use Rattle.std.specs.Prelude.{Ok}
 use Rattle.std.proofs.lemmas.Result.{err_from_is_err_and}
-use Rattle.commands.specs.Folders.{Files}
 use Rattle.commands.specs.Worlds.{World}
 use Rattle.commands.specs.inner.Views.{run_of}
 use Rattle.commands.proofs.Running.{dry_stores, stores, not_stored}
@@ -35,7 +34,7 @@ returns-in_err-stored-clause-ends g c =
     let mid : World = record w { files = g.F.Folder.files c.args.folder.now; input = g.S.Source.seen c.run_records.new.input; messages = g.E.Sink.written c.run_records.new.err } in
     let w₁ : World = record w { files = g.F.Folder.files c.args.folder.now; input = g.S.Source.seen c.args.input.now; messages = g.E.Sink.written c.args.err.now } in
     let w₂ : World = record mid { files = g.F.Folder.files c.store_directory-stored.new.folder } in
-    not_stored c.args.task.now run c.in_ok-tally.tally w₁ mid w₂ _ refl (c.in_ok-tally.ensures.ran w) c.if-task.false c.in_err-stored.ensures.err (ap (λ (fs : Option Files). record mid { files = fs }) c.in_err-stored.ensures.same))
+    not_stored c.args.task.now run c.in_ok-tally.tally w₁ mid w₂ _ _ refl (c.in_ok-tally.ensures.ran w) c.if-task.false c.run_records.ensures.same_conf c.in_err-stored.ensures.err refl)
 
 pub returns-in_err-stored-clause-can_tell : goal.returns-in_err-stored-clause-can_tell
 returns-in_err-stored-clause-can_tell g c =

@@ -24,6 +24,11 @@ returns-in-Ok-Modify-clause-ends g c =
     let w' : World = record w { files = g.F.Folder.files c.change-in-Ok-Modify.new.folder; input = g.S.Source.seen c.change-in-Ok-Modify.new.input; messages = g.E.Sink.written c.change-in-Ok-Modify.new.err } in
     rw (c.in-Ok-Modify.is, c.in-Ok-Modify.field-0-is) (subst (λ (t : Task). HasEnded (ChangeGoesThrough t) (ChangeStops t) w w' c.change-in-Ok-Modify.result) c.from-in-Ok-Modify.ensures (c.change-in-Ok-Modify.ensures.ends w))
 
+pub returns-in-Ok-Index-clause-ends : goal.returns-in-Ok-Index-clause-ends
+returns-in-Ok-Index-clause-ends g c =
+    let w : World = record { files = g.F.Folder.files c.args.folder.now; input = g.S.Source.seen c.args.input.now; output = g.O.Sink.written c.args.out.now; messages = g.E.Sink.written c.args.err.now } in
+    rw (c.in-Ok-Index.is, c.in-Ok-Index.field-0-is) (c.slapindex.ensures w)
+
 pub returns-in-Ok-Search-clause-ends : goal.returns-in-Ok-Search-clause-ends
 returns-in-Ok-Search-clause-ends g c =
     let w : World = record { files = g.F.Folder.files c.args.folder.now; input = g.S.Source.seen c.args.input.now; output = g.O.Sink.written c.args.out.now; messages = g.E.Sink.written c.args.err.now } in

@@ -1,0 +1,81 @@
+//! The files that a directory is kept in, as they are stored.
+ghost use Rattle.std.specs.Prelude.{◌≡◌, [], ◌∷◌, IfErr, OnOk, OnErr};
+ghost use Rattle.directory.specs.Runs.{dump};
+ghost use Rattle.directory.specs.IndexTexts.{index_text};
+ghost use Rattle.commands.specs.Folders.{with_file, with_files, file_in};
+ghost use Rattle.commands.specs.Failures.{FailsToWrite};
+ghost use Rattle.commands.specs.Stored.{index_file, kept_files};
+ghost use Rattle.commands.specs.inner.Stores.{StoresPartly};
+
+use crate::database::{path, store};
+use crate::folder::{FileText, Folder};
+use crate::messages::CommandFault;
+use device::Sink;
+use directory::Directory;
+use ldif::WriteFault;
+use std::alloc::Global;
+
+impl FileText for Directory {
+    ghost text = { λ d. dump d.conf d.entries };
+
+    fn write<W: Sink>(&self, alloc: Global, sink: &mut W) -> Result<(), WriteFault> {
+        self.dump(alloc, sink)
+    }
+}
+
+/// The text of a directory's index.
+#[derive(Clone, Copy, Drop)]
+struct IndexText<'a> {
+    dir: &'a Directory,
+}
+
+impl FileText for IndexText<'_> {
+    ghost text = { λ t. index_text t.dir.now.conf t.dir.now.entries };
+
+    fn write<W: Sink>(&self, alloc: Global, sink: &mut W) -> Result<(), WriteFault> {
+        self.dir.index_text(alloc, sink)
+    }
+}
+
+/// Puts a text in place of the file of this name in the folder `db`.
+pub fn store_in<F: Folder, T: FileText>(
+    alloc: Global,
+    folder: &mut F,
+    db: &str,
+    name: &str,
+    text: &T,
+) -> Result<(), CommandFault>
+    ensures ok { OnOk result (F.files folder.new ≡ with_file (F.files folder.old) (file_in db.now name.now) (T.text text.now)) }
+    ensures same { OnErr result (F.files folder.new ≡ F.files folder.old) }
+    ensures err { IfErr result (FailsToWrite (file_in db.now name.now)) }
+{
+    let path = path(alloc, db, name)?;
+    store(alloc, folder, path.as_str(), text)
+}
+
+/// Puts the text of a directory's index in place of the folder's index.txt.
+pub fn store_index<F: Folder>(
+    alloc: Global,
+    folder: &mut F,
+    db: &str,
+    dir: &Directory,
+) -> Result<(), CommandFault>
+    ensures ok { OnOk result (F.files folder.new ≡ with_files (F.files folder.old) (index_file db.now dir.now.conf dir.now.entries ∷ [])) }
+    ensures err { IfErr result (StoresPartly (index_file db.now dir.now.conf dir.now.entries ∷ []) (F.files folder.old) (F.files folder.new)) }
+{
+    store_in(alloc, folder, db, "index.txt", &IndexText { dir })
+}
+
+/// Puts the dump of a directory in place of the folder's data.ldif, and then the text of its index in place of index.txt.
+pub fn store_directory<F: Folder>(
+    alloc: Global,
+    folder: &mut F,
+    db: &str,
+    dir: &Directory,
+) -> Result<(), CommandFault>
+    ensures ok { OnOk result (F.files folder.new ≡ with_files (F.files folder.old) (kept_files db.now dir.now.conf dir.now.entries)) }
+    ensures err { IfErr result (StoresPartly (kept_files db.now dir.now.conf dir.now.entries) (F.files folder.old) (F.files folder.new)) }
+{
+    store_in(alloc, folder, db, "data.ldif", dir)?;
+    store_index(alloc, folder, db, dir)
+}
