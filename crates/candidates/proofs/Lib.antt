@@ -1,0 +1,6 @@
+pub mod Allowed
+pub mod Examples
+pub mod Norms
+pub mod Parts
+pub mod Sets
+pub mod Windows

@@ -1,0 +1,66 @@
+-- One side of a filter, part by part.
+use Rattle.std.proofs.Common.{◌≡◌, ℕ, suc, ◌+◌, ◌<◌, Bool, true, false, not, List, ◌∷◌, drop, length, get_or, refl, sym, ap, ◌∙◌, add-one, drop-cons}
+use Rattle.std.specs.List.{list_any, list_all}
+use Rattle.filter.specs.declared.prepared_filter.PreparedFilter.{PreparedFilter}
+use Rattle.filter.specs.Prepared.{Tree, All_of, Any_of, tree_of, trees_of}
+use Rattle.index.specs.Postings.{Shown}
+use Rattle.candidates.specs.declared.side.Side.{Side}
+use Rattle.candidates.specs.declared.side.Side.TheVariants.{May, MayNot}
+use Rattle.candidates.specs.Sides.{Sides, sides, sides_each, all_sides, any_sides}
+use Rattle.candidates.specs.inner.OneSide.{on, is_may, both_or_either}
+
+-- of all sides, or of one
+abbrev every_or_some : Bool → Side → List Sides → Bool
+every_or_some true side each = list_all (on side) each
+every_or_some false side each = list_any (on side) each
+
+on-all_sides : (side : Side) (each : List Sides) → on side (all_sides each) ≡ every_or_some (is_may side) side each
+on-all_sides May each = refl
+on-all_sides MayNot each = refl
+
+on-any_sides : (side : Side) (each : List Sides) → on side (any_sides each) ≡ every_or_some (not (is_may side)) side each
+on-any_sides May each = refl
+on-any_sides MayNot each = refl
+
+-- none so far
+from_start : (all b : Bool) → b ≡ both_or_either all all b
+from_start true b = refl
+from_start false b = refl
+
+one_more : (all a : Bool) (side : Side) (s : Sides) (rest : List Sides) → both_or_either all a (every_or_some all side (s ∷ rest)) ≡ both_or_either all (both_or_either all a (on side s)) (every_or_some all side rest)
+one_more true true side s rest = refl
+one_more true false side s rest = refl
+one_more false true side s rest = refl
+one_more false false side s rest = refl
+
+module _ (shown : Shown) (n : ℕ) (all : Bool) (side : Side) (fs : List PreparedFilter) where
+  -- with the sides of the parts from one on
+  abbrev pub with_parts : Bool → ℕ → Bool
+  with_parts a i = both_or_either all a (every_or_some all side (sides_each shown n (trees_of (drop i fs))))
+
+  pub part_next : (a b : Bool) (i : ℕ) (d : PreparedFilter) → i < length fs → on side (sides shown n (tree_of (get_or fs i d))) ≡ b → with_parts a i ≡ with_parts (both_or_either all a b) (i + 1)
+  part_next a b i d lt is =
+      rw (add-one, drop-cons fs i d lt) (one_more all a side (sides shown n (tree_of (get_or fs i d))) (sides_each shown n (trees_of (drop (suc i) fs))))
+      ∙ ap (λ x. both_or_either all (both_or_either all a x) (every_or_some all side (sides_each shown n (trees_of (drop (i + 1) fs))))) is
+
+  -- before the first part: all numbers, or none
+  starts : (a : Bool) → a ≡ all → with_parts a 0 ≡ every_or_some all side (sides_each shown n (trees_of fs))
+  starts a is_a = let each = sides_each shown n (trees_of fs) in ap (λ b. both_or_either all b (every_or_some all side each)) is_a ∙ sym (from_start all (every_or_some all side each))
+
+  pub all_start : (a : Bool) (parts : List PreparedFilter) (tree : Tree) → a ≡ all → all ≡ is_may side → fs ≡ parts → tree ≡ All_of (trees_of parts) → with_parts a 0 ≡ on side (sides shown n tree)
+  all_start a parts tree is_a is_all is_fs is_tree =
+      let each = sides_each shown n (trees_of fs) in
+      starts a is_a
+      ∙ ap (λ b. every_or_some b side each) is_all
+      ∙ sym (on-all_sides side each)
+      ∙ ap (λ (xs : List PreparedFilter). on side (all_sides (sides_each shown n (trees_of xs)))) is_fs
+      ∙ ap (λ (t : Tree). on side (sides shown n t)) (sym is_tree)
+
+  pub any_start : (a : Bool) (parts : List PreparedFilter) (tree : Tree) → a ≡ all → all ≡ not (is_may side) → fs ≡ parts → tree ≡ Any_of (trees_of parts) → with_parts a 0 ≡ on side (sides shown n tree)
+  any_start a parts tree is_a is_all is_fs is_tree =
+      let each = sides_each shown n (trees_of fs) in
+      starts a is_a
+      ∙ ap (λ b. every_or_some b side each) is_all
+      ∙ sym (on-any_sides side each)
+      ∙ ap (λ (xs : List PreparedFilter). on side (any_sides (sides_each shown n (trees_of xs)))) is_fs
+      ∙ ap (λ (t : Tree). on side (sides shown n t)) (sym is_tree)

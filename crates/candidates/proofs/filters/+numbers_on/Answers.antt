@@ -1,0 +1,46 @@
+use Rattle.std.proofs.Common.{not, ap, sym, ◌∙◌, ◌+◌}
+use Rattle.filter.specs.declared.prepared_filter.PreparedFilter.{PreparedFilter}
+use Rattle.filter.specs.declared.prepared_filter.PreparedFilter.TheOpen as layer
+use Rattle.filter.specs.declared.prepared_filter.PreparedFilter.TheVariants as variants
+use Rattle.filter.specs.declared.prepared_filter.PreparedFilter.TheFolds.{fold-roll-PreparedFilter}
+use Rattle.filter.specs.Prepared.{Tree, tree_of, tree_step}
+use Rattle.candidates.specs.Ids.{ids_contain}
+use Rattle.candidates.specs.Sides.{sides}
+use Rattle.candidates.specs.inner.OneSide.{on}
+use Rattle.candidates.specs.inner.Held.{members_of}
+use Rattle.candidates.proofs.Parts.{with_parts, part_next, all_start, any_start}
+use Rattle.candidates.proofs.filters.+numbers_on.Goals as goal
+
+pub loop-part-init : goal.loop-part-init
+loop-part-init g t c n =
+    all_start (g.P.Postings.shown c.args.postings.now) n c.is_may-all.result c.args.side c.deref-part-items.result.now
+    (ids_contain (members_of g.P.Set.IdSet.members) c.all_or_none-ids.result n) c.in-And.parts.items (tree_of c.args.filter.now) (c.all_or_none-ids.ensures n) c.is_may-all.ensures c.deref-part-items.ensures.value
+    (ap tree_of (c.in-And.is ∙ sym (variants.rolls-And c.in-And.parts)) ∙ fold-roll-PreparedFilter Tree tree_step (layer.And c.in-And.parts))
+
+pub loop-part-preserved : goal.loop-part-preserved
+loop-part-preserved g t c n =
+    let shown = g.P.Postings.shown c.args.postings.now in
+    let fs = c.deref-part-items.result.now in
+    let i = c.loop-part.part-index in
+    ap (λ a. with_parts shown n c.is_may-all.result c.args.side fs a (i + 1)) (c.in_ok-ids-in-And.ensures n)
+    ∙ sym (part_next shown n c.is_may-all.result c.args.side fs (ids_contain (members_of g.P.Set.IdSet.members) c.loop-part.ids n) (ids_contain (members_of g.P.Set.IdSet.members) c.in_ok-next-in-And.next n) i
+    c.part-item.result c.loop-part-test.true
+    (sym (c.in_ok-next-in-And.ensures n ∙ ap (λ (f : PreparedFilter). on c.args.side (sides shown n (tree_of f))) c.part-item.is)))
+    ∙ c.loop-part.invariant n
+
+pub loop-part-2-init : goal.loop-part-2-init
+loop-part-2-init g t c n =
+    any_start (g.P.Postings.shown c.args.postings.now) n (not c.is_may-all-in-Or.result) c.args.side c.deref-part-items-in-Or.result.now
+    (ids_contain (members_of g.P.Set.IdSet.members) c.all_or_none-ids-in-Or.result n) c.in-Or.parts.items (tree_of c.args.filter.now) (c.all_or_none-ids-in-Or.ensures n) (ap not c.is_may-all-in-Or.ensures) c.deref-part-items-in-Or.ensures.value
+    (ap tree_of (c.in-Or.is ∙ sym (variants.rolls-Or c.in-Or.parts)) ∙ fold-roll-PreparedFilter Tree tree_step (layer.Or c.in-Or.parts))
+
+pub loop-part-2-preserved : goal.loop-part-2-preserved
+loop-part-2-preserved g t c n =
+    let shown = g.P.Postings.shown c.args.postings.now in
+    let fs = c.deref-part-items-in-Or.result.now in
+    let i = c.loop-part-2.part-index in
+    ap (λ a. with_parts shown n (not c.is_may-all-in-Or.result) c.args.side fs a (i + 1)) (c.in_ok-ids-in-Or.ensures n)
+    ∙ sym (part_next shown n (not c.is_may-all-in-Or.result) c.args.side fs (ids_contain (members_of g.P.Set.IdSet.members) c.loop-part-2.ids n) (ids_contain (members_of g.P.Set.IdSet.members) c.in_ok-next-in-Or.next n) i
+    c.part-item-in-loop-part-2.result c.loop-part-2-test.true
+    (sym (c.in_ok-next-in-Or.ensures n ∙ ap (λ (f : PreparedFilter). on c.args.side (sides shown n (tree_of f))) c.part-item-in-loop-part-2.is)))
+    ∙ c.loop-part-2.invariant n

@@ -1,0 +1,21 @@
+-- When a bracket holds: what postings have to show of an entry, and what they allow a filter to be of it then.
+use Rattle.std.specs.Prelude.{◌≡◌, ℕ, true, List, Some}
+use Rattle.std.specs.FinSet.{contains}
+use Rattle.values.specs.declared.types.AttributeType.{AttributeType}
+use Rattle.schema.specs.declared.slots.IndexKind.{IndexKind}
+use Rattle.tree.specs.Entries.{Attributes}
+use Rattle.filter.specs.declared.truth.Truth.{Truth}
+use Rattle.filter.specs.declared.truth.Truth.TheVariants.{True, False}
+use Rattle.index.specs.EntryKeys.{has_key}
+use Rattle.index.specs.Postings.{Shown}
+use Rattle.candidates.specs.Sides.{Sides}
+
+-- under each slot that there is, the number stands under exactly the keys of the entry
+pub record Reflects (shown : Shown) (types : List AttributeType) (n : ℕ) (attrs : Attributes) : Type 0 where
+  pub exactly : (t : ℕ) (kind : IndexKind) (slot : ℕ) (key : List ℕ) → shown.slot_of t kind ≡ Some slot
+      → contains (shown.members slot key) n ≡ has_key types attrs t kind key
+
+-- what is True may be True, and what is False may be False; of what is Undefined nothing is asked
+pub record Allows (t : Truth) (s : Sides) : Type 0 where
+  pub if_true : t ≡ True → s.may ≡ true
+  pub if_false : t ≡ False → s.may_not ≡ true

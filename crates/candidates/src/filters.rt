@@ -1,0 +1,88 @@
+//! The candidates of a filter.
+
+ghost use Rattle.std.specs.Prelude.{◌≡◌, IfOk};
+ghost use Rattle.filter.specs.Prepared.{tree_of};
+ghost use Rattle.candidates.specs.Candidates.{may_be_true, may_be_false};
+ghost use Rattle.candidates.specs.Ids.{HasExactly};
+ghost use Rattle.candidates.specs.Sides.{sides};
+ghost use Rattle.candidates.specs.inner.Held.{members_of};
+ghost use Rattle.candidates.specs.inner.OneSide.{on};
+
+use crate::held::{Held, all_or_none, both_or_either, owned_ids};
+use crate::ids::Ids;
+use crate::items::item_numbers;
+use crate::side::Side;
+use filter::{Prepared, PreparedFilter};
+use index::Postings;
+use std::alloc::{AllocError, Global};
+
+/// The numbers of the entries of which a filter may be True, and of those of which it may be False. Where it is Undefined, either may have
+/// the entry, or neither.
+#[derive(Drop)]
+pub struct Bracket<S> {
+    pub may: Ids<S>,
+    pub may_not: Ids<S>,
+}
+
+// The numbers of the entries of which a filter may be what the side says. An And may be True where all of its parts may be, and False where
+// one of them may be; of an Or it is the other way round.
+fn numbers_on<'p, P: Postings>(
+    alloc: Global,
+    filter: &PreparedFilter,
+    postings: &'p P,
+    side: Side,
+) -> Result<Ids<Held<'p, P::Set>>, AllocError>
+    ensures { IfOk result (HasExactly (members_of P.Set.members) (λ n. on side (sides (P.shown postings.now) n (tree_of filter.now)))) }
+{
+    match filter {
+        PreparedFilter::And(parts) => {
+            let all = side.is_may();
+            let mut ids = all_or_none(postings, all);
+            for part in parts {
+                let next = numbers_on(alloc, part, postings, side)?;
+                ids = both_or_either(alloc, all, ids, next)?;
+            }
+            Ok(ids)
+        }
+        PreparedFilter::Or(parts) => {
+            let all = !side.is_may();
+            let mut ids = all_or_none(postings, all);
+            for part in parts {
+                let next = numbers_on(alloc, part, postings, side)?;
+                ids = both_or_either(alloc, all, ids, next)?;
+            }
+            Ok(ids)
+        }
+        PreparedFilter::Not(part) => numbers_on(alloc, part, postings, side.other()),
+        PreparedFilter::Item(item) => item_numbers(alloc, item, postings, side),
+    }
+}
+
+/// The candidates of a filter: of which entries it may be True, and of which it may be False, by what the postings show.
+pub fn candidates<P: Postings>(
+    alloc: Global,
+    filter: &Prepared,
+    postings: &P,
+) -> Result<Bracket<P::Set>, AllocError>
+    ensures may { IfOk result (λ b. HasExactly P.Set.members (may_be_true (P.shown postings.now) filter.now) b.may) }
+    ensures may_not { IfOk result (λ b. HasExactly P.Set.members (may_be_false (P.shown postings.now) filter.now) b.may_not) }
+{
+    let may = numbers_on(alloc, filter.root(), postings, Side::May)?;
+    let may_not = numbers_on(alloc, filter.root(), postings, Side::MayNot)?;
+    Ok(Bracket {
+        may: owned_ids(alloc, may)?,
+        may_not: owned_ids(alloc, may_not)?,
+    })
+}
+
+/// The numbers of the entries of which a filter may be True: `may` of its candidates, without the work for the other side.
+pub fn may_match<P: Postings>(
+    alloc: Global,
+    filter: &Prepared,
+    postings: &P,
+) -> Result<Ids<P::Set>, AllocError>
+    ensures { IfOk result (HasExactly P.Set.members (may_be_true (P.shown postings.now) filter.now)) }
+{
+    let ids = numbers_on(alloc, filter.root(), postings, Side::May)?;
+    owned_ids(alloc, ids)
+}

@@ -1,0 +1,16 @@
+//! Candidates: of which entries a filter may be True, and of which it may be False, as far as an index shows. A search need test none but
+//! the former.
+//!
+//! The functions of `laws` do nothing: a call of one is made for what it states alone.
+#![tactic(auto)]
+
+mod filters;
+mod held;
+mod ids;
+mod items;
+mod laws;
+mod side;
+
+pub use filters::{Bracket, candidates, may_match};
+pub use ids::Ids;
+pub use laws::{brackets_hold, indexes_reflect_entries};
