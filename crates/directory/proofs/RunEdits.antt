@@ -26,7 +26,7 @@ use Rattle.directory.specs.inner.Steps.{IsTaken, IsBrokenOff}
 use Rattle.directory.specs.declared.runs.Tally.{Tally}
 use Rattle.directory.specs.declared.runs.RunFault.{RunFault}
 use Rattle.directory.specs.declared.runs.RunFault.TheVariants as faults
-use Rattle.directory.proofs.Records.{takes_more, ended_is, reached_more}
+use Rattle.directory.proofs.Records.{ended_is, reached_more}
 use Rattle.directory.proofs.Whole.{step_ended, after_all, others_of, parts_of}
 
 -- a refused record makes none
@@ -103,9 +103,14 @@ module _ (conf : Conf) (mode : Mode) (go_on : Bool) where
             };
           }
 
-      first : (all : Option (List RawRecord)) → Takes all left front → Over all (λ given. EditedByFirst conf mode go_on old new given edits edits')
-      first None taken = record { given = front; are = tt; so = record { front = front; others = []; parts = sym (append-nil front); edited = record { entries = entries; rise = rise } } }
-      first (Some rs) taken = record { given = rs; are = refl; so = record { front = front; others = others_of left; parts = parts_of rs front left taken; edited = record { entries = entries; rise = rise } } }
+    -- the records of a tally were taken, and perhaps others are left
+    module _ (new : Entries) (edits edits' : ℕ) (front : List RawRecord) (left : Option (List RawRecord)) (t : Tally) (rise : edits' ≡ edits + edits_of front) where
+      of_tally : (given others : List RawRecord) → given ≡ front ++ others → (all : Option (List RawRecord)) → IsReached conf mode go_on old new all left t front → EditedByFirst conf mode go_on old new given t edits edits'
+      of_tally given others parts all h = record { front = front; others = others; parts = parts; accepted = h.accepted; refused = h.refused; edited = record { entries = h.entries; rise = rise } }
+
+      first : (all : Option (List RawRecord)) → IsReached conf mode go_on old new all left t front → Over all (λ given. EditedByFirst conf mode go_on old new given t edits edits')
+      first None h = record { given = front; are = tt; so = of_tally front [] (sym (append-nil front)) None h }
+      first (Some rs) h = record { given = rs; are = refl; so = of_tally rs (others_of left) (parts_of rs front left h.parts) (Some rs) h }
 
     -- ---- where a run ends, or is broken off
 
@@ -115,7 +120,7 @@ module _ (conf : Conf) (mode : Mode) (go_on : Bool) where
         ends over = whole now edits edits' h.front left h.reached.entries (rose h.front h.so) all h.reached.parts (inl over)
 
         pub stops_reading : EditsRise conf mode go_on old now all (Err (faults.Read t)) edits edits'
-        stops_reading = first now edits edits' h.front left h.reached.entries (rose h.front h.so) all h.reached.parts
+        stops_reading = first now edits edits' h.front left t (rose h.front h.so) all h.reached
 
       module _ (now new : Entries) (all mid left : Option (List RawRecord)) (t t' : Tally) (a b c : Written) (r : RawRecord) (h : Stands P conf mode go_on old now all mid t a b) (taken : Takes mid left (r ∷ [])) (edits'' : ℕ) where
         rose_more : edits'' ≡ edits' + read_edits conf mode now (reading mode r.first r.lines) → edits'' ≡ edits + edits_of (h.front ++ r ∷ [])
@@ -133,5 +138,5 @@ module _ (conf : Conf) (mode : Mode) (go_on : Bool) where
         breaks_off (faults.Read u) k rise = absurd k
         breaks_off (faults.Write u) (why, k, broke) rise =
             let reached = reached_more conf mode go_on old now h.front r h.going h.reached.entries all mid left t u new h.reached taken k.entries k.counts in
-            first new edits edits'' (h.front ++ r ∷ []) left reached.entries (rose_more rise) all reached.parts
+            first new edits edits'' (h.front ++ r ∷ []) left u (rose_more rise) all reached
         breaks_off (faults.OutOfMemory u) k rise = tt

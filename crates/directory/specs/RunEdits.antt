@@ -1,5 +1,5 @@
 -- How the edits of the index add up over the records of a run.
-use Rattle.std.specs.Prelude.{◌≡◌, ℕ, ◌+◌, Bool, List, [], ◌∷◌, ◌++◌, map, Option, Result, Ok, Err, ⊤, if◌then◌else◌}
+use Rattle.std.specs.Prelude.{◌≡◌, ℕ, ◌+◌, Bool, List, [], ◌∷◌, ◌++◌, map, length, Option, Result, Ok, Err, ⊤, if◌then◌else◌}
 use Rattle.ldif_lines.specs.Records.{RawRecord}
 use Rattle.ldif.specs.declared.fault.LdifFaultKind.{LdifFaultKind}
 use Rattle.ldif.specs.declared.record.Record.{Record}
@@ -35,16 +35,18 @@ pub record Edited (conf : Conf) (mode : Mode) (go_on : Bool) (old new : Entries)
   pub entries : new ≡ (state_after conf mode go_on old given).entries
   pub rise : edits' ≡ edits + run_edits conf mode go_on old given
 
--- the first ones do
-pub record EditedByFirst (conf : Conf) (mode : Mode) (go_on : Bool) (old new : Entries) (given : List RawRecord) (edits edits' : ℕ) : Type 0 where
+-- the first ones do, of which so many were accepted and refused
+pub record EditedByFirst (conf : Conf) (mode : Mode) (go_on : Bool) (old new : Entries) (given : List RawRecord) (t : Tally) (edits edits' : ℕ) : Type 0 where
   pub front : List RawRecord
   pub others : List RawRecord
   pub parts : given ≡ front ++ others
+  pub accepted : t.accepted ≡ (state_after conf mode go_on old front).accepted
+  pub refused : t.refused ≡ length (state_after conf mode go_on old front).refused
   pub edited : Edited conf mode go_on old new front edits edits'
 
 -- What a run over the records of a source makes of the edits. Where memory ran out, edits that were taken back may have been counted too.
 abbrev pub EditsRise : Conf → Mode → Bool → Entries → Entries → Option (List RawRecord) → Result Tally RunFault → ℕ → ℕ → Type 0
 EditsRise conf mode go_on old new all (Ok t) edits edits' = Over all (λ given. Edited conf mode go_on old new given edits edits')
-EditsRise conf mode go_on old new all (Err (faults.Read t)) edits edits' = Over all (λ given. EditedByFirst conf mode go_on old new given edits edits')
-EditsRise conf mode go_on old new all (Err (faults.Write t)) edits edits' = Over all (λ given. EditedByFirst conf mode go_on old new given edits edits')
+EditsRise conf mode go_on old new all (Err (faults.Read t)) edits edits' = Over all (λ given. EditedByFirst conf mode go_on old new given t edits edits')
+EditsRise conf mode go_on old new all (Err (faults.Write t)) edits edits' = Over all (λ given. EditedByFirst conf mode go_on old new given t edits edits')
 EditsRise conf mode go_on old new all (Err (faults.OutOfMemory t)) edits edits' = ⊤

@@ -1,5 +1,5 @@
 -- A type and its subtypes, listed one after the other.
-use Rattle.std.proofs.Common.{◌≡◌, ◌↔◌, ℕ, ◌<◌, ◌==◌, Bool, true, false, List, length, sym, ap, subst, ◌∙◌, arith, ◌+◌, ◌++◌, [], ◌∷◌, cond, ◌&&◌, get_or, zero-add}
+use Rattle.std.proofs.Common.{◌≡◌, ◌↔◌, ℕ, ◌<◌, ◌==◌, Bool, true, false, List, length, sym, ap, subst, ◌∙◌, ◌+◌, ◌++◌, [], ◌∷◌, cond, ◌&&◌, get_or, zero-add}
 use Rattle.std.proofs.lemmas.Bool.{eqb-true, eq-eqb}
 use Rattle.std.specs.Bool.{one_answer}
 use Rattle.std.specs.List.{filter, range_with_len}
