@@ -1,8 +1,8 @@
 //! Runs, loads and dumps over sources and sinks that fail behind each number of bytes, and over each beginning of a text.
 
-use crate::runs::{ROOT, dump_of, loaded, loaded_under};
+use crate::directories::{Devices, ROOT, dump_of, loaded, loaded_under, run_over};
 use device::{TrySink, TrySource};
-use directory::{Directory, LoadFault, RunFault, Tally, load, run};
+use directory::{Directory, LoadFault, RunFault, Tally, load};
 use ldif::{Mode, WriteFault};
 use schema::{Conf, ConfFault, read_conf};
 use std::alloc::{AllocError, Global};
@@ -26,10 +26,13 @@ fn run_by_bytes(
     sink_limit: Option<usize>,
 ) -> Result<(Result<Tally, RunFault>, Vec<u8>), Fail> {
     let mut dir = loaded(alloc, ROOT)?;
-    let mut source = TrySource::new(TEXT.as_bytes(), 1, source_limit);
-    let mut sink = TrySink::new(alloc, 1, sink_limit);
-    let outcome = run(alloc, &mut dir, &mut source, &mut sink, Mode::Content, true);
-    let mut left = Vec::from_slice(alloc, sink.bytes())?;
+    let devices = Devices {
+        pull: 1,
+        source_limit,
+        push: 1,
+        sink_limit,
+    };
+    let (outcome, mut left) = run_over(alloc, &mut dir, TEXT.as_bytes(), Mode::Content, devices)?;
     left.extend_from_slice(&dump_of(alloc, &dir)?)?;
     Ok((outcome, left))
 }
@@ -113,15 +116,19 @@ fn conf(alloc: Global) -> Result<Conf, ConfFault> {
 const DUMP: &str =
     "dn: dc=ex\nobjectClass: domain\ndc: ex\n\ndn: cn=aba,dc=ex\nobjectClass: person\ncn: aba\n\ndn: cn=abba,dc=ex\nobjectClass: person\ncn: abba\n\ndn: cn=abc bcd,dc=ex\nobjectClass: person\ncn: abc bcd\n\ndn: cn=Bob,dc=ex\nobjectClass: person\nuidNumber: 7\ncn: Bob\n\n";
 
+// whether the first so many bytes are written, and then the sink fails
+fn breaks_off(alloc: Global, dir: &Directory, limit: usize) -> bool {
+    let mut sink = TrySink::new(alloc, 4, Some(limit));
+    dir.dump(alloc, &mut sink) == Err(WriteFault::Device)
+        && Some(sink.bytes()) == DUMP.as_bytes().get(..limit)
+}
+
 #[test]
 fn a_dump_breaks_off_where_its_sink_fails(rt: HostRuntime) -> Result<(), Fail> {
-    let dir = loaded_under(rt.alloc(), conf(rt.alloc())?, DUMP)?;
+    let dir = loaded_under(rt.alloc(), conf(rt.alloc())?, DUMP.as_bytes())?;
     for limit in 0..DUMP.len() {
-        let mut sink = TrySink::new(rt.alloc(), 4, Some(limit));
-        assert_eq!(rt; dir.dump(rt.alloc(), &mut sink), Err(WriteFault::Device));
-        assert_eq!(rt; sink.bytes(), &DUMP.as_bytes()[..limit]);
+        assert!(rt; breaks_off(rt.alloc(), &dir, limit), "{limit}");
     }
-    assert_eq!(rt; dump_of(rt.alloc(), &dir)?.as_slice(), DUMP.as_bytes());
     Ok(())
 }
 
@@ -349,14 +356,18 @@ fn run_text(rt: &impl Abort, alloc: Global, row: &Row, text: &[u8]) -> Result<Ve
     let [start, ..] = row.stands else {
         return Err(Fail::from("something stands"));
     };
-    let mut dir = loaded_under(alloc, conf(alloc)?, start)?;
-    let mut source = TrySource::new(text, 7, None);
-    let mut sink = TrySink::new(alloc, 8192, None);
-    let Ok(tally) = run(alloc, &mut dir, &mut source, &mut sink, row.mode, true) else {
+    let mut dir = loaded_under(alloc, conf(alloc)?, start.as_bytes())?;
+    let devices = Devices {
+        pull: 7,
+        source_limit: None,
+        push: 8192,
+        sink_limit: None,
+    };
+    let (Ok(tally), report) = run_over(alloc, &mut dir, text, row.mode, devices)? else {
         return Err(Fail::from("nothing fails"));
     };
     assert!(rt; is_kept(alloc, row, tally, &dir)?, "{}", text.len());
-    Ok(told(alloc, tally, sink.bytes())?)
+    Ok(told(alloc, tally, &report)?)
 }
 
 /// What becomes of a run of the first so many bytes.

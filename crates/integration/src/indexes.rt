@@ -2,8 +2,8 @@
 
 ghost use Rattle.std.specs.Prelude.{◌<◌, ◌-◌, ◌^◌};
 
-use crate::runs::loaded_under;
-use device::{Source, TrySink, TrySource};
+use crate::directories::{index_of, loaded_under};
+use device::{Source, TrySource};
 use directory::Directory;
 use ldif::{Mode, Reader, read_record};
 use schema::{Conf, read_conf};
@@ -66,14 +66,8 @@ slot description sub
 end
 ";
 
-fn conf(alloc: Global) -> Result<Conf, Fail> {
+pub fn conf(alloc: Global) -> Result<Conf, Fail> {
     Ok(read_conf(alloc, CONF.as_bytes())?)
-}
-
-fn index_of(alloc: Global, dir: &Directory) -> Result<Vec<u8>, Fail> {
-    let mut sink = TrySink::new(alloc, 100, None);
-    dir.index_text(alloc, &mut sink)?;
-    Ok(Vec::from_slice(alloc, sink.bytes())?)
 }
 
 // how many keys the first record of a source edits
@@ -124,7 +118,7 @@ fn the_index_of_no_entry_is_written(rt: HostRuntime) -> Result<(), Fail> {
 #[test]
 fn the_index_of_loaded_entries_is_written(rt: HostRuntime) -> Result<(), Fail> {
     for text in [PEOPLE, TURNED] {
-        let dir = loaded_under(rt.alloc(), conf(rt.alloc())?, text)?;
+        let dir = loaded_under(rt.alloc(), conf(rt.alloc())?, text.as_bytes())?;
         assert_eq!(rt; index_of(rt.alloc(), &dir)?.as_slice(), INDEX.as_bytes());
     }
     Ok(())
@@ -138,12 +132,64 @@ fn records_edit_the_index(rt: HostRuntime) -> Result<(), Fail> {
     Ok(())
 }
 
+#[test]
+fn each_change_edits_what_differs(rt: HostRuntime) -> Result<(), Fail> {
+    for (start, text, count) in CHANGES {
+        let mut dir = loaded_under(rt.alloc(), conf(rt.alloc())?, start.as_bytes())?;
+        let row = [(text, count)];
+        assert!(rt;
+            edit(rt.alloc(), &mut dir, &row, Mode::Changes { add: false })?,
+            "{text}"
+        );
+    }
+    Ok(())
+}
+
 const ADDED: [(&str, u128); 5] = [
     ("dn: dc=ex\nobjectClass: domain\n", 0),
     ("dn: cn=aba,dc=ex\nobjectClass: person\n", 3),
     ("dn: cn=abba,dc=ex\nobjectClass: person\n", 4),
     ("dn: cn=abc bcd,dc=ex\nobjectClass: person\n", 7),
     ("dn: cn=Bob,dc=ex\nobjectClass: person\nuidNumber: 7\n", 4),
+];
+
+const TWO_PARTS: &str =
+    "dn: dc=ex\nobjectClass: domain\n\ndn: cn=a+sn=b,dc=ex\nobjectClass: person\n\n";
+
+const TWO_VALUES: &str =
+    "dn: dc=ex\nobjectClass: domain\n\ndn: cn=a,dc=ex\nobjectClass: person\ndescription: abcd\ndescription: bcde\n\n";
+
+const ONE_BELOW: &str =
+    "dn: dc=ex\nobjectClass: domain\n\ndn: cn=aba,dc=ex\nobjectClass: person\n\ndn: cn=Bob,dc=ex\nobjectClass: person\nuidNumber: 7\n\ndn: cn=k,cn=Bob,dc=ex\nobjectClass: person\n\n";
+
+// what stands, a change of it, and how many keys that edits: an old value of the RDN goes, or stays; a value goes that shares a window with
+// another; an entry with one below it gets a name, and moves
+const CHANGES: [(&str, &str, u128); 5] = [
+    (
+        TWO_PARTS,
+        "dn: cn=a+sn=b,dc=ex\nchangetype: modrdn\nnewrdn: cn=a\ndeleteoldrdn: 1\n",
+        1,
+    ),
+    (
+        TWO_PARTS,
+        "dn: cn=a+sn=b,dc=ex\nchangetype: modrdn\nnewrdn: cn=a\ndeleteoldrdn: 0\n",
+        0,
+    ),
+    (
+        TWO_VALUES,
+        "dn: cn=a,dc=ex\nchangetype: modify\ndelete: description\ndescription: abcd\n",
+        2,
+    ),
+    (
+        ONE_BELOW,
+        "dn: cn=Bob,dc=ex\nchangetype: modrdn\nnewrdn: cn=Al\ndeleteoldrdn: 1\n",
+        3,
+    ),
+    (
+        ONE_BELOW,
+        "dn: cn=Bob,dc=ex\nchangetype: modrdn\nnewrdn: cn=Bob\ndeleteoldrdn: 0\nnewsuperior: cn=aba,dc=ex\n",
+        0,
+    ),
 ];
 
 // the same value in another case; two values, one of which is too short for a window; nothing in place of what isn't there; an entry goes

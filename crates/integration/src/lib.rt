@@ -4,7 +4,11 @@
 #![tactic(auto)]
 
 #[cfg(test)]
+mod directories;
+#[cfg(test)]
 mod failing_devices;
+#[cfg(test)]
+mod index_keys;
 #[cfg(test)]
 mod indexes;
 #[cfg(test)]

@@ -1,6 +1,6 @@
 //! Where names stand, by calls that no command makes.
 
-use crate::runs::conf;
+use crate::directories::conf;
 use schema::read_dn;
 use std::test::Fail;
 

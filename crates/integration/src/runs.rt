@@ -1,48 +1,14 @@
 //! Runs, loads and dumps over sources and sinks that fail, and calls of a directory that no command makes.
 
+use crate::directories::{Devices, ROOT, conf, dump_of, loaded, run_over};
 use base::{Bytes, Sequence};
-use device::{TrySink, TrySource};
-use directory::{Directory, LoadFault, RunFault, Tally, load, load_tree, run};
-use ldif::{Mode, Record, WriteFault};
-use schema::{Conf, ConfFault, Path, read_conf};
+use device::TrySource;
+use directory::{Directory, LoadFault, RunFault, Tally, load, load_tree};
+use ldif::{Mode, Record};
+use schema::Path;
 use std::alloc::Global;
 use std::test::Fail;
 use tree::Refusal;
-
-const CONF: &str = "suffix \"dc=ex\"
-attributetype ( 0.9.2342.19200300.100.1.25 NAME 'dc' EQUALITY caseIgnoreMatch SYNTAX 1.3.6.1.4.1.1466.115.121.1.15 )
-attributetype ( 2.5.4.3 NAME 'cn' EQUALITY caseIgnoreMatch SYNTAX 1.3.6.1.4.1.1466.115.121.1.15 )
-attributetype ( 2.5.4.13 NAME 'description' EQUALITY caseIgnoreMatch SYNTAX 1.3.6.1.4.1.1466.115.121.1.15 )
-objectclass ( 0.9.2342.19200300.100.4.13 NAME 'domain' SUP top STRUCTURAL MUST dc )
-objectclass ( 2.5.6.6 NAME 'person' SUP top STRUCTURAL MUST cn MAY description )
-";
-
-/// The suffix's entry, as it is dumped.
-pub const ROOT: &str = "dn: dc=ex\nobjectClass: domain\ndc: ex\n\n";
-
-pub fn conf(alloc: Global) -> Result<Conf, ConfFault> {
-    read_conf(alloc, CONF.as_bytes())
-}
-
-/// The directory that a text loads to.
-pub fn loaded(alloc: Global, text: &str) -> Result<Directory, Fail> {
-    loaded_under(alloc, conf(alloc)?, text)
-}
-
-/// The directory that a text loads to under a configuration.
-pub fn loaded_under(alloc: Global, conf: Conf, text: &str) -> Result<Directory, Fail> {
-    let mut source = TrySource::new(text.as_bytes(), 8192, None);
-    let Ok(dir) = load(alloc, conf, &mut source) else {
-        return Err(Fail::from("the text loads"));
-    };
-    Ok(dir)
-}
-
-pub fn dump_of(alloc: Global, dir: &Directory) -> Result<Vec<u8>, Fail> {
-    let mut sink = TrySink::new(alloc, 8192, None);
-    dir.dump(alloc, &mut sink)?;
-    Ok(Vec::from_slice(alloc, sink.bytes())?)
-}
 
 // the records on lines 1, 4 and 9 are refused
 const THREE: &str =
@@ -50,17 +16,16 @@ const THREE: &str =
 
 const REPORT: &str = "line 1: 68 entryAlreadyExists\nline 4: 32 noSuchObject\nline 9: L4 base64\n";
 
-/// What became of a run on the suffix's entry, and its report.
-fn run_three(
-    alloc: Global,
-    source_limit: Option<usize>,
-    sink_limit: Option<usize>,
-) -> Result<(Result<Tally, RunFault>, Vec<u8>), Fail> {
+/// What becomes of a run on the suffix's entry where the sink fails behind so many bytes, and its report.
+fn run_three(alloc: Global, limit: usize) -> Result<(Result<Tally, RunFault>, Vec<u8>), Fail> {
     let mut dir = loaded(alloc, ROOT)?;
-    let mut source = TrySource::new(THREE.as_bytes(), 7, source_limit);
-    let mut sink = TrySink::new(alloc, 5, sink_limit);
-    let outcome = run(alloc, &mut dir, &mut source, &mut sink, Mode::Content, true);
-    Ok((outcome, Vec::from_slice(alloc, sink.bytes())?))
+    let devices = Devices {
+        pull: 7,
+        source_limit: None,
+        push: 5,
+        sink_limit: Some(limit),
+    };
+    Ok(run_over(alloc, &mut dir, THREE.as_bytes(), Mode::Content, devices)?)
 }
 
 // what is accepted and refused when the report breaks off in its first, second or third line
@@ -76,7 +41,7 @@ fn broken_in(limit: usize) -> Tally {
 #[test]
 fn a_report_breaks_off_where_its_sink_fails(rt: HostRuntime) -> Result<(), Fail> {
     for limit in 0..REPORT.len() {
-        let (outcome, report) = run_three(rt.alloc(), None, Some(limit))?;
+        let (outcome, report) = run_three(rt.alloc(), limit)?;
         assert_eq!(rt; outcome, Err(RunFault::Write(broken_in(limit))), "{limit}");
         assert_eq!(rt; report.as_slice(), &REPORT.as_bytes()[..limit]);
     }

@@ -1,6 +1,6 @@
 //! Runs in which one allocation is refused: `tests/refuse_memory` refuses each in turn, and elsewhere none is.
 
-use crate::runs::{ROOT, dump_of, loaded};
+use crate::directories::{Devices, ROOT, conf, dump_of, index_of, loaded, loaded_under, run_over};
 use device::{TrySink, TrySource};
 use directory::{Directory, RunFault, Tally, run};
 use ldif::Mode;
@@ -213,12 +213,67 @@ fn carry_on(alloc: Global, row: &Row, tally: Tally, dir: &mut Directory) -> Resu
         return Err(Fail::from("there aren't so many records"));
     };
     let records = left.concat(alloc)?;
-    let mut source = TrySource::new(records.as_bytes(), 8192, None);
-    let mut sink = TrySink::new(alloc, 8192, None);
-    match run(alloc, dir, &mut source, &mut sink, row.mode, true) {
+    let devices = Devices {
+        pull: 8192,
+        source_limit: None,
+        push: 8192,
+        sink_limit: None,
+    };
+    let (outcome, _) = run_over(alloc, dir, records.as_bytes(), row.mode, devices)?;
+    match outcome {
         Ok(_) => Ok(()),
         Err(_) => Err(Fail::from("nothing is refused any more")),
     }
+}
+
+// what a run counted, and whether it went through
+fn counted(outcome: Result<Tally, RunFault>) -> Result<(Tally, bool), Fail> {
+    match outcome {
+        Ok(tally) => Ok((tally, true)),
+        // the sink takes memory too, and fails where it gets none
+        Err(RunFault::OutOfMemory(tally) | RunFault::Write(tally)) => Ok((tally, false)),
+        Err(RunFault::Read(_)) => Err(Fail::from("the source doesn't fail")),
+    }
+}
+
+// how a run went
+#[derive(Drop)]
+struct Ran {
+    tally: Tally,
+    whole: bool,
+    // whether an allocation before it or behind it was refused
+    met: bool,
+}
+
+// a run with so many allocations before and behind it
+fn run_and_spend(
+    alloc: Global,
+    row: &Row,
+    dir: &mut Directory,
+    sink: &mut TrySink,
+    before: usize,
+    behind: usize,
+) -> Result<Ran, Fail> {
+    let records = row.records.concat(alloc)?;
+    let mut source = TrySource::new(records.as_bytes(), 8192, None);
+    let met_before = spend(alloc, before);
+    let outcome = run(alloc, dir, &mut source, sink, row.mode, true);
+    let met = spend(alloc, behind) || met_before;
+    let (tally, whole) = counted(outcome)?;
+    Ok(Ran { tally, whole, met })
+}
+
+// whether the index is the one that a load of the dump makes
+fn is_indexed(alloc: Global, dir: &Directory, dump: &[u8]) -> Result<bool, Fail> {
+    let anew = loaded_under(alloc, conf(alloc)?, dump)?;
+    let wanted = index_of(alloc, &anew)?;
+    Ok(index_of(alloc, dir)?.as_slice() == wanted.as_slice())
+}
+
+// whether the entries are those after so many accepted records, and the index is theirs
+fn stands(alloc: Global, row: &Row, accepted: u64, dir: &Directory) -> Result<bool, Fail> {
+    let dump = dump_of(alloc, dir)?;
+    Ok(is_dump(alloc, row, accepted, &dump)? && is_indexed(alloc, dir, &dump)?)
 }
 
 // a run with so many allocations before and behind it: whether it went through, and whether one of those was refused
@@ -230,29 +285,14 @@ fn run_between(
     behind: usize,
 ) -> Result<(bool, bool), Fail> {
     let mut dir = loaded(alloc, row.start)?;
-    let records = row.records.concat(alloc)?;
-    let mut source = TrySource::new(records.as_bytes(), 8192, None);
     let mut sink = TrySink::new(alloc, 8192, None);
-    let met_before = spend(alloc, before);
-    let outcome = run(alloc, &mut dir, &mut source, &mut sink, row.mode, true);
-    let met = spend(alloc, behind) || met_before;
-    // the sink takes memory too, and fails where it gets none
-    let (tally, whole) = match outcome {
-        Ok(tally) => (tally, true),
-        Err(RunFault::OutOfMemory(tally) | RunFault::Write(tally)) => (tally, false),
-        Err(RunFault::Read(_)) => return Err(Fail::from("the source doesn't fail")),
-    };
-    let dump = dump_of(alloc, &dir)?;
-    assert!(rt; is_tally(row, tally, whole), "{tally:?}");
-    assert!(rt; is_dump(alloc, row, tally.accepted, &dump)?, "{tally:?}");
-    assert!(rt;
-        is_reported(alloc, row, tally.refused, whole, sink.bytes())?,
-        "{tally:?}"
-    );
+    let Ran { tally, whole, met } = run_and_spend(alloc, row, &mut dir, &mut sink, before, behind)?;
+    assert!(rt; is_tally(row, tally, whole));
+    assert!(rt; is_reported(alloc, row, tally.refused, whole, sink.bytes())?);
+    assert!(rt; stands(alloc, row, tally.accepted, &dir)?);
     carry_on(alloc, row, tally, &mut dir)?;
-    let last = dump_of(alloc, &dir)?;
     let most = row.dumps.len().saturating_sub(1) as u64;
-    assert!(rt; is_dump(alloc, row, most, &last)?, "{tally:?}");
+    assert!(rt; stands(alloc, row, most, &dir)?);
     Ok((whole, met))
 }
 

@@ -3,7 +3,7 @@
 
 ghost use Rattle.std.specs.Prelude.{◌≡◌};
 
-use crate::runs::loaded_under;
+use crate::directories::loaded_under;
 use directory::Directory;
 use filter::{Prepared, prepare};
 use filter_text::{Filter, read_filter};
@@ -49,7 +49,7 @@ fn directory(alloc: Global) -> Result<Directory, Fail> {
     let Ok(conf) = read_conf(alloc, CONF) else {
         return Err(Fail::from("the text is a configuration"));
     };
-    loaded_under(alloc, conf, ENTRIES)
+    loaded_under(alloc, conf, ENTRIES.as_bytes())
 }
 
 fn filter(alloc: Global) -> Result<Filter, Fail> {
