@@ -14,7 +14,7 @@ ghost use Rattle.search.specs.declared.scope.Scope.{Scope};
 ghost use Rattle.search.specs.Ranks.{rank_in};
 ghost use Rattle.search.specs.Searches.{scan, scan_among};
 
-/// Where each entry of which the filter is True is a candidate, as many are found among the candidates as among all entries.
+/// Where each entry of which the filter is True is a candidate, a scan among the candidates finds what a scan of all entries finds.
 pub fn candidates_suffice()
     ensures { (conf : Conf) (d : Entries) (is_candidate : Path → Bool) (base : Path) (scope : Scope) (f : Tree)
         → ((p : Path) (e : EntryContent) → finite.get d p ≡ Some e → is_true (truth conf.types e.attrs f) ≡ true → is_candidate p ≡ true)
