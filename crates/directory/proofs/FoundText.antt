@@ -16,7 +16,7 @@ use Rattle.filter.specs.Truths.{is_true}
 use Rattle.filter.specs.Filters.{truth}
 use Rattle.search.specs.declared.scope.Scope.{Scope}
 use Rattle.search.specs.Scopes.{is_in_scope}
-use Rattle.search.specs.Searches.{scan}
+use Rattle.search.specs.Searches.{scan, is_tested, scan_among}
 use Rattle.search.specs.Walks.{Lent, seen}
 use Rattle.directory.specs.Selections.{Selection}
 use Rattle.directory.specs.Found.{AreThere, found_record, found_text, up_to, goes_past}
@@ -71,6 +71,9 @@ kept_there d p (e ∷ es) h = by (p e) (kept_there d p es h.1)
 -- what a scan finds
 pub scanned_are_there : (conf : Conf) (d : Entries) (base : Path) (scope : Scope) (f : Tree) → IsTotalOrder path_cmp → IsDirectory conf d → AreThere d (scan conf d base scope f)
 scanned_are_there conf d base scope f total is = kept_there d (λ e. is_in_scope scope base e.0 && is_true (truth conf.types e.1.attrs f)) (finite.entries d) (all_there total conf d is)
+
+pub found_are_there : (conf : Conf) (d : Entries) (is_candidate : Path → Bool) (base : Path) (scope : Scope) (f : Tree) → IsTotalOrder path_cmp → IsDirectory conf d → AreThere d (scan_among conf d is_candidate base scope f)
+found_are_there conf d is_candidate base scope f total is = kept_there d (λ e. is_tested is_candidate scope base e && is_true (truth conf.types e.1.attrs f)) (finite.entries d) (all_there total conf d is)
 
 -- ---- text
 

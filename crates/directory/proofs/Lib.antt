@@ -10,6 +10,8 @@ pub mod LoadSteps
 pub mod Examples
 pub mod SelectedTypes
 pub mod FoundText
+pub mod ByIndex
+pub mod ShownRanks
 pub mod KeptIndex
 pub mod WholeIndex
 pub mod RankLists

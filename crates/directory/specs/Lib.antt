@@ -9,6 +9,7 @@ pub mod Loading
 pub mod Folds
 pub mod RunEdits
 pub mod FailedReads
+pub mod Searches
 pub mod Selections
 pub mod Found
 pub mod inner

@@ -1,12 +1,19 @@
 //! Directories.
 
-ghost use Rattle.std.specs.Prelude.{◌≡◌, ◌+◌, Err, IfOk, OnOk, OnErr};
+ghost use Rattle.std.specs.Prelude.{◌≡◌, ◌+◌, true, Err, map, IfOk, IfErr, OnOk, OnErr};
 ghost use Rattle.std.specs.FinMap as finite;
 ghost use Rattle.ldif.specs.Reading.{reading};
 ghost use Rattle.tree.specs.Operations.{apply};
 ghost use Rattle.tree.specs.Gives.{Gives};
+ghost use Rattle.filter_text.specs.Spells.{view};
+ghost use Rattle.index.specs.Indexes as indexes;
+ghost use Rattle.index.specs.Postings.{shown_by};
+ghost use Rattle.search.specs.Searches.{scan, counted_scan, count_among};
+ghost use Rattle.search.specs.Walks.{seen, counted};
 ghost use Rattle.directory.specs.Directories.{tree_of};
+ghost use Rattle.directory.specs.Found.{AreThere};
 ghost use Rattle.directory.specs.Indexes.{IsIndexOf, record_edits};
+ghost use Rattle.directory.specs.Searches.{IsRefused, may_by_number};
 ghost use Rattle.schema.specs.declared.code.Code.{Code};
 ghost use Rattle.directory.specs.RunEdits.{read_edits};
 ghost use Rattle.directory.specs.Runs.{outcome};
@@ -14,9 +21,13 @@ ghost use Rattle.directory.specs.Runs.{outcome};
 use crate::applying::{Edits, apply_record, carry_out};
 use crate::indexing::index_of;
 use crate::reason::Outcome;
+use crate::searching::search_with_index;
+use filter::Prepared;
+use id_sets::KeySet;
 use index::Index;
 use ldif::{Mode, RawRecord, Record};
-use schema::Conf;
+use schema::{Conf, Path};
+use search::{Hits, Scope};
 use std::alloc::{AllocError, Global};
 use std::marker::Model;
 use tree::{Refusal, Tree};
@@ -88,6 +99,37 @@ impl Directory {
         ensures { IsIndexOf self.now.conf self.now.entries self.now.numbers result.now }
     {
         &self.index
+    }
+
+    /// The entries in scope of which the filter is True, in dump order (RFC 4511, 4.5.1). Of the entries in scope it tests those of which the
+    /// filter may be True by what the index shows, and no other. The filter was prepared under the configuration of this directory.
+    /// `NoSuchObject` where the base isn't there.
+    pub fn search<'a>(
+        &'a self,
+        base: &'a Path,
+        scope: Scope,
+        filter: &'a Prepared,
+    ) -> Result<Hits<'a, KeySet>, Refusal>
+        requires { filter.now.conf ≡ self.now.conf }
+        ensures there { IfOk result (λ h. finite.contains_key self.now.entries base.now ≡ true) }
+        ensures refused { IfErr result (IsRefused self.now.entries base.now) }
+        ensures start { IfOk result (λ h. h.tested ≡ 0) }
+        ensures steps { (x : indexes.Index) → IsIndexOf self.now.conf self.now.entries self.now.numbers x → IfOk result (λ h. map counted h.to_come ≡ counted_scan self.now.conf self.now.entries
+            (may_by_number (shown_by x) filter.now (tree_of self.now)) base.now scope (view filter.now.filter)) }
+        ensures found { IfOk result (λ h. map seen h.to_come ≡ scan self.now.conf self.now.entries base.now scope (view filter.now.filter)) }
+        ensures tested { (x : indexes.Index) → IsIndexOf self.now.conf self.now.entries self.now.numbers x → IfOk result (λ h. h.in_the_end ≡ count_among self.now.entries
+            (may_by_number (shown_by x) filter.now (tree_of self.now)) base.now scope) }
+        ensures entries { IfOk result (λ h. AreThere self.now.entries (map seen h.to_come)) }
+    {
+        search_with_index(
+            self.alloc,
+            &self.conf,
+            &self.tree,
+            &self.index,
+            base,
+            scope,
+            filter,
+        )
     }
 
     /// Carries out a record (RFC 4511, 4.6 to 4.9) and edits the index, or refuses it with the code of the first check that fails. A refusal,

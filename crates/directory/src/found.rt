@@ -8,6 +8,7 @@ ghost use Rattle.directory.specs.inner.Found.{is_used_up, one_fewer};
 use crate::dump::{Printer, pass_on};
 use crate::selection::Selection;
 use device::Sink;
+use id_sets::IdSet;
 use ldif::WriteFault;
 use schema::Conf;
 use search::Hits;
@@ -37,12 +38,12 @@ fn one_fewer(left: Option<u32>) -> Option<u32>
 /// Writes entries that a search of a tree found, each as a content record with the attributes that are selected (RFC 2849;
 /// RFC 4511, 4.5.1.8), in pieces of some 64 KiB. The tree was made with this configuration. With a limit it writes the first ones up to
 /// it, and answers whether there are more (RFC 4511, 4.5.1.4). On a fault a beginning was written.
-pub fn write_found<W: Sink>(
+pub fn write_found<W: Sink, S: IdSet>(
     alloc: Global,
     tree: &Tree,
     conf: &Conf,
     sink: &mut W,
-    hits: Hits<'_>,
+    hits: Hits<'_, S>,
     limit: Option<u32>,
     selection: &Selection,
 ) -> Result<bool, WriteFault>

@@ -1,28 +1,38 @@
-//! Searches of a directory.
+//! Searches of a tree: with an index that is kept with it, with postings of ranks, and with neither.
 
-ghost use Rattle.std.specs.Prelude.{◌≡◌, is_ok, map, IfOk, IfErr};
+ghost use Rattle.std.specs.Prelude.{◌≡◌, true, is_ok, map, IfOk, IfErr};
 ghost use Rattle.std.specs.FinMap as finite;
+ghost use Rattle.schema.specs.Conf.{IsConf};
 ghost use Rattle.schema.specs.declared.code.Code.TheVariants.{NoSuchObject};
 ghost use Rattle.tree.specs.declared.refusal.Refusal.TheVariants.{Code as refused_with};
 ghost use Rattle.filter_text.specs.Spells.{view};
-ghost use Rattle.search.specs.Searches.{scan, count_in_scope};
-ghost use Rattle.search.specs.Walks.{seen};
+ghost use Rattle.index.specs.Indexes as indexes;
+ghost use Rattle.index.specs.Postings.{shown_by};
+ghost use Rattle.search.specs.Searches.{scan, count_in_scope, scan_among, counted_scan, count_among};
+ghost use Rattle.search.specs.Walks.{seen, counted};
 ghost use Rattle.directory.specs.Found.{AreThere};
+ghost use Rattle.directory.specs.Indexes.{IsIndexOf};
+ghost use Rattle.directory.specs.Searches.{IsRefused, may_by_number, may_by_rank, ReflectsDump};
 
-use crate::directory::Directory;
+use candidates::{brackets_hold, indexes_reflect_entries, may_match};
 use filter::Prepared;
-use schema::{Code, Path};
-use search::{Hits, Scope};
+use id_sets::KeySet;
+use index::{Index, Postings};
+use schema::{Code, Conf, Path};
+use search::{Hits, Scope, candidates_suffice, scan, search, search_by_ranks};
+use std::alloc::Global;
 use tree::{Refusal, Tree};
 
-/// The entries of a tree in scope of which the filter is True, in dump order (RFC 4511, 4.5.1). The filter was prepared under the
-/// configuration that the tree was made with. `NoSuchObject` where the base isn't there, and no other refusal.
+/// The entries of a tree in scope of which the filter is True, in dump order (RFC 4511, 4.5.1), with no index: each entry in scope is
+/// tested. The filter was prepared under the configuration that the tree was made with. `NoSuchObject` where the base isn't there, and no
+/// other refusal.
 pub fn search_tree<'a>(
+    alloc: Global,
     tree: &'a Tree,
     base: &'a Path,
     scope: Scope,
     filter: &'a Prepared,
-) -> Result<Hits<'a>, Refusal>
+) -> Result<Hits<'a, KeySet>, Refusal>
     requires { filter.now.conf ≡ tree.now.conf }
     ensures there { is_ok result ≡ finite.contains_key tree.now.entries base.now }
     ensures refused { IfErr result (λ r. r ≡ refused_with NoSuchObject) }
@@ -32,28 +42,82 @@ pub fn search_tree<'a>(
 {
     tree.is_directory();
     schema::order_of_paths();
-    match search::search(tree, base, scope, filter) {
+    match scan(alloc, tree, base, scope, filter) {
         Some(hits) => Ok(hits),
         None => Err(Refusal::Code(Code::NoSuchObject)),
     }
 }
 
-impl Directory {
-    /// The entries in scope of which the filter is True, in dump order (RFC 4511, 4.5.1). The filter was prepared under the
-    /// configuration of this directory. `NoSuchObject` where the base isn't there, and no other refusal.
-    pub fn search<'a>(
-        &'a self,
-        base: &'a Path,
-        scope: Scope,
-        filter: &'a Prepared,
-    ) -> Result<Hits<'a>, Refusal>
-        requires { filter.now.conf ≡ self.now.conf }
-        ensures there { is_ok result ≡ finite.contains_key self.now.entries base.now }
-        ensures refused { IfErr result (λ r. r ≡ refused_with NoSuchObject) }
-        ensures found { IfOk result (λ h. map seen h.to_come ≡ scan self.now.conf self.now.entries base.now scope (view filter.now.filter)) }
-        ensures tested { IfOk result (λ h. h.in_the_end ≡ count_in_scope self.now.entries base.now scope) }
-        ensures entries { IfOk result (λ h. AreThere self.now.entries (map seen h.to_come)) }
-    {
-        search_tree(self.tree(), base, scope, filter)
+/// The entries of a tree in scope of which the filter is True, as far as it may be True by what postings show of their ranks, in dump order
+/// (RFC 4511, 4.5.1). A rank is an entry's place in the dump. Where each rank stands under exactly the keys of its entry, these are all
+/// entries in scope of which the filter is True. No entry is tested but those of which the filter may be True. The filter was prepared under
+/// the configuration that the tree was made with. `NoSuchObject` where the base isn't there.
+pub fn search_with<'a, P: Postings>(
+    alloc: Global,
+    tree: &'a Tree,
+    postings: &P,
+    base: &'a Path,
+    scope: Scope,
+    filter: &'a Prepared,
+) -> Result<Hits<'a, P::Set>, Refusal>
+    requires { filter.now.conf ≡ tree.now.conf }
+    ensures there { IfOk result (λ h. finite.contains_key tree.now.entries base.now ≡ true) }
+    ensures refused { IfErr result (IsRefused tree.now.entries base.now) }
+    ensures start { IfOk result (λ h. h.tested ≡ 0) }
+    ensures steps { IfOk result (λ h. map counted h.to_come ≡ counted_scan tree.now.conf tree.now.entries
+        (may_by_rank (P.shown postings.now) filter.now tree.now.entries) base.now scope (view filter.now.filter)) }
+    ensures found { IfOk result (λ h. map seen h.to_come ≡ scan_among tree.now.conf tree.now.entries
+        (may_by_rank (P.shown postings.now) filter.now tree.now.entries) base.now scope (view filter.now.filter)) }
+    ensures tested { IfOk result (λ h. h.in_the_end ≡ count_among tree.now.entries
+        (may_by_rank (P.shown postings.now) filter.now tree.now.entries) base.now scope) }
+    ensures whole { IsConf tree.now.conf → ReflectsDump (P.shown postings.now) tree.now.conf.types tree.now.entries
+        → IfOk result (λ h. map seen h.to_come ≡ scan tree.now.conf tree.now.entries base.now scope (view filter.now.filter)) }
+    ensures entries { IfOk result (λ h. AreThere tree.now.entries (map seen h.to_come)) }
+{
+    brackets_hold();
+    candidates_suffice();
+    schema::order_of_paths();
+    tree.is_directory();
+    let may = may_match(alloc, filter, postings)?;
+    match search_by_ranks(alloc, tree, base, scope, filter, may) {
+        Some(hits) => Ok(hits),
+        None => Err(Refusal::Code(Code::NoSuchObject)),
+    }
+}
+
+/// The same with the index that is kept with the tree, which has the entries' numbers.
+pub(crate) fn search_with_index<'a>(
+    alloc: Global,
+    conf: &Conf,
+    tree: &'a Tree,
+    index: &Index,
+    base: &'a Path,
+    scope: Scope,
+    filter: &'a Prepared,
+) -> Result<Hits<'a, KeySet>, Refusal>
+    requires tree { tree.now.conf ≡ conf.now }
+    requires filter { filter.now.conf ≡ tree.now.conf }
+    requires indexed { IsIndexOf conf.now tree.now.entries tree.now.numbers index.now }
+    ensures there { IfOk result (λ h. finite.contains_key tree.now.entries base.now ≡ true) }
+    ensures refused { IfErr result (IsRefused tree.now.entries base.now) }
+    ensures start { IfOk result (λ h. h.tested ≡ 0) }
+    ensures steps { (x : indexes.Index) → IsIndexOf conf.now tree.now.entries tree.now.numbers x → IfOk result (λ h. map counted h.to_come ≡ counted_scan tree.now.conf tree.now.entries
+        (may_by_number (shown_by x) filter.now tree.now) base.now scope (view filter.now.filter)) }
+    ensures found { IfOk result (λ h. map seen h.to_come ≡ scan tree.now.conf tree.now.entries base.now scope (view filter.now.filter)) }
+    ensures tested { (x : indexes.Index) → IsIndexOf conf.now tree.now.entries tree.now.numbers x → IfOk result (λ h. h.in_the_end ≡ count_among tree.now.entries
+        (may_by_number (shown_by x) filter.now tree.now) base.now scope) }
+    ensures entries { IfOk result (λ h. AreThere tree.now.entries (map seen h.to_come)) }
+{
+    brackets_hold();
+    indexes_reflect_entries();
+    candidates_suffice();
+    schema::order_of_paths();
+    conf.holds();
+    tree.is_directory();
+    tree.is_numbered();
+    let may = may_match(alloc, filter, index)?;
+    match search(tree, base, scope, filter, may) {
+        Some(hits) => Ok(hits),
+        None => Err(Refusal::Code(Code::NoSuchObject)),
     }
 }

@@ -1,5 +1,5 @@
 -- A walk over what a search finds.
-use Rattle.std.specs.Prelude.{◌≡◌, ℕ, ◌+◌, List, [], ◌∷◌, length, if◌then◌else◌, Option, MatchOption, refl}
+use Rattle.std.specs.Prelude.{◌≡◌, ℕ, ◌+◌, ◌&&◌, List, [], ◌∷◌, length, if◌then◌else◌, Option, MatchOption, refl}
 use Rattle.std.specs.Coded.{Coded, code_by, coded×, coded_ℕ, coded_list}
 use Rattle.std.specs.Borrow.{Bor}
 use Rattle.paths.specs.Paths.{Path}
@@ -12,6 +12,7 @@ use Rattle.filter.specs.Truths.{is_true}
 use Rattle.filter.specs.Filters.{truth}
 use Rattle.search.specs.declared.scope.Scope.{Scope}
 use Rattle.search.specs.Scopes.{depth_fits}
+use Rattle.search.specs.inner.Marks.{MarkedEntry}
 
 -- an entry that is lent, and how many were tested by then
 pub record Lent : Type 0 where
@@ -34,6 +35,9 @@ walk_code = code_by (List Lent × (ℕ × ℕ)) (coded× (coded_list lent_code) 
 abbrev pub seen : Lent → Path × EntryContent
 seen l = (l.path, content_of l.entry)
 
+abbrev pub counted : Lent → ℕ × (Path × EntryContent)
+counted l = (l.tested, seen l)
+
 -- one step: the next entry is lent, with the number of those tested by then; none comes at the end of the walk, and again after it
 pub record Steps (old : Walk) (item : Option (Bor Path × Bor Entry)) (new : Walk) : Type 0 where
   pub lends : MatchOption item ((old.to_come ≡ []) × (new.to_come ≡ []) × (new.tested ≡ old.in_the_end))
@@ -42,18 +46,18 @@ pub record Steps (old : Walk) (item : Option (Bor Path × Bor Entry)) (new : Wal
 
 module _ (types : List AttributeType) (scope : Scope) (base : ℕ) (f : Tree) where
   -- of entries that the base begins, those that are lent, where so many were tested before
-  abbrev pub lent : ℕ → List (Path × Entry) → List Lent
+  abbrev pub lent : ℕ → List MarkedEntry → List Lent
   lent n [] = []
   lent n (e ∷ es) =
-      if depth_fits scope base (length e.0)
-      then (if is_true (truth types (attributes_of e.1.attrs) f) then record { tested = n + 1; path = e.0; entry = e.1 } ∷ lent (n + 1) es else lent (n + 1) es)
+      if e.is_candidate && depth_fits scope base (length e.path)
+      then (if is_true (truth types (attributes_of e.entry.attrs) f) then record { tested = n + 1; path = e.path; entry = e.entry } ∷ lent (n + 1) es else lent (n + 1) es)
       else lent n es
 
 -- how many are tested in the end
-abbrev pub tested_in_all : Scope → ℕ → ℕ → List (Path × Entry) → ℕ
+abbrev pub tested_in_all : Scope → ℕ → ℕ → List MarkedEntry → ℕ
 tested_in_all scope base n [] = n
-tested_in_all scope base n (e ∷ es) = if depth_fits scope base (length e.0) then tested_in_all scope base (n + 1) es else tested_in_all scope base n es
+tested_in_all scope base n (e ∷ es) = if e.is_candidate && depth_fits scope base (length e.path) then tested_in_all scope base (n + 1) es else tested_in_all scope base n es
 
 -- the walk over entries that the base begins, where so many were tested before
-abbrev pub walk : List AttributeType → Scope → ℕ → Tree → ℕ → List (Path × Entry) → Walk
+abbrev pub walk : List AttributeType → Scope → ℕ → Tree → ℕ → List MarkedEntry → Walk
 walk types scope base f n es = record { to_come = lent types scope base f n es; in_the_end = tested_in_all scope base n es; tested = n }

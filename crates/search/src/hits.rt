@@ -6,24 +6,26 @@ ghost use Rattle.tree.specs.StoredEntries.{IsMade};
 ghost use Rattle.filter_text.specs.Spells.{view};
 ghost use Rattle.search.specs.Walks.{walk, Steps};
 
+use crate::marked::MarkedEntries;
 use crate::scope::Scope;
 use filter::{Meter, Prepared, Truth};
+use id_sets::IdSet;
 use schema::Path;
 use std::marker::Model;
-use tree::{Below, Entry};
+use tree::Entry;
 
 /// The entries that a search finds, in dump order, each with its path. They are lent, and it takes no memory to find them. A contract
 /// sees those that are still to come, each with the number of entries tested by then.
 #[derive(Drop)]
-pub struct Hits<'a> {
-    rest: Below<'a>,
+pub struct Hits<'a, S: IdSet> {
+    rest: MarkedEntries<'a, S>,
     scope: Scope,
     base_depth: usize,
     filter: &'a Prepared,
     meter: Meter,
 }
 
-impl<'a> Model for Hits<'a> {
+impl<'a, S: IdSet> Model for Hits<'a, S> {
     ghost use Rattle.std.specs.Prelude.{◌+◌, ◌<◌, ◌^◌, length};
     ghost use Rattle.std.specs.List.{AllByRecursion};
     ghost use Rattle.tree.specs.StoredEntries.{IsMade};
@@ -36,41 +38,44 @@ impl<'a> Model for Hits<'a> {
 
     ghost view = { λ h. walk h.filter.now.conf.types h.scope h.base_depth (seen h.filter.now.filter) h.meter h.rest };
 
-    ghost invariant = { λ h. AllByRecursion (λ e. IsMade h.filter.now.conf.types e.1.attrs) h.rest × (h.meter + length h.rest < 2 ^ 64) };
+    ghost invariant = { λ h. AllByRecursion (λ e. IsMade h.filter.now.conf.types e.entry.attrs) h.rest × (h.meter + length h.rest < 2 ^ 64) };
 }
 
-// The next of the rest that is in scope and of which the filter is True.
-fn next_hit<'a>(
-    rest: &mut Below<'a>,
+// The next of the rest that is a candidate in scope and of which the filter is True.
+fn next_hit<'a, S: IdSet>(
+    rest: &mut MarkedEntries<'a, S>,
     scope: Scope,
     base_depth: usize,
     filter: &Prepared,
     meter: &mut Meter,
 ) -> Option<(&'a Path, &'a Entry)>
-    requires made { AllByRecursion (λ e. IsMade filter.now.conf.types e.1.attrs) rest.old }
+    requires made { AllByRecursion (λ e. IsMade filter.now.conf.types e.entry.attrs) rest.old }
     requires room { meter.old + length rest.old < 2 ^ 64 }
-    ensures made { AllByRecursion (λ e. IsMade filter.now.conf.types e.1.attrs) rest.new }
+    ensures made { AllByRecursion (λ e. IsMade filter.now.conf.types e.entry.attrs) rest.new }
     ensures room { meter.new + length rest.new < 2 ^ 64 }
     ensures steps { Steps (walk filter.now.conf.types scope base_depth (view filter.now.filter) meter.old rest.old) result (walk filter.now.conf.types scope base_depth (view filter.now.filter) meter.new rest.new) }
 {
     while let Some(found) = rest.next() {
-        let (path, entry) = found;
-        if scope.fits(base_depth, path.len()) && filter.truth(entry, meter) == Truth::True {
-            return Some(found);
+        let (is_candidate, path, entry) = found;
+        if is_candidate
+            && scope.fits(base_depth, path.len())
+            && filter.truth(entry, meter) == Truth::True
+        {
+            return Some((path, entry));
         }
     }
     None
 }
 
-impl<'a> Hits<'a> {
+impl<'a, S: IdSet> Hits<'a, S> {
     // those of the rest, all of which the base begins
     pub(crate) fn new(
-        rest: Below<'a>,
+        rest: MarkedEntries<'a, S>,
         scope: Scope,
         base_depth: usize,
         filter: &'a Prepared,
-    ) -> Hits<'a>
-        requires made { AllByRecursion (λ e. IsMade filter.now.conf.types e.1.attrs) rest }
+    ) -> Hits<'a, S>
+        requires made { AllByRecursion (λ e. IsMade filter.now.conf.types e.entry.attrs) rest }
         requires room { length rest < 2 ^ 64 }
         ensures { result ≡ walk filter.now.conf.types scope base_depth (view filter.now.filter) 0 rest.entry }
     {
@@ -83,7 +88,7 @@ impl<'a> Hits<'a> {
         }
     }
 
-    /// How many entries were tested so far. At the end it is the number of those in scope.
+    /// How many entries were tested so far. At the end it is the number of the candidates in scope.
     pub fn tested(&self) -> u64
         ensures { result ≡ self.now.tested }
     {
@@ -91,7 +96,7 @@ impl<'a> Hits<'a> {
     }
 }
 
-impl<'a> Iterator for Hits<'a> {
+impl<'a, S: IdSet> Iterator for Hits<'a, S> {
     ghost use Rattle.std.specs.Iterator.{at_most};
     ghost use Rattle.search.specs.Walks.{Steps};
 

@@ -1,31 +1,122 @@
 //! Searches.
 
-ghost use Rattle.std.specs.Prelude.{◌≡◌, map, is_some, IfSome};
+ghost use Rattle.std.specs.Prelude.{◌≡◌, map, true, is_some, IfSome};
 ghost use Rattle.std.specs.FinMap as finite;
+ghost use Rattle.tree.specs.Trees.{number_at};
 ghost use Rattle.filter_text.specs.Spells.{view};
-ghost use Rattle.search.specs.Searches.{scan, count_in_scope};
-ghost use Rattle.search.specs.Walks.{seen};
+ghost use Rattle.candidates.specs.Ids.{ids_contain};
+ghost use Rattle.search.specs.Ranks.{rank_in};
+ghost use Rattle.search.specs.Searches.{scan, count_in_scope, scan_among, counted_scan, count_among};
+ghost use Rattle.search.specs.Walks.{seen, counted};
+ghost use Rattle.search.specs.inner.Marks.{number_by, first_rank};
 
 use crate::hits::Hits;
+use crate::marked::MarkedEntries;
+use crate::numbering::Numbering;
+use crate::ranks::rank_of;
 use crate::scope::Scope;
+use candidates::Ids;
 use filter::Prepared;
+use id_sets::{IdSet, KeySet};
 use schema::Path;
+use std::alloc::Global;
 use tree::Tree;
 
-/// The entries in scope of which the filter is True, in dump order (RFC 4511, 4.5.1). None where the base isn't there. Each entry in
-/// scope is tested once; those at other depths below the base are passed by.
-pub fn search<'a>(
+// The search among candidates by their numbers or by their ranks. Where ranks count, this one is the base's.
+fn search_from<'a, S: IdSet>(
+    tree: &'a Tree,
+    base: &'a Path,
+    rank: u32,
+    scope: Scope,
+    filter: &'a Prepared,
+    numbering: Numbering,
+    candidates: Ids<S>,
+) -> Option<Hits<'a, S>>
+    requires conf { filter.now.conf ≡ tree.now.conf }
+    requires rank { rank ≡ first_rank numbering (rank_in tree.now.entries base.now) }
+    ensures there { is_some result ≡ finite.contains_key tree.now.entries base.now }
+    ensures start { IfSome result (λ h. h.tested ≡ 0) }
+    ensures steps { IfSome result (λ h. map counted h.to_come ≡ counted_scan tree.now.conf tree.now.entries
+        (λ p. ids_contain S.members candidates (number_by numbering (number_at tree.now p) (rank_in tree.now.entries p))) base.now scope (view filter.now.filter)) }
+    ensures found { IfSome result (λ h. map seen h.to_come ≡ scan_among tree.now.conf tree.now.entries
+        (λ p. ids_contain S.members candidates (number_by numbering (number_at tree.now p) (rank_in tree.now.entries p))) base.now scope (view filter.now.filter)) }
+    ensures tested { IfSome result (λ h. h.in_the_end ≡ count_among tree.now.entries
+        (λ p. ids_contain S.members candidates (number_by numbering (number_at tree.now p) (rank_in tree.now.entries p))) base.now scope) }
+{
+    tree.is_directory();
+    tree.get(base)?;
+    let rest = MarkedEntries::new(tree.numbered(base), rank, numbering, candidates);
+    Some(Hits::new(rest, scope, base.len(), filter))
+}
+
+/// The entries in scope of which the filter is True, as far as their numbers are among the candidates, in dump order (RFC 4511, 4.5.1).
+/// None where the base isn't there. Each candidate in scope is tested once, and no other entry is; those below the base are passed by.
+pub fn search<'a, S: IdSet>(
     tree: &'a Tree,
     base: &'a Path,
     scope: Scope,
     filter: &'a Prepared,
-) -> Option<Hits<'a>>
+    candidates: Ids<S>,
+) -> Option<Hits<'a, S>>
     requires { filter.now.conf ≡ tree.now.conf }
     ensures there { is_some result ≡ finite.contains_key tree.now.entries base.now }
+    ensures start { IfSome result (λ h. h.tested ≡ 0) }
+    ensures steps { IfSome result (λ h. map counted h.to_come ≡ counted_scan tree.now.conf tree.now.entries
+        (λ p. ids_contain S.members candidates (number_at tree.now p)) base.now scope (view filter.now.filter)) }
+    ensures found { IfSome result (λ h. map seen h.to_come ≡ scan_among tree.now.conf tree.now.entries
+        (λ p. ids_contain S.members candidates (number_at tree.now p)) base.now scope (view filter.now.filter)) }
+    ensures tested { IfSome result (λ h. h.in_the_end ≡ count_among tree.now.entries
+        (λ p. ids_contain S.members candidates (number_at tree.now p)) base.now scope) }
+{
+    search_from(tree, base, 0, scope, filter, Numbering::InTree, candidates)
+}
+
+/// The same, where candidates are ranks of entries instead of their numbers. It goes through the entries before the base to count them.
+pub fn search_by_ranks<'a, S: IdSet>(
+    alloc: Global,
+    tree: &'a Tree,
+    base: &'a Path,
+    scope: Scope,
+    filter: &'a Prepared,
+    candidates: Ids<S>,
+) -> Option<Hits<'a, S>>
+    requires { filter.now.conf ≡ tree.now.conf }
+    ensures there { is_some result ≡ finite.contains_key tree.now.entries base.now }
+    ensures start { IfSome result (λ h. h.tested ≡ 0) }
+    ensures steps { IfSome result (λ h. map counted h.to_come ≡ counted_scan tree.now.conf tree.now.entries
+        (λ p. ids_contain S.members candidates (rank_in tree.now.entries p)) base.now scope (view filter.now.filter)) }
+    ensures found { IfSome result (λ h. map seen h.to_come ≡ scan_among tree.now.conf tree.now.entries
+        (λ p. ids_contain S.members candidates (rank_in tree.now.entries p)) base.now scope (view filter.now.filter)) }
+    ensures tested { IfSome result (λ h. h.in_the_end ≡ count_among tree.now.entries
+        (λ p. ids_contain S.members candidates (rank_in tree.now.entries p)) base.now scope) }
+{
+    let rank = rank_of(alloc, tree, base);
+    search_from(
+        tree,
+        base,
+        rank,
+        scope,
+        filter,
+        Numbering::InDump,
+        candidates,
+    )
+}
+
+/// The entries in scope of which the filter is True, in dump order (RFC 4511, 4.5.1), with no index. None where the base isn't there. Each
+/// entry in scope is tested once; those at other depths below the base are passed by.
+pub fn scan<'a>(
+    alloc: Global,
+    tree: &'a Tree,
+    base: &'a Path,
+    scope: Scope,
+    filter: &'a Prepared,
+) -> Option<Hits<'a, KeySet>>
+    requires { filter.now.conf ≡ tree.now.conf }
+    ensures there { is_some result ≡ finite.contains_key tree.now.entries base.now }
+    ensures start { IfSome result (λ h. h.tested ≡ 0) }
     ensures found { IfSome result (λ h. map seen h.to_come ≡ scan tree.now.conf tree.now.entries base.now scope (view filter.now.filter)) }
     ensures tested { IfSome result (λ h. h.in_the_end ≡ count_in_scope tree.now.entries base.now scope) }
 {
-    tree.is_directory();
-    tree.get(base)?;
-    Some(Hits::new(tree.range(base), scope, base.len(), filter))
+    let none: KeySet = KeySet::new(alloc);
+    search(tree, base, scope, filter, Ids::AllBut(none))
 }

@@ -6,9 +6,9 @@ use Rattle.search.specs.Walks.{lent, tested_in_all}
 use Rattle.search.proofs.hits.next_hit.Given as goal
 
 abbrev pub invariant-loop-found : goal.invariant-loop-found
-invariant-loop-found l =
+invariant-loop-found g l =
     record {
-      made : AllByRecursion (λ e. IsMade l.fn.filter.conf.types e.1.attrs) l.rest;
+      made : AllByRecursion (λ e. IsMade l.fn.filter.conf.types e.entry.attrs) l.rest;
       room : l.meter + length l.rest < 2 ^ 64;
       come : lent l.fn.filter.conf.types l.fn.scope l.fn.base_depth (view l.fn.filter.filter) l.meter l.rest
           ≡ lent l.fn.filter.conf.types l.fn.scope l.fn.base_depth (view l.fn.filter.filter) l.initial.meter l.initial.rest;
@@ -16,4 +16,4 @@ invariant-loop-found l =
     }
 
 abbrev pub decreases-loop-found : goal.decreases-loop-found
-decreases-loop-found l = length l.rest
+decreases-loop-found g l = length l.rest
