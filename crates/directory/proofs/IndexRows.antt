@@ -60,7 +60,7 @@ ranks_above types s key low rank (e ∷ es) lt = by (has_key types e.attrs s.typ
     by true rest = (lt, rest)
     by false rest = rest
 
-ranks_rise : (types : List AttributeType) (s : Slot) (key : List ℕ) (rank : ℕ) (es : List EntryContent) → IsAscending (ranks_with types s key rank es)
+pub ranks_rise : (types : List AttributeType) (s : Slot) (key : List ℕ) (rank : ℕ) (es : List EntryContent) → IsAscending (ranks_with types s key rank es)
 ranks_rise types s key rank [] = tt
 ranks_rise types s key rank (e ∷ es) = by (has_key types e.attrs s.type_id s.kind key) (ranks_rise types s key (rank + 1) es)
   where
@@ -73,11 +73,11 @@ ranks_rise types s key rank (e ∷ es) = by (has_key types e.attrs s.type_id s.k
 bytes_turned : (k q : List ℕ) → bytes_eq k q ≡ bytes_eq q k
 bytes_turned k q = nat_list_eq_equiv.symm k q
 
-same_bytes : (a b : List ℕ) → bytes_eq a b ≡ true → a ≡ b
+pub same_bytes : (a b : List ℕ) → bytes_eq a b ≡ true → a ≡ b
 same_bytes a b e = (bytes_decides a b).0 e
 
 -- each key of a list with what belongs to it
-find_each : {X : Type 0} (f : List ℕ → X) (ks : List (List ℕ)) (q : List ℕ) → find (slice_cmp nat_cmp) q (map (λ k. (k, f k)) ks) ≡ cond (list_any (λ k. bytes_eq k q) ks) (Some (f q)) None
+pub find_each : {X : Type 0} (f : List ℕ → X) (ks : List (List ℕ)) (q : List ℕ) → find (slice_cmp nat_cmp) q (map (λ k. (k, f k)) ks) ≡ cond (list_any (λ k. bytes_eq k q) ks) (Some (f q)) None
 find_each f [] q = refl
 find_each f (k ∷ ks) q =
     ap (λ b. cond b (Some (f k)) (find (slice_cmp nat_cmp) q (map (λ k. (k, f k)) ks))) (is_eq-slice_cmp q k ∙ sym (bytes_turned k q))
@@ -88,7 +88,7 @@ find_each f (k ∷ ks) q =
     by true same rest = ap (λ (p : List ℕ). Some (f p)) (same_bytes k q same)
     by false apart rest = rest
 
-any_key : (types : List AttributeType) (s : Slot) (es : List EntryContent) (q : List ℕ) → list_any (λ k. bytes_eq k q) (flat_map (λ e. entry_keys types e.attrs s.type_id s.kind) es) ≡ list_any (λ e. has_key types e.attrs s.type_id s.kind q) es
+pub any_key : (types : List AttributeType) (s : Slot) (es : List EntryContent) (q : List ℕ) → list_any (λ k. bytes_eq k q) (flat_map (λ e. entry_keys types e.attrs s.type_id s.kind) es) ≡ list_any (λ e. has_key types e.attrs s.type_id s.kind q) es
 any_key types s [] q = refl
 any_key types s (e ∷ es) q =
     list_any-append (λ k. bytes_eq k q) (entry_keys types e.attrs s.type_id s.kind) (flat_map (λ e. entry_keys types e.attrs s.type_id s.kind) es)

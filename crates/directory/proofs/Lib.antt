@@ -13,9 +13,11 @@ pub mod FoundText
 pub mod ByIndex
 pub mod ShownRanks
 pub mod KeptIndex
+pub mod KeyBytes
 pub mod WholeIndex
 pub mod RankLists
 pub mod RanksByNumber
 pub mod IndexRows
+pub mod StoredRows
 pub mod WrittenLines
 pub mod IndexExamples

@@ -23,7 +23,7 @@ pub use directory::Directory;
 pub use dump::write_dump;
 pub use found::write_found;
 pub use index_texts::write_index_text;
-pub use laws::{index_texts_reflect_dumps, loading_a_dump};
+pub use laws::{index_texts_reflect_dumps, kept_index_texts_are_read, loading_a_dump};
 pub use loading::{LoadFault, load, load_tree};
 pub use reason::Reason;
 pub use runs::{RunFault, Tally, run};

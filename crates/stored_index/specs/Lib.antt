@@ -1,0 +1,10 @@
+pub mod Cuts
+pub mod Faults
+pub mod Gives
+pub mod KeyLines
+pub mod Reading
+pub mod Rows
+pub mod SlotLines
+pub mod Stored
+pub mod Words
+pub mod inner

@@ -1,0 +1,47 @@
+-- What an index that was read from its text shows.
+use Rattle.std.specs.Prelude.{ℕ, List, [], map, refl, slice_index_or, Result, Ok}
+use Rattle.std.specs.Coded.{Coded, code_by, coded×, coded_list}
+use Rattle.std.specs.FinSet as set
+use Rattle.base.specs.Answers.{◌>>=◌}
+use Rattle.schema.specs.contracts.conf.Conf as conf_contract
+use Rattle.schema.specs.Conf.{Conf}
+use Rattle.index.specs.KeySets as keys
+use Rattle.index.specs.Postings.{Shown, slot_in}
+use Rattle.index_text.specs.IndexTexts as texts
+use Rattle.stored_index.specs.Reading.{rows_in}
+use Rattle.stored_index.specs.declared.fault.IndexFaultKind.{IndexFaultKind}
+
+-- the configuration that it was read under, and the keys of each slot in order, each with its ranks
+pub record Stored : Type 0 where
+  pub conf : Conf
+  pub slots : List (List keys.Row)
+
+abbrev pub stored_code : Coded Stored
+stored_code = code_by (Conf × List (List keys.Row)) (coded× conf_contract.the_row.coded (coded_list keys.rows_code)) (λ x. (x.conf, x.slots)) (λ p. record { conf = p.0; slots = p.1 }) (λ _. refl)
+
+-- a key, and the set of its ranks
+abbrev pub kept_row : texts.Row → keys.Row
+kept_row row = (row.0, set.from_list row.1)
+
+-- the rows of a slot
+abbrev pub kept_rows : List texts.Row → List keys.Row
+kept_rows rows = map kept_row rows
+
+-- the rows of each slot
+abbrev pub kept_slots : texts.Rows → List (List keys.Row)
+kept_slots rows = map (λ s. kept_rows s.1) rows
+
+-- these rows under a configuration
+abbrev pub stored : Conf → texts.Rows → Stored
+stored conf rows = record { conf = conf; slots = kept_slots rows }
+
+-- what a text is read as
+abbrev pub index_in : Conf → ℕ → List ℕ → List ℕ → Result Stored IndexFaultKind
+index_in conf entries stamp text = rows_in conf entries stamp text >>= λ rows. Ok (stored conf rows)
+
+-- the ranks of a key in a slot
+abbrev pub ranks_at : Stored → ℕ → List ℕ → keys.Members
+ranks_at x slot key = keys.members_at (slice_index_or x.slots slot []) key
+
+abbrev pub shown_by : Stored → Shown
+shown_by x = record { slot_of = slot_in x.conf.slots; members = ranks_at x }

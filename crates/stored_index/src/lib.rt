@@ -1,0 +1,22 @@
+//! An index that is read from its text.
+//!
+//! The functions of `laws` do nothing: a call of one is made for what it states alone.
+#![tactic(auto)]
+
+mod cuts;
+mod fault;
+mod header;
+mod key_lines;
+mod keys;
+mod laws;
+mod numbers;
+mod ranks;
+mod reading;
+mod row_lines;
+mod slot_lines;
+mod stored;
+mod words;
+
+pub use fault::{IndexFault, IndexFaultKind};
+pub use laws::{read_texts_are_written, written_texts_are_read};
+pub use stored::StoredIndex;

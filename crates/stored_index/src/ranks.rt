@@ -1,0 +1,65 @@
+//! The ranks behind a key.
+
+ghost use Rattle.std.specs.Prelude.{◌≡◌, true, OnOk};
+ghost use Rattle.std.specs.FinSet as set;
+ghost use Rattle.base.specs.Ascii.{space};
+ghost use Rattle.stored_index.specs.Cuts.{parts};
+ghost use Rattle.stored_index.specs.KeyLines.{ranks_in};
+ghost use Rattle.stored_index.specs.inner.Reads.{Reads, IsSetOf};
+
+use crate::cuts::cut;
+use crate::fault::{IndexFault, IndexFaultKind};
+use crate::numbers::number_in;
+use id_sets::{IdSet, ListSet};
+use std::alloc::{AllocError, Global};
+
+// adds a rank; one that is no u32 has no room
+fn add(ranks: &mut ListSet, rank: u64) -> Result<(), AllocError>
+    ensures { OnOk result (ranks.new ≡ set.insert ranks.old rank) }
+{
+    let Ok(id) = u32::try_from(rank) else {
+        return Err(AllocError);
+    };
+    let _ = ranks.insert(id)?;
+    Ok(())
+}
+
+// adds a rank that is wanted
+fn keep(ranks: &mut ListSet, rank: u64, is_wanted: bool) -> Result<(), AllocError>
+    ensures { is_wanted ≡ true → OnOk result (ranks.new ≡ set.insert ranks.old rank) }
+{
+    if is_wanted {
+        add(ranks, rank)?;
+    }
+    Ok(())
+}
+
+/// The ranks that stand behind a key, which is in order itself or not.
+pub(crate) fn read_ranks(
+    alloc: Global,
+    text: &[u8],
+    is_key_in_order: bool,
+    entries: usize,
+) -> Result<ListSet, IndexFault>
+    ensures { Reads IsSetOf result (ranks_in is_key_in_order entries (parts space text.now)) }
+{
+    let mut ranks = ListSet::new(alloc);
+    let mut rest = Some(text);
+    let mut is_in_order = is_key_in_order;
+    let mut least: u64 = 0;
+    while let Some(words) = rest {
+        let (word, next) = cut(b' ', words);
+        let rank = number_in(word)?;
+        is_in_order = is_in_order & (least <= rank);
+        keep(&mut ranks, rank, is_in_order & (rank < entries as u64))?;
+        least = rank + 1;
+        rest = next;
+    }
+    if !is_in_order {
+        return Err(IndexFault::Fault(IndexFaultKind::Order));
+    }
+    if least > entries as u64 {
+        return Err(IndexFault::Fault(IndexFaultKind::Rank));
+    }
+    Ok(ranks)
+}

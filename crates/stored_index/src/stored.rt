@@ -1,0 +1,118 @@
+//! An index as its text says it.
+
+ghost use Rattle.std.specs.Prelude.{◌≡◌, MatchOption};
+ghost use Rattle.std.specs.List.{position};
+ghost use Rattle.std.specs.List.Sorted.{IsStrictlySortedBy};
+ghost use Rattle.std.specs.Cmp.Lexicographic.{slice_cmp};
+ghost use Rattle.std.specs.Ordering.{nat_cmp};
+ghost use Rattle.std.specs.Map.{keys_of};
+ghost use Rattle.std.specs.FinSet as set;
+ghost use Rattle.schema.specs.Slots.{same_slot};
+ghost use Rattle.index.specs.KeySets.{members_at};
+ghost use Rattle.stored_index.specs.Gives.{Gives};
+ghost use Rattle.stored_index.specs.Stored.{index_in};
+
+use crate::fault::IndexFault;
+use crate::reading::read_text;
+use base::{Bytes, Sequence};
+use id_sets::ListSet;
+use index::{Postings, SlotNumber};
+use schema::{Conf, IndexKind, Slot, TypeId};
+use std::alloc::Global;
+use std::cmp::Ordering;
+use std::marker::Model;
+use std::snapshot::Snapshot;
+
+/// An index that was read from its text: the ranks of the entries that have each key. A contract sees the configuration that it was read
+/// under, and the keys of each slot, each with its ranks.
+#[derive(Drop)]
+pub struct StoredIndex {
+    made: Snapshot<Conf>,
+    // those of the configuration
+    slots: Vec<Slot>,
+    // the keys of each, with their ranks, in order
+    rows: Sequence<Sequence<(Bytes, ListSet)>>,
+}
+
+impl Model for StoredIndex {
+    ghost use Rattle.std.specs.Prelude.{◌≡◌};
+    ghost use Rattle.std.specs.List.{AllByRecursion};
+    ghost use Rattle.stored_index.specs.Stored.{Stored, stored_code};
+    ghost use Rattle.stored_index.specs.inner.Sorted.{AreSorted};
+
+    ghost Value = { Stored };
+
+    ghost coded = { stored_code };
+
+    ghost view = { λ x. record { conf = x.made.value; slots = x.rows } };
+
+    ghost invariant = { λ x. (x.slots.items ≡ x.made.value.slots) × (AllByRecursion AreSorted x.rows) };
+}
+
+// where a slot stands among others
+fn place_of(slots: &[Slot], wanted: &Slot) -> Option<usize>
+    ensures { result ≡ position (same_slot wanted.now) slots.now }
+{
+    slots.iter().position(|slot| wanted.cmp(slot).is_eq())
+}
+
+// the ranks of a key, among keys in order
+fn ranks_of<'a>(rows: &'a [(Bytes, ListSet)], key: &[u8]) -> Option<&'a ListSet>
+    requires { IsStrictlySortedBy (slice_cmp nat_cmp) (keys_of rows.now) }
+    ensures { MatchOption result (members_at rows.now key.now ≡ set.empty) (λ s. s.now ≡ members_at rows.now key.now) }
+{
+    let mut from = 0usize;
+    let mut to = rows.len();
+    while from < to {
+        let middle = from + (to - from) / 2;
+        match rows[middle].0.as_slice().cmp(key) {
+            Ordering::Less => from = middle + 1,
+            Ordering::Equal => return Some(&rows[middle].1),
+            Ordering::Greater => to = middle,
+        }
+    }
+    None
+}
+
+impl StoredIndex {
+    /// The index that a text writes under a configuration, of so many entries, for the dump with this digest; or what is wrong with the
+    /// text's first line, or else with the first line behind it that is at fault.
+    pub fn read(
+        alloc: Global,
+        text: &[u8],
+        conf: &Conf,
+        stamp: &[u8],
+        entries: usize,
+    ) -> Result<StoredIndex, IndexFault>
+        ensures { Gives (λ x. x) result (index_in conf.now entries stamp.now text.now) }
+    {
+        let rows = read_text(alloc, text, conf, stamp, entries)?;
+        Ok(StoredIndex {
+            made: Snapshot::of(conf),
+            slots: Vec::from_slice(alloc, conf.slots())?,
+            rows,
+        })
+    }
+}
+
+impl Postings for StoredIndex {
+    ghost use Rattle.stored_index.specs.Stored.{shown_by};
+
+    type Set = ListSet;
+
+    ghost shown = { shown_by };
+
+    fn slot(&self, type_id: TypeId, kind: IndexKind) -> Option<SlotNumber> {
+        match place_of(self.slots.as_slice(), &Slot { type_id, kind }) {
+            Some(place) => Some(SlotNumber(place)),
+            None => None,
+        }
+    }
+
+    fn lookup(&self, slot: SlotNumber, key: &[u8]) -> Option<&ListSet> {
+        match self.rows.as_slice().get(slot.0) {
+            Some(rows) => ranks_of(rows.as_slice(), key),
+            None => None,
+        }
+    }
+}
