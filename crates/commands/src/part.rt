@@ -42,7 +42,7 @@ impl<'a> FileText for Part<'a> {
     fn write<W: Sink>(&self, alloc: Global, sink: &mut W) -> Result<(), WriteFault> {
         let all = Selection::all();
         let Database { conf, tree } = self.database;
-        match search_tree(tree, self.base, Scope::Sub, self.filter) {
+        match search_tree(alloc, tree, self.base, Scope::Sub, self.filter) {
             Ok(hits) => match write_found(alloc, tree, conf, sink, hits, None, &all) {
                 Ok(_) => Ok(()),
                 Err(fault) => Err(fault),

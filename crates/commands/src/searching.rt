@@ -58,7 +58,7 @@ fn print_found<O: Sink>(
     let base = path_of(alloc, &database.conf, asked.base, NAME)?;
     let selection = Selection::of(alloc, &database.conf, asked.attributes.as_slice())?;
     let prepared = prepare(alloc, filter, &database.conf)?;
-    let hits = match search_tree(&database.tree, &base, asked.scope, &prepared) {
+    let hits = match search_tree(alloc, &database.tree, &base, asked.scope, &prepared) {
         Ok(hits) => hits,
         Err(refusal) => return Err(refused(refusal, NAME)),
     };

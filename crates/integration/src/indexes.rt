@@ -25,8 +25,8 @@ index description eq,sub
 const PEOPLE: &str =
     "dn: dc=ex\nobjectClass: domain\ndc: ex\n\ndn: cn=aba,dc=ex\nobjectClass: person\ncn: aba\n\ndn: cn=abba,dc=ex\nobjectClass: person\ncn: abba\n\ndn: cn=abc bcd,dc=ex\nobjectClass: person\ncn: abc bcd\n\ndn: cn=Bob,dc=ex\nobjectClass: person\nuidNumber: 7\ncn: Bob\n\n";
 
-// the same entries, those below the suffix the other way round
-const TURNED: &str =
+/// The same entries, those below the suffix the other way round.
+pub const TURNED: &str =
     "dn: dc=ex\nobjectClass: domain\n\ndn: cn=Bob,dc=ex\nobjectClass: person\nuidNumber: 7\n\ndn: cn=abc bcd,dc=ex\nobjectClass: person\n\ndn: cn=abba,dc=ex\nobjectClass: person\n\ndn: cn=aba,dc=ex\nobjectClass: person\n\n";
 
 const INDEX: &str = "slapindex 1 5 8693d50c14ee25d36384190df2bf9729b1b64588da8486e24a3292b94e5bbb2b

@@ -18,6 +18,8 @@ mod runs;
 #[cfg(test)]
 mod runs_in_little_memory;
 #[cfg(test)]
+mod searches;
+#[cfg(test)]
 mod searches_in_little_memory;
 #[cfg(test)]
 mod texts;

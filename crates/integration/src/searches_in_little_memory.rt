@@ -7,9 +7,10 @@ use crate::directories::loaded_under;
 use directory::Directory;
 use filter::{Prepared, prepare};
 use filter_text::{Filter, read_filter};
+use id_sets::KeySet;
 use reading_tests::spend;
 use schema::{Path, read_conf};
-use search::{Hits, Scope, search};
+use search::{Hits, Scope, scan};
 use std::alloc::Global;
 use std::process::Abort;
 use std::test::Fail;
@@ -59,7 +60,8 @@ fn filter(alloc: Global) -> Result<Filter, Fail> {
     }
 }
 
-fn has_rdn(entry: &Entry, value: &str) -> bool {
+/// Whether the RDN of an entry has this value, and no other.
+pub fn has_rdn(entry: &Entry, value: &str) -> bool {
     match entry.rdn().parts() {
         [(_, own)] => own.as_slice() == value.as_bytes(),
         _ => false,
@@ -67,7 +69,7 @@ fn has_rdn(entry: &Entry, value: &str) -> bool {
 }
 
 // whether these are the entries that are found
-fn are_found(hits: Hits<'_>, values: &[&str]) -> bool {
+fn are_found(hits: Hits<'_, KeySet>, values: &[&str]) -> bool {
     let mut hits = hits;
     for value in values {
         match hits.next() {
@@ -83,11 +85,11 @@ fn are_found(hits: Hits<'_>, values: &[&str]) -> bool {
 }
 
 // whether the search finds in each scope what it is to find; it takes no memory
-fn is_searched(tree: &Tree, base: &Path, prepared: &Prepared) -> bool
+fn is_searched(alloc: Global, tree: &Tree, base: &Path, prepared: &Prepared) -> bool
     requires { prepared.now.conf ≡ tree.now.conf }
 {
     for (scope, values) in FOUND {
-        match search(tree, base, scope, prepared) {
+        match scan(alloc, tree, base, scope, prepared) {
             Some(hits) => {
                 if !are_found(hits, values) {
                     return false;
@@ -115,7 +117,7 @@ fn prepare_between(
     let Ok(prepared) = made else {
         return Ok((false, met));
     };
-    assert!(rt; is_searched(dir.tree(), &base, &prepared));
+    assert!(rt; is_searched(alloc, dir.tree(), &base, &prepared));
     Ok((true, met))
 }
 
@@ -131,7 +133,7 @@ fn search_between(
     let base = Path::root(alloc);
     let prepared = prepare(alloc, &filter, dir.conf())?;
     let met_before = spend(alloc, before);
-    let found = is_searched(dir.tree(), &base, &prepared);
+    let found = is_searched(alloc, dir.tree(), &base, &prepared);
     let met = spend(alloc, behind) || met_before;
     assert!(rt; found);
     Ok((true, met))
