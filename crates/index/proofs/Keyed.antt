@@ -2,7 +2,6 @@
 use Rattle.std.proofs.Common.{◌≡◌, ◌≢◌, ℕ, zero, suc, get_or, Bool, true, false, cond, not, ◌&&◌, ◌||◌, List, [], ◌∷◌, map, Result, Ok, Err, Option, Some, None, refl, sym, ap, subst, ◌∙◌, arith}
 use Rattle.std.specs.Prelude.{unwrap_or, OnOk, OnErr, MatchOption}
 use Rattle.std.specs.declared.cmp.Ordering.TheVariants.{Less}
-use Rattle.std.specs.declared.vec.Vec.{Vec}
 use Rattle.std.specs.Option.{option_map}
 use Rattle.std.specs.Ordering.{nat_cmp, is_eq, eq_by_cmp}
 use Rattle.std.specs.Cmp.{nat_cmp_total, eq_by_cmp_equiv}
@@ -17,7 +16,7 @@ use Rattle.std.specs.FinSet as set
 use Rattle.std.proofs.lemmas.Map.Text.{is_eq-slice_cmp}
 use Rattle.id_sets.specs.declared.key_set.KeySet.{KeySet}
 use Rattle.index.specs.KeySets.{Members, SetsByKey, Row, members_in, members_at, AreRowsOf}
-use Rattle.index.specs.inner.StoredSets.{rows_of, sets_of, HaveMembers}
+use Rattle.index.specs.inner.StoredSets.{rows_by, sets_by, HaveMembers}
 
 abbrev pub at : List Row → List ℕ → Option Members
 at rows q = lookup (bytes_eq q) rows
@@ -128,87 +127,88 @@ by_bytes {W} f g bs w here other cs = by (bytes_eq bs cs) refl
 apart_in_order : (bs cs ks : List ℕ) → bytes_eq bs cs ≡ false → is_eq (slice_cmp nat_cmp bs ks) ≡ true → is_eq (slice_cmp nat_cmp cs ks) ≡ false
 apart_in_order bs cs ks n y = is_eq-slice_cmp cs ks ∙ nat_list_eq_equiv.symm cs ks ∙ sym (nat_list_eq_equiv.congr bs ks cs (sym (is_eq-slice_cmp bs ks) ∙ y)) ∙ n
 
-find_is : (rows : List Row) (q : List ℕ) → finite.find (slice_cmp nat_cmp) q rows ≡ at rows q
+pub find_is : (rows : List Row) (q : List ℕ) → finite.find (slice_cmp nat_cmp) q rows ≡ at rows q
 find_is [] q = refl
 find_is (row ∷ rows) q =
     ap (λ b. cond b (Some row.1) (finite.find (slice_cmp nat_cmp) q rows)) (is_eq-slice_cmp q row.0)
     ∙ ap (cond (bytes_eq q row.0) (Some row.1)) (find_is rows q)
 
-module _ {A : Type 0} where
-  abbrev pub found : BTreeMap (Vec ℕ A) KeySet → List ℕ → Option KeySet
-  found m q = lookup (λ k. is_eq (slice_cmp nat_cmp q k.items)) m.entries
+-- bytes is what is read of a key
+module _ {K : Type 0} (bytes : K → List ℕ) where
+  abbrev pub found : BTreeMap K KeySet → List ℕ → Option KeySet
+  found m q = lookup (λ k. is_eq (slice_cmp nat_cmp q (bytes k))) m.entries
 
-  pub at_rows : (q : List ℕ) (es : List (Vec ℕ A × KeySet)) → at (rows_of es) q ≡ members_of (lookup (λ k. is_eq (slice_cmp nat_cmp q k.items)) es)
+  pub at_rows : (q : List ℕ) (es : List (K × KeySet)) → at (rows_by bytes es) q ≡ members_of (lookup (λ k. is_eq (slice_cmp nat_cmp q (bytes k))) es)
   at_rows q [] = refl
   at_rows q (e ∷ es) =
-      ap (λ b. cond b (Some e.1.members) (at (rows_of es) q)) (sym (is_eq-slice_cmp q e.0.items))
-      ∙ ap (cond (is_eq (slice_cmp nat_cmp q e.0.items)) (Some e.1.members)) (at_rows q es)
-      ∙ sym (map_cond (λ s. s.members) (is_eq (slice_cmp nat_cmp q e.0.items)) (Some e.1) (lookup (λ k. is_eq (slice_cmp nat_cmp q k.items)) es))
+      ap (λ b. cond b (Some e.1.members) (at (rows_by bytes es) q)) (sym (is_eq-slice_cmp q (bytes e.0)))
+      ∙ ap (cond (is_eq (slice_cmp nat_cmp q (bytes e.0))) (Some e.1.members)) (at_rows q es)
+      ∙ sym (map_cond (λ s. s.members) (is_eq (slice_cmp nat_cmp q (bytes e.0))) (Some e.1) (lookup (λ k. is_eq (slice_cmp nat_cmp q (bytes k))) es))
 
   -- what a look-up finds
-  pub at_found : (m : BTreeMap (Vec ℕ A) KeySet) (key : List ℕ) (o : Option KeySet) → o ≡ found m key → at (rows_of m.entries) key ≡ members_of o
+  pub at_found : (m : BTreeMap K KeySet) (key : List ℕ) (o : Option KeySet) → o ≡ found m key → at (rows_by bytes m.entries) key ≡ members_of o
   at_found m key o is = at_rows key m.entries ∙ ap members_of (sym is)
 
-  pub members_found : (m : BTreeMap (Vec ℕ A) KeySet) (key : List ℕ) (s : KeySet) → Some s ≡ found m key → members_at (rows_of m.entries) key ≡ s.members
+  pub members_found : (m : BTreeMap K KeySet) (key : List ℕ) (s : KeySet) → Some s ≡ found m key → members_at (rows_by bytes m.entries) key ≡ s.members
   members_found m key s is = ap (λ o. unwrap_or o set.empty) (at_found m key (Some s) is)
 
-  other_entries : (eq : Vec ℕ A → Vec ℕ A → Bool) (test : Vec ℕ A → Bool) (old new : List (Vec ℕ A × KeySet)) → KeepsOthers eq test old new → (other : Vec ℕ A → Bool) → IsKeyTest eq other → AreApart test other → lookup other new ≡ lookup other old
+  other_entries : (eq : K → K → Bool) (test : K → Bool) (old new : List (K × KeySet)) → KeepsOthers eq test old new → (other : K → Bool) → IsKeyTest eq other → AreApart test other → lookup other new ≡ lookup other old
   unfolding KeepsOthers
   other_entries eq test old new h = h
 
-  pub updated : (key : List ℕ) (m n : BTreeMap (Vec ℕ A) KeySet) (w : Option KeySet) → UpdatesBy (λ a b. slice_cmp nat_cmp a.items b.items) (λ k. slice_cmp nat_cmp key k.items) m n w
-      → Updated (rows_of m.entries) (rows_of n.entries) key (members_of w)
+  pub updated : (key : List ℕ) (m n : BTreeMap K KeySet) (w : Option KeySet) → UpdatesBy (λ a b. slice_cmp nat_cmp (bytes a) (bytes b)) (λ k. slice_cmp nat_cmp key (bytes k)) m n w
+      → Updated (rows_by bytes m.entries) (rows_by bytes n.entries) key (members_of w)
   updated key m n w h q =
       at_rows q n.entries
-      ∙ ap members_of (by_bytes (found m) (found n) key w h.1 (λ cs e. other_entries _ _ _ _ h.3 (λ k. is_eq (slice_cmp nat_cmp cs k.items)) (λ x y. (eq_by_cmp_equiv nat_list_cmp_total).congr cs x.items y.items) (λ k. apart_in_order key cs k.items e)) q)
+      ∙ ap members_of (by_bytes (found m) (found n) key w h.1 (λ cs e. other_entries _ _ _ _ h.3 (λ k. is_eq (slice_cmp nat_cmp cs (bytes k))) (λ x y. (eq_by_cmp_equiv nat_list_cmp_total).congr cs (bytes x) (bytes y)) (λ k. apart_in_order key cs (bytes k) e)) q)
       ∙ map_cond (λ s. s.members) (bytes_eq key q) w (found m q)
       ∙ ap (cond (bytes_eq key q) (members_of w)) (sym (at_rows q m.entries))
 
   -- the same, of a map that is this one, and by a copy of the key
-  pub fresh : (old mid new : BTreeMap (Vec ℕ A) KeySet) (key copied : List ℕ) (w : Option KeySet) → mid ≡ old → copied ≡ key → UpdatesBy (λ a b. slice_cmp nat_cmp a.items b.items) (λ k. slice_cmp nat_cmp copied k.items) mid new w
-      → Updated (rows_of old.entries) (rows_of new.entries) key (members_of w)
+  pub fresh : (old mid new : BTreeMap K KeySet) (key copied : List ℕ) (w : Option KeySet) → mid ≡ old → copied ≡ key → UpdatesBy (λ a b. slice_cmp nat_cmp (bytes a) (bytes b)) (λ k. slice_cmp nat_cmp copied (bytes k)) mid new w
+      → Updated (rows_by bytes old.entries) (rows_by bytes new.entries) key (members_of w)
   fresh old mid new key copied w is same h =
-      subst (λ (m : BTreeMap (Vec ℕ A) KeySet). Updated (rows_of m.entries) (rows_of new.entries) key (members_of w)) is (subst (λ k. Updated (rows_of mid.entries) (rows_of new.entries) k (members_of w)) same (updated copied mid new w h))
+      subst (λ (m : BTreeMap K KeySet). Updated (rows_by bytes m.entries) (rows_by bytes new.entries) key (members_of w)) is (subst (λ k. Updated (rows_by bytes mid.entries) (rows_by bytes new.entries) k (members_of w)) same (updated copied mid new w h))
 
   -- ---- the map that they are seen as
 
-  pub get_is : (m : BTreeMap (Vec ℕ A) KeySet) (s : SetsByKey) → sets_of m ≡ s → (q : List ℕ) → finite.get s q ≡ at (rows_of m.entries) q
-  get_is m s is q = ap (λ (x : SetsByKey). finite.get x q) (sym is) ∙ finite.get-from_entries nat_list_cmp_total (rows_of m.entries) q ∙ find_is (rows_of m.entries) q
+  pub get_is : (m : BTreeMap K KeySet) (s : SetsByKey) → sets_by bytes m ≡ s → (q : List ℕ) → finite.get s q ≡ at (rows_by bytes m.entries) q
+  get_is m s is q = ap (λ (x : SetsByKey). finite.get x q) (sym is) ∙ finite.get-from_entries nat_list_cmp_total (rows_by bytes m.entries) q ∙ find_is (rows_by bytes m.entries) q
 
-  pub seen : (m : BTreeMap (Vec ℕ A) KeySet) (s : SetsByKey) → sets_of m ≡ s → (q : List ℕ) → members_in s q ≡ members_at (rows_of m.entries) q
+  pub seen : (m : BTreeMap K KeySet) (s : SetsByKey) → sets_by bytes m ≡ s → (q : List ℕ) → members_in s q ≡ members_at (rows_by bytes m.entries) q
   seen m s is q = ap (λ o. unwrap_or o set.empty) (get_is m s is q)
 
-  pub got : (m : BTreeMap (Vec ℕ A) KeySet) (s : SetsByKey) (key : List ℕ) {R : Type 0} (r : Option R) (set_in : R → KeySet) → sets_of m ≡ s → option_map set_in r ≡ found m key
+  pub got : (m : BTreeMap K KeySet) (s : SetsByKey) (key : List ℕ) {R : Type 0} (r : Option R) (set_in : R → KeySet) → sets_by bytes m ≡ s → option_map set_in r ≡ found m key
       → MatchOption r (members_in s key ≡ set.empty) (λ x. (set_in x).members ≡ members_in s key)
   got m s key None set_in is value = seen m s is key ∙ ap (λ o. unwrap_or o set.empty) (at_found m key None value)
   got m s key (Some x) set_in is value = sym (seen m s is key ∙ members_found m key (set_in x) value)
 
-  pub moved : (f : Members → Members) (old new : BTreeMap (Vec ℕ A) KeySet) (s : SetsByKey) (key : List ℕ) → sets_of old ≡ s
-      → ((q : List ℕ) → members_at (rows_of new.entries) q ≡ cond (bytes_eq key q) (f (members_at (rows_of old.entries) q)) (members_at (rows_of old.entries) q))
-      → (q : List ℕ) → members_in (sets_of new) q ≡ cond (bytes_eq key q) (f (members_in s q)) (members_in s q)
-  moved f old new s key is h q = seen new (sets_of new) refl q ∙ h q ∙ ap (λ x. cond (bytes_eq key q) (f x) x) (sym (seen old s is q))
+  pub moved : (f : Members → Members) (old new : BTreeMap K KeySet) (s : SetsByKey) (key : List ℕ) → sets_by bytes old ≡ s
+      → ((q : List ℕ) → members_at (rows_by bytes new.entries) q ≡ cond (bytes_eq key q) (f (members_at (rows_by bytes old.entries) q)) (members_at (rows_by bytes old.entries) q))
+      → (q : List ℕ) → members_in (sets_by bytes new) q ≡ cond (bytes_eq key q) (f (members_in s q)) (members_in s q)
+  moved f old new s key is h q = seen new (sets_by bytes new) refl q ∙ h q ∙ ap (λ x. cond (bytes_eq key q) (f x) x) (sym (seen old s is q))
 
   -- ---- all of them
 
-  keys_are : (es : List (Vec ℕ A × KeySet)) → keys_of (rows_of es) ≡ map (λ k. k.items) (keys_of es)
+  keys_are : (es : List (K × KeySet)) → keys_of (rows_by bytes es) ≡ map bytes (keys_of es)
   keys_are [] = refl
-  keys_are (e ∷ es) = ap (λ ks. e.0.items ∷ ks) (keys_are es)
+  keys_are (e ∷ es) = ap (λ ks. bytes e.0 ∷ ks) (keys_are es)
 
-  rise_is : (ks : List (Vec ℕ A)) → IsStrictlySortedBy (λ a b. slice_cmp nat_cmp a.items b.items) ks → IsStrictlySortedBy (slice_cmp nat_cmp) (map (λ k. k.items) ks)
+  rise_is : (ks : List K) → IsStrictlySortedBy (λ a b. slice_cmp nat_cmp (bytes a) (bytes b)) ks → IsStrictlySortedBy (slice_cmp nat_cmp) (map bytes ks)
   unfolding IsStrictlySortedBy
   rise_is [] rise = tt
   rise_is (k ∷ ks) rise = (less ks rise.0, rise_is ks rise.1)
     where
-      less : (others : List (Vec ℕ A)) → AllByRecursion (λ y. slice_cmp nat_cmp k.items y.items ≡ Less) others → AllByRecursion (λ y. slice_cmp nat_cmp k.items y ≡ Less) (map (λ y. y.items) others)
+      less : (others : List K) → AllByRecursion (λ y. slice_cmp nat_cmp (bytes k) (bytes y) ≡ Less) others → AllByRecursion (λ y. slice_cmp nat_cmp (bytes k) y ≡ Less) (map bytes others)
       less [] all = tt
       less (y ∷ others) all = (all.0, less others all.1)
 
-  each_full : (m : BTreeMap (Vec ℕ A) KeySet) (es : List (Vec ℕ A × KeySet)) → HaveMembers (rows_of m.entries) → All (λ e. found m e.0.items ≡ Some e.1) es → AllByRecursion (λ row. row.1 ≢ set.empty) (rows_of es)
+  each_full : (m : BTreeMap K KeySet) (es : List (K × KeySet)) → HaveMembers (rows_by bytes m.entries) → All (λ e. found m (bytes e.0) ≡ Some e.1) es → AllByRecursion (λ row. row.1 ≢ set.empty) (rows_by bytes es)
   each_full m [] all h = tt
-  each_full m (e ∷ es) all h = (λ is. all e.0.items (at_found m e.0.items (Some e.1) (sym (h 0 e (omega arith))) ∙ ap (λ (x : Members). Some x) is), each_full m es all (λ k d lt. h (suc k) d (omega (arith, lt))))
+  each_full m (e ∷ es) all h = (λ is. all (bytes e.0) (at_found m (bytes e.0) (Some e.1) (sym (h 0 e (omega arith))) ∙ ap (λ (x : Members). Some x) is), each_full m es all (λ k d lt. h (suc k) d (omega (arith, lt))))
 
-  pub rows_are : (m : BTreeMap (Vec ℕ A) KeySet) (s : SetsByKey) → sets_of m ≡ s → HaveMembers (rows_of m.entries) → IsStrictlySortedBy (λ a b. slice_cmp nat_cmp a.items b.items) (keys_of m.entries)
-      → All (λ e. found m e.0.items ≡ Some e.1) m.entries → AreRowsOf s (rows_of m.entries)
+  pub rows_are : (m : BTreeMap K KeySet) (s : SetsByKey) → sets_by bytes m ≡ s → HaveMembers (rows_by bytes m.entries) → IsStrictlySortedBy (λ a b. slice_cmp nat_cmp (bytes a) (bytes b)) (keys_of m.entries)
+      → All (λ e. found m (bytes e.0) ≡ Some e.1) m.entries → AreRowsOf s (rows_by bytes m.entries)
   rows_are m s is all rise each = record {
     rise = subst (IsStrictlySortedBy (slice_cmp nat_cmp)) (sym (keys_are m.entries)) (rise_is (keys_of m.entries) rise);
     full = each_full m m.entries all each;

@@ -3,8 +3,10 @@ pub mod Changed
 pub mod Distinct
 pub mod Fronts
 pub mod KeyTests
+pub mod Joined
 pub mod Keyed
 pub mod Listed
+pub mod Merged
 pub mod OneByOne
 pub mod Search
 pub mod SlotKeyOrder

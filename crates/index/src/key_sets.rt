@@ -4,71 +4,36 @@ ghost use Rattle.std.specs.Prelude.{◌≡◌, ℕ, List, not, if◌then◌else�
 ghost use Rattle.std.specs.Str.{bytes_eq};
 ghost use Rattle.std.specs.FinMap as finite;
 ghost use Rattle.std.specs.FinSet as set;
-ghost use Rattle.index.specs.KeySets.{members_in, members_at, AreRowsOf};
-ghost use Rattle.index.specs.inner.StoredSets.{rows_of, HaveMembers};
+ghost use Rattle.index.specs.KeySets.{members_in, AreRowsOf};
+ghost use Rattle.index.specs.inner.MergedRows.{comes_first};
 
-use id_sets::{IdSet, KeySet};
+use crate::other_sets::OtherSets;
+use crate::window::Window;
+use crate::window_sets::WindowSets;
+use id_sets::KeySet;
 use std::alloc::{AllocError, Global};
-use std::collections::BTreeMap;
 use std::collections::btree_map::Iter;
 use std::marker::Model;
 
-/// The keys of a slot, each with its members, of which there is one at least. A contract sees a finite map from keys to members.
+/// The keys of a slot, each with its members, of which there is one at least. Most are windows, so those of three bytes have a map of
+/// their own. A contract sees a finite map from keys to members.
 #[derive(Drop)]
 pub(crate) struct KeySets {
-    sets: BTreeMap<Vec<u8>, KeySet>,
+    windows: WindowSets,
+    others: OtherSets,
 }
 
 impl Model for KeySets {
     ghost use Rattle.index.specs.KeySets as seen;
-    ghost use Rattle.index.specs.inner.StoredSets.{rows_of, sets_of, HaveMembers};
+    ghost use Rattle.index.specs.inner.JoinedSets.{joined, AreApart};
 
     ghost Value = { seen.SetsByKey };
 
     ghost coded = { seen.sets_code };
 
-    ghost view = { λ s. sets_of s.sets };
+    ghost view = { λ s. joined s.windows s.others };
 
-    ghost invariant = { λ s. HaveMembers (rows_of s.sets.entries) };
-}
-
-// Adds a number under a key, and answers whether it is new there.
-fn put(
-    alloc: Global,
-    sets: &mut BTreeMap<Vec<u8>, KeySet>,
-    key: &[u8],
-    number: u32,
-) -> Result<bool, AllocError>
-    requires { HaveMembers (rows_of sets.old.entries) }
-    ensures full { HaveMembers (rows_of sets.new.entries) }
-    ensures new { IfOk result (λ new. new ≡ not (set.contains (members_at (rows_of sets.old.entries) key.now) number)) }
-    ensures ok { OnOk result ((q : List ℕ) → members_at (rows_of sets.new.entries) q ≡ (if bytes_eq key.now q then set.insert (members_at (rows_of sets.old.entries) q) number else members_at (rows_of sets.old.entries) q)) }
-    ensures err { OnErr result ((q : List ℕ) → members_at (rows_of sets.new.entries) q ≡ members_at (rows_of sets.old.entries) q) }
-{
-    if let Some(found) = sets.get_mut(key) {
-        return found.insert(number);
-    }
-    let mut fresh = KeySet::new(alloc);
-    let _ = fresh.insert(number)?;
-    sets.insert(Vec::from_slice(alloc, key)?, fresh)?;
-    Ok(true)
-}
-
-// Takes a number from a key, and answers whether it was there.
-fn take(sets: &mut BTreeMap<Vec<u8>, KeySet>, key: &[u8], number: u32) -> bool
-    requires { HaveMembers (rows_of sets.old.entries) }
-    ensures full { HaveMembers (rows_of sets.new.entries) }
-    ensures was { result ≡ set.contains (members_at (rows_of sets.old.entries) key.now) number }
-    ensures members { (q : List ℕ) → members_at (rows_of sets.new.entries) q ≡ (if bytes_eq key.now q then set.remove (members_at (rows_of sets.old.entries) q) number else members_at (rows_of sets.old.entries) q) }
-{
-    let Some(found) = sets.get_mut(key) else {
-        return false;
-    };
-    let was = found.remove(number);
-    if found.len() == 0 {
-        let _ = sets.remove(key);
-    }
-    was
+    ghost invariant = { λ s. AreApart s.windows s.others };
 }
 
 impl KeySets {
@@ -76,7 +41,8 @@ impl KeySets {
         ensures { result ≡ finite.empty }
     {
         KeySets {
-            sets: BTreeMap::new(alloc),
+            windows: WindowSets::new(alloc),
+            others: OtherSets::new(alloc),
         }
     }
 
@@ -84,15 +50,25 @@ impl KeySets {
     pub(crate) fn get(&self, key: &[u8]) -> Option<&KeySet>
         ensures { MatchOption result (members_in self.now key.now ≡ set.empty) (λ s. s.now.members ≡ members_in self.now key.now) }
     {
-        self.sets.get(key)
+        match Window::of(key) {
+            Some(window) => self.windows.get(window),
+            None => self.others.get(key),
+        }
     }
 
     /// The keys, by their bytes, each with its members.
     pub(crate) fn rows(&self) -> Keys<'_>
         ensures { AreRowsOf self.now result }
     {
+        let mut windows = self.windows.rows();
+        let mut others = self.others.rows();
+        let window = windows.next();
+        let other = others.next();
         Keys {
-            rows: self.sets.iter(),
+            window,
+            windows,
+            other,
+            others,
         }
     }
 
@@ -107,7 +83,10 @@ impl KeySets {
         ensures ok { OnOk result ((q : List ℕ) → members_in self.new q ≡ (if bytes_eq key.now q then set.insert (members_in self.old q) number else members_in self.old q)) }
         ensures err { OnErr result ((q : List ℕ) → members_in self.new q ≡ members_in self.old q) }
     {
-        put(alloc, &mut self.sets, key, number)
+        match Window::of(key) {
+            Some(window) => self.windows.insert(alloc, window, number),
+            None => self.others.insert(alloc, key, number),
+        }
     }
 
     /// Takes a number from a key, and answers whether it was there. It takes no memory.
@@ -115,7 +94,10 @@ impl KeySets {
         ensures was { result ≡ set.contains (members_in self.old key.now) number }
         ensures members { (q : List ℕ) → members_in self.new q ≡ (if bytes_eq key.now q then set.remove (members_in self.old q) number else members_in self.old q) }
     {
-        take(&mut self.sets, key, number)
+        match Window::of(key) {
+            Some(window) => self.windows.remove(window, number),
+            None => self.others.remove(key, number),
+        }
     }
 }
 
@@ -123,19 +105,37 @@ impl KeySets {
 /// that are still to come.
 #[derive(Drop)]
 pub struct Keys<'a> {
-    rows: Iter<'a, Vec<u8>, KeySet>,
+    // the next key of three bytes, and those behind it
+    window: Option<(&'a Window, &'a KeySet)>,
+    windows: Iter<'a, Window, KeySet>,
+    // the same of all others
+    other: Option<(&'a Vec<u8>, &'a KeySet)>,
+    others: Iter<'a, Vec<u8>, KeySet>,
 }
 
 impl<'a> Model for Keys<'a> {
     ghost use Rattle.std.specs.Prelude.{List};
     ghost use Rattle.index.specs.KeySets.{Row, rows_code};
-    ghost use Rattle.index.specs.inner.StoredSets.{rows_of};
+    ghost use Rattle.index.specs.inner.MergedRows.{rows_left};
 
     ghost Value = { List Row };
 
     ghost coded = { rows_code };
 
-    ghost view = { λ k. rows_of k.rows };
+    ghost view = { λ k. rows_left k.window k.windows k.other k.others };
+}
+
+// whether the first of two rows comes next
+fn is_first(window: Option<(&Window, &KeySet)>, other: Option<(&Vec<u8>, &KeySet)>) -> bool
+    ensures { result ≡ comes_first window.entry other.entry }
+{
+    match window {
+        Some((window, _)) => match other {
+            Some((other, _)) => window.as_slice().cmp(other.as_slice()).is_lt(),
+            None => true,
+        },
+        None => false,
+    }
 }
 
 impl<'a> Iterator for Keys<'a> {
@@ -150,7 +150,14 @@ impl<'a> Iterator for Keys<'a> {
     ghost remaining = { λ k. at_most (length k) };
 
     fn next(&mut self) -> Option<(&'a [u8], &'a KeySet)> {
-        let (key, members) = self.rows.next()?;
-        Some((key.as_slice(), members))
+        if is_first(self.window, self.other) {
+            let (key, members) = self.window?;
+            self.window = self.windows.next();
+            Some((key.as_slice(), members))
+        } else {
+            let (key, members) = self.other?;
+            self.other = self.others.next();
+            Some((key.as_slice(), members))
+        }
     }
 }
