@@ -2,8 +2,8 @@
 
 ghost use Rattle.std.specs.Prelude.{◌≡◌, IfOk};
 
+use crate::directories::loaded_under;
 use crate::indexes::{TURNED, conf};
-use crate::runs::loaded_under;
 use crate::searches_in_little_memory::has_rdn;
 use directory::{Directory, search_with};
 use filter::{Prepared, prepare};
@@ -112,7 +112,7 @@ fn finds_with(
 
 #[test]
 fn candidates_alone_are_tested(rt: HostRuntime) -> Result<(), Fail> {
-    let dir = loaded_under(rt.alloc(), conf(rt.alloc())?, TURNED)?;
+    let dir = loaded_under(rt.alloc(), conf(rt.alloc())?, TURNED.as_bytes())?;
     for (text, values, tested) in ROWS {
         assert!(rt; finds(rt.alloc(), &dir, text, values, tested)?, "{text}");
     }
@@ -121,7 +121,7 @@ fn candidates_alone_are_tested(rt: HostRuntime) -> Result<(), Fail> {
 
 #[test]
 fn postings_say_what_is_tested(rt: HostRuntime) -> Result<(), Fail> {
-    let dir = loaded_under(rt.alloc(), conf(rt.alloc())?, TURNED)?;
+    let dir = loaded_under(rt.alloc(), conf(rt.alloc())?, TURNED.as_bytes())?;
     let nothing = Index::new(rt.alloc(), dir.conf())?;
     for (text, values, tested) in SHOWN_NOTHING {
         assert!(rt;
