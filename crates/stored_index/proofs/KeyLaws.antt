@@ -102,10 +102,10 @@ digit_read d lt = same_by d (hex_digit (slice_index lower_digits d)) (reads_back
 
 -- ---- bytes
 
-abbrev Text : Type 0
+abbrev pub Text : Type 0
 Text = Result (List ℕ) IndexFaultKind
 
-abbrev text : List ℕ → Text
+abbrev pub text : List ℕ → Text
 text bs = Ok bs
 
 pub bytes_write : (word bs : List ℕ) → bytes_in word ≡ Ok bs → (word ≡ encode_lower bs) × AllByRecursion IsByte bs

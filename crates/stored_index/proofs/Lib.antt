@@ -17,3 +17,9 @@ mod WholeLaws
 mod SearchLemmas
 mod KeptLaws
 mod WrittenLaws
+mod Examples
+mod RowFaults
+mod TextFaults
+mod HeadFaults
+mod FaultsStand
+mod FaultLaws

@@ -28,10 +28,10 @@ use Rattle.stored_index.proofs.KeyLaws.{key_lacks}
 use Rattle.stored_index.proofs.RowLaws.{WasRead, row_writes, row_read, parts_at}
 use Rattle.stored_index.proofs.OrderLaws.{AreAbove, above_more, sorted_more, sorted_parts, all_weaker}
 
-abbrev found : List Row → List (List ℕ) → Found
+abbrev pub found : List Row → List (List ℕ) → Found
 found rows lines = Ok (rows, lines)
 
-abbrev key_cmp : List ℕ → List ℕ → Ordering
+abbrev pub key_cmp : List ℕ → List ℕ → Ordering
 key_cmp = slice_cmp nat_cmp
 
 abbrev pub row_lines : List Row → List ℕ
@@ -146,13 +146,13 @@ module _ (before : Option (List ℕ)) (entries : ℕ) (line : List ℕ) (row : R
 
 -- ---- rows, and what ends them
 
-rows_opened : (before : Option (List ℕ)) (entries : ℕ) (line : List ℕ) (lines : List (List ℕ)) → IsCons lines
+pub rows_opened : (before : Option (List ℕ)) (entries : ℕ) (line : List ℕ) (lines : List (List ℕ)) → IsCons lines
     → rows_of before entries (line ∷ lines) ≡ cond (ends_rows line) (found [] (line ∷ lines)) (row_in before entries line >>= λ row. rows_of (Some row.0) entries lines >>= λ f. found (row ∷ f.0) f.1)
 unfolding rows_of
 rows_opened before entries line [] some = let bad : [] ≡ some.0 ∷ some.1 = some.2 in absurd cc
 rows_opened before entries line (next ∷ more) some = refl
 
-lines_before : (rows : List Row) (lines : List (List ℕ)) → IsCons lines → IsCons (map key_line rows ++ lines)
+pub lines_before : (rows : List Row) (lines : List (List ℕ)) → IsCons lines → IsCons (map key_line rows ++ lines)
 lines_before [] lines some = some
 lines_before (row ∷ rows) lines some = (key_line row, map key_line rows ++ lines, refl)
 

@@ -18,18 +18,18 @@ use Rattle.stored_index.proofs.NumberLaws.{Lacks, number_writes, number_read, de
 use Rattle.stored_index.proofs.KeyLaws.{key_writes, key_read, key_lacks}
 use Rattle.stored_index.proofs.OrderLaws.{both_true, rising_sorted, sorted_rising, all_from_zero, within_all, all_within, all_weaker}
 
-abbrev Numbers : Type 0
+abbrev pub Numbers : Type 0
 Numbers = Result (List ℕ) IndexFaultKind
 
-abbrev numbers : List ℕ → Numbers
+abbrev pub numbers : List ℕ → Numbers
 numbers ns = Ok ns
 
-abbrev the_row : List ℕ → List ℕ → Result Row IndexFaultKind
+abbrev pub the_row : List ℕ → List ℕ → Result Row IndexFaultKind
 the_row key ranks = Ok (key, ranks)
 
 -- ---- what is read is written so
 
-numbers_write : (words : List (List ℕ)) (ns : List ℕ) → each number_in words ≡ Ok ns → words ≡ map decimal ns
+pub numbers_write : (words : List (List ℕ)) (ns : List ℕ) → each number_in words ≡ Ok ns → words ≡ map decimal ns
 unfolding each
 numbers_write [] [] e = refl
 numbers_write [] (n ∷ ns) e = absurd cc
@@ -38,6 +38,15 @@ numbers_write (w ∷ ws) ns e =
     let more = bind_ok (each number_in ws) (λ ys. numbers (one.0 ∷ ys)) ns one.2 in
     let all : one.0 ∷ more.0 ≡ ns = same_ok (one.0 ∷ more.0) ns more.2 in
     (λ i. (number_writes w one.0 one.1).0 i ∷ numbers_write ws more.0 more.1 i) ∙ ap (map decimal) all
+
+pub numbers_short : (words : List (List ℕ)) (ns : List ℕ) → each number_in words ≡ Ok ns → AllByRecursion (λ n. n < 10 ^ 10) ns
+unfolding each
+numbers_short [] [] e = tt
+numbers_short [] (n ∷ ns) e = absurd cc
+numbers_short (w ∷ ws) ns e =
+    let one = bind_ok (number_in w) (λ y. each number_in ws >>= λ ys. numbers (y ∷ ys)) ns e in
+    let more = bind_ok (each number_in ws) (λ ys. numbers (one.0 ∷ ys)) ns one.2 in
+    subst (AllByRecursion (λ n. n < 10 ^ 10)) (same_ok (one.0 ∷ more.0) ns more.2) ((number_writes w one.0 one.1).1, numbers_short ws more.0 more.1)
 
 pub joined : (word : List ℕ) (ns : List ℕ) → join_with_byte space (word ∷ map decimal ns) ≡ word ++ flat_map rank_text ns
 joined word [] = sym (append-nil word)
@@ -48,11 +57,17 @@ checked_by true true ns rs e = (refl, refl, same_ok ns rs e)
 checked_by true false ns rs e = absurd cc
 checked_by false w ns rs e = absurd cc
 
+pub some_of : (words : List (List ℕ)) (ns : List ℕ) → 0 < length words → words ≡ map decimal ns → 0 < length ns
+some_of [] ns some e = absurd (omega arith)
+some_of (w ∷ ws) [] some e = absurd cc
+some_of (w ∷ ws) (n ∷ ns) some e = omega arith
+
 module _ (before : Option (List ℕ)) (entries : ℕ) where
   -- what a line was read as
   pub record WasRead (text : List ℕ) (row : Row) : Type 0 where
     pub above : is_above before row.0 ≡ true
     pub good : IsRow entries row
+    pub short : AllByRecursion (λ n. n < 10 ^ 10) row.1
     pub written : text ≡ key_line row
 
   words_write : (words : List (List ℕ)) (row : Row) → row_of before entries words ≡ Ok row → WasRead (join_with_byte space words) row
@@ -74,13 +89,9 @@ module _ (before : Option (List ℕ)) (entries : ℕ) where
       subst (WasRead (join_with_byte space (word ∷ rank ∷ ranks))) same (record {
         above = order.0;
         good = record { key = (key_writes word key.0 key.1).1; some = count; rising = rising_sorted 0 ns.0 order.1; within = within_all entries ns.0 k.1 };
+        short = numbers_short (rank ∷ ranks) ns.0 ns.1;
         written = written;
       })
-    where
-      some_of : (words : List (List ℕ)) (ns : List ℕ) → 0 < length words → words ≡ map decimal ns → 0 < length ns
-      some_of [] ns some e = absurd (omega arith)
-      some_of (w ∷ ws) [] some e = absurd cc
-      some_of (w ∷ ws) (n ∷ ns) some e = omega arith
 
   pub row_writes : (line : List ℕ) (row : Row) → row_in before entries line ≡ Ok row → WasRead line row
   unfolding row_in
@@ -94,14 +105,14 @@ parts_word c word lacks = slice_split_none (is_byte c) word lacks
 pub parts_at : (c : ℕ) (word rest : List ℕ) → is_byte c c ≡ true → Lacks c word → parts c (word ++ c ∷ rest) ≡ word ∷ parts c rest
 parts_at c word rest here lacks = slice_split_at (is_byte c) word c rest lacks here
 
-row_parts : (word : List ℕ) (ns : List ℕ) → Lacks space word → AllByRecursion (λ n. n < 10 ^ 10) ns → parts space (word ++ flat_map rank_text ns) ≡ word ∷ map decimal ns
+pub row_parts : (word : List ℕ) (ns : List ℕ) → Lacks space word → AllByRecursion (λ n. n < 10 ^ 10) ns → parts space (word ++ flat_map rank_text ns) ≡ word ∷ map decimal ns
 row_parts word [] lacks small = ap (parts space) (append-nil word) ∙ parts_word space word lacks
 row_parts word (n ∷ ns) lacks small =
     let few : n < 10 ^ 10 = small.0 in
     parts_at space word (decimal n ++ flat_map rank_text ns) refl lacks
     ∙ ap (λ (ws : List (List ℕ)). word ∷ ws) (row_parts (decimal n) ns (decimal_lacks space n refl (omega arith)) small.1)
 
-numbers_read : (ns : List ℕ) → AllByRecursion (λ n. n < 10 ^ 10) ns → each number_in (map decimal ns) ≡ Ok ns
+pub numbers_read : (ns : List ℕ) → AllByRecursion (λ n. n < 10 ^ 10) ns → each number_in (map decimal ns) ≡ Ok ns
 unfolding each
 numbers_read [] small = refl
 numbers_read (n ∷ ns) small =

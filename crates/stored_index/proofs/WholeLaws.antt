@@ -25,7 +25,7 @@ use Rattle.stored_index.proofs.LineLaws.{row_lines, rows_write}
 use Rattle.stored_index.proofs.SlotLaws.{due_writes}
 use Rattle.stored_index.proofs.SlotLemmas.{all_rows}
 
-abbrev text_of : List (List ℕ) → List ℕ
+abbrev pub text_of : List (List ℕ) → List ℕ
 text_of lines = join_with_byte line_feed lines
 
 abbrev ended_well : Result (Unit {0}) IndexFaultKind
@@ -50,7 +50,7 @@ module _ (types : List AttributeType) where
   -- ---- slots
 
   module _ (entries : ℕ) where
-    slot_writes : (before : Option Slot) (due : Slot) (lines : List (List ℕ)) (f : List Row × List (List ℕ)) → slot_rows types entries before due lines ≡ Ok f
+    pub slot_writes : (before : Option Slot) (due : Slot) (lines : List (List ℕ)) (f : List Row × List (List ℕ)) → slot_rows types entries before due lines ≡ Ok f
         → AreSlotRows entries f.0 × (text_of lines ≡ slot_text types (due, f.0) ++ text_of f.1)
     slot_writes before due [] f e = absurd cc
     slot_writes before due (line ∷ []) f e = absurd cc
@@ -89,13 +89,13 @@ module _ (types : List AttributeType) where
 
 -- ---- the first line
 
-head_by : (count stamp : List ℕ) (r : Result ℕ IndexFaultKind) (h : Head) → number_in count ≡ r → head_with stamp r ≡ Ok h → (number_in count ≡ Ok h.0) × (stamp ≡ h.1)
+pub head_by : (count stamp : List ℕ) (r : Result ℕ IndexFaultKind) (h : Head) → number_in count ≡ r → head_with stamp r ≡ Ok h → (number_in count ≡ Ok h.0) × (stamp ≡ h.1)
 head_by count stamp (Ok n) h is e =
     let same : (n, stamp) ≡ h = same_ok (n, stamp) h e in
     (is ∙ ap (λ (h : Head). Ok h.0) same, ap (λ (h : Head). h.1) same)
 head_by count stamp (Err fault) h is e = absurd cc
 
-words_write : (words : List (List ℕ)) (h : Head) → head_of words ≡ Ok h → join_with_byte space words ≡ codes "slapindex 1 " ++ decimal h.0 ++ space ∷ h.1
+pub words_write : (words : List (List ℕ)) (h : Head) → head_of words ≡ Ok h → join_with_byte space words ≡ codes "slapindex 1 " ++ decimal h.0 ++ space ∷ h.1
 words_write [] h e = absurd cc
 words_write (name ∷ []) h e = absurd cc
 words_write (name ∷ version ∷ []) h e = absurd cc
@@ -111,7 +111,7 @@ words_write (name ∷ version ∷ count ∷ stamp ∷ []) h e =
     λ i. one i ++ space ∷ (two i ++ space ∷ (three i ++ space ∷ both.1 i))
 words_write (name ∷ version ∷ count ∷ stamp ∷ more ∷ others) h e = absurd cc
 
-head_writes : (entries : ℕ) (stamp line : List ℕ) (u : Unit {0}) → current_head entries stamp line ≡ Ok u → line ≡ header_line entries stamp
+pub head_writes : (entries : ℕ) (stamp line : List ℕ) (u : Unit {0}) → current_head entries stamp line ≡ Ok u → line ≡ header_line entries stamp
 unfolding head_in
 head_writes entries stamp line u e =
     let head = bind_ok (head_in line) (if_current entries stamp) u e in

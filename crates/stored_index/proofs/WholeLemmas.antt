@@ -20,7 +20,7 @@ module _ (conf : Conf) (entries : ℕ) (stamp text : List ℕ) where
     abbrev others : AllRows
     others = slots_of conf.types entries None conf.slots (parts line_feed rest)
 
-    opened : rows_in conf entries stamp text ≡ (current_head entries stamp line >>= λ _. others)
+    pub opened : rows_in conf entries stamp text ≡ (current_head entries stamp line >>= λ _. others)
     unfolding rows_in
     opened =
         let s = split_cons (is_byte line_feed) rest in

@@ -41,7 +41,7 @@ use Rattle.stored_index.proofs.OrderLaws.{AreAbove}
 use Rattle.stored_index.proofs.RowLaws.{parts_word, parts_at}
 use Rattle.stored_index.proofs.LineLaws.{row_lines, lacks_append, lacks_cons, lines_of, rows_read}
 
-itself : (x : List ℕ) → bytes_eq x x ≡ true
+pub itself : (x : List ℕ) → bytes_eq x x ≡ true
 itself x = sym (is_eq-slice_cmp x x) ∙ ap is_eq (tied_itself nat_list_cmp_total x)
 
 -- bytes that pass a test have none that fails it
@@ -91,7 +91,7 @@ module _ (types : List AttributeType) (named : AreNamed types) where
       ap (λ (ws : List (List ℕ)). codes "slot" ∷ ws)
       (parts_at space (name_of types s.type_id) (kind_name s.kind) refl (name_lacks space refl s known) ∙ ap (λ (ws : List (List ℕ)). name_of types s.type_id ∷ ws) (kind_parts s.kind))
 
-  slot_read : (s : Slot) → IsKnown types s → slot_in types (slot_line types s) ≡ Some s
+  pub slot_read : (s : Slot) → IsKnown types s → slot_in types (slot_line types s) ≡ Some s
   unfolding slot_in
   slot_read s known =
       let name = name_of types s.type_id in
@@ -100,10 +100,10 @@ module _ (types : List AttributeType) (named : AreNamed types) where
       ∙ ap (λ (b : Bool). slot_with (cond b (Some s.type_id) None) (kind_named (kind_name s.kind))) (itself name)
       ∙ ap (slot_with (Some s.type_id)) (kind_read s.kind)
 
-  is_its_own : (s : Slot) → is_slot s (Some s) ≡ true
+  pub is_its_own : (s : Slot) → is_slot s (Some s) ≡ true
   is_its_own s = ap is_eq (tied_itself slots_total s)
 
-  slot_lacks : (s : Slot) → IsKnown types s → Lacks line_feed (slot_line types s)
+  pub slot_lacks : (s : Slot) → IsKnown types s → Lacks line_feed (slot_line types s)
   slot_lacks s known =
       lacks_append line_feed (codes "slot ") (name_of types s.type_id ++ space ∷ kind_name s.kind) (lacks_by_test line_feed (other_than line_feed) refl (codes "slot ") refl)
       (lacks_append line_feed (name_of types s.type_id) (space ∷ kind_name s.kind) (name_lacks line_feed refl s known) (lacks_cons line_feed space (kind_name s.kind) refl (kind_lacks s.kind)))
@@ -130,7 +130,7 @@ module _ (types : List AttributeType) (named : AreNamed types) where
     pub some : IsCons others
     pub ends : ends_rows line ≡ true
 
-  slot_ends : (s : Slot) → ends_rows (slot_line types s) ≡ true
+  pub slot_ends : (s : Slot) → ends_rows (slot_line types s) ≡ true
   slot_ends s = refl
 
   tail_ends : (rows : Rows) → AllByRecursion (λ s. IsKnown types s.0) rows → EndsRows (parts line_feed (tail rows))
@@ -143,7 +143,7 @@ module _ (types : List AttributeType) (named : AreNamed types) where
     ends = slot_ends s.0;
   }
 
-  none_above : (keys : List (List ℕ)) → AreAbove None keys
+  pub none_above : (keys : List (List ℕ)) → AreAbove None keys
   none_above [] = tt
   none_above (key ∷ keys) = (refl, none_above keys)
 
@@ -214,16 +214,20 @@ module _ (entries : ℕ) (few : entries < 10 ^ 10) (stamp : List ℕ) (size : le
   abbrev ended_well : Result (Unit {0}) IndexFaultKind
   ended_well = Ok tt
 
-  head_is_read : current_head entries stamp (header_line entries stamp) ≡ Ok tt
+  pub head_is_told : head_in (header_line entries stamp) ≡ head entries
   unfolding head_in
+  head_is_told =
+      ap head_of head_parts
+      ∙ ap (λ (t : Bool). cond t (head_with digits (number_in (decimal entries))) (Err Header)) stamp_is
+      ∙ ap (head_with digits) (number_read entries few)
+
+  head_is_read : current_head entries stamp (header_line entries stamp) ≡ Ok tt
   head_is_read =
-      ap (λ (ws : List (List ℕ)). head_of ws >>= if_current entries stamp) head_parts
-      ∙ ap (λ (t : Bool). cond t (head_with digits (number_in (decimal entries))) (Err Header) >>= if_current entries stamp) stamp_is
-      ∙ ap (λ (r : Result ℕ IndexFaultKind). head_with digits r >>= if_current entries stamp) (number_read entries few)
+      ap (λ (r : Result Head IndexFaultKind). r >>= if_current entries stamp) head_is_told
       ∙ ap (λ (t : Bool). cond (t && bytes_eq digits digits) ended_well (Err Stale)) (eq-eqb entries entries refl)
       ∙ ap (λ (t : Bool). cond t ended_well (Err Stale)) (itself digits)
 
-  head_lacks : Lacks line_feed (header_line entries stamp)
+  pub head_lacks : Lacks line_feed (header_line entries stamp)
   head_lacks =
       lacks_append line_feed (codes "slapindex 1 ") (decimal entries ++ space ∷ digits) (lacks_by_test line_feed (other_than line_feed) refl (codes "slapindex 1 ") refl)
       (lacks_append line_feed (decimal entries) (space ∷ digits) (decimal_lacks line_feed entries refl (omega arith)) (lacks_cons line_feed space digits refl (hex_lacks line_feed stamp refl bytes)))

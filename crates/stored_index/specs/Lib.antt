@@ -1,5 +1,6 @@
 pub mod Cuts
 pub mod Faults
+pub mod FaultyLines
 pub mod Gives
 pub mod KeyLines
 pub mod Reading

@@ -1,11 +1,13 @@
 //! What an index text is read as, and what it says.
 
-ghost use Rattle.std.specs.Prelude.{◌≡◌, ◌<◌, ◌^◌, ℕ, List, length, Ok};
+ghost use Rattle.std.specs.Prelude.{◌≡◌, ◌<◌, ◌^◌, ℕ, List, length, Ok, Err};
 ghost use Rattle.std.specs.List.{AllByRecursion};
 ghost use Rattle.schema.specs.Conf.{Conf, IsConf};
 ghost use Rattle.index_text.specs.IndexTexts.{Rows, index_text};
 ghost use Rattle.stored_index.specs.Reading.{rows_in};
+ghost use Rattle.stored_index.specs.FaultyLines.{IsHead, IsIndexFault};
 ghost use Rattle.stored_index.specs.Rows.{IsByte, AreRows};
+ghost use Rattle.stored_index.specs.declared.fault.IndexFaultKind.{IndexFaultKind};
 
 /// A text that can be read is the text of the rows that it is read as, and these are rows of so many entries, in the slots of the
 /// configuration.
@@ -18,6 +20,22 @@ pub fn read_texts_are_written()
 pub fn written_texts_are_read()
     ensures { (conf : Conf) (entries : ℕ) (stamp : List ℕ) (rows : Rows) → IsConf conf → entries < 10 ^ 10 → length stamp ≡ 32 → AllByRecursion IsByte stamp
         → AreRows conf.slots entries rows → rows_in conf entries stamp (index_text conf.types entries stamp rows) ≡ Ok rows }
+{
+    schema::printed_names_name_their_types();
+}
+
+/// What the fault of a text means: which line is at fault, behind lines that aren't, and what is wrong with it.
+pub fn faults_stand_at_lines()
+    ensures { (conf : Conf) (entries : ℕ) (stamp text : List ℕ) (kind : IndexFaultKind) → IsConf conf → rows_in conf entries stamp text ≡ Err kind → IsIndexFault conf entries stamp text kind }
+{
+    schema::printed_names_name_their_types();
+}
+
+/// A text that has such a fault is refused with it, where a header can say how many entries there are and which digest. So it has one such
+/// fault at most.
+pub fn texts_at_fault_are_refused()
+    ensures { (conf : Conf) (entries : ℕ) (stamp text : List ℕ) (kind : IndexFaultKind) → IsConf conf → IsHead entries stamp → IsIndexFault conf entries stamp text kind
+        → rows_in conf entries stamp text ≡ Err kind }
 {
     schema::printed_names_name_their_types();
 }

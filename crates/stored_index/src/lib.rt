@@ -18,5 +18,8 @@ mod stored;
 mod words;
 
 pub use fault::{IndexFault, IndexFaultKind};
-pub use laws::{read_texts_are_written, written_texts_are_read};
+pub use laws::{
+    faults_stand_at_lines, read_texts_are_written, texts_at_fault_are_refused,
+    written_texts_are_read,
+};
 pub use stored::StoredIndex;
