@@ -53,6 +53,16 @@ pub fn index_of(alloc: Global, dir: &Directory) -> Result<Vec<u8>, Fail> {
     Ok(Vec::from_slice(alloc, sink.bytes())?)
 }
 
+/// Whether the dump of a directory is this text.
+pub fn has_dump(alloc: Global, dir: &Directory, text: &[u8]) -> Result<bool, Fail> {
+    Ok(dump_of(alloc, dir)?.as_slice() == text)
+}
+
+/// Whether the index that is kept with it has this text.
+pub fn has_index(alloc: Global, dir: &Directory, text: &[u8]) -> Result<bool, Fail> {
+    Ok(index_of(alloc, dir)?.as_slice() == text)
+}
+
 /// How many bytes at most a source gives and a sink takes a call, and behind how many a call fails.
 #[derive(Drop)]
 pub struct Devices {

@@ -1,11 +1,12 @@
 //! Runs, loads and dumps over sources and sinks that fail behind each number of bytes, and over each beginning of a text.
 
-use crate::directories::{Devices, ROOT, dump_of, loaded, loaded_under, run_over};
+use crate::directories::{Devices, ROOT, has_dump, loaded, loaded_under, run_over};
 use device::{TrySink, TrySource};
 use directory::{Directory, LoadFault, RunFault, Tally, load};
 use ldif::{Mode, WriteFault};
 use schema::{Conf, ConfFault, read_conf};
 use std::alloc::{AllocError, Global};
+use std::ops::RangeInclusive;
 use std::process::Abort;
 use std::test::Fail;
 
@@ -19,84 +20,99 @@ const X: &str = "dn: cn=x,dc=ex\nobjectClass: person\ncn: x\n\n";
 
 const Z: &str = "dn: cn=z,dc=ex\nobjectClass: person\ncn: z\n\n";
 
-/// The outcome of a run on the suffix's entry that goes on, by one byte a call, and its report with the dump behind it.
-fn run_by_bytes(
+// what a run comes to, how many bytes of the report are written, and how many records are carried out
+#[derive(Drop)]
+struct End {
+    outcome: Result<Tally, RunFault>,
+    written: usize,
+    accepted: usize,
+}
+
+// whether these bytes of the report were written, and the suffix's entry and those that were accepted stand
+fn is_left(alloc: Global, dir: &Directory, report: &[u8], end: &End) -> Result<bool, Fail> {
+    let Some(entries) = [ROOT, X, Z].as_slice().get(..=end.accepted) else {
+        return Ok(false);
+    };
+    let dump = entries.concat(alloc)?;
+    Ok(
+        REPORT.as_bytes().get(..end.written) == Some(report)
+            && has_dump(alloc, dir, dump.as_bytes())?,
+    )
+}
+
+// whether a run that goes on, by one byte a call, comes to this
+fn comes_to(
     alloc: Global,
+    dir: &mut Directory,
     source_limit: Option<usize>,
     sink_limit: Option<usize>,
-) -> Result<(Result<Tally, RunFault>, Vec<u8>), Fail> {
-    let mut dir = loaded(alloc, ROOT)?;
+    end: &End,
+) -> Result<bool, Fail> {
     let devices = Devices {
         pull: 1,
         source_limit,
         push: 1,
         sink_limit,
     };
-    let (outcome, mut left) = run_over(alloc, &mut dir, TEXT.as_bytes(), Mode::Content, devices)?;
-    left.extend_from_slice(&dump_of(alloc, &dir)?)?;
-    Ok((outcome, left))
+    let (outcome, report) = run_over(alloc, dir, TEXT.as_bytes(), Mode::Content, devices)?;
+    Ok(outcome == end.outcome && is_left(alloc, dir, &report, end)?)
 }
 
-/// The first bytes of the report, and the dump of the suffix's entry and those that were accepted.
-fn left(alloc: Global, written: usize, accepted: u64) -> Result<String, AllocError> {
-    let mut text = String::new(alloc);
-    text.push_str(REPORT.get(..written).unwrap_or(""))?;
-    text.push_str(ROOT)?;
-    if accepted > 0 {
-        text.push_str(X)?;
-    }
-    if accepted > 1 {
-        text.push_str(Z)?;
-    }
-    Ok(text)
-}
-
-// what is accepted, refused and written where the source fails behind so many bytes: the last record has no empty line
-fn read_until(limit: usize) -> (Tally, usize) {
+// where the source fails behind so many bytes: the last record has no empty line
+fn read_until(limit: usize) -> End {
     let (accepted, refused, written) = match limit {
         0..36 => (0, 0, 0),
         36..78 => (1, 0, 0),
         _ => (1, 1, 24),
     };
-    (Tally { accepted, refused }, written)
+    End {
+        outcome: Err(RunFault::Read(Tally { accepted, refused })),
+        written,
+        accepted: accepted as usize,
+    }
+}
+
+fn is_read_until(alloc: Global, limit: usize) -> Result<bool, Fail> {
+    let mut dir = loaded(alloc, ROOT)?;
+    comes_to(alloc, &mut dir, Some(limit), None, &read_until(limit))
 }
 
 #[test]
 fn records_before_a_failed_read_are_carried_out(rt: HostRuntime) -> Result<(), Fail> {
     for limit in 0..=TEXT.len() {
-        let (tally, written) = read_until(limit);
-        let (outcome, found) = run_by_bytes(rt.alloc(), Some(limit), None)?;
-        assert_eq!(rt; outcome, Err(RunFault::Read(tally)), "{limit}");
-        let want = left(rt.alloc(), written, tally.accepted)?;
-        assert_eq!(rt; found.as_slice(), want.as_bytes(), "{limit}");
+        assert!(rt; is_read_until(rt.alloc(), limit)?, "{limit}");
     }
     Ok(())
 }
 
-// the outcome where the sink fails behind so many bytes, and what is accepted
-fn written_until(limit: usize) -> (Result<Tally, RunFault>, u64) {
+// where the sink fails behind so many bytes
+fn written_until(limit: usize) -> End {
+    let refused = 1;
     if limit < 24 {
-        let tally = Tally {
+        let accepted = 1;
+        return End {
+            outcome: Err(RunFault::Write(Tally { accepted, refused })),
+            written: limit,
             accepted: 1,
-            refused: 1,
         };
-        return (Err(RunFault::Write(tally)), 1);
     }
-    let tally = Tally {
+    let accepted = 2;
+    End {
+        outcome: Ok(Tally { accepted, refused }),
+        written: 24,
         accepted: 2,
-        refused: 1,
-    };
-    (Ok(tally), 2)
+    }
+}
+
+fn is_written_until(alloc: Global, limit: usize) -> Result<bool, Fail> {
+    let mut dir = loaded(alloc, ROOT)?;
+    comes_to(alloc, &mut dir, None, Some(limit), &written_until(limit))
 }
 
 #[test]
 fn records_before_a_failed_write_are_carried_out(rt: HostRuntime) -> Result<(), Fail> {
     for limit in 0..27 {
-        let (want, accepted) = written_until(limit);
-        let (outcome, found) = run_by_bytes(rt.alloc(), None, Some(limit))?;
-        assert_eq!(rt; outcome, want, "{limit}");
-        let want = left(rt.alloc(), limit.min(24), accepted)?;
-        assert_eq!(rt; found.as_slice(), want.as_bytes(), "{limit}");
+        assert!(rt; is_written_until(rt.alloc(), limit)?, "{limit}");
     }
     Ok(())
 }
@@ -123,12 +139,27 @@ fn breaks_off(alloc: Global, dir: &Directory, limit: usize) -> bool {
         && Some(sink.bytes()) == DUMP.as_bytes().get(..limit)
 }
 
+fn each_breaks_off(alloc: Global, dir: &Directory) -> bool {
+    for limit in 0..DUMP.len() {
+        if !breaks_off(alloc, dir, limit) {
+            return false;
+        }
+    }
+    true
+}
+
+fn started(alloc: Global, text: &[u8]) -> Result<Directory, Fail> {
+    loaded_under(alloc, conf(alloc)?, text)
+}
+
+fn each_dump_breaks_off(alloc: Global) -> Result<bool, Fail> {
+    let dir = started(alloc, DUMP.as_bytes())?;
+    Ok(each_breaks_off(alloc, &dir))
+}
+
 #[test]
 fn a_dump_breaks_off_where_its_sink_fails(rt: HostRuntime) -> Result<(), Fail> {
-    let dir = loaded_under(rt.alloc(), conf(rt.alloc())?, DUMP.as_bytes())?;
-    for limit in 0..DUMP.len() {
-        assert!(rt; breaks_off(rt.alloc(), &dir, limit), "{limit}");
-    }
+    assert!(rt; each_dump_breaks_off(rt.alloc())?);
     Ok(())
 }
 
@@ -205,34 +236,59 @@ const LOADS: Beginnings = &[
     (245, "5 entries"),
 ];
 
-fn load_text(alloc: Global, text: &[u8]) -> Result<String, Fail> {
+fn has_entries(alloc: Global, dir: &Directory, want: &str) -> Result<bool, Fail> {
+    let found = format!(in alloc; "{} entries", dir.tree().len())?;
+    Ok(found.as_str() == want)
+}
+
+fn is_told(alloc: Global, fault: LoadFault, want: &str) -> Result<bool, Fail> {
+    let LoadFault::Refused { line, reason } = fault else {
+        return Ok(false);
+    };
+    let found = format!(in alloc; "line {line}: {reason}")?;
+    Ok(found.as_str() == want)
+}
+
+fn load_text(alloc: Global, conf: Conf, text: &[u8]) -> Result<Directory, LoadFault> {
     let mut source = TrySource::new(text, 7, None);
-    match load(alloc, conf(alloc)?, &mut source) {
-        Ok(dir) => Ok(format!(in alloc; "{} entries", dir.tree().len())?),
-        Err(LoadFault::Refused { line, reason }) => Ok(format!(in alloc; "line {line}: {reason}")?),
-        Err(_) => Err(Fail::from("nothing fails")),
+    load(alloc, conf, &mut source)
+}
+
+fn loads_to(alloc: Global, text: &[u8], want: &str) -> Result<bool, Fail> {
+    match load_text(alloc, conf(alloc)?, text) {
+        Ok(dir) => has_entries(alloc, &dir, want),
+        Err(fault) => is_told(alloc, fault, want),
     }
 }
 
-/// What becomes of a load of the first so many bytes.
-fn load_beginning(alloc: Global, len: usize) -> Result<String, Fail> {
-    match DUMP.as_bytes().get(..len) {
-        Some(text) => load_text(alloc, text),
-        None => Err(Fail::from("the text is longer")),
+// whether a load of each of these beginnings comes to this
+fn beginnings_load_to(
+    alloc: Global,
+    lengths: RangeInclusive<usize>,
+    want: &str,
+) -> Result<bool, Fail> {
+    for len in lengths {
+        let Some(text) = DUMP.as_bytes().get(..len) else {
+            return Ok(false);
+        };
+        if !loads_to(alloc, text, want)? {
+            return Ok(false);
+        }
     }
+    Ok(true)
 }
 
 #[test]
 fn each_beginning_of_a_dump_loads_or_is_refused(rt: HostRuntime) -> Result<(), Fail> {
     let mut from = 0usize;
     for (last, want) in LOADS {
-        for len in from..=*last {
-            let found = load_beginning(rt.alloc(), len)?;
-            assert_eq!(rt; found.as_str(), *want, "{len}");
-        }
+        assert!(rt;
+            beginnings_load_to(rt.alloc(), from..=*last, want)?,
+            "{last}"
+        );
         from = last.wrapping_add(1);
     }
-    assert_eq!(rt; from, DUMP.len() + 1);
+    assert!(rt; from == DUMP.len() + 1);
     Ok(())
 }
 
@@ -340,7 +396,7 @@ fn is_kept(alloc: Global, row: &Row, tally: Tally, dir: &Directory) -> Result<bo
         return Ok(false);
     };
     let want = stands.concat(alloc)?;
-    Ok(dump_of(alloc, dir)?.as_slice() == want.as_bytes())
+    has_dump(alloc, dir, want.as_bytes())
 }
 
 /// How many were accepted, how many refused, and the report.
@@ -351,43 +407,70 @@ fn told(alloc: Global, tally: Tally, report: &[u8]) -> Result<Vec<u8>, AllocErro
     Ok(told)
 }
 
-/// What becomes of a run of a text, on what stands before it.
-fn run_text(rt: &impl Abort, alloc: Global, row: &Row, text: &[u8]) -> Result<Vec<u8>, Fail> {
-    let [start, ..] = row.stands else {
-        return Err(Fail::from("something stands"));
-    };
-    let mut dir = loaded_under(alloc, conf(alloc)?, start.as_bytes())?;
+fn is_ended(alloc: Global, tally: Tally, report: &[u8], want: &str) -> Result<bool, Fail> {
+    Ok(told(alloc, tally, report)?.as_slice() == want.as_bytes())
+}
+
+// whether a run of a text comes to this, and keeps what it doesn't change
+fn runs_to(
+    alloc: Global,
+    dir: &mut Directory,
+    row: &Row,
+    text: &[u8],
+    want: &str,
+) -> Result<bool, Fail> {
     let devices = Devices {
         pull: 7,
         source_limit: None,
         push: 8192,
         sink_limit: None,
     };
-    let (Ok(tally), report) = run_over(alloc, &mut dir, text, row.mode, devices)? else {
-        return Err(Fail::from("nothing fails"));
-    };
-    assert!(rt; is_kept(alloc, row, tally, &dir)?, "{}", text.len());
-    Ok(told(alloc, tally, &report)?)
+    let (outcome, report) = run_over(alloc, dir, text, row.mode, devices)?;
+    match outcome {
+        Ok(tally) => {
+            Ok(is_kept(alloc, row, tally, dir)? && is_ended(alloc, tally, &report, want)?)
+        }
+        Err(_) => Ok(false),
+    }
 }
 
-/// What becomes of a run of the first so many bytes.
-fn run_beginning(rt: &impl Abort, alloc: Global, row: &Row, len: usize) -> Result<Vec<u8>, Fail> {
-    match row.text.as_bytes().get(..len) {
-        Some(text) => run_text(rt, alloc, row, text),
-        None => Err(Fail::from("the text is longer")),
+// the same on what stands before it
+fn text_runs_to(alloc: Global, row: &Row, text: &[u8], want: &str) -> Result<bool, Fail> {
+    let [start, ..] = row.stands else {
+        return Ok(false);
+    };
+    let mut dir = started(alloc, start.as_bytes())?;
+    runs_to(alloc, &mut dir, row, text, want)
+}
+
+// the same of each of these beginnings
+fn beginnings_run_to(
+    alloc: Global,
+    row: &Row,
+    lengths: RangeInclusive<usize>,
+    want: &str,
+) -> Result<bool, Fail> {
+    for len in lengths {
+        let Some(text) = row.text.as_bytes().get(..len) else {
+            return Ok(false);
+        };
+        if !text_runs_to(alloc, row, text, want)? {
+            return Ok(false);
+        }
     }
+    Ok(true)
 }
 
 fn run_beginnings(rt: &impl Abort, alloc: Global, row: &Row) -> Result<(), Fail> {
     let mut from = 0usize;
     for (last, want) in row.beginnings {
-        for len in from..=*last {
-            let found = run_beginning(rt, alloc, row, len)?;
-            assert_eq!(rt; found.as_slice(), want.as_bytes(), "{len}");
-        }
+        assert!(rt;
+            beginnings_run_to(alloc, row, from..=*last, want)?,
+            "{last}"
+        );
         from = last.wrapping_add(1);
     }
-    assert_eq!(rt; from, row.text.len().wrapping_add(1));
+    assert!(rt; from == row.text.len().wrapping_add(1));
     Ok(())
 }
 

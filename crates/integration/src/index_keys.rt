@@ -62,12 +62,26 @@ fn insert_all(index: &mut Index, conf: &Conf, new: bool) -> Result<bool, Fail>
     Ok(true)
 }
 
+// whether each is new, and not when it is added again
+fn insert_twice(index: &mut Index, conf: &Conf) -> Result<bool, Fail>
+    requires { index.old.conf ≡ conf.now }
+{
+    Ok(insert_all(index, conf, true)? && insert_all(index, conf, false)?)
+}
+
+fn are_new_once_under(alloc: Global, conf: &Conf) -> Result<bool, Fail> {
+    let mut index = Index::new(alloc, conf)?;
+    insert_twice(&mut index, conf)
+}
+
+fn are_new_once(alloc: Global) -> Result<bool, Fail> {
+    let conf = conf(alloc)?;
+    are_new_once_under(alloc, &conf)
+}
+
 #[test]
 fn a_number_is_new_under_a_key_once(rt: HostRuntime) -> Result<(), Fail> {
-    let conf = conf(rt.alloc())?;
-    let mut index = Index::new(rt.alloc(), &conf)?;
-    assert!(rt; insert_all(&mut index, &conf, true)?);
-    assert!(rt; insert_all(&mut index, &conf, false)?);
+    assert!(rt; are_new_once(rt.alloc())?);
     Ok(())
 }
 
@@ -79,14 +93,38 @@ fn are_words(index: &Index, conf: &Conf) -> Option<bool> {
     Some(numbers.is_words())
 }
 
+// adds a number under that key, and answers whether the numbers are words from the last one on
+fn insert_one_of_many(index: &mut Index, conf: &Conf, number: u32) -> Result<bool, Fail>
+    requires { index.old.conf ≡ conf.now }
+    ensures { index.new.conf ≡ index.old.conf }
+{
+    let row = ("cn", IndexKind::Presence, "", number);
+    Ok(insert(index, conf, &row)? && are_words(index, conf) == Some(number == 64))
+}
+
+fn insert_many(index: &mut Index, conf: &Conf) -> Result<bool, Fail>
+    requires { index.old.conf ≡ conf.now }
+{
+    for number in 0..65u32 {
+        if !insert_one_of_many(index, conf, number)? {
+            return Ok(false);
+        }
+    }
+    Ok(true)
+}
+
+fn many_turn_to_words_under(alloc: Global, conf: &Conf) -> Result<bool, Fail> {
+    let mut index = Index::new(alloc, conf)?;
+    insert_many(&mut index, conf)
+}
+
+fn many_turn_to_words(alloc: Global) -> Result<bool, Fail> {
+    let conf = conf(alloc)?;
+    many_turn_to_words_under(alloc, &conf)
+}
+
 #[test]
 fn many_numbers_under_a_key_turn_to_words(rt: HostRuntime) -> Result<(), Fail> {
-    let conf = conf(rt.alloc())?;
-    let mut index = Index::new(rt.alloc(), &conf)?;
-    for number in 0..65 {
-        let row = ("cn", IndexKind::Presence, "", number);
-        assert!(rt; insert(&mut index, &conf, &row)?);
-        assert!(rt; are_words(&index, &conf) == Some(number == 64), "{number}");
-    }
+    assert!(rt; many_turn_to_words(rt.alloc())?);
     Ok(())
 }

@@ -2,7 +2,7 @@
 
 ghost use Rattle.std.specs.Prelude.{◌<◌, ◌-◌, ◌^◌};
 
-use crate::directories::{index_of, loaded_under};
+use crate::directories::{has_index, loaded_under};
 use device::{Source, TrySource};
 use directory::Directory;
 use ldif::{Mode, Reader, read_record};
@@ -108,39 +108,73 @@ fn edit(
     Ok(true)
 }
 
+/// The directory with no entry.
+pub fn empty(alloc: Global) -> Result<Directory, Fail> {
+    Ok(Directory::new(alloc, conf(alloc)?)?)
+}
+
+fn empty_has_index(alloc: Global) -> Result<bool, Fail> {
+    let dir = empty(alloc)?;
+    has_index(alloc, &dir, EMPTY.as_bytes())
+}
+
 #[test]
 fn the_index_of_no_entry_is_written(rt: HostRuntime) -> Result<(), Fail> {
-    let dir = Directory::new(rt.alloc(), conf(rt.alloc())?)?;
-    assert_eq!(rt; index_of(rt.alloc(), &dir)?.as_slice(), EMPTY.as_bytes());
+    assert!(rt; empty_has_index(rt.alloc())?);
     Ok(())
+}
+
+/// The directory that a text loads to.
+pub fn indexed(alloc: Global, text: &str) -> Result<Directory, Fail> {
+    loaded_under(alloc, conf(alloc)?, text.as_bytes())
+}
+
+fn loaded_has_index(alloc: Global, text: &str) -> Result<bool, Fail> {
+    let dir = indexed(alloc, text)?;
+    has_index(alloc, &dir, INDEX.as_bytes())
 }
 
 #[test]
 fn the_index_of_loaded_entries_is_written(rt: HostRuntime) -> Result<(), Fail> {
-    for text in [PEOPLE, TURNED] {
-        let dir = loaded_under(rt.alloc(), conf(rt.alloc())?, text.as_bytes())?;
-        assert_eq!(rt; index_of(rt.alloc(), &dir)?.as_slice(), INDEX.as_bytes());
-    }
+    assert!(rt; loaded_has_index(rt.alloc(), PEOPLE)?);
+    assert!(rt; loaded_has_index(rt.alloc(), TURNED)?);
     Ok(())
+}
+
+// entries are added, and changed then
+fn edit_all(alloc: Global, dir: &mut Directory) -> Result<bool, Fail> {
+    Ok(
+        edit(alloc, dir, &ADDED, Mode::Content)?
+            && edit(alloc, dir, &CHANGED, Mode::Changes { add: false })?,
+    )
+}
+
+fn edit_empty(alloc: Global) -> Result<bool, Fail> {
+    let mut dir = empty(alloc)?;
+    edit_all(alloc, &mut dir)
 }
 
 #[test]
 fn records_edit_the_index(rt: HostRuntime) -> Result<(), Fail> {
-    let mut dir = Directory::new(rt.alloc(), conf(rt.alloc())?)?;
-    assert!(rt; edit(rt.alloc(), &mut dir, &ADDED, Mode::Content)?);
-    assert!(rt; edit(rt.alloc(), &mut dir, &CHANGED, Mode::Changes { add: false })?);
+    assert!(rt; edit_empty(rt.alloc())?);
     Ok(())
+}
+
+// a change edits so many keys of what stands
+fn edit_loaded(alloc: Global, start: &str, text: &str, count: u128) -> Result<bool, Fail> {
+    let mut dir = indexed(alloc, start)?;
+    edit(
+        alloc,
+        &mut dir,
+        &[(text, count)],
+        Mode::Changes { add: false },
+    )
 }
 
 #[test]
 fn each_change_edits_what_differs(rt: HostRuntime) -> Result<(), Fail> {
     for (start, text, count) in CHANGES {
-        let mut dir = loaded_under(rt.alloc(), conf(rt.alloc())?, start.as_bytes())?;
-        let row = [(text, count)];
-        assert!(rt;
-            edit(rt.alloc(), &mut dir, &row, Mode::Changes { add: false })?,
-            "{text}"
-        );
+        assert!(rt; edit_loaded(rt.alloc(), start, text, count)?, "{text}");
     }
     Ok(())
 }

@@ -1,6 +1,8 @@
 //! Runs in which one allocation is refused: `tests/refuse_memory` refuses each in turn, and elsewhere none is.
 
-use crate::directories::{Devices, ROOT, conf, dump_of, index_of, loaded, loaded_under, run_over};
+use crate::directories::{
+    Devices, ROOT, conf, dump_of, has_index, index_of, loaded, loaded_under, run_over,
+};
 use device::{TrySink, TrySource};
 use directory::{Directory, RunFault, Tally, run};
 use ldif::Mode;
@@ -245,29 +247,34 @@ struct Ran {
     met: bool,
 }
 
-// a run with so many allocations before and behind it
+// a run with so many allocations before and behind it, and its report
 fn run_and_spend(
     alloc: Global,
-    row: &Row,
     dir: &mut Directory,
-    sink: &mut TrySink,
+    records: &[u8],
+    mode: Mode,
     before: usize,
     behind: usize,
-) -> Result<Ran, Fail> {
-    let records = row.records.concat(alloc)?;
-    let mut source = TrySource::new(records.as_bytes(), 8192, None);
+) -> Result<(Ran, Vec<u8>), Fail> {
+    let mut source = TrySource::new(records, 8192, None);
+    let mut sink = TrySink::new(alloc, 8192, None);
     let met_before = spend(alloc, before);
-    let outcome = run(alloc, dir, &mut source, sink, row.mode, true);
+    let outcome = run(alloc, dir, &mut source, &mut sink, mode, true);
     let met = spend(alloc, behind) || met_before;
     let (tally, whole) = counted(outcome)?;
-    Ok(Ran { tally, whole, met })
+    let report = Vec::from_slice(alloc, sink.bytes())?;
+    Ok((Ran { tally, whole, met }, report))
+}
+
+fn have_one_index(alloc: Global, one: &Directory, other: &Directory) -> Result<bool, Fail> {
+    let wanted = index_of(alloc, other)?;
+    has_index(alloc, one, &wanted)
 }
 
 // whether the index is the one that a load of the dump makes
 fn is_indexed(alloc: Global, dir: &Directory, dump: &[u8]) -> Result<bool, Fail> {
     let anew = loaded_under(alloc, conf(alloc)?, dump)?;
-    let wanted = index_of(alloc, &anew)?;
-    Ok(index_of(alloc, dir)?.as_slice() == wanted.as_slice())
+    have_one_index(alloc, dir, &anew)
 }
 
 // whether the entries are those after so many accepted records, and the index is theirs
@@ -276,7 +283,63 @@ fn stands(alloc: Global, row: &Row, accepted: u64, dir: &Directory) -> Result<bo
     Ok(is_dump(alloc, row, accepted, &dump)? && is_indexed(alloc, dir, &dump)?)
 }
 
-// a run with so many allocations before and behind it: whether it went through, and whether one of those was refused
+// whether a run left what its counts say
+fn is_left(
+    alloc: Global,
+    row: &Row,
+    ran: &Ran,
+    report: &[u8],
+    dir: &Directory,
+) -> Result<bool, Fail> {
+    Ok(
+        is_tally(row, ran.tally, ran.whole)
+            && is_reported(alloc, row, ran.tally.refused, ran.whole, report)?
+            && stands(alloc, row, ran.tally.accepted, dir)?,
+    )
+}
+
+// whether all entries stand when the records that a run didn't count are carried out
+fn is_carried_on(
+    alloc: Global,
+    row: &Row,
+    tally: Tally,
+    dir: &mut Directory,
+) -> Result<bool, Fail> {
+    carry_on(alloc, row, tally, dir)?;
+    let most = row.dumps.len().saturating_sub(1) as u64;
+    stands(alloc, row, most, dir)
+}
+
+// a run with so many allocations before and behind it, and whether it left what its counts say
+fn run_and_look(
+    alloc: Global,
+    row: &Row,
+    dir: &mut Directory,
+    before: usize,
+    behind: usize,
+) -> Result<(Ran, bool), Fail> {
+    let records = row.records.concat(alloc)?;
+    let (ran, report) = run_and_spend(alloc, dir, records.as_bytes(), row.mode, before, behind)?;
+    let left = is_left(alloc, row, &ran, &report, dir)?;
+    Ok((ran, left))
+}
+
+// the same, and the records that it didn't count: whether it went through, and whether one of those allocations was refused
+fn run_and_carry_on(
+    rt: &impl Abort,
+    alloc: Global,
+    row: &Row,
+    dir: &mut Directory,
+    before: usize,
+    behind: usize,
+) -> Result<(bool, bool), Fail> {
+    let (ran, left) = run_and_look(alloc, row, dir, before, behind)?;
+    assert!(rt; left);
+    assert!(rt; is_carried_on(alloc, row, ran.tally, dir)?);
+    Ok((ran.whole, ran.met))
+}
+
+// the same on what stands at the start
 fn run_between(
     rt: &impl Abort,
     alloc: Global,
@@ -285,15 +348,7 @@ fn run_between(
     behind: usize,
 ) -> Result<(bool, bool), Fail> {
     let mut dir = loaded(alloc, row.start)?;
-    let mut sink = TrySink::new(alloc, 8192, None);
-    let Ran { tally, whole, met } = run_and_spend(alloc, row, &mut dir, &mut sink, before, behind)?;
-    assert!(rt; is_tally(row, tally, whole));
-    assert!(rt; is_reported(alloc, row, tally.refused, whole, sink.bytes())?);
-    assert!(rt; stands(alloc, row, tally.accepted, &dir)?);
-    carry_on(alloc, row, tally, &mut dir)?;
-    let most = row.dumps.len().saturating_sub(1) as u64;
-    assert!(rt; stands(alloc, row, most, &dir)?);
-    Ok((whole, met))
+    run_and_carry_on(rt, alloc, row, &mut dir, before, behind)
 }
 
 #[test]

@@ -2,8 +2,7 @@
 
 ghost use Rattle.std.specs.Prelude.{◌≡◌, IfOk};
 
-use crate::directories::loaded_under;
-use crate::indexes::{TURNED, conf};
+use crate::indexes::{TURNED, empty, indexed};
 use crate::searches_in_little_memory::has_rdn;
 use directory::{Directory, search_with};
 use filter::{Prepared, prepare};
@@ -17,7 +16,9 @@ use std::test::Fail;
 use tree::Refusal;
 
 // a filter, the values of the RDNs that it finds, in dump order, and how many entries are tested
-const ROWS: [(&str, &[&str], u64); 16] = [
+type Row = (&'static str, &'static [&'static str], u64);
+
+const ROWS: [Row; 16] = [
     ("(!(uidNumber=abc))", &[], 0),
     (
         "(|(uidNumber=abc)(cn=*))",
@@ -45,7 +46,7 @@ const ROWS: [(&str, &[&str], u64); 16] = [
 ];
 
 // the same by postings that show nothing
-const SHOWN_NOTHING: [(&str, &[&str], u64); 4] = [
+const SHOWN_NOTHING: [Row; 4] = [
     ("(cn=aba)", &[], 0),
     ("(!(cn=aba))", &["ex", "abba", "abc bcd", "Bob"], 5),
     ("(name=bob)", &["Bob"], 5),
@@ -77,70 +78,116 @@ fn prepared(alloc: Global, dir: &Directory, text: &str) -> Result<Prepared, Fail
     }
 }
 
-// whether the directory finds these by so many tests
-fn finds(
-    alloc: Global,
-    dir: &Directory,
-    text: &str,
-    values: &[&str],
-    tested: u64,
-) -> Result<bool, Fail> {
-    let filter = prepared(alloc, dir, text)?;
+// whether the directory finds a row's entries by its filter, by so many tests
+fn finds_by(alloc: Global, dir: &Directory, filter: &Prepared, row: &Row) -> bool
+    requires { filter.now.conf ≡ dir.now.conf }
+{
+    let (_, values, tested) = row;
     let base = Path::root(alloc);
-    match dir.search(&base, Scope::Sub, &filter) {
-        Ok(hits) => Ok(are_found(hits, values, tested)),
-        Err(_) => Ok(false),
+    match dir.search(&base, Scope::Sub, filter) {
+        Ok(hits) => are_found(hits, values, *tested),
+        Err(_) => false,
     }
 }
 
-// the same of its tree, by postings of ranks
-fn finds_with(
-    alloc: Global,
-    dir: &Directory,
-    postings: &Index,
-    text: &str,
-    values: &[&str],
-    tested: u64,
-) -> Result<bool, Fail> {
+fn finds(alloc: Global, dir: &Directory, row: &Row) -> Result<bool, Fail> {
+    let (text, ..) = row;
     let filter = prepared(alloc, dir, text)?;
-    let base = Path::root(alloc);
-    match search_with(alloc, dir.tree(), postings, &base, Scope::Sub, &filter) {
-        Ok(hits) => Ok(are_found(hits, values, tested)),
-        Err(_) => Ok(false),
+    Ok(finds_by(alloc, dir, &filter, row))
+}
+
+fn finds_each(alloc: Global, dir: &Directory) -> Result<bool, Fail> {
+    for row in &ROWS {
+        if !finds(alloc, dir, row)? {
+            return Ok(false);
+        }
     }
+    Ok(true)
+}
+
+fn loaded_finds_each(alloc: Global) -> Result<bool, Fail> {
+    let dir = indexed(alloc, TURNED)?;
+    finds_each(alloc, &dir)
 }
 
 #[test]
 fn candidates_alone_are_tested(rt: HostRuntime) -> Result<(), Fail> {
-    let dir = loaded_under(rt.alloc(), conf(rt.alloc())?, TURNED.as_bytes())?;
-    for (text, values, tested) in ROWS {
-        assert!(rt; finds(rt.alloc(), &dir, text, values, tested)?, "{text}");
-    }
+    assert!(rt; loaded_finds_each(rt.alloc())?);
     Ok(())
+}
+
+// the same of its tree, by postings of ranks
+fn finds_by_postings(
+    alloc: Global,
+    dir: &Directory,
+    postings: &Index,
+    filter: &Prepared,
+    row: &Row,
+) -> bool
+    requires { filter.now.conf ≡ dir.now.conf }
+{
+    let (_, values, tested) = row;
+    let base = Path::root(alloc);
+    match search_with(alloc, dir.tree(), postings, &base, Scope::Sub, filter) {
+        Ok(hits) => are_found(hits, values, *tested),
+        Err(_) => false,
+    }
+}
+
+fn finds_with(alloc: Global, dir: &Directory, postings: &Index, row: &Row) -> Result<bool, Fail> {
+    let (text, ..) = row;
+    let filter = prepared(alloc, dir, text)?;
+    Ok(finds_by_postings(alloc, dir, postings, &filter, row))
+}
+
+fn finds_each_with(alloc: Global, dir: &Directory, postings: &Index) -> Result<bool, Fail> {
+    for row in &SHOWN_NOTHING {
+        if !finds_with(alloc, dir, postings, row)? {
+            return Ok(false);
+        }
+    }
+    Ok(true)
+}
+
+fn finds_each_with_nothing(alloc: Global, dir: &Directory) -> Result<bool, Fail> {
+    let nothing = Index::new(alloc, dir.conf())?;
+    finds_each_with(alloc, dir, &nothing)
+}
+
+fn loaded_finds_each_with_nothing(alloc: Global) -> Result<bool, Fail> {
+    let dir = indexed(alloc, TURNED)?;
+    finds_each_with_nothing(alloc, &dir)
 }
 
 #[test]
 fn postings_say_what_is_tested(rt: HostRuntime) -> Result<(), Fail> {
-    let dir = loaded_under(rt.alloc(), conf(rt.alloc())?, TURNED.as_bytes())?;
-    let nothing = Index::new(rt.alloc(), dir.conf())?;
-    for (text, values, tested) in SHOWN_NOTHING {
-        assert!(rt;
-            finds_with(rt.alloc(), &dir, &nothing, text, values, tested)?,
-            "{text}"
-        );
-    }
+    assert!(rt; loaded_finds_each_with_nothing(rt.alloc())?);
     Ok(())
+}
+
+fn refuses_by(alloc: Global, dir: &Directory, filter: &Prepared) -> bool
+    requires { filter.now.conf ≡ dir.now.conf }
+{
+    let base = Path::root(alloc);
+    match dir.search(&base, Scope::Sub, filter) {
+        Ok(_) => false,
+        Err(refusal) => matches!(refusal, Refusal::Code(Code::NoSuchObject)),
+    }
+}
+
+// whether no entry is there to search from
+fn refuses(alloc: Global, dir: &Directory) -> Result<bool, Fail> {
+    let filter = prepared(alloc, dir, "(cn=*)")?;
+    Ok(refuses_by(alloc, dir, &filter))
+}
+
+fn empty_refuses(alloc: Global) -> Result<bool, Fail> {
+    let dir = empty(alloc)?;
+    refuses(alloc, &dir)
 }
 
 #[test]
 fn a_base_that_is_not_there_is_refused(rt: HostRuntime) -> Result<(), Fail> {
-    let dir = Directory::new(rt.alloc(), conf(rt.alloc())?)?;
-    let filter = prepared(rt.alloc(), &dir, "(cn=*)")?;
-    let base = Path::root(rt.alloc());
-    let refused = match dir.search(&base, Scope::Sub, &filter) {
-        Ok(_) => false,
-        Err(refusal) => matches!(refusal, Refusal::Code(Code::NoSuchObject)),
-    };
-    assert!(rt; refused);
+    assert!(rt; empty_refuses(rt.alloc())?);
     Ok(())
 }

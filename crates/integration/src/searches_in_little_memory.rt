@@ -1,7 +1,7 @@
 //! Filters that are prepared while one allocation is refused: `tests/refuse_memory` refuses each in turn, and elsewhere none is. And
 //! searches, in which none can be refused, since they take no memory.
 
-ghost use Rattle.std.specs.Prelude.{◌≡◌};
+ghost use Rattle.std.specs.Prelude.{◌≡◌, IfOk};
 
 use crate::directories::loaded_under;
 use directory::Directory;
@@ -11,7 +11,7 @@ use id_sets::KeySet;
 use reading_tests::spend;
 use schema::{Path, read_conf};
 use search::{Hits, Scope, scan};
-use std::alloc::Global;
+use std::alloc::{AllocError, Global};
 use std::process::Abort;
 use std::test::Fail;
 use tree::{Entry, Tree};
@@ -101,7 +101,49 @@ fn is_searched(alloc: Global, tree: &Tree, base: &Path, prepared: &Prepared) -> 
     true
 }
 
-// prepares the filter with so many allocations before and behind: whether it was prepared, and whether one of those was refused
+// searches from the suffix's entry on
+fn is_searched_below_root(alloc: Global, dir: &Directory, prepared: &Prepared) -> bool
+    requires { prepared.now.conf ≡ dir.now.conf }
+{
+    let base = Path::root(alloc);
+    is_searched(alloc, dir.tree(), &base, prepared)
+}
+
+// prepares a filter with so many allocations before and behind: whether one of those was refused, and what was prepared
+fn prepare_and_spend(
+    alloc: Global,
+    dir: &Directory,
+    filter: &Filter,
+    before: usize,
+    behind: usize,
+) -> (bool, Result<Prepared, AllocError>)
+    ensures { IfOk result.1 (λ p. p.conf ≡ dir.now.conf) }
+{
+    let met_before = spend(alloc, before);
+    let made = prepare(alloc, filter, dir.conf());
+    let met = spend(alloc, behind) || met_before;
+    (met, made)
+}
+
+// the same: whether it was prepared, which finds what it is to find then, and whether one of those was refused
+fn prepare_and_search(
+    rt: &impl Abort,
+    alloc: Global,
+    dir: &Directory,
+    before: usize,
+    behind: usize,
+) -> Result<(bool, bool), Fail> {
+    let filter = filter(alloc)?;
+    match prepare_and_spend(alloc, dir, &filter, before, behind) {
+        (met, Ok(prepared)) => {
+            assert!(rt; is_searched_below_root(alloc, dir, &prepared));
+            Ok((true, met))
+        }
+        (met, Err(_)) => Ok((false, met)),
+    }
+}
+
+// the same under the directory's configuration
 fn prepare_between(
     rt: &impl Abort,
     alloc: Global,
@@ -109,32 +151,55 @@ fn prepare_between(
     behind: usize,
 ) -> Result<(bool, bool), Fail> {
     let dir = directory(alloc)?;
-    let filter = filter(alloc)?;
-    let base = Path::root(alloc);
-    let met_before = spend(alloc, before);
-    let made = prepare(alloc, &filter, dir.conf());
-    let met = spend(alloc, behind) || met_before;
-    let Ok(prepared) = made else {
-        return Ok((false, met));
-    };
-    assert!(rt; is_searched(alloc, dir.tree(), &base, &prepared));
-    Ok((true, met))
+    prepare_and_search(rt, alloc, &dir, before, behind)
 }
 
-// searches with so many allocations before and behind: whether one of those was refused
+// searches with so many allocations before and behind: whether it finds what it is to find, and whether one of those was refused
+fn search_and_spend(
+    alloc: Global,
+    dir: &Directory,
+    prepared: &Prepared,
+    before: usize,
+    behind: usize,
+) -> (bool, bool)
+    requires { prepared.now.conf ≡ dir.now.conf }
+{
+    let met_before = spend(alloc, before);
+    let found = is_searched_below_root(alloc, dir, prepared);
+    let met = spend(alloc, behind) || met_before;
+    (found, met)
+}
+
+fn prepared(alloc: Global, dir: &Directory) -> Result<Prepared, Fail>
+    ensures { IfOk result (λ p. p.conf ≡ dir.now.conf) }
+{
+    let filter = filter(alloc)?;
+    Ok(prepare(alloc, &filter, dir.conf())?)
+}
+
+fn search_prepared(
+    alloc: Global,
+    dir: &Directory,
+    before: usize,
+    behind: usize,
+) -> Result<(bool, bool), Fail> {
+    let prepared = prepared(alloc, dir)?;
+    Ok(search_and_spend(alloc, dir, &prepared, before, behind))
+}
+
+fn search_directory(alloc: Global, before: usize, behind: usize) -> Result<(bool, bool), Fail> {
+    let dir = directory(alloc)?;
+    search_prepared(alloc, &dir, before, behind)
+}
+
+// the same on the directory, where it finds what it is to find
 fn search_between(
     rt: &impl Abort,
     alloc: Global,
     before: usize,
     behind: usize,
 ) -> Result<(bool, bool), Fail> {
-    let dir = directory(alloc)?;
-    let filter = filter(alloc)?;
-    let base = Path::root(alloc);
-    let prepared = prepare(alloc, &filter, dir.conf())?;
-    let met_before = spend(alloc, before);
-    let found = is_searched(alloc, dir.tree(), &base, &prepared);
-    let met = spend(alloc, behind) || met_before;
+    let (found, met) = search_directory(alloc, before, behind)?;
     assert!(rt; found);
     Ok((true, met))
 }

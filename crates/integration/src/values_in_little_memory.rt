@@ -66,7 +66,7 @@ fn make_under(rt: &impl Abort, alloc: Global, conf: &Conf) -> Result<bool, Fail>
     let Some(steps) = steps_of(alloc, conf)? else {
         return Ok(false);
     };
-    assert_eq!(rt; steps, 2);
+    assert!(rt; steps == 2);
     let Some(is_normal) = is_made_of_member(alloc, conf)? else {
         return Ok(false);
     };
