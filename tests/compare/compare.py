@@ -143,7 +143,7 @@ class Runner:
         elif case.is_slapcat:
             answer = model.slapcat(*files, case.filter, case.base)
         else:
-            answer = model.search(*files, case.asked(), case.base, case.scope, case.limit)
+            answer = model.search(*files, case.asked(), case.base, case.scope, case.limit, case.index)
         wanted["status"], wanted["output"], wanted["messages"] = answer
         if wanted["messages"] is None:
             # a text of the library that reads the words
@@ -249,6 +249,9 @@ def count_index(counts, case, wanted):
 
 def count_search(counts, case, wanted):
     counts[f"{'slapcat of a part' if case.is_slapcat else 'search'}: status {wanted['status']}"] += 1
+    if not case.is_slapcat and wanted["status"] < 2:
+        fault = re.search(rb"^index.txt: (.*)$", wanted["messages"], re.MULTILINE)
+        counts[f"searches: index.txt {'missing' if case.index is None else fault[1].decode() if fault else 'read'}"] += 1
     if wanted["status"] == 0:
         found = (wanted["file"] or wanted["output"]).count(b"\n\n")
         counts[f"searches: {min(found, 3)} {'entries or more' if found > 2 else 'entry' if found == 1 else 'entries'}"] += 1

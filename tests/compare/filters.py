@@ -205,13 +205,21 @@ def test_of(conf, item):
                 "equal": kind.family is not None, "approximate": kind.family is not None}
     if not has_rule[item.form] or not all(conf.is_valid(number, value) for value in item.values):
         return None
-    return Test(number, value_test(conf, number, kind.family, item))
+    return Test(number, item.form, asserted(conf, number, kind.family, item), value_test(conf, number, kind.family, item))
 
 
 @dataclass
 class Test:
     number: int
+    form: str
+    asserted: object    # the normal form of a value or of pieces, or None where none is asserted
     holds: object       # of the normal form of a value
+
+
+def asserted(conf, number, family, item):
+    if item.form == "substrings":
+        return values.normal_pieces(family, item.values, item.star_before, item.star_behind)
+    return conf.normal(number, item.values[0]) if item.values else None
 
 
 def value_test(conf, number, family, item):

@@ -259,10 +259,12 @@ class Directory:
             raise Refused(32)
         return path
 
-    def matching(self, scope, base, steps):
-        """The paths in scope of those entries for which a prepared filter is True, in the order of paths."""
-        return [path for path in sorted(self.entries)
-                if scope(path, base) and filters.truth(self.conf, steps, self.entries[path][1].values)]
+    def matching(self, scope, base, steps, rows=None):
+        """The paths in scope of those entries for which a prepared filter is True, in the order of paths; by the rows of an index text, of
+        those alone of which it may be True by them."""
+        may = range(len(self.entries)) if rows is None else indexes.candidates(steps, rows, len(self.entries))[0]
+        return [path for rank, path in enumerate(sorted(self.entries))
+                if rank in may and scope(path, base) and filters.truth(self.conf, steps, self.entries[path][1].values)]
 
     def dump(self):
         """Every entry as a content record, in the order of paths, which brings parents first."""
@@ -396,7 +398,15 @@ def bad_option(scope, scope_word, limit_word):
     return 2, b"", b"error: invalid value '%s' for '%s': it has to be %s\n" % (word, option, wanted)
 
 
-def search(conf_text, data, folder, words, name=None, scope_word=None, limit_word=None):
+def index_rows(directory, index):
+    """-> what index.txt says of a directory, None where it isn't used; and the line that is said of it"""
+    try:
+        return (None if index is None else indexes.read(directory.conf, directory.dump(), index)), b""
+    except indexes.Fault as fault:
+        return None, f"index.txt: {fault}\n".encode()
+
+
+def search(conf_text, data, folder, words, name=None, scope_word=None, limit_word=None, index=None):
     """Of the words the first one may be a filter, the others are attributes. -> (status, output, messages, or None where they are
     those of the library that reads words)"""
     scope = SCOPES.get(b"sub" if scope_word is None else scope_word)
@@ -408,11 +418,15 @@ def search(conf_text, data, folder, words, name=None, scope_word=None, limit_wor
     try:
         steps = read_filter(text)
         directory = load(conf_text, data, folder)
-        base = base_of(directory, name, "search")
+        rows, warning = index_rows(directory, index)
     except Ended as end:
         return end.status, b"", end.messages
-    paths = directory.matching(scope, base, filters.prepared(directory.conf, steps))
+    try:
+        base = base_of(directory, name, "search")
+    except Ended as end:
+        return end.status, b"", warning + end.messages
+    paths = directory.matching(scope, base, filters.prepared(directory.conf, steps), rows)
     is_selected = selection(directory.conf, words)
     shown = paths[:limit] if limit else paths
     output = b"".join(directory.printed(path, is_selected) for path in shown)
-    return (1, output, f"search: {Refused(4)}\n".encode()) if len(shown) < len(paths) else (0, output, b"")
+    return (1, output, warning + f"search: {Refused(4)}\n".encode()) if len(shown) < len(paths) else (0, output, warning)

@@ -92,7 +92,7 @@ def slapcat(words):
 def search(words, parser):
     files = read(f"{words.db}/dir.conf"), read(f"{words.db}/data.ldif")
     asked = [encoded(word) for word in words.words], encoded(words.b), encoded(words.s), encoded(words.z)
-    status, output, messages = model.search(*files, words.db, *asked)
+    status, output, messages = model.search(*files, words.db, *asked, index=read(f"{words.db}/index.txt"))
     if messages is None:
         parser.error("no scope, or no limit")
     return status, output, messages

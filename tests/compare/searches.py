@@ -216,6 +216,43 @@ def sayable(text):
     return b" " + text if text is not None and text.startswith(b"-") else text
 
 
+def index_beside(rng, conf, data):
+    """No index.txt, or the one of the entries, or one of others, or one with faults, or one that lies."""
+    kind = rng.choice(["none", "right", "right", "right", "other", "broken", "lying", "lying"])
+    stored = model.slapindex(conf, None if kind == "other" else data, "")[2].get("index.txt")
+    if kind == "none" or stored is None:
+        return None
+    return {"broken": mutated, "lying": lying}.get(kind, lambda rng, text: text)(rng, stored)
+
+
+def lying(rng, text):
+    """Ranks behind the first line changed: in many keys one that is gone; or in a few lines a word gone, another in its place, or one more, or
+    the line gone or doubled."""
+    first, *lines = text.split(b"\n")
+    if some(rng, .5):
+        return b"\n".join([first, *(line for old in lines for line in without_rank(rng, old))])
+    for _ in range(rng.choice([1, 1, 2, 4])):
+        at = rng.randrange(len(lines))
+        words = lines[at].split(b" ")
+        place = rng.randrange(len(words))
+        other = rng.choice([b"%d" % rng.randrange(6), b"%d" % rng.randrange(30), b"-", b"61", b"616263", b"6", b"00", b"A1", b"pres"])
+        changed = rng.choice([words[:place] + words[place + 1:], words[:place] + [other] + words[place + 1:], words + [other], words,
+                              words[:1] + sorted(set(words[1:] + [other]), key=lambda word: (len(word), word))])
+        lines[at:at + 1] = [b" ".join(changed)] * rng.choice([0, 1, 1, 1, 1, 1, 1, 2])
+        if not lines:
+            break
+    return b"\n".join([first, *lines])
+
+
+def without_rank(rng, line):
+    """-> the line of a key without one of its ranks, no line where none is left; or the line as it is"""
+    key, *ranks = line.split(b" ")
+    if not ranks or key == b"slot" or some(rng, .4):
+        return [line]
+    ranks.pop(rng.randrange(len(ranks)))
+    return [b" ".join([key, *ranks])] if ranks else []
+
+
 def search_case(rng):
     config = SearchConfig(rng)
     searches = Searches(rng, config, False)
@@ -228,8 +265,7 @@ def search_case(rng):
     is_slapcat = some(rng, .25)
     base = searches.dn_of(searches.some_path(.1), .08) if some(rng, .35) else None
     text = None if some(rng, .08) else searches.text_of_filter()
-    # the one that slapindex stores, where it stores one
-    index = model.slapindex(conf, data, "")[2].get("index.txt") if some(rng, .5) else None
+    index = index_beside(rng, conf, data)
     if is_slapcat:
         return Search(conf, data, True, sayable(text), sayable(base), to_file=some(rng, .1), index=index)
     scope = rng.choice(BAD_SCOPES) if some(rng, .01) else rng.choice(SCOPES)

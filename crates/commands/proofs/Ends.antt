@@ -1,34 +1,34 @@
 -- What is printed of a directory that was loaded.
 use Rattle.std.proofs.Common.{◌≡◌, ℕ, Bool, true, false, List, map, Option, Some, None, refl, sym, ap, ◌∙◌, subst, Bor}
-use Rattle.std.specs.Prelude.{Result, Ok, Err, IfErr, is_some, nat_lt, codes}
+use Rattle.std.specs.Prelude.{Result, Ok, Err, IfOk, IfErr, OnOk, is_some}
 use Rattle.std.specs.Option.{option_copied, option_map}
 use Rattle.std.specs.FinMap as finite
-use Rattle.std.proofs.lemmas.List.{length-map}
-use Rattle.device.specs.Device.{Written}
+use Rattle.device.specs.Device.{Written, Took}
 use Rattle.paths.specs.Paths.{Path}
 use Rattle.schema.specs.Conf.{Conf}
-use Rattle.schema.specs.declared.code.Code.TheVariants.{SizeLimitExceeded}
 use Rattle.tree.specs.Entries.{EntryContent}
 use Rattle.tree.specs.Trees.{Tree}
 use Rattle.filter_text.specs.Spells.{view}
 use Rattle.filter.specs.Made.{Made}
-use Rattle.search.specs.Searches.{scan}
-use Rattle.search.specs.Walks.{Lent, seen}
+use Rattle.filter_text.specs.declared.filters.Filter.{Filter}
+use Rattle.search.specs.declared.scope.Scope.{Scope}
+use Rattle.search.specs.Searches.{scan, scan_among}
+use Rattle.stored_index.specs.Stored.{Stored, shown_by}
+use Rattle.directory.specs.IndexTexts.{index_text}
+use Rattle.directory.specs.Searches.{may_by_rank}
 use Rattle.directory.specs.Selections.{Selection}
 use Rattle.directory.specs.Found.{found_text, up_to, goes_past}
 use Rattle.commands.specs.Asked.{IsFilter, IsBase, IsSelection}
 use Rattle.commands.specs.Failures.{FailsToWrite}
 use Rattle.commands.specs.Folders.{Files}
 use Rattle.commands.specs.Loaded.{IsLoaded}
-use Rattle.commands.specs.Messages.{IsTold, code_text}
+use Rattle.commands.specs.IndexFiles.{Said, said_by, found_by}
 use Rattle.commands.specs.Parts.{part_text}
-use Rattle.commands.specs.Prints.{HasPut, IsFoundText, SearchText, SearchGoesThrough}
+use Rattle.commands.specs.Prints.{HasPut, IsFoundText}
 use Rattle.commands.specs.Queries.{Query, Basis, HasBasis, Begins, HasBegun, PrintsPartly}
 use Rattle.commands.specs.Worlds.{World}
 use Rattle.commands.specs.inner.Printed.{HasPrinted}
 use Rattle.commands.specs.declared.messages.CommandFault.{CommandFault}
-use Rattle.commands.specs.declared.messages.Status.{Status}
-use Rattle.commands.specs.declared.messages.Status.TheVariants.{Done, Refused}
 use Rattle.command_line.specs.declared.request.SearchOptions.{SearchOptions}
 use Rattle.commands.proofs.Stopping.{of_faults, unwritten_prints, prints_more}
 
@@ -70,44 +70,35 @@ part_same dir dir' base base' made made' same_dir same_base same_made = rw (same
 
 -- ---- what is found
 
-past_seen : (limit : Option ℕ) (ls : List Lent) → goes_past limit ls ≡ goes_past limit (map seen ls)
-past_seen None ls = refl
-past_seen (Some n) ls = ap (nat_lt n) (sym (length-map ls seen))
-
 pub selection_so : (conf conf' : Conf) (words words' : List (Bor (List ℕ))) (s : Selection) → conf' ≡ conf → words' ≡ words → IsSelection conf' (map (λ w. w.now) words') s → IsSelection conf (map (λ w. w.now) words) s
 selection_so conf conf' words words' s same same_words selects =
     subst (λ (ws : List (Bor (List ℕ))). IsSelection conf (map (λ w. w.now) ws) s) same_words (subst (λ (k : Conf). IsSelection k (map (λ w. w.now) words') s) same selects)
 
 -- the text of what a walk lends
-module _ (asked : SearchOptions) (basis : Basis) (base : Path) (s : Selection) (ls : List Lent)
+module _ (asked : SearchOptions) (said : Said) (basis : Basis) (base : Path) (s : Selection) (es : List (Path × EntryContent))
     (based : IsBase basis.conf (option_copied asked.base) base) (selects : IsSelection basis.conf (map (λ w. w.now) asked.attributes.items) s)
-    (there : finite.contains_key basis.entries base ≡ true) (found : map seen ls ≡ scan basis.conf basis.entries base asked.scope basis.filter) where
-  pub found_so : (past : Bool) → past ≡ goes_past asked.limit ls → IsFoundText asked basis past (found_text basis.conf basis.entries s (up_to asked.limit (map seen ls)))
+    (there : finite.contains_key basis.entries base ≡ true) (found : es ≡ found_by said basis.conf basis.entries base asked.scope basis.filter)
+    (whole : said ≡ said_by basis.conf basis.entries (Some (index_text basis.conf basis.entries)) → found_by said basis.conf basis.entries base asked.scope basis.filter ≡ scan basis.conf basis.entries base asked.scope basis.filter) where
+  pub found_so : (past : Bool) → past ≡ goes_past asked.limit es → IsFoundText asked said basis past (found_text basis.conf basis.entries s (up_to asked.limit es))
   found_so past is = record {
     base = base;
     selection = s;
     base_is = based;
     there = there;
     selects = selects;
-    past_is = is ∙ past_seen asked.limit ls ∙ ap (goes_past asked.limit) found;
+    past_is = is ∙ ap (goes_past asked.limit) found;
     text_is = ap (λ (es : List (Path × EntryContent)). found_text basis.conf basis.entries s (up_to asked.limit es)) found;
+    whole = whole;
   }
 
--- how a search goes through
-module _ (asked : SearchOptions) (w : World) (output : Written) where
-  pub searched : HasPrinted (SearchText asked w.files false) w.output output → SearchGoesThrough asked w (record w { output = output }) Done
-  searched h = record { past = false; text = h.text; is = h.is; mid = record w { output = output }; printed = record { took = h.took; stays = refl }; told = (refl, refl) }
+-- it was printed, and it was answered whether there is more
+pub printed_so : (IsText : Bool → List ℕ → Type 0) (wanted : Bool) (text : List ℕ) → ((past : Bool) → past ≡ wanted → IsText past text) → (answer : Result Bool CommandFault) (a b : Written)
+    → IfOk answer (λ past. past ≡ wanted) → OnOk answer (Took a b text) → IfOk answer (λ past. HasPrinted (IsText past) a b)
+printed_so IsText wanted text so (Ok past) a b is took = record { text = text; is = so past is; took = took }
+printed_so IsText wanted text so (Err f) a b is took = tt
 
-  pub searched_past : (messages : Written) (text : List ℕ) (wanted s : Status) → HasPrinted (SearchText asked w.files true) w.output output
-      → text ≡ code_text (codes "search") SizeLimitExceeded → wanted ≡ Refused → IsTold w.messages messages text wanted s → SearchGoesThrough asked w (record w { output = output; messages = messages }) s
-  searched_past messages text wanted s h same_text same_status told = record {
-    past = true;
-    text = h.text;
-    is = h.is;
-    mid = record w { output = output };
-    printed = record { took = h.took; stays = refl };
-    told = record {
-      told = subst (λ (t : List ℕ). IsTold w.messages messages t Refused s) same_text (subst (λ (o : Status). IsTold w.messages messages text o s) same_status told);
-      stays = refl;
-    };
-  }
+-- what is found by an index, for a filter that was prepared under the configuration of the tree
+pub by_index : (made : Made) (conf : Conf) (t : Tree) (f : Filter) (x : Stored) (base : Path) (scope : Scope) → made ≡ record { conf = conf; filter = f } → t.conf ≡ conf
+    → scan_among t.conf t.entries (may_by_rank (shown_by x) made t.entries) base scope (view made.filter) ≡ found_by (Some (Ok x)) t.conf t.entries base scope (view f)
+by_index made conf t f x base scope same same_conf =
+    ap (λ (m : Made). scan_among t.conf t.entries (may_by_rank (shown_by x) m t.entries) base scope (view m.filter)) (same ∙ ap (λ (k : Conf). record { conf = k; filter = f }) (sym same_conf))

@@ -5,3 +5,5 @@ pub mod Loading
 pub mod Running
 pub mod Stopping
 pub mod StoredFiles
+pub mod IndexTold
+pub mod Searched

@@ -1,5 +1,5 @@
 -- Why a command stops, from what its parts say.
-use Rattle.std.proofs.Common.{◌≡◌, ℕ, ◌<◌, ◌-◌, ◌^◌, inl, inr, List, [], Option, Some, IfErr, refl, sym, subst, ◌∙◌}
+use Rattle.std.proofs.Common.{◌≡◌, ℕ, true, ◌<◌, ◌-◌, ◌^◌, inl, inr, List, [], Option, Some, IfErr, refl, sym, subst, ◌∙◌}
 use Rattle.std.specs.Prelude.{Result, Ok, Err, codes, string_bytes}
 use Rattle.std.specs.Option.{option_map}
 use Rattle.std.specs.FinMap as finite
@@ -19,7 +19,7 @@ use Rattle.directory.specs.declared.loading.LoadFault.{LoadFault}
 use Rattle.directory.specs.declared.loading.LoadFault.TheVariants as loads
 use Rattle.filter_text.specs.Spells.{Tree}
 use Rattle.commands.specs.Asked.{IsFilter, HasFilter}
-use Rattle.commands.specs.Folders.{Files, Finds, conf_name, data_name}
+use Rattle.commands.specs.Folders.{Files, Finds, conf_name, data_name, index_name}
 use Rattle.commands.specs.Worlds.{World}
 use Rattle.commands.specs.Endings.{StoppedAt, Tells, Stops}
 use Rattle.commands.specs.Loaded.{IsConfigured, IsLoaded, LoadFails}
@@ -27,6 +27,7 @@ use Rattle.commands.specs.Failures.{IsMemory, FailsToRead, FailsToWrite}
 use Rattle.commands.specs.Changes.{Breaks}
 use Rattle.commands.specs.Queries.{Query, LacksBase, target_of, StopsWith, IsBegun, HasBegun, PrintsPartly, QueryStops}
 use Rattle.commands.specs.inner.Refusals.{FilterFails, Refuses, RefusesOrBreaks}
+use Rattle.commands.specs.inner.IndexFiles.{IsSilent}
 use Rattle.commands.specs.inner.LoadFaults.{TellsLoadFault}
 use Rattle.commands.specs.inner.WriteFaults.{TellsWriteFault}
 use Rattle.commands.specs.inner.Stopped.{CanTell, HasStopped}
@@ -39,7 +40,7 @@ use Rattle.commands.specs.declared.messages.Stop.TheVariants as stops
 -- ---- the faults that a failure becomes
 
 -- memory ran out
-of_memory : (P : CommandFault → Type 0) → P faults.OutOfMemory → (f : CommandFault) → IsMemory f → P f
+pub of_memory : (P : CommandFault → Type 0) → P faults.OutOfMemory → (f : CommandFault) → IsMemory f → P f
 of_memory P p faults.Words h = absurd h
 of_memory P p (faults.Filter fault) h = absurd h
 of_memory P p (faults.Code by code) h = absurd h
@@ -156,9 +157,12 @@ module _ (q : Query) (files : Option Files) where
     load_stops (faults.Code by code) h = absurd h
     load_stops (faults.Configuration line kind) h = (has, h)
     load_stops (faults.Data line why) h = (has, h)
-    load_stops (faults.CannotRead name) h = (has, h)
+    load_stops (faults.CannotRead name) h = (has, inl h)
     load_stops (faults.CannotWrite name) h = absurd h
     load_stops faults.OutOfMemory h = tt
+
+    pub index_stops : (conf : Conf) (d : Entries) → q.needs_index ≡ true → IsLoaded files q.db conf d → (f : CommandFault) → FailsToRead (index_name q.db) f → StopsWith q files f
+    index_stops conf d needs loaded = of_unread (StopsWith q files) (index_name q.db) (λ n named. (has, inr (record { needs = needs; conf = conf; entries = d; loaded = loaded; name_is = named }))) tt
 
     refused_so : (conf : Conf) (d : Entries) → IsLoaded files q.db conf d → (f : CommandFault) → Refuses q.command (LacksBase q conf d) f → StopsWith q files f
     refused_so conf d loaded faults.Words h = h
@@ -181,6 +185,16 @@ query_stops q IsText w w' f why printed stays = record { fault = f; fault_is = r
 
 -- ---- what was printed by then
 
+silent_of : (P : CommandFault → Type 0) → ((n : _) → P (faults.CannotWrite n) → ⊥) → (f : CommandFault) → P f → IsSilent f
+silent_of P none faults.Words h = tt
+silent_of P none (faults.Filter fault) h = tt
+silent_of P none (faults.Code by code) h = tt
+silent_of P none (faults.Configuration line kind) h = tt
+silent_of P none (faults.Data line why) h = tt
+silent_of P none (faults.CannotRead name) h = tt
+silent_of P none (faults.CannotWrite name) h = none name h
+silent_of P none faults.OutOfMemory h = tt
+
 module _ (Partly : CommandFault → Written → Written → Type 0) (a b : Written) (same : b ≡ a) where
   -- nothing was, where the fault isn't one of writing
   nothing_prints : (P : CommandFault → Type 0) → ((n : _) → P (faults.CannotWrite n) → ⊥) → (f : CommandFault) → P f → PrintsPartly Partly a b f
@@ -201,6 +215,22 @@ module _ (Partly : CommandFault → Written → Written → Type 0) (a b : Writt
 
   pub refused_prints : (command : List ℕ) (Holds : Code → Type 0) (f : CommandFault) → Refuses command Holds f → PrintsPartly Partly a b f
   refused_prints command Holds = nothing_prints (Refuses command Holds) (λ n h. h)
+
+-- with a fault of the filter, of the directory or of a file that is read, nothing was
+pub filter_silent : (text : Option (List ℕ)) (f : CommandFault) → FilterFails text f → IsSilent f
+filter_silent text = silent_of (FilterFails text) (λ n h. h)
+
+pub load_silent : (files : Option Files) (db : List ℕ) (f : CommandFault) → LoadFails files db f → IsSilent f
+load_silent files db = silent_of (LoadFails files db) (λ n h. h)
+
+pub unread_silent : (name : List ℕ) (f : CommandFault) → FailsToRead name f → IsSilent f
+unread_silent name = silent_of (FailsToRead name) (λ n h. h)
+
+pub memory_silent : (f : CommandFault) → IsMemory f → IsSilent f
+memory_silent = of_memory IsSilent tt
+
+pub silent_prints : (Partly : CommandFault → Written → Written → Type 0) (a b : Written) → b ≡ a → (f : CommandFault) → IsSilent f → PrintsPartly Partly a b f
+silent_prints Partly a b same = nothing_prints Partly a b same IsSilent (λ n h. h)
 
 -- while it was printed, that failed
 pub unwritten_prints : (Partly : CommandFault → Written → Written → Type 0) (a b : Written) (target : List ℕ) (f : CommandFault) → FailsToWrite target f → Partly f a b → PrintsPartly Partly a b f

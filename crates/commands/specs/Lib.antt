@@ -9,6 +9,7 @@ pub mod Endings
 pub mod Loaded
 pub mod Stored
 pub mod Queries
+pub mod IndexFiles
 pub mod Changes
 pub mod Indexing
 pub mod Prints

@@ -1,12 +1,17 @@
 -- What slapcat and search print, and how they end.
-use Rattle.std.specs.Prelude.{◌≡◌, ℕ, Bool, true, false, ◌&&◌, List, Option, None, Some, is_none, is_some, map, codes}
+use Rattle.std.specs.Prelude.{◌≡◌, ℕ, ◌⊎◌, Bool, true, false, ◌&&◌, List, [], Option, None, Some, Err, is_none, is_some, map, codes}
 use Rattle.std.specs.Option.{option_copied}
 use Rattle.std.specs.FinMap as finite
+use Rattle.device.specs.Device.{Broke}
 use Rattle.paths.specs.Paths.{Path}
+use Rattle.schema.specs.Conf.{Conf}
 use Rattle.schema.specs.declared.code.Code.TheVariants.{SizeLimitExceeded}
+use Rattle.tree.specs.Directories.{Entries}
 use Rattle.search.specs.Searches.{scan}
+use Rattle.stored_index.specs.declared.fault.IndexFaultKind.{IndexFaultKind}
 use Rattle.directory.specs.Selections.{Selection}
 use Rattle.directory.specs.Found.{found_text, up_to, goes_past}
+use Rattle.directory.specs.IndexTexts.{index_text}
 use Rattle.directory.specs.Runs.{dump}
 use Rattle.command_line.specs.declared.request.CatOptions.{CatOptions}
 use Rattle.command_line.specs.declared.request.SearchOptions.{SearchOptions}
@@ -14,11 +19,14 @@ use Rattle.commands.specs.Asked.{IsBase, IsSelection}
 use Rattle.commands.specs.Folders.{Files, with_file}
 use Rattle.commands.specs.Worlds.{World, IsPrinted, Says}
 use Rattle.commands.specs.Endings.{StoppedAt}
-use Rattle.commands.specs.Messages.{code_text}
+use Rattle.commands.specs.Messages.{code_text, line_of}
+use Rattle.commands.specs.IndexFiles.{Said, said_by, SaysOf, found_by, index_fault_text, IsWarned}
+use Rattle.commands.specs.Loaded.{IsLoaded}
 use Rattle.commands.specs.Parts.{part_text}
 use Rattle.commands.specs.Queries.{Query, Basis, HasBasis, QueryStops}
 use Rattle.commands.specs.declared.messages.Status.{Status}
 use Rattle.commands.specs.declared.messages.Status.TheVariants.{Done, Refused}
+use Rattle.commands.specs.declared.messages.Stop.TheVariants as stops
 
 -- ---- slapcat
 
@@ -30,6 +38,7 @@ cat_query asked = record {
   filter = option_copied asked.filter;
   base = option_copied asked.base;
   needs_base = is_some asked.base;
+  needs_index = false;
   file = option_copied asked.file;
 }
 
@@ -80,36 +89,71 @@ search_query asked = record {
   filter = option_copied asked.filter;
   base = option_copied asked.base;
   needs_base = true;
+  needs_index = true;
   file = None;
 }
 
--- what the filter finds from the base on, up to the limit, with the attributes that are asked for; and whether there is more
-pub record IsFoundText (asked : SearchOptions) (basis : Basis) (past : Bool) (text : List ℕ) : Type 0 where
+-- What the filter finds from the base on by what index.txt says, up to the limit, with the attributes that are asked for; and whether there is
+-- more. Where its text is that of the directory's index, that is all that the filter finds.
+pub record IsFoundText (asked : SearchOptions) (said : Said) (basis : Basis) (past : Bool) (text : List ℕ) : Type 0 where
   pub base : Path
   pub selection : Selection
   pub base_is : IsBase basis.conf (option_copied asked.base) base
   pub there : finite.contains_key basis.entries base ≡ true
   pub selects : IsSelection basis.conf (map (λ w. w.now) asked.attributes.items) selection
-  pub past_is : past ≡ goes_past asked.limit (scan basis.conf basis.entries base asked.scope basis.filter)
-  pub text_is : text ≡ found_text basis.conf basis.entries selection (up_to asked.limit (scan basis.conf basis.entries base asked.scope basis.filter))
+  pub past_is : past ≡ goes_past asked.limit (found_by said basis.conf basis.entries base asked.scope basis.filter)
+  pub text_is : text ≡ found_text basis.conf basis.entries selection (up_to asked.limit (found_by said basis.conf basis.entries base asked.scope basis.filter))
+  pub whole : said ≡ said_by basis.conf basis.entries (Some (index_text basis.conf basis.entries))
+      → found_by said basis.conf basis.entries base asked.scope basis.filter ≡ scan basis.conf basis.entries base asked.scope basis.filter
 
--- that of the directory that was loaded
-abbrev pub SearchText : SearchOptions → Option Files → Bool → List ℕ → Type 0
-SearchText asked files past text = HasBasis (search_query asked) files (λ basis. IsFoundText asked basis past text)
+-- that of the directory that was loaded, with its index.txt
+abbrev pub SearchText : SearchOptions → Option Files → Said → Bool → List ℕ → Type 0
+SearchText asked files said past text = HasBasis (search_query asked) files (λ basis. SaysOf files asked.db.now basis.conf basis.entries said × IsFoundText asked said basis past text)
 
 -- where there is more than the limit, the code is 4, and it is said
 abbrev pub TellsPast : Bool → World → World → Status → Type 0
 TellsPast false w w' s = (s ≡ Done) × (w' ≡ w)
 TellsPast true w w' s = Says (code_text (codes "search") SizeLimitExceeded) Refused w w' s
 
--- the text was printed, and then that was said
+-- a fault of index.txt was said, if it has one; then the text was printed; then it was said whether there is more
 pub record SearchGoesThrough (asked : SearchOptions) (w w' : World) (s : Status) : Type 0 where
+  pub said : Said
   pub past : Bool
   pub text : List ℕ
-  pub is : SearchText asked w.files past text
+  pub is : SearchText asked w.files said past text
+  pub warned : World
+  pub warns : IsWarned said w warned
   pub mid : World
-  pub printed : IsPrinted text w mid
+  pub printed : IsPrinted text warned mid
   pub told : TellsPast past mid w' s
 
+-- a directory was loaded whose index.txt says this
+pub record IsSaid (asked : SearchOptions) (files : Option Files) (said : Said) : Type 0 where
+  pub conf : Conf
+  pub entries : Entries
+  pub loaded : IsLoaded files asked.db.now conf entries
+  pub says : SaysOf files asked.db.now conf entries said
+
+-- it stops before it says anything of index.txt
+abbrev pub StopsUnwarned : SearchOptions → World → StoppedAt → Type 0
+StopsUnwarned asked w at = QueryStops (search_query asked) (λ text. ⊥) w at
+
+-- or afterwards, having printed so much
+pub record StopsWarned (asked : SearchOptions) (w : World) (at : StoppedAt) : Type 0 where
+  pub said : Said
+  pub is : IsSaid asked w.files said
+  pub warned : World
+  pub warns : IsWarned said w warned
+  pub stops : QueryStops (search_query asked) (λ text. (past : Bool) × SearchText asked w.files said past text) warned at
+
+-- or while it says a fault of it
+pub record BreaksInWarning (asked : SearchOptions) (w : World) (at : StoppedAt) : Type 0 where
+  pub fault : IndexFaultKind
+  pub is : IsSaid asked w.files (Some (Err fault))
+  pub why : at.why ≡ stops.Messages
+  pub stored : at.stored ≡ []
+  pub broke : Broke w.messages at.world.messages (line_of (index_fault_text fault))
+  pub stays : at.world ≡ record w { messages = at.world.messages }
+
 abbrev pub SearchStops : SearchOptions → World → StoppedAt → Type 0
-SearchStops asked w at = QueryStops (search_query asked) (λ text. (past : Bool) × SearchText asked w.files past text) w at
+SearchStops asked w at = StopsUnwarned asked w at ⊎ (StopsWarned asked w at ⊎ BreaksInWarning asked w at)

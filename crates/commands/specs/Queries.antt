@@ -10,7 +10,7 @@ use Rattle.tree.specs.Directories.{Entries}
 use Rattle.filter_text.specs.Spells.{Tree}
 use Rattle.directory.specs.Dumps.{Begun}
 use Rattle.commands.specs.Asked.{IsFilter, HasFilter, IsNoFilterFor, base_of, IsBase}
-use Rattle.commands.specs.Folders.{Files}
+use Rattle.commands.specs.Folders.{Files, index_name}
 use Rattle.commands.specs.Worlds.{World}
 use Rattle.commands.specs.Endings.{StoppedAt, HasOnlyPrinted}
 use Rattle.commands.specs.Loaded.{IsLoaded, LoadFails}
@@ -18,14 +18,15 @@ use Rattle.commands.specs.declared.messages.CommandFault.{CommandFault}
 use Rattle.commands.specs.declared.messages.CommandFault.TheVariants as faults
 use Rattle.commands.specs.declared.messages.Stop.TheVariants as stops
 
--- What is asked for: the name of the command, the folder, the filter, the base, whether that has to be there, and the file that is
--- printed to, none for the output.
+-- What is asked for: the name of the command, the folder, the filter, the base, whether that has to be there, whether index.txt is read, and the
+-- file that is printed to, none for the output.
 pub record Query : Type 0 where
   pub command : List ℕ
   pub db : List ℕ
   pub filter : Option (List ℕ)
   pub base : Option (List ℕ)
   pub needs_base : Bool
+  pub needs_index : Bool
   pub file : Option (List ℕ)
 
 -- ---- what it prints of
@@ -66,18 +67,27 @@ pub record IsRefused (q : Query) (files : Option Files) (code : Code) : Type 0 w
   pub loaded : IsLoaded files q.db conf entries
   pub refused : LacksBase q conf entries code
 
+-- index.txt is what can't be read, where a directory was loaded
+pub record IndexUnread (q : Query) (files : Option Files) (name : List ℕ) : Type 0 where
+  pub needs : q.needs_index ≡ true
+  pub conf : Conf
+  pub entries : Entries
+  pub loaded : IsLoaded files q.db conf entries
+  pub name_is : name ≡ index_name q.db
+
 -- the name of what it prints to
 abbrev pub target_of : Option (List ℕ) → List ℕ
 target_of file = unwrap_or file (codes "output")
 
--- With which fault it stops: its filter is none, no directory was loaded, the base isn't there, or what it prints to can't be written. They
--- are looked for in this order: where one of the later ones is told, the text spells a filter.
+-- With which fault it stops: its filter is none, no directory was loaded, index.txt can't be read, the base isn't there, or what it prints to
+-- can't be written. They are looked for in this order: where one of the later ones is told, the text spells a filter.
 abbrev pub StopsWith : Query → Option Files → CommandFault → Type 0
 StopsWith q files faults.Words = ⊥
 StopsWith q files (faults.Filter fault) = IsNoFilterFor q.filter fault
 StopsWith q files (faults.Code by code) = HasFilter q.filter × (by.now ≡ q.command) × IsRefused q files code
 StopsWith q files (faults.CannotWrite name) = string_bytes name ≡ target_of q.file
 StopsWith q files faults.OutOfMemory = ⊤
+StopsWith q files (faults.CannotRead name) = HasFilter q.filter × (LoadFails files q.db (faults.CannotRead name) ⊎ IndexUnread q files (string_bytes name))
 StopsWith q files fault = HasFilter q.filter × LoadFails files q.db fault
 
 -- ---- what it printed by then

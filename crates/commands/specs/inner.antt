@@ -5,3 +5,4 @@ pub mod Views
 pub mod Printed
 pub mod Stopped
 pub mod Stores
+pub mod IndexFiles

@@ -43,7 +43,7 @@ pub fn path(alloc: Global, db: &str, name: &str) -> Result<String, AllocError>
 }
 
 /// Opens the file of this name.
-fn open<F: Folder>(alloc: Global, folder: &F, name: &str) -> Result<Option<F::In>, CommandFault>
+pub fn open<F: Folder>(alloc: Global, folder: &F, name: &str) -> Result<Option<F::In>, CommandFault>
     ensures finds { IfOk result (λ o. Finds (F.files folder.now) name.now (option_map (λ s. (F.In.seen s).left) o)) }
     ensures err { IfErr result (FailsToRead name.now) }
     ensures ok { IfOk result (λ o. IfSome o (λ s. (F.In.seen s).failed ≡ 0)) }
@@ -86,7 +86,11 @@ pub fn store<F: Folder, T: FileText>(
 }
 
 /// All bytes of a source that has this name.
-fn contents<S: Source>(alloc: Global, source: &mut S, name: &str) -> Result<Vec<u8>, CommandFault>
+pub fn contents<S: Source>(
+    alloc: Global,
+    source: &mut S,
+    name: &str,
+) -> Result<Vec<u8>, CommandFault>
     requires { (S.seen source.old).failed < 2 ^ 64 - 1 }
     ensures bytes { IfOk result (λ v. IfSome (S.seen source.old).left (λ bs. v.items ≡ bs)) }
     ensures err { IfErr result (FailsToRead name.now) }

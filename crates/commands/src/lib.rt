@@ -6,6 +6,7 @@ mod database;
 mod dispatch;
 mod finding;
 mod folder;
+mod index_file;
 mod messages;
 mod part;
 mod searching;

@@ -1,28 +1,40 @@
 //! search: the entries that a filter finds are printed as LDIF.
-ghost use Rattle.std.specs.Prelude.{◌≡◌, ℕ, ◌<◌, ◌-◌, ◌^◌, Bool, List, None, IfOk, IfErr, codes};
+ghost use Rattle.std.specs.Prelude.{◌≡◌, ℕ, ◌<◌, ◌-◌, ◌^◌, Bool, List, None, Some, Ok, Err, map, IfOk, IfErr, OnOk, codes};
+ghost use Rattle.std.specs.Option.{option_copied};
+ghost use Rattle.device.specs.Device.{Took};
 ghost use Rattle.schema.specs.declared.code.Code.TheVariants.{SizeLimitExceeded};
+ghost use Rattle.search.specs.Walks.{seen};
+ghost use Rattle.directory.specs.Found.{AreThere, found_text, up_to, goes_past};
+ghost use Rattle.commands.specs.Asked.{base_of, IsBase, IsSelection};
+ghost use Rattle.commands.specs.Failures.{FailsToWrite};
 ghost use Rattle.commands.specs.Worlds.{World};
 ghost use Rattle.commands.specs.Messages.{code_text, fault_text};
 ghost use Rattle.commands.specs.Statuses.{status_of_fault};
-ghost use Rattle.commands.specs.Queries.{HasBegun, PrintsPartly, StopsWith};
-ghost use Rattle.commands.specs.Prints.{search_query, IsFoundText, SearchText, SearchGoesThrough, SearchStops};
-ghost use Rattle.commands.specs.inner.Refusals.{RefusesOrBreaks};
+ghost use Rattle.commands.specs.Queries.{IsBegun, HasBegun, PrintsPartly, StopsWith};
+ghost use Rattle.commands.specs.Prints.{search_query, IsFoundText, SearchGoesThrough, SearchStops};
+ghost use Rattle.commands.specs.inner.IndexFiles.{said, IsTrue, IsSilent, HasLoaded};
+ghost use Rattle.commands.specs.inner.Refusals.{Refuses, RefusesOrBreaks};
 ghost use Rattle.commands.specs.inner.Printed.{HasPrinted};
-ghost use Rattle.commands.specs.inner.Views.{basis_of};
+ghost use Rattle.commands.specs.inner.Views.{basis_of, basis_in};
 ghost use Rattle.commands.specs.inner.Stopped.{CanTell, HasEnded};
 
 use crate::database::{Database, load_database};
 use crate::finding::{filter_of, path_of, refused};
 use crate::folder::Folder;
+use crate::index_file::{IndexFile, read_index, warn_of};
 use crate::messages::{CommandFault, Status, Stop, tell};
 use command_line::SearchOptions;
 use device::Sink;
-use directory::{Selection, search_tree, write_found};
-use filter::prepare;
+use directory::{Directory, Selection, search_with, write_found};
+use filter::{Prepared, prepare};
 use filter_text::Filter;
-use schema::Code;
+use id_sets::IdSet;
+use schema::{Code, Conf, Path};
+use search::Hits;
 use std::alloc::Global;
 use std::mem;
+use stored_index::StoredIndex;
+use tree::Tree;
 
 /// The name that its result codes are printed with.
 const NAME: &str = "search";
@@ -38,69 +50,222 @@ fn past_limit() -> CommandFault
     }
 }
 
-/// Prints what is found in a directory, and answers whether there is more than may be printed.
-fn print_found<O: Sink>(
+/// What is searched for, under a configuration.
+#[derive(Drop)]
+struct Wanted {
+    base: Path,
+    selection: Selection,
+    filter: Prepared,
+}
+
+/// Reads what is asked for under a configuration.
+fn wanted_by(
     alloc: Global,
     asked: &SearchOptions<'_>,
     filter: &Filter,
-    database: &Database,
+    conf: &Conf,
+) -> Result<Wanted, CommandFault>
+    ensures base { IfOk result (λ w. IsBase conf.now (option_copied asked.now.base) w.base) }
+    ensures selection { IfOk result (λ w. IsSelection conf.now (map (λ w. w.now) asked.now.attributes.items) w.selection) }
+    ensures filter { IfOk result (λ w. w.filter ≡ record { conf = conf.now; filter = filter.now }) }
+    ensures fault { IfErr result (Refuses (codes "search") (λ code. base_of conf.now (option_copied asked.now.base) ≡ Err code)) }
+{
+    let base = path_of(alloc, conf, asked.base, NAME)?;
+    let selection = Selection::of(alloc, conf, asked.attributes.as_slice())?;
+    let filter = prepare(alloc, filter, conf)?;
+    Ok(Wanted {
+        base,
+        selection,
+        filter,
+    })
+}
+
+/// Prints the entries that were found, and answers whether there are more than may be printed.
+fn print_hits<S: IdSet, O: Sink>(
+    alloc: Global,
+    tree: &Tree,
+    conf: &Conf,
+    hits: Hits<'_, S>,
+    limit: Option<u32>,
+    selection: &Selection,
     out: &mut O,
 ) -> Result<bool, CommandFault>
-    requires { (O.written out.old).failed < 2 ^ 64 - 1 }
-    ensures found { IfOk result (λ past. HasPrinted
-        (IsFoundText asked.now (basis_of filter.now database.now.tree) past)
-        (O.written out.old) (O.written out.new)) }
-    ensures fault { IfErr result (RefusesOrBreaks (search_query asked.now) database.now.tree.conf database.now.tree.entries) }
-    ensures partly { IfErr result (PrintsPartly (HasBegun
-        (λ text. (past : Bool) × IsFoundText asked.now (basis_of filter.now database.now.tree) past text) None)
-        (O.written out.old) (O.written out.new)) }
+    requires made { tree.now.conf ≡ conf.now }
+    requires can_fail { (O.written out.old).failed < 2 ^ 64 - 1 }
+    requires there { AreThere tree.now.entries (map seen hits.to_come) }
+    ensures past { IfOk result (λ past. past ≡ goes_past limit (map seen hits.entry.to_come)) }
+    ensures printed { OnOk result (Took (O.written out.old) (O.written out.new)
+        (found_text tree.now.conf tree.now.entries selection.now (up_to limit (map seen hits.entry.to_come)))) }
+    ensures fault { IfErr result (FailsToWrite (codes "output")) }
+    ensures begun { IfErr result (λ f. IsBegun f (O.written out.old) (O.written out.new)
+        (found_text tree.now.conf tree.now.entries selection.now (up_to limit (map seen hits.entry.to_come)))) }
 {
-    let base = path_of(alloc, &database.conf, asked.base, NAME)?;
-    let selection = Selection::of(alloc, &database.conf, asked.attributes.as_slice())?;
-    let prepared = prepare(alloc, filter, &database.conf)?;
-    let hits = match search_tree(alloc, &database.tree, &base, asked.scope, &prepared) {
-        Ok(hits) => hits,
-        Err(refusal) => return Err(refused(refusal, NAME)),
-    };
-    match write_found(
-        alloc,
-        &database.tree,
-        &database.conf,
-        out,
-        hits,
-        asked.limit,
-        &selection,
-    ) {
+    match write_found(alloc, tree, conf, out, hits, limit, selection) {
         Ok(past) => Ok(past),
         Err(fault) => Err(CommandFault::of_output(alloc, fault)),
     }
 }
 
-#[tactic(auto, using(crate::proofs::Stopping::filter_stops, crate::proofs::Stopping::load_stops))]
-fn load_and_print<F: Folder, O: Sink>(
+/// Prints what is found by the rows of an index text, and answers whether there is more than may be printed.
+fn print_by_text<O: Sink>(
     alloc: Global,
     asked: &SearchOptions<'_>,
-    folder: &F,
+    filter: &Filter,
+    database: &Database,
+    stored: &StoredIndex,
+    out: &mut O,
+) -> Result<bool, CommandFault>
+    requires can_fail { (O.written out.old).failed < 2 ^ 64 - 1 }
+    requires is_true { IsTrue database.now.tree.conf database.now.tree.entries (Some (Ok stored.now)) }
+    ensures found { IfOk result (λ past. HasPrinted
+        (IsFoundText asked.now (Some (Ok stored.now)) (basis_of filter.now database.now.tree) past)
+        (O.written out.old) (O.written out.new)) }
+    ensures fault { IfErr result (RefusesOrBreaks (search_query asked.now) database.now.tree.conf database.now.tree.entries) }
+    ensures partly { IfErr result (PrintsPartly (HasBegun
+        (λ text. (past : Bool) × IsFoundText asked.now (Some (Ok stored.now)) (basis_of filter.now database.now.tree) past text) None)
+        (O.written out.old) (O.written out.new)) }
+{
+    let Database { conf, tree } = database;
+    conf.holds();
+    let wanted = wanted_by(alloc, asked, filter, conf)?;
+    match search_with(
+        alloc,
+        tree,
+        stored,
+        &wanted.base,
+        asked.scope,
+        &wanted.filter,
+    ) {
+        Ok(hits) => print_hits(alloc, tree, conf, hits, asked.limit, &wanted.selection, out),
+        Err(refusal) => Err(refused(refusal, NAME)),
+    }
+}
+
+/// Prints what is found in a directory, and answers whether there is more than may be printed.
+fn print_found<O: Sink>(
+    alloc: Global,
+    asked: &SearchOptions<'_>,
+    filter: &Filter,
+    dir: &Directory,
     out: &mut O,
 ) -> Result<bool, CommandFault>
     requires { (O.written out.old).failed < 2 ^ 64 - 1 }
-    ensures searched { IfOk result (λ past. HasPrinted (SearchText asked.now (F.files folder.now) past) (O.written out.old) (O.written out.new)) }
-    ensures stops { IfErr result (StopsWith (search_query asked.now) (F.files folder.now)) }
-    ensures partly { IfErr result (PrintsPartly (HasBegun (λ text. (past : Bool) × SearchText asked.now (F.files folder.now) past text) None)
+    ensures found { IfOk result (λ past. HasPrinted
+        (IsFoundText asked.now None (basis_in filter.now dir.now) past)
+        (O.written out.old) (O.written out.new)) }
+    ensures fault { IfErr result (RefusesOrBreaks (search_query asked.now) dir.now.conf dir.now.entries) }
+    ensures partly { IfErr result (PrintsPartly (HasBegun
+        (λ text. (past : Bool) × IsFoundText asked.now None (basis_in filter.now dir.now) past text) None)
         (O.written out.old) (O.written out.new)) }
 {
-    let filter = filter_of(alloc, asked.filter)?;
-    let database = load_database(alloc, folder, asked.db)?;
-    let printed = print_found(alloc, asked, &filter, &database, out);
+    let wanted = wanted_by(alloc, asked, filter, dir.conf())?;
+    match dir.search(&wanted.base, asked.scope, &wanted.filter) {
+        Ok(hits) => print_hits(
+            alloc,
+            dir.tree(),
+            dir.conf(),
+            hits,
+            asked.limit,
+            &wanted.selection,
+            out,
+        ),
+        Err(refusal) => Err(refused(refusal, NAME)),
+    }
+}
+
+/// Prints what is found in the directory that these entries make, by an index that is made of them.
+fn print_anew<O: Sink>(
+    alloc: Global,
+    asked: &SearchOptions<'_>,
+    filter: &Filter,
+    database: Database,
+    out: &mut O,
+) -> Result<bool, CommandFault>
+    requires { (O.written out.old).failed < 2 ^ 64 - 1 }
+    ensures found { IfOk result (λ past. HasPrinted
+        (IsFoundText asked.now None (basis_of filter.now database.tree) past)
+        (O.written out.old) (O.written out.new)) }
+    ensures fault { IfErr result (RefusesOrBreaks (search_query asked.now) database.tree.conf database.tree.entries) }
+    ensures partly { IfErr result (PrintsPartly (HasBegun
+        (λ text. (past : Bool) × IsFoundText asked.now None (basis_of filter.now database.tree) past text) None)
+        (O.written out.old) (O.written out.new)) }
+{
+    let Database { conf, tree } = database;
+    let dir = Directory::from_tree(alloc, conf, tree)?;
+    let printed = print_found(alloc, asked, filter, &dir, out);
     // The program ends with its command, and that frees the entries at once.
-    mem::forget(database);
+    mem::forget(dir);
     printed
 }
 
+/// What a search reads: the filter, and the directory with what index.txt says of it.
+#[derive(Drop)]
+struct Loaded {
+    filter: Filter,
+    database: Database,
+    file: IndexFile,
+}
+
+/// Reads the filter, the directory and its index.txt, in this order.
+#[tactic(auto, using(crate::proofs::Stopping::filter_stops, crate::proofs::Stopping::load_stops, crate::proofs::Stopping::index_stops))]
+fn load<F: Folder>(
+    alloc: Global,
+    asked: &SearchOptions<'_>,
+    folder: &F,
+) -> Result<Loaded, CommandFault>
+    ensures loaded { IfOk result (HasLoaded asked.now (F.files folder.now)) }
+    ensures stops { IfErr result (StopsWith (search_query asked.now) (F.files folder.now)) }
+    ensures silent { IfErr result IsSilent }
+{
+    let filter = filter_of(alloc, asked.filter)?;
+    let database = load_database(alloc, folder, asked.db)?;
+    let file = read_index(alloc, folder, asked.db, &database)?;
+    Ok(Loaded {
+        filter,
+        database,
+        file,
+    })
+}
+
+/// Prints what is found by index.txt; where that can't be used, by an index that is made of the entries.
+fn print<O: Sink>(
+    alloc: Global,
+    asked: &SearchOptions<'_>,
+    loaded: Loaded,
+    out: &mut O,
+) -> Result<bool, CommandFault>
+    requires can_fail { (O.written out.old).failed < 2 ^ 64 - 1 }
+    requires is_true { IsTrue loaded.database.tree.conf loaded.database.tree.entries (said loaded.file) }
+    ensures found { IfOk result (λ past. HasPrinted (IsFoundText asked.now (said loaded.file) (basis_of loaded.filter loaded.database.tree) past)
+        (O.written out.old) (O.written out.new)) }
+    ensures fault { IfErr result (RefusesOrBreaks (search_query asked.now) loaded.database.tree.conf loaded.database.tree.entries) }
+    ensures partly { IfErr result (PrintsPartly (HasBegun
+        (λ text. (past : Bool) × IsFoundText asked.now (said loaded.file) (basis_of loaded.filter loaded.database.tree) past text) None)
+        (O.written out.old) (O.written out.new)) }
+{
+    let Loaded {
+        filter,
+        database,
+        file,
+    } = loaded;
+    match file {
+        IndexFile::Read(stored) => {
+            let printed = print_by_text(alloc, asked, &filter, &database, &stored, out);
+            // The program ends with its command, and that frees the entries at once.
+            mem::forget(database);
+            mem::forget(stored);
+            printed
+        }
+        IndexFile::Faulty(_) => print_anew(alloc, asked, &filter, database, out),
+        IndexFile::Missing => print_anew(alloc, asked, &filter, database, out),
+    }
+}
+
 /// Prints the entries of the directory in a folder that are in scope of the base and that the filter is True of, with the attributes that
-/// are asked for (RFC 4511, 4.5.1). Where more than the limit match, the first ones are printed, the code 4 sizeLimitExceeded is told on
-/// `err`, and it ends as `Refused`. It stops where the filter is none, the directory can't be loaded, the base isn't there (its code is
-/// 32 noSuchObject then), or `out` or memory fails.
+/// are asked for (RFC 4511, 4.5.1). They are found by index.txt, if it is there and was written for these entries; if it is there and has a
+/// fault, that is told on `err` first. Where more than the limit match, the first ones are printed, the code 4 sizeLimitExceeded is told on
+/// `err`, and it ends as `Refused`. It stops where the filter is none, the directory can't be loaded, index.txt can't be read, the base
+/// isn't there (its code is 32 noSuchObject then), or `out`, `err` or memory fails.
 pub fn search<F: Folder, O: Sink, E: Sink>(
     alloc: Global,
     asked: &SearchOptions<'_>,
@@ -115,7 +280,9 @@ pub fn search<F: Folder, O: Sink, E: Sink>(
         (record w { files = F.files folder.now; output = O.written out.new; messages = E.written err.new }) result }
     ensures can_tell { IfErr result (λ why. CanTell why (E.written err.new).failed) }
 {
-    match load_and_print(alloc, asked, folder, out) {
+    let loaded = load(alloc, asked, folder)?;
+    warn_of(alloc, err, &loaded.file)?;
+    match print(alloc, asked, loaded, out) {
         Ok(false) => Ok(Status::Done),
         Ok(true) => Ok(tell(alloc, err, &past_limit())),
         Err(fault) => Err(Stop::Fault(fault)),

@@ -1,46 +1,51 @@
-use Rattle.std.proofs.Common.{Bool, map, refl, sym, ap, subst}
-use Rattle.std.specs.Prelude.{codes, None}
+use Rattle.std.proofs.Common.{Bool, map, refl, ap, subst, ◌∙◌}
+use Rattle.std.specs.Prelude.{codes, None, IfErr, OnOk}
 use Rattle.std.specs.Option.{option_copied}
 use Rattle.schema.specs.Conf.{Conf}
-use Rattle.filter_text.specs.declared.filters.Filter.{Filter}
+use Rattle.device.specs.Device.{Took}
+use Rattle.tree.specs.Trees.{Tree}
+use Rattle.filter_text.specs.Spells.{view}
 use Rattle.filter.specs.Made.{Made}
+use Rattle.search.specs.Searches.{scan}
+use Rattle.search.specs.Walks.{seen}
+use Rattle.directory.specs.Found.{found_text, up_to, goes_past}
 use Rattle.commands.specs.Asked.{IsBase}
 use Rattle.commands.specs.Prints.{IsFoundText}
-use Rattle.commands.specs.Queries.{HasBegun}
-use Rattle.commands.specs.inner.Views.{basis_of}
-use Rattle.directory.specs.Found.{found_text, up_to, goes_past}
-use Rattle.search.specs.Walks.{seen}
-use Rattle.commands.proofs.Stopping.{write_told, begun_told, unwritten_prints}
-use Rattle.commands.proofs.Ends.{found_so, selection_so}
+use Rattle.commands.specs.Queries.{IsBegun}
+use Rattle.commands.specs.inner.Views.{basis_in}
+use Rattle.commands.proofs.Ends.{found_so, selection_so, printed_so, text_begun}
 use Rattle.commands.proofs.searching.print_found.Goals as goal
 
-pub returns-in-Ok-write_found-clause-found : goal.returns-in-Ok-write_found-clause-found
-returns-in-Ok-write_found-clause-found g c =
-    let based = subst (λ (conf : Conf). IsBase conf (option_copied c.args.asked.now.base) c.in_ok-base.base) (sym c.args.database.now.same_conf) c.in_ok-base.ensures.found in
-    let selects = selection_so c.args.database.now.tree.conf c.args.database.now.conf c.args.asked.now.attributes.items c.as_slice.result.now c.in_ok-selection.selection (sym c.args.database.now.same_conf) c.as_slice.ensures.value c.in_ok-selection.ensures in
-    let basis = basis_of c.in_ok-prepared.prepared.filter c.args.database.now.tree in
-    let text = found_text c.args.database.now.tree.conf c.args.database.now.tree.entries c.in_ok-selection.selection (up_to c.args.asked.now.limit (map seen c.in-Ok.hits.to_come)) in
-    let past = c.in-Ok-write_found.past in
-    record {
-      text = text;
-      is = subst (λ (f : Filter). IsFoundText c.args.asked.now (basis_of f c.args.database.now.tree) past text) (ap (λ (m : Made). m.filter) c.in_ok-prepared.ensures)
-          (found_so c.args.asked.now basis c.in_ok-base.base c.in_ok-selection.selection c.in-Ok.hits.to_come based selects (sym c.in-Ok.ensures.there) c.in-Ok.ensures.found past c.in-Ok-write_found.ensures.past_is);
-      took = c.in-Ok-write_found.ensures.written;
-    }
+pub returns-in-Ok-clause-found : goal.returns-in-Ok-clause-found
+returns-in-Ok-clause-found g c =
+    let asked = c.args.asked.now in
+    let d = c.args.dir.now in
+    printed_so (λ past text. IsFoundText asked None (basis_in c.args.filter.now d) past text) (goes_past asked.limit (map seen c.in-Ok.hits.to_come))
+    (found_text d.conf d.entries c.in_ok-wanted.wanted.selection (up_to asked.limit (map seen c.in-Ok.hits.to_come)))
+    (found_so asked None (basis_in c.args.filter.now d) c.in_ok-wanted.wanted.base c.in_ok-wanted.wanted.selection (map seen c.in-Ok.hits.to_come)
+    (subst (λ (conf : Conf). IsBase conf (option_copied asked.base) c.in_ok-wanted.wanted.base) c.conf.ensures c.in_ok-wanted.ensures.base)
+    (selection_so d.conf c.conf.result.now asked.attributes.items asked.attributes.items c.in_ok-wanted.wanted.selection c.conf.ensures refl c.in_ok-wanted.ensures.selection)
+    c.in-Ok.ensures.there
+    (c.in-Ok.ensures.found ∙ ap (λ (m : Made). scan d.conf d.entries c.in_ok-wanted.wanted.base asked.scope (view m.filter)) c.in_ok-wanted.ensures.filter)
+    (λ own. refl))
+    c.print_hits.result _ _ c.print_hits.ensures.past
+    (subst (λ (t : Tree). OnOk c.print_hits.result (Took (g.O.Sink.written c.args.out.now) (g.O.Sink.written c.print_hits.new.out) (found_text t.conf t.entries c.in_ok-wanted.wanted.selection (up_to asked.limit (map seen c.in-Ok.hits.to_come))))) c.tree.ensures c.print_hits.ensures.printed)
 
-pub returns-clause-partly : goal.returns-clause-partly
-returns-clause-partly g c =
-    let based = subst (λ (conf : Conf). IsBase conf (option_copied c.args.asked.now.base) c.in_ok-base.base) (sym c.args.database.now.same_conf) c.in_ok-base.ensures.found in
-    let selects = selection_so c.args.database.now.tree.conf c.args.database.now.conf c.args.asked.now.attributes.items c.as_slice.result.now c.in_ok-selection.selection (sym c.args.database.now.same_conf) c.as_slice.ensures.value c.in_ok-selection.ensures in
-    let basis = basis_of c.in_ok-prepared.prepared.filter c.args.database.now.tree in
-    let text = found_text c.args.database.now.tree.conf c.args.database.now.tree.entries c.in_ok-selection.selection (up_to c.args.asked.now.limit (map seen c.in-Ok.hits.to_come)) in
-    let past = goes_past c.args.asked.now.limit c.in-Ok.hits.to_come in
-    unwritten_prints (HasBegun (λ text. (past : Bool) × IsFoundText c.args.asked.now (basis_of c.args.filter.now c.args.database.now.tree) past text) None) _ _ (codes "output") c.of_output.result (write_told c.in-Err-write_found.fault _ c.of_output.ensures) (record {
-      text = text;
-      is = (
-        past,
-        subst (λ (f : Filter). IsFoundText c.args.asked.now (basis_of f c.args.database.now.tree) past text) (ap (λ (m : Made). m.filter) c.in_ok-prepared.ensures)
-            (found_so c.args.asked.now basis c.in_ok-base.base c.in_ok-selection.selection c.in-Ok.hits.to_come based selects (sym c.in-Ok.ensures.there) c.in-Ok.ensures.found past refl),
-      );
-      begins = begun_told c.in-Err-write_found.fault _ _ _ _ c.of_output.ensures c.in-Err-write_found.ensures;
-    })
+pub returns-in-Ok-clause-partly : goal.returns-in-Ok-clause-partly
+returns-in-Ok-clause-partly g c =
+    let asked = c.args.asked.now in
+    let d = c.args.dir.now in
+    let past = goes_past asked.limit (map seen c.in-Ok.hits.to_come) in
+    text_begun (λ text. (past : Bool) × IsFoundText asked None (basis_in c.args.filter.now d) past text) None
+    (found_text d.conf d.entries c.in_ok-wanted.wanted.selection (up_to asked.limit (map seen c.in-Ok.hits.to_come))) (
+      past,
+      found_so asked None (basis_in c.args.filter.now d) c.in_ok-wanted.wanted.base c.in_ok-wanted.wanted.selection (map seen c.in-Ok.hits.to_come)
+          (subst (λ (conf : Conf). IsBase conf (option_copied asked.base) c.in_ok-wanted.wanted.base) c.conf.ensures c.in_ok-wanted.ensures.base)
+          (selection_so d.conf c.conf.result.now asked.attributes.items asked.attributes.items c.in_ok-wanted.wanted.selection c.conf.ensures refl c.in_ok-wanted.ensures.selection)
+          c.in-Ok.ensures.there
+          (c.in-Ok.ensures.found ∙ ap (λ (m : Made). scan d.conf d.entries c.in_ok-wanted.wanted.base asked.scope (view m.filter)) c.in_ok-wanted.ensures.filter)
+          (λ own. refl)
+          past refl,
+    )
+    c.print_hits.result (codes "output") _ _ c.print_hits.ensures.fault
+    (subst (λ (t : Tree). IfErr c.print_hits.result (λ f. IsBegun f (g.O.Sink.written c.args.out.now) (g.O.Sink.written c.print_hits.new.out) (found_text t.conf t.entries c.in_ok-wanted.wanted.selection (up_to asked.limit (map seen c.in-Ok.hits.to_come))))) c.tree.ensures c.print_hits.ensures.begun)

@@ -1,0 +1,64 @@
+-- What index.txt says, by what was found at its name.
+use Rattle.std.proofs.Common.{◌≡◌, ℕ, suc, ◌<◌, List, [], ◌∷◌, get_or, Option, None, Some, sym, ap, ◌∙◌, subst}
+use Rattle.std.specs.Prelude.{Result, Ok, Err, IfSome}
+use Rattle.std.specs.List.{AllByRecursion}
+use Rattle.std.specs.Option.{option_map}
+use Rattle.std.specs.FinMap as finite
+use Rattle.commands.specs.Folders.{Files, Finds, index_name}
+use Rattle.schema.specs.Conf.{Conf}
+use Rattle.tree.specs.Directories.{Entries}
+use Rattle.stored_index.specs.Rows.{IsByte}
+use Rattle.stored_index.specs.Stored.{Stored, index_in, stored, shown_by}
+use Rattle.stored_index.specs.declared.fault.IndexFaultKind.{IndexFaultKind}
+use Rattle.directory.specs.IndexTexts.{index_rows, index_text, stamp}
+use Rattle.directory.specs.Searches.{ReflectsDump, ShowsIndexText}
+use Rattle.index.specs.Postings.{Shown}
+use Rattle.commands.specs.Failures.{FailsToRead}
+use Rattle.commands.specs.IndexFiles.{Said, SaysOf, said_by}
+use Rattle.commands.specs.inner.IndexFiles.{IsTrue}
+use Rattle.commands.specs.declared.messages.CommandFault.{CommandFault}
+
+-- what was read to its end is what stands there
+pub read_so : (files : Option Files) (name : List ℕ) (left : Option (List ℕ)) (text : List ℕ) → Finds files name (Some left) → IfSome left (λ bytes. text ≡ bytes) → Finds files name (Some (Some text))
+read_so None name left text finds is = tt
+read_so (Some m) name None text finds is = by (finite.get m name) finds
+  where
+    by : (o : Option (List ℕ)) → Some None ≡ option_map (λ bytes. Some bytes) o → Some (Some text) ≡ option_map (λ bytes. Some bytes) o
+    by None h = cc
+    by (Some bytes) h = cc
+read_so (Some m) name (Some bytes) text finds is = ap (λ (b : List ℕ). Some (Some b)) is ∙ finds
+
+pub named_so : (files : Option Files) (db name : List ℕ) (found : Option (Option (List ℕ))) → name ≡ index_name db → Finds files name found → Finds files (index_name db) found
+named_so files db name found is = subst (λ (n : List ℕ). Finds files n found) is
+
+pub unread_so : (db name : List ℕ) (f : CommandFault) → name ≡ index_name db → FailsToRead name f → FailsToRead (index_name db) f
+unread_so db name f is = subst (λ (n : List ℕ). FailsToRead n f) is
+
+-- the text of the file, and what it is read as
+pub said_so : (files : Option Files) (db : List ℕ) (conf : Conf) (d : Entries) (text : List ℕ) (answer : Result Stored IndexFaultKind) → Finds files (index_name db) (Some (Some text))
+    → index_in conf (finite.len d) (stamp conf d) text ≡ answer → SaysOf files db conf d (Some answer)
+said_so files db conf d text answer there is = record { text = Some text; there = there; says = ap (λ (r : Result Stored IndexFaultKind). Some r) (sym is) }
+
+-- what the text of the directory's own index is read as has each entry under exactly its keys
+pub true_so : (conf : Conf) (d : Entries) (x : Stored) → index_in conf (finite.len d) (stamp conf d) (index_text conf d) ≡ Ok (stored conf (index_rows conf d))
+    → ShowsIndexText (shown_by (stored conf (index_rows conf d))) conf d → ((shown : Shown) → ShowsIndexText shown conf d → ReflectsDump shown conf.types d) → IsTrue conf d (Some (Ok x))
+true_so conf d x read shows reflect y is own =
+    let same : stored conf (index_rows conf d) ≡ y = let k : Some (Ok y) ≡ Some (Ok (stored conf (index_rows conf d))) = sym is ∙ own ∙ ap (λ (r : Result Stored IndexFaultKind). Some r) read in cc in
+    subst (λ (y : Stored). ReflectsDump (shown_by y) conf.types d) same (reflect (shown_by (stored conf (index_rows conf d))) shows)
+
+-- what is no index is none of that
+pub none_true : (conf : Conf) (d : Entries) → IsTrue conf d None
+none_true conf d x is = absurd cc
+
+pub faulty_true : (conf : Conf) (d : Entries) (fault : IndexFaultKind) → IsTrue conf d (Some (Err fault))
+faulty_true conf d fault x is = absurd cc
+
+-- the answer to a call with other names for the same things
+pub answered : (conf conf' : Conf) (d : Entries) (count : ℕ) (digest text' text : List ℕ) (answer : Result Stored IndexFaultKind) → conf ≡ conf' → count ≡ finite.len d → digest ≡ stamp conf d → text' ≡ text
+    → index_in conf' count digest text' ≡ answer → index_in conf (finite.len d) (stamp conf d) text ≡ answer
+answered conf conf' d count digest text' text answer same_conf same_count same_digest same_text is =
+    (λ i. index_in (same_conf i) (sym same_count i) (sym same_digest i) (sym same_text i)) ∙ is
+
+pub each_byte : (bs : List ℕ) → ((i : ℕ) → get_or bs i 0 < 256) → AllByRecursion IsByte bs
+each_byte [] each = tt
+each_byte (b ∷ bs) each = (each 0, each_byte bs (λ i. each (suc i)))

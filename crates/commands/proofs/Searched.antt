@@ -1,0 +1,110 @@
+-- How a search ends, from what its parts say.
+use Rattle.std.proofs.Common.{◌≡◌, ℕ, inl, inr, Bool, true, false, List, [], Option, Some, None, refl, sym, ap, ◌∙◌, subst}
+use Rattle.std.specs.Prelude.{Ok, Err, codes}
+use Rattle.device.specs.Device.{Written}
+use Rattle.schema.specs.declared.code.Code.TheVariants.{SizeLimitExceeded}
+use Rattle.stored_index.specs.Stored.{Stored}
+use Rattle.stored_index.specs.declared.fault.IndexFaultKind.{IndexFaultKind}
+use Rattle.command_line.specs.declared.request.SearchOptions.{SearchOptions}
+use Rattle.commands.specs.Failures.{IsMemory}
+use Rattle.commands.specs.Folders.{Files}
+use Rattle.commands.specs.IndexFiles.{Said, SaysOf, Warns, IsWarned}
+use Rattle.commands.specs.Messages.{IsTold, code_text}
+use Rattle.commands.specs.Prints.{search_query, IsFoundText, SearchText, SearchGoesThrough, IsSaid, SearchStops}
+use Rattle.commands.specs.Queries.{Basis, HasBasis, StopsWith, HasBegun, PrintsPartly}
+use Rattle.commands.specs.Worlds.{World}
+use Rattle.commands.specs.inner.IndexFiles.{said, IsSilent, FailsToSay, HasLoaded}
+use Rattle.commands.specs.inner.Printed.{HasPrinted}
+use Rattle.commands.specs.inner.Stopped.{CanTell, HasStopped}
+use Rattle.commands.specs.inner.Views.{basis_of}
+use Rattle.commands.specs.declared.messages.CommandFault.{CommandFault}
+use Rattle.commands.specs.declared.messages.CommandFault.TheVariants as faults
+use Rattle.commands.specs.declared.messages.Status.{Status}
+use Rattle.commands.specs.declared.messages.Status.TheVariants.{Done, Refused}
+use Rattle.commands.specs.declared.messages.Stop.{Stop}
+use Rattle.commands.specs.declared.messages.Stop.TheVariants as stops
+use Rattle.commands.specs.declared.searching.Loaded.{Loaded}
+use Rattle.commands.proofs.Ends.{has_basis}
+use Rattle.commands.proofs.Stopping.{stopped, query_stops, silent_prints, of_memory}
+
+-- what was loaded, and what its index.txt says
+module _ (asked : SearchOptions) (files : Option Files) (loaded : Loaded) (h : HasLoaded asked files loaded) where
+  pub is_said : IsSaid asked files (said loaded.file)
+  is_said = record { conf = loaded.database.tree.conf; entries = loaded.database.tree.entries; loaded = h.directory; says = h.says }
+
+  pub text_so : (past : Bool) (text : List ℕ) → IsFoundText asked (said loaded.file) (basis_of loaded.filter loaded.database.tree) past text → SearchText asked files (said loaded.file) past text
+  text_so past text found =
+      has_basis (search_query asked) files (basis_of loaded.filter loaded.database.tree) h.filter_is h.directory
+      (λ (basis : Basis). SaysOf files asked.db.now basis.conf basis.entries (said loaded.file) × IsFoundText asked (said loaded.file) basis past text) (h.says, found)
+
+module _ (asked : SearchOptions) (w : World) where
+  -- ---- where it stops
+
+  pub at_once : (f : CommandFault) → StopsWith (search_query asked) w.files f → IsSilent f → SearchStops asked w (record { why = stops.Fault f; stored = []; world = w })
+  at_once f why silent = inl (query_stops (search_query asked) (λ text. ⊥) w w f why (silent_prints (HasBegun (λ text. ⊥) None) w.output w.output refl f silent) refl)
+
+  pub unsaid : (s : Said) (m : Written) (why : Stop) → IsSaid asked w.files s → FailsToSay s w.messages m why → SearchStops asked w (record { why = why; stored = []; world = record w { messages = m } })
+  unsaid (Some (Err fault)) m (stops.Fault f) is fails =
+      subst (λ (messages : Written). SearchStops asked w (record { why = stops.Fault f; stored = []; world = record w { messages = messages } })) (sym fails.1)
+      (at_once f (of_memory (StopsWith (search_query asked) w.files) tt f fails.0) (of_memory IsSilent tt f fails.0))
+  unsaid (Some (Err fault)) m (stops.Usage text) is fails = absurd fails
+  unsaid (Some (Err fault)) m stops.Messages is fails = inr (inr (record { fault = fault; is = is; why = refl; stored = refl; broke = fails; stays = refl }))
+  unsaid (Some (Ok stored)) m why is fails = absurd fails
+  unsaid None m why is fails = absurd fails
+
+  module _ (s : Said) (m : Written) (warns : Warns s w.messages m) where
+    warned : IsWarned s w (record w { messages = m })
+    warned = record { warns = warns; stays = refl }
+
+    pub stops_warned : (output : Written) (f : CommandFault) → IsSaid asked w.files s → StopsWith (search_query asked) w.files f → PrintsPartly (HasBegun (λ text. (past : Bool) × SearchText asked w.files s past text) None) w.output output f
+        → SearchStops asked w (record { why = stops.Fault f; stored = []; world = record w { output = output; messages = m } })
+    stops_warned output f is why printed = inr (inl (record {
+      said = s;
+      is = is;
+      warned = record w { messages = m };
+      warns = warned;
+      stops = query_stops (search_query asked) (λ text. (past : Bool) × SearchText asked w.files s past text) (record w { messages = m }) (record w { output = output; messages = m }) f why printed refl;
+    }))
+
+    -- ---- where it goes through
+
+    pub searched : (output : Written) → HasPrinted (SearchText asked w.files s false) w.output output → SearchGoesThrough asked w (record w { output = output; messages = m }) Done
+    searched output h = record {
+      said = s;
+      past = false;
+      text = h.text;
+      is = h.is;
+      warned = record w { messages = m };
+      warns = warned;
+      mid = record w { output = output; messages = m };
+      printed = record { took = h.took; stays = refl };
+      told = (refl, refl);
+    }
+
+    pub searched_past : (output messages : Written) (text : List ℕ) (wanted status : Status) → HasPrinted (SearchText asked w.files s true) w.output output
+        → text ≡ code_text (codes "search") SizeLimitExceeded → wanted ≡ Refused → IsTold m messages text wanted status → SearchGoesThrough asked w (record w { output = output; messages = messages }) status
+    searched_past output messages text wanted status h same_text same_status told = record {
+      said = s;
+      past = true;
+      text = h.text;
+      is = h.is;
+      warned = record w { messages = m };
+      warns = warned;
+      mid = record w { output = output; messages = m };
+      printed = record { took = h.took; stays = refl };
+      told = record {
+        told = subst (λ (t : List ℕ). IsTold m messages t Refused status) same_text (subst (λ (o : Status). IsTold m messages text o status) same_status told);
+        stays = refl;
+      };
+    }
+
+-- the messages can fail once more where they could before
+pub still_can : (why : Stop) (n k : ℕ) → k ≡ n → CanTell why n → CanTell why k
+still_can why n k same = subst (CanTell why) (sym same)
+
+-- what is found without an index is found also where index.txt has a fault
+beside_a_fault : (asked : SearchOptions) (basis : Basis) (fault : IndexFaultKind) (past : Bool) (text : List ℕ) → IsFoundText asked None basis past text → IsFoundText asked (Some (Err fault)) basis past text
+beside_a_fault asked basis fault past text h = record { base = h.base; selection = h.selection; base_is = h.base_is; there = h.there; selects = h.selects; past_is = h.past_is; text_is = h.text_is; whole = λ own. refl }
+
+pub beside : (asked : SearchOptions) (basis : Basis) (s : Said) (fault : IndexFaultKind) → s ≡ Some (Err fault) → (past : Bool) (text : List ℕ) → IsFoundText asked None basis past text → IsFoundText asked s basis past text
+beside asked basis s fault is past text h = subst (λ (s : Said). IsFoundText asked s basis past text) (sym is) (beside_a_fault asked basis fault past text h)

@@ -1,0 +1,61 @@
+-- index.txt as the parts of a search have it.
+use Rattle.std.specs.Prelude.{◌≡◌, Option, None, Some, Ok, Err, ⊤}
+use Rattle.std.specs.Option.{option_copied}
+use Rattle.device.specs.Device.{Written, Broke}
+use Rattle.stored_index.specs.declared.fault.IndexFaultKind.{IndexFaultKind}
+use Rattle.schema.specs.Conf.{Conf}
+use Rattle.tree.specs.Directories.{Entries}
+use Rattle.stored_index.specs.Stored.{Stored, shown_by}
+use Rattle.directory.specs.IndexTexts.{index_text}
+use Rattle.directory.specs.Searches.{ReflectsDump}
+use Rattle.filter_text.specs.Spells.{view}
+use Rattle.command_line.specs.declared.request.SearchOptions.{SearchOptions}
+use Rattle.commands.specs.Asked.{IsFilter}
+use Rattle.commands.specs.Failures.{IsMemory}
+use Rattle.commands.specs.Folders.{Files}
+use Rattle.commands.specs.IndexFiles.{Said, said_by, SaysOf, index_fault_text}
+use Rattle.commands.specs.Loaded.{IsLoaded}
+use Rattle.commands.specs.Messages.{line_of}
+use Rattle.commands.specs.declared.index_file.IndexFile.{IndexFile}
+use Rattle.commands.specs.declared.index_file.IndexFile.TheVariants as files
+use Rattle.commands.specs.declared.messages.CommandFault.{CommandFault}
+use Rattle.commands.specs.declared.messages.CommandFault.TheVariants as faults
+use Rattle.commands.specs.declared.searching.Loaded.{Loaded}
+use Rattle.commands.specs.declared.messages.Stop.{Stop}
+use Rattle.commands.specs.declared.messages.Stop.TheVariants as stops
+
+-- what it says
+abbrev pub said : IndexFile → Said
+said files.Missing = None
+said (files.Read stored) = Some (Ok stored)
+said (files.Faulty fault) = Some (Err fault)
+
+-- where the text is that of the directory's own index, the index has the rank of each entry under exactly its keys
+abbrev pub IsTrue : Conf → Entries → Said → Type 0
+IsTrue conf d said = (x : Stored) → said ≡ Some (Ok x) → said ≡ said_by conf d (Some (index_text conf d)) → ReflectsDump (shown_by x) conf.types d
+
+-- the line of a fault was broken off; or memory ran out, and nothing was said
+abbrev pub FailsToWarn : IndexFaultKind → Written → Written → Stop → Type 0
+FailsToWarn fault a b (stops.Fault f) = IsMemory f × (b ≡ a)
+FailsToWarn fault a b (stops.Usage text) = ⊥
+FailsToWarn fault a b stops.Messages = Broke a b (line_of (index_fault_text fault))
+
+-- so it is where there is a fault to be said
+abbrev pub FailsToSay : Said → Written → Written → Stop → Type 0
+FailsToSay (Some (Err fault)) a b why = FailsToWarn fault a b why
+FailsToSay (Some (Ok stored)) a b why = ⊥
+FailsToSay None a b why = ⊥
+
+-- ---- what a search has loaded
+
+-- with this fault nothing was printed
+abbrev pub IsSilent : CommandFault → Type 0
+IsSilent (faults.CannotWrite name) = ⊥
+IsSilent fault = ⊤
+
+-- it is the filter that was asked for, and the directory with what its index.txt says
+pub record HasLoaded (asked : SearchOptions) (files : Option Files) (loaded : Loaded) : Type 0 where
+  pub filter_is : IsFilter (option_copied asked.filter) (view loaded.filter)
+  pub directory : IsLoaded files asked.db.now loaded.database.tree.conf loaded.database.tree.entries
+  pub says : SaysOf files asked.db.now loaded.database.tree.conf loaded.database.tree.entries (said loaded.file)
+  pub is_true : IsTrue loaded.database.tree.conf loaded.database.tree.entries (said loaded.file)

@@ -1,0 +1,102 @@
+//! index.txt of a directory, as a search reads it.
+ghost use Rattle.std.specs.Prelude.{◌≡◌, ◌<◌, ◌-◌, ◌^◌, IfOk, IfErr, OnOk, string_bytes};
+ghost use Rattle.std.specs.List.{AllByRecursion};
+ghost use Rattle.device.specs.Device.{Took};
+ghost use Rattle.stored_index.specs.Rows.{IsByte};
+ghost use Rattle.commands.specs.Failures.{FailsToRead};
+ghost use Rattle.commands.specs.Folders.{index_name};
+ghost use Rattle.commands.specs.IndexFiles.{SaysOf, index_fault_text, Warns};
+ghost use Rattle.commands.specs.Messages.{line_of};
+ghost use Rattle.commands.specs.inner.IndexFiles.{said, IsTrue, FailsToWarn, FailsToSay};
+ghost use Rattle.commands.specs.inner.Stopped.{CanTell};
+
+use crate::database::{Database, contents, open, path};
+use crate::folder::Folder;
+use crate::messages::{CommandFault, Stop};
+use device::{Sink, push_all};
+use directory::{index_texts_reflect_dumps, kept_index_texts_are_read, stamp_of};
+use std::alloc::{AllocError, Global};
+use stored_index::{IndexFault, IndexFaultKind, StoredIndex};
+
+/// What index.txt says of a directory.
+#[derive(Drop)]
+pub enum IndexFile {
+    /// There is no such file.
+    Missing,
+    /// It can be read, and is of this directory as far as its stamp tells.
+    Read(StoredIndex),
+    /// This is the first thing wrong with it.
+    Faulty(IndexFaultKind),
+}
+
+// what a contract sees of bytes: each is below 256
+fn are_bytes(bytes: &[u8])
+    ensures { AllByRecursion IsByte bytes.now }
+{}
+
+/// Reads index.txt in the folder `db`, of the directory that was loaded from there.
+pub fn read_index<F: Folder>(
+    alloc: Global,
+    folder: &F,
+    db: &str,
+    database: &Database,
+) -> Result<IndexFile, CommandFault>
+    ensures says { IfOk result (λ file. SaysOf (F.files folder.now) db.now database.now.tree.conf database.now.tree.entries (said file)) }
+    ensures is_true { IfOk result (λ file. IsTrue database.now.tree.conf database.now.tree.entries (said file)) }
+    ensures err { IfErr result (FailsToRead (index_name db.now)) }
+{
+    database.conf.holds();
+    database.tree.is_directory();
+    index_texts_reflect_dumps();
+    kept_index_texts_are_read();
+    let name = path(alloc, db, "index.txt")?;
+    let Some(mut source) = open(alloc, folder, name.as_str())? else {
+        return Ok(IndexFile::Missing);
+    };
+    let text = contents(alloc, &mut source, name.as_str())?;
+    let stamp = stamp_of(alloc, &database.tree, &database.conf)?;
+    are_bytes(&stamp);
+    match StoredIndex::read(alloc, &text, &database.conf, &stamp, database.tree.len()) {
+        Ok(stored) => Ok(IndexFile::Read(stored)),
+        Err(IndexFault::Fault(kind)) => Ok(IndexFile::Faulty(kind)),
+        Err(IndexFault::OutOfMemory) => Err(CommandFault::OutOfMemory),
+    }
+}
+
+fn line_of_fault(alloc: Global, fault: IndexFaultKind) -> Result<String, AllocError>
+    ensures { IfOk result (λ s. string_bytes s ≡ line_of (index_fault_text fault)) }
+{
+    format!(in alloc; "index.txt: {fault}\n")
+}
+
+// says a fault of index.txt
+fn warn<E: Sink>(alloc: Global, err: &mut E, fault: IndexFaultKind) -> Result<(), Stop>
+    requires { (E.written err.old).failed < 2 ^ 64 - 1 }
+    ensures said { OnOk result (Took (E.written err.old) (E.written err.new) (line_of (index_fault_text fault))) }
+    ensures failed { OnOk result ((E.written err.new).failed ≡ (E.written err.old).failed) }
+    ensures err { IfErr result (FailsToWarn fault (E.written err.old) (E.written err.new)) }
+    ensures can_tell { IfErr result (λ why. CanTell why (E.written err.new).failed) }
+{
+    let Ok(line) = line_of_fault(alloc, fault) else {
+        return Err(Stop::Fault(CommandFault::OutOfMemory));
+    };
+    match push_all(err, line.as_bytes()) {
+        Ok(()) => Ok(()),
+        Err(_) => Err(Stop::Messages),
+    }
+}
+
+/// Says what is wrong with index.txt, if anything is. Where that can't be said, the command stops.
+pub fn warn_of<E: Sink>(alloc: Global, err: &mut E, file: &IndexFile) -> Result<(), Stop>
+    requires { (E.written err.old).failed < 2 ^ 64 - 1 }
+    ensures warns { OnOk result (Warns (said file.now) (E.written err.old) (E.written err.new)) }
+    ensures failed { OnOk result ((E.written err.new).failed ≡ (E.written err.old).failed) }
+    ensures err { IfErr result (FailsToSay (said file.now) (E.written err.old) (E.written err.new)) }
+    ensures can_tell { IfErr result (λ why. CanTell why (E.written err.new).failed) }
+{
+    match file {
+        IndexFile::Faulty(fault) => warn(alloc, err, *fault),
+        IndexFile::Read(_) => Ok(()),
+        IndexFile::Missing => Ok(()),
+    }
+}
