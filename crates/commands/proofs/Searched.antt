@@ -10,10 +10,10 @@ use Rattle.commands.specs.Failures.{IsMemory}
 use Rattle.commands.specs.Folders.{Files}
 use Rattle.commands.specs.IndexFiles.{Said, SaysOf, Warns, IsWarned}
 use Rattle.commands.specs.Messages.{IsTold, code_text}
-use Rattle.commands.specs.Prints.{search_query, IsFoundText, SearchText, SearchGoesThrough, IsSaid, SearchStops}
+use Rattle.commands.specs.Prints.{search_query, IsFoundText, SearchText, SearchGoesThrough, IsSaid, ComesFirst, SearchStops}
 use Rattle.commands.specs.Queries.{Basis, HasBasis, StopsWith, HasBegun, PrintsPartly}
 use Rattle.commands.specs.Worlds.{World}
-use Rattle.commands.specs.inner.IndexFiles.{said, IsSilent, FailsToSay, HasLoaded}
+use Rattle.commands.specs.inner.IndexFiles.{said, FailsToSay, HasLoaded}
 use Rattle.commands.specs.inner.Printed.{HasPrinted}
 use Rattle.commands.specs.inner.Stopped.{CanTell, HasStopped}
 use Rattle.commands.specs.inner.Views.{basis_of}
@@ -25,7 +25,7 @@ use Rattle.commands.specs.declared.messages.Stop.{Stop}
 use Rattle.commands.specs.declared.messages.Stop.TheVariants as stops
 use Rattle.commands.specs.declared.searching.Loaded.{Loaded}
 use Rattle.commands.proofs.Ends.{has_basis}
-use Rattle.commands.proofs.Stopping.{stopped, query_stops, silent_prints, of_memory}
+use Rattle.commands.proofs.Stopping.{stopped, query_stops, first_prints, of_memory}
 
 -- what was loaded, and what its index.txt says
 module _ (asked : SearchOptions) (files : Option Files) (loaded : Loaded) (h : HasLoaded asked files loaded) where
@@ -40,13 +40,16 @@ module _ (asked : SearchOptions) (files : Option Files) (loaded : Loaded) (h : H
 module _ (asked : SearchOptions) (w : World) where
   -- ---- where it stops
 
-  pub at_once : (f : CommandFault) → StopsWith (search_query asked) w.files f → IsSilent f → SearchStops asked w (record { why = stops.Fault f; stored = []; world = w })
-  at_once f why silent = inl (query_stops (search_query asked) (λ text. ⊥) w w f why (silent_prints (HasBegun (λ text. ⊥) None) w.output w.output refl f silent) refl)
+  pub at_once : (f : CommandFault) → StopsWith (search_query asked) w.files f → ComesFirst f → SearchStops asked w (record { why = stops.Fault f; stored = []; world = w })
+  at_once f why first = inl (record {
+    stops = query_stops (search_query asked) (λ text. ⊥) w w f why (first_prints (HasBegun (λ text. ⊥) None) w.output w.output refl f first) refl;
+    first = first;
+  })
 
   pub unsaid : (s : Said) (m : Written) (why : Stop) → IsSaid asked w.files s → FailsToSay s w.messages m why → SearchStops asked w (record { why = why; stored = []; world = record w { messages = m } })
   unsaid (Some (Err fault)) m (stops.Fault f) is fails =
       subst (λ (messages : Written). SearchStops asked w (record { why = stops.Fault f; stored = []; world = record w { messages = messages } })) (sym fails.1)
-      (at_once f (of_memory (StopsWith (search_query asked) w.files) tt f fails.0) (of_memory IsSilent tt f fails.0))
+      (at_once f (of_memory (StopsWith (search_query asked) w.files) tt f fails.0) (of_memory ComesFirst tt f fails.0))
   unsaid (Some (Err fault)) m (stops.Usage text) is fails = absurd fails
   unsaid (Some (Err fault)) m stops.Messages is fails = inr (inr (record { fault = fault; is = is; why = refl; stored = refl; broke = fails; stays = refl }))
   unsaid (Some (Ok stored)) m why is fails = absurd fails

@@ -25,9 +25,9 @@ use Rattle.commands.specs.Endings.{StoppedAt, Tells, Stops}
 use Rattle.commands.specs.Loaded.{IsConfigured, IsLoaded, LoadFails}
 use Rattle.commands.specs.Failures.{IsMemory, FailsToRead, FailsToWrite}
 use Rattle.commands.specs.Changes.{Breaks}
+use Rattle.commands.specs.Prints.{ComesFirst}
 use Rattle.commands.specs.Queries.{Query, LacksBase, target_of, StopsWith, IsBegun, HasBegun, PrintsPartly, QueryStops}
 use Rattle.commands.specs.inner.Refusals.{FilterFails, Refuses, RefusesOrBreaks}
-use Rattle.commands.specs.inner.IndexFiles.{IsSilent}
 use Rattle.commands.specs.inner.LoadFaults.{TellsLoadFault}
 use Rattle.commands.specs.inner.WriteFaults.{TellsWriteFault}
 use Rattle.commands.specs.inner.Stopped.{CanTell, HasStopped}
@@ -185,15 +185,15 @@ query_stops q IsText w w' f why printed stays = record { fault = f; fault_is = r
 
 -- ---- what was printed by then
 
-silent_of : (P : CommandFault → Type 0) → ((n : _) → P (faults.CannotWrite n) → ⊥) → (f : CommandFault) → P f → IsSilent f
-silent_of P none faults.Words h = tt
-silent_of P none (faults.Filter fault) h = tt
-silent_of P none (faults.Code by code) h = tt
-silent_of P none (faults.Configuration line kind) h = tt
-silent_of P none (faults.Data line why) h = tt
-silent_of P none (faults.CannotRead name) h = tt
-silent_of P none (faults.CannotWrite name) h = none name h
-silent_of P none faults.OutOfMemory h = tt
+first_of : (P : CommandFault → Type 0) → ((by : _) (code : Code) → P (faults.Code by code) → ⊥) → ((n : _) → P (faults.CannotWrite n) → ⊥) → (f : CommandFault) → P f → ComesFirst f
+first_of P none unwritten faults.Words h = tt
+first_of P none unwritten (faults.Filter fault) h = tt
+first_of P none unwritten (faults.Code by code) h = none by code h
+first_of P none unwritten (faults.Configuration line kind) h = tt
+first_of P none unwritten (faults.Data line why) h = tt
+first_of P none unwritten (faults.CannotRead name) h = tt
+first_of P none unwritten (faults.CannotWrite name) h = unwritten name h
+first_of P none unwritten faults.OutOfMemory h = tt
 
 module _ (Partly : CommandFault → Written → Written → Type 0) (a b : Written) (same : b ≡ a) where
   -- nothing was, where the fault isn't one of writing
@@ -216,21 +216,21 @@ module _ (Partly : CommandFault → Written → Written → Type 0) (a b : Writt
   pub refused_prints : (command : List ℕ) (Holds : Code → Type 0) (f : CommandFault) → Refuses command Holds f → PrintsPartly Partly a b f
   refused_prints command Holds = nothing_prints (Refuses command Holds) (λ n h. h)
 
--- with a fault of the filter, of the directory or of a file that is read, nothing was
-pub filter_silent : (text : Option (List ℕ)) (f : CommandFault) → FilterFails text f → IsSilent f
-filter_silent text = silent_of (FilterFails text) (λ n h. h)
+-- a fault of the filter, of the directory or of a file that is read comes first, and then nothing was
+pub filter_first : (text : Option (List ℕ)) (f : CommandFault) → FilterFails text f → ComesFirst f
+filter_first text = first_of (FilterFails text) (λ by code h. h) (λ n h. h)
 
-pub load_silent : (files : Option Files) (db : List ℕ) (f : CommandFault) → LoadFails files db f → IsSilent f
-load_silent files db = silent_of (LoadFails files db) (λ n h. h)
+pub load_first : (files : Option Files) (db : List ℕ) (f : CommandFault) → LoadFails files db f → ComesFirst f
+load_first files db = first_of (LoadFails files db) (λ by code h. h) (λ n h. h)
 
-pub unread_silent : (name : List ℕ) (f : CommandFault) → FailsToRead name f → IsSilent f
-unread_silent name = silent_of (FailsToRead name) (λ n h. h)
+pub unread_first : (name : List ℕ) (f : CommandFault) → FailsToRead name f → ComesFirst f
+unread_first name = first_of (FailsToRead name) (λ by code h. h) (λ n h. h)
 
-pub memory_silent : (f : CommandFault) → IsMemory f → IsSilent f
-memory_silent = of_memory IsSilent tt
+pub memory_first : (f : CommandFault) → IsMemory f → ComesFirst f
+memory_first = of_memory ComesFirst tt
 
-pub silent_prints : (Partly : CommandFault → Written → Written → Type 0) (a b : Written) → b ≡ a → (f : CommandFault) → IsSilent f → PrintsPartly Partly a b f
-silent_prints Partly a b same = nothing_prints Partly a b same IsSilent (λ n h. h)
+pub first_prints : (Partly : CommandFault → Written → Written → Type 0) (a b : Written) → b ≡ a → (f : CommandFault) → ComesFirst f → PrintsPartly Partly a b f
+first_prints Partly a b same = nothing_prints Partly a b same ComesFirst (λ n h. h)
 
 -- while it was printed, that failed
 pub unwritten_prints : (Partly : CommandFault → Written → Written → Type 0) (a b : Written) (target : List ℕ) (f : CommandFault) → FailsToWrite target f → Partly f a b → PrintsPartly Partly a b f

@@ -1,5 +1,5 @@
 -- What slapcat and search print, and how they end.
-use Rattle.std.specs.Prelude.{◌≡◌, ℕ, ◌⊎◌, Bool, true, false, ◌&&◌, List, [], Option, None, Some, Err, is_none, is_some, map, codes}
+use Rattle.std.specs.Prelude.{◌≡◌, ℕ, ◌⊎◌, Bool, true, false, ◌&&◌, List, [], Option, None, Some, Err, ⊤, is_none, is_some, map, codes}
 use Rattle.std.specs.Option.{option_copied}
 use Rattle.std.specs.FinMap as finite
 use Rattle.device.specs.Device.{Broke}
@@ -18,12 +18,14 @@ use Rattle.command_line.specs.declared.request.SearchOptions.{SearchOptions}
 use Rattle.commands.specs.Asked.{IsBase, IsSelection}
 use Rattle.commands.specs.Folders.{Files, with_file}
 use Rattle.commands.specs.Worlds.{World, IsPrinted, Says}
-use Rattle.commands.specs.Endings.{StoppedAt}
+use Rattle.commands.specs.Endings.{StoppedAt, IsFault}
 use Rattle.commands.specs.Messages.{code_text, line_of}
 use Rattle.commands.specs.IndexFiles.{Said, said_by, SaysOf, found_by, index_fault_text, IsWarned}
 use Rattle.commands.specs.Loaded.{IsLoaded}
 use Rattle.commands.specs.Parts.{part_text}
 use Rattle.commands.specs.Queries.{Query, Basis, HasBasis, QueryStops}
+use Rattle.commands.specs.declared.messages.CommandFault.{CommandFault}
+use Rattle.commands.specs.declared.messages.CommandFault.TheVariants as faults
 use Rattle.commands.specs.declared.messages.Status.{Status}
 use Rattle.commands.specs.declared.messages.Status.TheVariants.{Done, Refused}
 use Rattle.commands.specs.declared.messages.Stop.TheVariants as stops
@@ -134,9 +136,16 @@ pub record IsSaid (asked : SearchOptions) (files : Option Files) (said : Said) :
   pub loaded : IsLoaded files asked.db.now conf entries
   pub says : SaysOf files asked.db.now conf entries said
 
--- it stops before it says anything of index.txt
-abbrev pub StopsUnwarned : SearchOptions → World → StoppedAt → Type 0
-StopsUnwarned asked w at = QueryStops (search_query asked) (λ text. ⊥) w at
+-- a fault that is met before anything is said of index.txt: the base is looked up, and the text printed, afterwards
+abbrev pub ComesFirst : CommandFault → Type 0
+ComesFirst (faults.Code by code) = ⊥
+ComesFirst (faults.CannotWrite name) = ⊥
+ComesFirst fault = ⊤
+
+-- it stops with such a fault, before it says anything of index.txt
+pub record StopsUnwarned (asked : SearchOptions) (w : World) (at : StoppedAt) : Type 0 where
+  pub stops : QueryStops (search_query asked) (λ text. ⊥) w at
+  pub first : IsFault ComesFirst at.why
 
 -- or afterwards, having printed so much
 pub record StopsWarned (asked : SearchOptions) (w : World) (at : StoppedAt) : Type 0 where

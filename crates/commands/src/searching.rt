@@ -11,8 +11,8 @@ ghost use Rattle.commands.specs.Worlds.{World};
 ghost use Rattle.commands.specs.Messages.{code_text, fault_text};
 ghost use Rattle.commands.specs.Statuses.{status_of_fault};
 ghost use Rattle.commands.specs.Queries.{IsBegun, HasBegun, PrintsPartly, StopsWith};
-ghost use Rattle.commands.specs.Prints.{search_query, IsFoundText, SearchGoesThrough, SearchStops};
-ghost use Rattle.commands.specs.inner.IndexFiles.{said, IsTrue, IsSilent, HasLoaded};
+ghost use Rattle.commands.specs.Prints.{search_query, IsFoundText, ComesFirst, SearchGoesThrough, SearchStops};
+ghost use Rattle.commands.specs.inner.IndexFiles.{said, IsTrue, HasLoaded};
 ghost use Rattle.commands.specs.inner.Refusals.{Refuses, RefusesOrBreaks};
 ghost use Rattle.commands.specs.inner.Printed.{HasPrinted};
 ghost use Rattle.commands.specs.inner.Views.{basis_of, basis_in};
@@ -215,7 +215,7 @@ fn load<F: Folder>(
 ) -> Result<Loaded, CommandFault>
     ensures loaded { IfOk result (HasLoaded asked.now (F.files folder.now)) }
     ensures stops { IfErr result (StopsWith (search_query asked.now) (F.files folder.now)) }
-    ensures silent { IfErr result IsSilent }
+    ensures first { IfErr result ComesFirst }
 {
     let filter = filter_of(alloc, asked.filter)?;
     let database = load_database(alloc, folder, asked.db)?;

@@ -44,13 +44,13 @@ impl Model for AttributesDraft {
 }
 
 /// Takes the values of a type, so that others can be set in their place.
-pub(crate) fn take_values(alloc: Global, attrs: &mut Attributes, t: TypeId) -> Values
+pub(crate) fn take_values(attrs: &mut Attributes, t: TypeId) -> Values
     ensures values { result ≡ values_of attrs.old.entries t }
     ensures place { (vs : List values.Value) → set_values attrs.new.entries t vs ≡ set_values attrs.old.entries t vs }
 {
     match attrs.get_mut(&t) {
-        Some(values) => std::mem::replace(values, Values::new(alloc)),
-        None => Values::new(alloc),
+        Some(values) => std::mem::replace(values, Values::new()),
+        None => Values::new(),
     }
 }
 
@@ -102,7 +102,7 @@ fn take_out(
         }
         set_values(attrs, u, values.into_values(alloc)?)?;
     }
-    Ok(ValuesDraft::new(take_values(alloc, attrs, t)))
+    Ok(ValuesDraft::new(take_values(attrs, t)))
 }
 
 // Where none of its values are left, a type has no place.

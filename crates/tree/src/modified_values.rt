@@ -112,13 +112,13 @@ fn block_values(
         Op::Add => append_values(alloc, conf, t, values, texts),
         Op::Delete => match texts {
             [] => {
-                *values = ValuesDraft::new(Values::new(alloc));
+                *values = ValuesDraft::new(Values::new());
                 Ok(())
             }
             [_, ..] => remove_values(alloc, conf, t, values, texts),
         },
         Op::Replace => {
-            *values = ValuesDraft::new(Values::new(alloc));
+            *values = ValuesDraft::new(Values::new());
             append_values(alloc, conf, t, values, texts)
         }
     }

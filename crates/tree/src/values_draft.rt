@@ -176,7 +176,7 @@ fn left_from(alloc: Global, values: &Values, places: &Places) -> Result<Values, 
     requires { KeepsPlaces places.now values.now }
     ensures { IfOk result (λ left. left ≡ left_from places.now.since 0 values.now) }
 {
-    let mut left = Values::new(alloc);
+    let mut left = Values::new();
     let mut place = 0usize;
     for value in values.iter() {
         if is_left(alloc, &places.since, place, value.norm())? {

@@ -2,5 +2,6 @@ pub mod Types
 pub mod Tables
 pub mod Values
 pub mod Norms
-pub mod Runs
+pub mod Elements
 pub mod Joined
+pub mod inner

@@ -1,101 +1,98 @@
 //! The values of an attribute.
 
-ghost use Rattle.std.specs.Prelude.{◌≡◌, ◌++◌, ◌∷◌, ◌==◌, ◌≤◌, [], OnOk, IfOk, IsTrue, ◌↔◌, length};
+ghost use Rattle.std.specs.Prelude.{◌≡◌, ◌++◌, ◌∷◌, ◌==◌, ◌≤◌, [], OnOk, OnErr, IfOk, IsTrue, ◌↔◌, length};
 ghost use Rattle.values.specs.Norms.{has_norm, but_norm};
-ghost use Rattle.values.specs.Runs.{elements_in};
 
-use crate::shared_runs::{Run, SharedRuns, copy_run, keep_others};
+use crate::many_values::{ManyValues, pair, room_for_two};
 use crate::value::Value;
 use crate::values_iter::ValuesIter;
-use smallvec::SmallVec;
 use std::alloc::{AllocError, Global};
+use std::default::MadeWith;
 use std::marker::Model;
+use std::{mem, slice};
 
-/// As many values as make a run that copies share.
-const FULL: usize = 256;
+/// The values as they are kept.
+#[derive(Drop)]
+enum Kept {
+    Empty,
+    One(Value),
+    Many(Box<ManyValues>),
+}
 
-/// The values of an attribute in order. One takes no allocation of its own; many are kept in runs that copies share, so that a copy
+/// The values of an attribute in order. One takes no allocation of its own; many are kept in chunks that copies share, so that a copy
 /// takes a step for each 256 of them. A contract sees the list of them.
 pub struct Values {
-    shared: Option<Box<SharedRuns>>,
-    // those behind the runs
-    last: Run,
+    kept: Kept,
 }
 
 impl Drop for Values {
     fn drop(self) {
-        let Values { shared, last } = self;
-        drop(shared);
-        drop(last);
+        let Values { kept } = self;
+        drop(kept);
     }
 }
 
+const _: () = prove!(size_of::<Values>() == 48);
+
 impl Model for Values {
-    ghost use Rattle.std.specs.Prelude.{List, ◌++◌};
+    ghost use Rattle.std.specs.Prelude.{List};
     ghost use Rattle.values.specs.Values as values;
-    ghost use Rattle.values.specs.Runs.{elements_in};
+    ghost use Rattle.values.specs.inner.Kept.{values_in};
 
     ghost Value = { List values.Value };
 
-    ghost view = { λ v. elements_in (λ runs. runs.value) v.shared ++ v.last.items };
+    ghost view = { λ v. values_in v.kept };
 }
 
-// The runs without the values that have this normal form.
-fn others(
-    alloc: Global,
-    shared: Option<Box<SharedRuns>>,
-    norm: &[u8],
-) -> Result<Option<Box<SharedRuns>>, AllocError>
-    ensures { IfOk result (λ left. elements_in (λ runs. runs.value) left ≡ but_norm norm.now (elements_in (λ runs. runs.value) shared)) }
+// A value that is moved out of its place and one behind it; or it stays there.
+fn two(alloc: Global, one: &mut Value, other: Value) -> Result<Box<ManyValues>, AllocError>
+    ensures ok { IfOk result (λ many. many.value ≡ one.old ∷ other ∷ []) }
+    ensures err { OnErr result (one.new ≡ one.old) }
 {
-    match shared {
-        None => Ok(None),
-        Some(runs) => {
-            let left = Box::into_inner(runs).but_norm(alloc, norm)?;
-            Ok(Some(Box::new(alloc, left)?))
-        }
-    }
+    let room = room_for_two(alloc)?;
+    let mut many = Box::new(alloc, ManyValues::new(alloc))?;
+    let one = mem::replace(one, Value::made_with(alloc));
+    many.set(pair(room, one, other));
+    Ok(many)
 }
 
 impl Values {
     /// No value.
-    pub fn new(alloc: Global) -> Values
+    pub fn new() -> Values
         ensures { result ≡ [] }
     {
-        Values {
-            shared: None,
-            last: SmallVec::new(alloc),
-        }
+        Values { kept: Kept::Empty }
     }
 
     /// One value.
-    pub fn one(alloc: Global, value: Value) -> Result<Values, AllocError>
-        ensures { IfOk result (λ v. v ≡ value ∷ []) }
+    pub fn one(value: Value) -> Values
+        ensures { result ≡ value ∷ [] }
     {
-        let mut last = SmallVec::new(alloc);
-        last.push(value)?;
-        Ok(Values { shared: None, last })
+        Values {
+            kept: Kept::One(value),
+        }
     }
 
     /// The same values again.
     pub fn copy(&self, alloc: Global) -> Result<Values, AllocError>
         ensures { IfOk result (λ v. v ≡ self.now) }
     {
-        let shared = match &self.shared {
-            None => None,
-            Some(runs) => Some(Box::new(alloc, runs.copy(alloc)?)?),
+        let kept = match &self.kept {
+            Kept::Empty => Kept::Empty,
+            Kept::One(value) => Kept::One(value.copy(alloc)?),
+            Kept::Many(many) => Kept::Many(Box::new(alloc, many.copy(alloc)?)?),
         };
-        let last = copy_run(alloc, &self.last)?;
-        Ok(Values { shared, last })
+        Ok(Values { kept })
     }
 
     /// The values in order.
     pub fn iter(&self) -> ValuesIter<'_>
         ensures { result ≡ self.now }
     {
-        match &self.shared {
-            None => ValuesIter::of_run(&self.last),
-            Some(runs) => ValuesIter::of_runs(runs.iter(), &self.last),
+        match &self.kept {
+            Kept::Empty => ValuesIter::of_slice(&[]),
+            Kept::One(value) => ValuesIter::of_slice(slice::from_ref(value)),
+            Kept::Many(many) => many.iter(),
         }
     }
 
@@ -126,37 +123,38 @@ impl Values {
         false
     }
 
-    // Makes a run of the last values, and leaves none behind it.
-    fn share_last(&mut self, alloc: Global) -> Result<(), AllocError>
-        ensures { OnOk result (self.new ≡ self.old) }
-    {
-        let mut runs = match self.shared.take() {
-            None => Box::new(alloc, SharedRuns::new(alloc))?,
-            Some(runs) => runs,
-        };
-        let full = std::mem::replace(&mut self.last, SmallVec::new(alloc));
-        runs.push(alloc, full)?;
-        self.shared = Some(runs);
-        Ok(())
-    }
-
-    /// Puts a value last.
+    /// Puts a value last, or changes nothing where memory chunks out.
     pub fn push(&mut self, alloc: Global, value: Value) -> Result<(), AllocError>
-        ensures { OnOk result (self.new ≡ self.old ++ value ∷ []) }
+        ensures ok { OnOk result (self.new ≡ self.old ++ value ∷ []) }
+        ensures err { OnErr result (self.new ≡ self.old) }
     {
-        if self.last.len() >= FULL {
-            self.share_last(alloc)?;
+        match &mut self.kept {
+            Kept::Empty => {
+                self.kept = Kept::One(value);
+                Ok(())
+            }
+            Kept::One(one) => {
+                self.kept = Kept::Many(two(alloc, one, value)?);
+                Ok(())
+            }
+            Kept::Many(many) => many.push(alloc, value),
         }
-        self.last.push(value)?;
-        Ok(())
     }
 
-    /// Takes away each value with this normal form.
+    /// Takes away each value with this normal form, or changes nothing where memory chunks out.
     pub fn remove_norm(&mut self, alloc: Global, norm: &[u8]) -> Result<(), AllocError>
-        ensures { OnOk result (self.new ≡ but_norm norm.now self.old) }
+        ensures ok { OnOk result (self.new ≡ but_norm norm.now self.old) }
+        ensures err { OnErr result (self.new ≡ self.old) }
     {
-        self.shared = others(alloc, self.shared.take(), norm)?;
-        keep_others(&mut self.last, norm);
-        Ok(())
+        match &mut self.kept {
+            Kept::Empty => Ok(()),
+            Kept::One(value) => {
+                if value.norm() == norm {
+                    self.kept = Kept::Empty;
+                }
+                Ok(())
+            }
+            Kept::Many(many) => many.remove_norm(alloc, norm),
+        }
     }
 }

@@ -2,8 +2,9 @@
 #![tactic(auto)]
 
 mod attribute_values;
+mod many_values;
 mod name_index;
-mod shared_runs;
+mod shared_chunks;
 mod table;
 mod types;
 mod value;

@@ -1,6 +1,6 @@
 //! Numbers that are found by a name.
 
-ghost use Rattle.std.specs.Prelude.{◌≡◌, ℕ, ◌<◌, None, IfOk, OnOk, List, length};
+ghost use Rattle.std.specs.Prelude.{◌≡◌, ℕ, ◌<◌, None, IfOk, OnOk, OnErr, List, length};
 ghost use Rattle.std.specs.Str.{str_eq_ignore_ascii_case};
 ghost use Rattle.values.specs.Tables.{bucket_of, key_of, number_in, number_of, or_if};
 
@@ -99,9 +99,10 @@ impl NameIndex {
         })
     }
 
-    /// Puts a number at a name, where none is there.
+    /// Puts a number at a name, where none is there; or changes nothing where memory chunks out.
     pub fn add(&mut self, alloc: Global, name: &[u8], number: usize) -> Result<(), AllocError>
-        ensures { OnOk result ((text : List ℕ) → number_of self.new text ≡ or_if (number_of self.old text) (str_eq_ignore_ascii_case name.now text) number) }
+        ensures err { OnErr result (self.new ≡ self.old) }
+        ensures ok { OnOk result ((text : List ℕ) → number_of self.new text ≡ or_if (number_of self.old text) (str_eq_ignore_ascii_case name.now text) number) }
     {
         let bucket = bucket_of(self.buckets.len(), name);
         let name = Bytes::from_slice(alloc, name)?;

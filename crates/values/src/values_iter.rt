@@ -5,7 +5,7 @@ ghost use Rattle.std.specs.List.{flat_map};
 ghost use Rattle.std.specs.Slice.Iter.{iter_rest};
 ghost use Rattle.std.specs.Map.Iter.{TakesFirst, deref};
 
-use crate::shared_runs::Run;
+use crate::shared_chunks::Chunk;
 use crate::value::Value;
 use std::marker::Model;
 use std::rc::Rc;
@@ -14,10 +14,10 @@ use std::slice::Iter;
 /// The values of an attribute in order, which are lent. A contract sees the list of those that are still to come.
 #[derive(Drop)]
 pub struct ValuesIter<'a> {
-    // the run in hand
-    run: Iter<'a, Value>,
-    // the runs behind it, and those values that stand behind all
-    rest: Option<(Iter<'a, Rc<Run>>, Iter<'a, Value>)>,
+    // the chunk in hand
+    chunk: Iter<'a, Value>,
+    // the chunks behind it, and those values that stand behind all
+    rest: Option<(Iter<'a, Rc<Chunk>>, Iter<'a, Value>)>,
 }
 
 impl<'a> Model for ValuesIter<'a> {
@@ -25,23 +25,26 @@ impl<'a> Model for ValuesIter<'a> {
     ghost use Rattle.std.specs.List.{flat_map};
     ghost use Rattle.std.specs.Slice.Iter.{iter_rest};
     ghost use Rattle.values.specs.Values as values;
-    ghost use Rattle.values.specs.Runs.{elements_in};
+    ghost use Rattle.values.specs.Elements.{elements_in};
 
     ghost Value = { List values.Value };
 
-    ghost view = { λ s. iter_rest s.run ++ elements_in (λ r. flat_map (λ run. run.value.items) (iter_rest r.0) ++ iter_rest r.1) s.rest };
+    ghost view = { λ s. iter_rest s.chunk ++ elements_in (λ r. flat_map (λ chunk. chunk.value.items) (iter_rest r.0) ++ iter_rest r.1) s.rest };
 }
 
-// The next value of the run in hand, or else of the first run behind it that has one.
-fn next_in_runs<'a>(run: &mut Iter<'a, Value>, runs: &mut Iter<'a, Rc<Run>>) -> Option<&'a Value>
-    ensures { TakesFirst deref (iter_rest run.old ++ flat_map (λ r. r.value.items) (iter_rest runs.old)) result (iter_rest run.new ++ flat_map (λ r. r.value.items) (iter_rest runs.new)) }
+// The next value of the chunk in hand, or else of the first chunk behind it that has one.
+fn next_in_chunks<'a>(
+    chunk: &mut Iter<'a, Value>,
+    chunks: &mut Iter<'a, Rc<Chunk>>,
+) -> Option<&'a Value>
+    ensures { TakesFirst deref (iter_rest chunk.old ++ flat_map (λ r. r.value.items) (iter_rest chunks.old)) result (iter_rest chunk.new ++ flat_map (λ r. r.value.items) (iter_rest chunks.new)) }
 {
-    if let Some(value) = run.next() {
+    if let Some(value) = chunk.next() {
         return Some(value);
     }
-    while let Some(next) = runs.next() {
-        *run = next.as_ref().as_slice().iter();
-        if let Some(value) = run.next() {
+    while let Some(next) = chunks.next() {
+        *chunk = next.as_ref().as_slice().iter();
+        if let Some(value) = chunk.next() {
             return Some(value);
         }
     }
@@ -50,23 +53,23 @@ fn next_in_runs<'a>(run: &mut Iter<'a, Value>, runs: &mut Iter<'a, Rc<Run>>) -> 
 
 impl<'a> ValuesIter<'a> {
     // These values.
-    pub(crate) fn of_run(run: &'a Run) -> ValuesIter<'a>
-        ensures { result ≡ run.now.items }
+    pub(crate) fn of_slice(values: &'a [Value]) -> ValuesIter<'a>
+        ensures { result ≡ values.now }
     {
         ValuesIter {
-            run: run.as_slice().iter(),
+            chunk: values.iter(),
             rest: None,
         }
     }
 
-    // The values of some runs, and those behind them.
-    pub(crate) fn of_runs(runs: Iter<'a, Rc<Run>>, last: &'a Run) -> ValuesIter<'a>
-        ensures { result ≡ flat_map (λ r. r.value.items) (iter_rest runs.entry) ++ last.now.items }
+    // The values of some chunks, and those behind them.
+    pub(crate) fn of_chunks(chunks: Iter<'a, Rc<Chunk>>, last: &'a Chunk) -> ValuesIter<'a>
+        ensures { result ≡ flat_map (λ r. r.value.items) (iter_rest chunks.entry) ++ last.now.items }
     {
         let (none, last) = last.as_slice().split_at(0);
         ValuesIter {
-            run: none.iter(),
-            rest: Some((runs, last.iter())),
+            chunk: none.iter(),
+            rest: Some((chunks, last.iter())),
         }
     }
 }
@@ -84,8 +87,8 @@ impl<'a> Iterator for ValuesIter<'a> {
 
     fn next(&mut self) -> Option<&'a Value> {
         match &mut self.rest {
-            None => self.run.next(),
-            Some(rest) => match next_in_runs(&mut self.run, &mut rest.0) {
+            None => self.chunk.next(),
+            Some(rest) => match next_in_chunks(&mut self.chunk, &mut rest.0) {
                 Some(value) => Some(value),
                 None => rest.1.next(),
             },

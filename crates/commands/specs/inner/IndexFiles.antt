@@ -18,8 +18,6 @@ use Rattle.commands.specs.Loaded.{IsLoaded}
 use Rattle.commands.specs.Messages.{line_of}
 use Rattle.commands.specs.declared.index_file.IndexFile.{IndexFile}
 use Rattle.commands.specs.declared.index_file.IndexFile.TheVariants as files
-use Rattle.commands.specs.declared.messages.CommandFault.{CommandFault}
-use Rattle.commands.specs.declared.messages.CommandFault.TheVariants as faults
 use Rattle.commands.specs.declared.searching.Loaded.{Loaded}
 use Rattle.commands.specs.declared.messages.Stop.{Stop}
 use Rattle.commands.specs.declared.messages.Stop.TheVariants as stops
@@ -47,11 +45,6 @@ FailsToSay (Some (Ok stored)) a b why = ⊥
 FailsToSay None a b why = ⊥
 
 -- ---- what a search has loaded
-
--- with this fault nothing was printed
-abbrev pub IsSilent : CommandFault → Type 0
-IsSilent (faults.CannotWrite name) = ⊥
-IsSilent fault = ⊤
 
 -- it is the filter that was asked for, and the directory with what its index.txt says
 pub record HasLoaded (asked : SearchOptions) (files : Option Files) (loaded : Loaded) : Type 0 where

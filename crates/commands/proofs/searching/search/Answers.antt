@@ -15,7 +15,7 @@ use Rattle.commands.proofs.searching.search.Goals as goal
 pub returns-in_err-loaded-clause-ends : goal.returns-in_err-loaded-clause-ends
 returns-in_err-loaded-clause-ends g c =
     let p = err_from_is_err_and c.from_residual.result c.from_residual.ensures.1 in
-    rw (p.1, p.2) (λ w. stopped (SearchStops c.args.asked.now) _ _ _ (at_once c.args.asked.now (record w { files = g.F.Folder.files c.args.folder.now; output = g.O.Sink.written c.args.out.now; messages = g.E.Sink.written c.args.err.now }) _ c.in_err-loaded.ensures.stops c.in_err-loaded.ensures.silent) refl)
+    rw (p.1, p.2) (λ w. stopped (SearchStops c.args.asked.now) _ _ _ (at_once c.args.asked.now (record w { files = g.F.Folder.files c.args.folder.now; output = g.O.Sink.written c.args.out.now; messages = g.E.Sink.written c.args.err.now }) _ c.in_err-loaded.ensures.stops c.in_err-loaded.ensures.first) refl)
 
 pub returns-in_err-warn_of-clause-ends : goal.returns-in_err-warn_of-clause-ends
 returns-in_err-warn_of-clause-ends g c =

@@ -11,6 +11,6 @@ loop-name-init c = none_seen c.in_ok-seen.seen c.args.names.now c.in_ok-seen.ens
 pub loop-name-preserved : goal.loop-name-preserved
 loop-name-preserved c =
     no_twin c.args.names.now c.loop-name.name-index c.name-item.result c.loop-name.seen c.add.new.self 0
-    (λ text. c.in_ok-add.ensures text ∙ ap (λ (n : List ℕ). or_if (number_of c.loop-name.seen text) (str_eq_ignore_ascii_case n text) 0) c.as_slice-in-loop-name.ensures)
+    (λ text. c.in_ok-add.ensures.ok text ∙ ap (λ (n : List ℕ). or_if (number_of c.loop-name.seen text) (str_eq_ignore_ascii_case n text) 0) c.as_slice-in-loop-name.ensures)
     c.loop-name-test.true c.name-item.is
     (sym (c.is_some.ensures ∙ ap (λ (o : Option ℕ). is_some o) c.get.ensures ∙ ap (knows c.loop-name.seen) c.as_slice.ensures) ∙ c.if-is_some.false) c.loop-name.invariant

@@ -5,8 +5,8 @@ use Rattle.values.specs.Tables.{number_of, bucket_of, or_if}
 use Rattle.values.proofs.Buckets.{put_entry}
 use Rattle.values.proofs.name_index.NameIndex.add.Goals as goal
 
-pub returns : goal.returns
-returns c =
+pub returns-clause-ok : goal.returns-clause-ok
+returns-clause-ok c =
     let buckets = c.self.inside.buckets.items in
     let bound : c.bucket_of-bucket.result < length buckets = omega arith in
     let place : c.bucket_of-bucket.result ≡ bucket_of (length buckets) c.in_ok-name.name =

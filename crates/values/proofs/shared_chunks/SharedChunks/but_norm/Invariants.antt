@@ -1,0 +1,7 @@
+use Rattle.std.proofs.Common.{◌≡◌, take}
+use Rattle.std.specs.List.{flat_map}
+use Rattle.values.specs.Norms.{but_norm}
+use Rattle.values.proofs.shared_chunks.SharedChunks.but_norm.Given as goal
+
+abbrev pub invariant-loop-chunk : goal.invariant-loop-chunk
+invariant-loop-chunk l = flat_map (λ r. r.value.items) l.chunks.items ≡ but_norm l.fn.norm (flat_map (λ r. r.value.items) (take l.chunk-index l.chunk-items))
