@@ -1,5 +1,5 @@
 //! The files of a directory: its configuration and its entries.
-ghost use Rattle.std.specs.Prelude.{◌≡◌, ◌<◌, ◌-◌, ◌^◌, IfOk, IfErr, IfSome, OnOk, OnErr, Some, string_bytes};
+ghost use Rattle.std.specs.Prelude.{◌≡◌, ◌<◌, ◌-◌, ◌^◌, ⊤, IfOk, IfErr, IfSome, OnOk, OnErr, Some, string_bytes};
 ghost use Rattle.std.specs.Option.{option_map};
 ghost use Rattle.directory.specs.Runs.{dump};
 ghost use Rattle.commands.specs.Folders.{Finds, with_file, file_in, conf_name};
@@ -28,7 +28,11 @@ pub struct Database {
 }
 
 impl FileText for Database {
+    type Answer = ();
+
     ghost text = { λ d. dump d.tree.conf d.tree.entries };
+
+    ghost answers = { λ _ _. ⊤ };
 
     fn write<W: Sink>(&self, alloc: Global, sink: &mut W) -> Result<(), WriteFault> {
         write_dump(alloc, &self.tree, &self.conf, sink)
@@ -73,13 +77,14 @@ pub fn store<F: Folder, T: FileText>(
     folder: &mut F,
     name: &str,
     text: &T,
-) -> Result<(), CommandFault>
+) -> Result<T::Answer, CommandFault>
     ensures ok { OnOk result (F.files folder.new ≡ with_file (F.files folder.old) name.now (T.text text.now)) }
+    ensures answer { IfOk result (T.answers text.now) }
     ensures same { OnErr result (F.files folder.new ≡ F.files folder.old) }
     ensures err { IfErr result (FailsToWrite name.now) }
 {
     match folder.store(name, text) {
-        Ok(()) => Ok(()),
+        Ok(answer) => Ok(answer),
         Err(FolderFault::Device) => Err(CommandFault::cannot_write(alloc, name)),
         Err(FolderFault::OutOfMemory) => Err(CommandFault::OutOfMemory),
     }

@@ -1,7 +1,7 @@
 //! Files by their paths.
 ghost use Rattle.std.specs.Prelude.{◌≡◌, ◌<◌, ◌-◌, ◌^◌, ℕ, List, Option, IfOk, IfSome, OnOk, OnErr};
 ghost use Rattle.std.specs.Option.{option_map};
-ghost use Rattle.directory.specs.Dumps.{Writes};
+ghost use Rattle.directory.specs.Dumps.{Writes, end_of};
 ghost use Rattle.commands.specs.Folders.{Files, Finds, with_file};
 ghost use Rattle.commands.specs.declared.folder.FolderFault.TheVariants.{OutOfMemory};
 
@@ -58,13 +58,20 @@ impl From<WriteFault> for FolderFault {
 
 /// What can be written to a sink in pieces, so that it need not be in memory whole.
 pub trait FileText {
+    /// What is answered of it once it was written.
+    type Answer: Drop;
+
     /// Its bytes.
     ghost text: { Self → List ℕ };
 
+    /// What holds of an answer.
+    ghost answers: { Self → Answer → Type 0 };
+
     /// Writes all of it. On a fault a beginning was written.
-    fn write<W: Sink>(&self, alloc: Global, sink: &mut W) -> Result<(), WriteFault>
+    fn write<W: Sink>(&self, alloc: Global, sink: &mut W) -> Result<Self::Answer, WriteFault>
         requires { (W.written sink.old).failed < 2 ^ 64 - 1 }
-        ensures { Writes result (W.written sink.old) (W.written sink.new) (text self.now) };
+        ensures writes { Writes (end_of result) (W.written sink.old) (W.written sink.new) (text self.now) }
+        ensures answer { IfOk result (answers self.now) };
 }
 
 /// Files by their paths.
@@ -80,7 +87,8 @@ pub trait Folder {
         ensures failed { IfOk result (λ o. IfSome o (λ s. (Self.In.seen s).failed ≡ 0)) };
 
     /// Puts a file there whole, in place of the one before, and changes no other. On a fault all files stay as they were.
-    fn store<T: FileText>(&mut self, name: &str, text: &T) -> Result<(), FolderFault>
+    fn store<T: FileText>(&mut self, name: &str, text: &T) -> Result<T::Answer, FolderFault>
         ensures ok { OnOk result (files self.new ≡ with_file (files self.old) name.now (T.text text.now)) }
+        ensures answer { IfOk result (T.answers text.now) }
         ensures err { OnErr result (files self.new ≡ files self.old) };
 }

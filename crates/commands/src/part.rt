@@ -1,5 +1,5 @@
 //! A part of a directory, as the text of a file.
-ghost use Rattle.std.specs.Prelude.{◌≡◌};
+ghost use Rattle.std.specs.Prelude.{◌≡◌, ⊤};
 ghost use Rattle.filter_text.specs.Spells.{view};
 ghost use Rattle.commands.specs.Parts.{part_text};
 
@@ -37,6 +37,10 @@ impl<'a> Part<'a> {
 }
 
 impl<'a> FileText for Part<'a> {
+    type Answer = ();
+
+    ghost answers = { λ _ _. ⊤ };
+
     ghost text = { λ p. part_text p.database.now.tree.conf p.database.now.tree.entries p.base.now (view p.filter.now.filter) };
 
     fn write<W: Sink>(&self, alloc: Global, sink: &mut W) -> Result<(), WriteFault> {

@@ -35,7 +35,7 @@ fn print<T: FileText, O: Sink>(alloc: Global, text: &T, out: &mut O) -> Result<(
     ensures begun { IfErr result (λ f. IsBegun f (O.written out.old) (O.written out.new) (T.text text.now)) }
 {
     match text.write(alloc, out) {
-        Ok(()) => Ok(()),
+        Ok(_) => Ok(()),
         Err(fault) => Err(CommandFault::of_output(alloc, fault)),
     }
 }
@@ -57,7 +57,10 @@ fn put<T: FileText, F: Folder, O: Sink>(
     ensures begins { IfErr result (λ f. Begins (option_copied file.entry) f (O.written out.old) (O.written out.new) (T.text text.now)) }
 {
     match file {
-        Some(name) => store(alloc, folder, name, text),
+        Some(name) => {
+            store(alloc, folder, name, text)?;
+            Ok(())
+        }
         None => print(alloc, text, out),
     }
 }

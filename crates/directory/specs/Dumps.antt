@@ -19,3 +19,8 @@ abbrev pub Writes : Result (Unit {0}) WriteFault → Written → Written → Lis
 Writes (Ok u) a b bytes = Took a b bytes
 Writes (Err faults.Device) a b bytes = Broke a b bytes
 Writes (Err faults.OutOfMemory) a b bytes = Begun a b bytes
+
+-- how a call ends that also answers something
+abbrev pub end_of : {A : Type 0} → Result A WriteFault → Result (Unit {0}) WriteFault
+end_of (Ok x) = Ok tt
+end_of (Err fault) = Err fault

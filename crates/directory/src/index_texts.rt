@@ -4,7 +4,7 @@ ghost use Rattle.std.specs.Prelude.{◌≡◌, ◌<◌, ◌-◌, ◌^◌, ◌++�
 ghost use Rattle.std.specs.List.{slice_get};
 ghost use Rattle.directory.specs.Dumps.{Writes};
 ghost use Rattle.directory.specs.Indexes.{IsIndexOf};
-ghost use Rattle.directory.specs.IndexTexts.{index_text};
+ghost use Rattle.directory.specs.IndexTexts.{stamp as stamp_by, index_text};
 ghost use Rattle.directory.specs.inner.Dumps.{WritesOn};
 ghost use Rattle.directory.specs.inner.IndexRows.{row_text, rows_text, first_line, slot_lines, slots_lines, IsListing};
 
@@ -119,32 +119,38 @@ impl Listing<'_> {
 }
 
 // a text that begins with the first line
-fn first_line(alloc: Global, tree: &Tree, conf: &Conf) -> Result<Vec<u8>, AllocError>
-    requires { tree.now.conf ≡ conf.now }
+fn first_line(
+    alloc: Global,
+    tree: &Tree,
+    conf: &Conf,
+    stamp: &[u8; 32],
+) -> Result<Vec<u8>, AllocError>
+    requires { stamp.now ≡ stamp_by conf.now tree.now.entries }
     ensures { IfOk result (λ text. text.items ≡ first_line conf.now tree.now.entries) }
 {
-    let stamp = stamp_of(alloc, tree, conf)?;
     let mut text = Vec::new(alloc);
-    put_header(alloc, &mut text, tree.len(), &stamp)?;
+    put_header(alloc, &mut text, tree.len(), stamp)?;
     Ok(text)
 }
 
 /// Writes the text of the index of a tree's entries, in pieces of some 64 KiB: how many entries there are, the digest of their dump, and
 /// for each slot the keys that the entries have, each with the places in the dump of the entries that have it. The tree and the index
-/// were made with this configuration. On a fault a beginning was written.
+/// were made with this configuration, and this is the stamp of the tree. On a fault a beginning was written.
 pub fn write_index_text<W: Sink>(
     alloc: Global,
     tree: &Tree,
     conf: &Conf,
     index: &Index,
+    stamp: &[u8; 32],
     sink: &mut W,
 ) -> Result<(), WriteFault>
     requires made { tree.now.conf ≡ conf.now }
+    requires stamped { stamp.now ≡ stamp_by conf.now tree.now.entries }
     requires indexed { IsIndexOf conf.now tree.now.entries tree.now.numbers index.now }
     requires can_fail { (W.written sink.old).failed < 2 ^ 64 - 1 }
     ensures writes { Writes result (W.written sink.old) (W.written sink.new) (index_text conf.now tree.now.entries) }
 {
-    let Ok(mut text) = first_line(alloc, tree, conf) else {
+    let Ok(mut text) = first_line(alloc, tree, conf, stamp) else {
         return Err(WriteFault::OutOfMemory);
     };
     let Ok(ranks) = ranks_by_number(alloc, tree) else {
@@ -165,13 +171,30 @@ pub fn write_index_text<W: Sink>(
 }
 
 impl Directory {
-    /// Writes the text of the index, in pieces of some 64 KiB: how many entries there are, the digest of the dump, and for each slot of the
-    /// configuration the keys that the entries have, each with the places in the dump of the entries that have it. On a fault a beginning
-    /// was written.
+    /// Writes the text of the index, in pieces of some 64 KiB: how many entries there are, the stamp of the directory, and for each slot of
+    /// the configuration the keys that the entries have, each with the places in the dump of the entries that have it. On a fault a
+    /// beginning was written.
     pub fn index_text<W: Sink>(&self, alloc: Global, sink: &mut W) -> Result<(), WriteFault>
         requires { (W.written sink.old).failed < 2 ^ 64 - 1 }
         ensures { Writes result (W.written sink.old) (W.written sink.new) (index_text self.now.conf self.now.entries) }
     {
-        write_index_text(alloc, self.tree(), self.conf(), self.index(), sink)
+        let Ok(stamp) = stamp_of(alloc, self.tree(), self.conf()) else {
+            return Err(WriteFault::OutOfMemory);
+        };
+        self.index_text_with(alloc, &stamp, sink)
+    }
+
+    /// The same where the stamp of the directory is at hand.
+    pub fn index_text_with<W: Sink>(
+        &self,
+        alloc: Global,
+        stamp: &[u8; 32],
+        sink: &mut W,
+    ) -> Result<(), WriteFault>
+        requires stamped { stamp.now ≡ stamp_by self.now.conf self.now.entries }
+        requires can_fail { (W.written sink.old).failed < 2 ^ 64 - 1 }
+        ensures { Writes result (W.written sink.old) (W.written sink.new) (index_text self.now.conf self.now.entries) }
+    {
+        write_index_text(alloc, self.tree(), self.conf(), self.index(), stamp, sink)
     }
 }

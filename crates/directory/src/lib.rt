@@ -30,4 +30,4 @@ pub use runs::{RunFault, Tally, run};
 pub use search::{Hits, Scope};
 pub use searching::{search_tree, search_with};
 pub use selection::Selection;
-pub use stamps::stamp_of;
+pub use stamps::{stamp_of, write_stamped_dump};

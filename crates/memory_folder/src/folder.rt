@@ -123,8 +123,9 @@ impl<'t> Folder for MemoryFolder<'t> {
         }
     }
 
-    fn store<T: FileText>(&mut self, name: &str, text: &T) -> Result<(), FolderFault>
+    fn store<T: FileText>(&mut self, name: &str, text: &T) -> Result<T::Answer, FolderFault>
         ensures ok { OnOk result (Some (folder_files self.new) ≡ with_file (Some (folder_files self.old)) name.now (T.text text.now)) }
+        ensures answer { IfOk result (T.answers text.now) }
         ensures err { OnErr result (Some (folder_files self.new) ≡ Some (folder_files self.old)) }
 
         // Beside what the trait says: how a file can't be stored, and that it still can't.
@@ -133,8 +134,8 @@ impl<'t> Folder for MemoryFolder<'t> {
     {
         let limit = storing_limit(self.trouble_of(name))?;
         let mut sink = TrySink::new(self.alloc, PIECE, limit);
-        text.write(self.alloc, &mut sink)?;
+        let answer = text.write(self.alloc, &mut sink)?;
         self.files.put(name, sink.bytes())?;
-        Ok(())
+        Ok(answer)
     }
 }

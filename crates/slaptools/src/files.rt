@@ -1,5 +1,5 @@
 //! The files of the system.
-ghost use Rattle.std.specs.Prelude.{None};
+ghost use Rattle.std.specs.Prelude.{None, IfOk};
 
 use commands::{FileText, Folder, FolderFault};
 use device::{OfRead, OfWrite};
@@ -46,10 +46,12 @@ impl<'r, R: HostFiles + AllocGlobal> Files<'r, R> {
         }
     }
 
-    fn write_in_place<T: FileText>(&self, name: &str, text: &T) -> Result<(), FolderFault> {
+    fn write_in_place<T: FileText>(&self, name: &str, text: &T) -> Result<T::Answer, FolderFault>
+        ensures { IfOk result (T.answers text.now) }
+    {
         let mut file = fs::create(self.rt, name)?;
-        text.write(self.rt.alloc(), &mut OfWrite::new(&mut file))?;
-        Ok(())
+        let answer = text.write(self.rt.alloc(), &mut OfWrite::new(&mut file))?;
+        Ok(answer)
     }
 
     /// Makes a file that is in nobody else's hands: what stands under this name goes, and a link is not followed.
@@ -68,15 +70,17 @@ impl<'r, R: HostFiles + AllocGlobal> Files<'r, R> {
         new: &str,
         name: &str,
         text: &T,
-    ) -> Result<(), FolderFault> {
+    ) -> Result<T::Answer, FolderFault>
+        ensures { IfOk result (T.answers text.now) }
+    {
         if let Ok(found) = fs::metadata(self.rt, name) {
             let _ = lchown(self.rt, new, Some(found.uid()), Some(found.gid()));
             OpenFile::set_permissions(&file, found.permissions())?;
         }
-        text.write(self.rt.alloc(), &mut OfWrite::new(&mut file))?;
+        let answer = text.write(self.rt.alloc(), &mut OfWrite::new(&mut file))?;
         file.sync_all()?;
         fs::rename(self.rt, new, name)?;
-        Ok(())
+        Ok(answer)
     }
 
     /// Puts the new name of a file on the disk. The file stands there by then, so a folder that can't be synced is no fault of the store.
@@ -91,12 +95,14 @@ impl<'r, R: HostFiles + AllocGlobal> Files<'r, R> {
         }
     }
 
-    fn replace<T: FileText>(&self, name: &str, text: &T) -> Result<(), FolderFault> {
+    fn replace<T: FileText>(&self, name: &str, text: &T) -> Result<T::Answer, FolderFault>
+        ensures { IfOk result (T.answers text.now) }
+    {
         let new = reserved(self.rt.alloc(), name)?;
         let file = self.make_anew(new.as_str())?;
         let replaced = self.fill(file, new.as_str(), name, text);
-        match replaced {
-            Ok(()) => self.sync_folder(name),
+        match &replaced {
+            Ok(_) => self.sync_folder(name),
             Err(_) => {
                 let _ = fs::remove_file(self.rt, new.as_str());
             }
@@ -120,7 +126,7 @@ impl<'r, R: HostFiles + AllocGlobal> Folder for Files<'r, R> {
     }
 
     /// Writes a file beside it and renames that, so that at each moment the old file or the new one is there whole.
-    fn store<T: FileText>(&mut self, name: &str, text: &T) -> Result<(), FolderFault> {
+    fn store<T: FileText>(&mut self, name: &str, text: &T) -> Result<T::Answer, FolderFault> {
         if self.is_special(name) {
             self.write_in_place(name, text)
         } else {
