@@ -22,7 +22,7 @@ module _ (c : goal.In_ok-push) where
 
   pushed : left_from c.insert.new.self 0 c.push.new.self ≡ left_from c.args.places.now.since 0 c.args.values.now ++ c.args.value ∷ []
   pushed =
-      ap (left_from c.insert.new.self 0) c.in_ok-push.ensures
+      ap (left_from c.insert.new.self 0) c.in_ok-push.ensures.ok
       ∙ pushed_last c.args.places.now.since c.insert.new.self c.in_ok-key.key c.args.places.now.count c.in_ok-insert.ensures.updates.0 fresh
       c.args.values.now c.args.value same_key (sym c.requires.count)
 
@@ -32,9 +32,9 @@ returns-clause-values c = pushed c
 pub returns-clause-places : goal.returns-clause-places
 returns-clause-places c = record {
   left =
-      subst (AreLeft c.insert.new.self) (sym c.in_ok-push.ensures)
+      subst (AreLeft c.insert.new.self) (sym c.in_ok-push.ensures.ok)
       (left_pushed c.args.places.now.since c.insert.new.self c.in_ok-key.key c.args.places.now.count c.in_ok-insert.ensures.updates.0 (fresh c)
       c.args.values.now c.args.value (same_key c) (sym c.requires.count) c.requires.left);
-  count = one_more c ∙ ap (λ n. n + 1) c.requires.count ∙ sym (length-append c.args.values.now (c.args.value ∷ [])) ∙ ap length (sym c.in_ok-push.ensures);
-  all = λ t. pushed c ∙ ap (λ (vs : List Value). vs ++ c.args.value ∷ []) (c.requires.all t) ∙ sym c.in_ok-push.ensures;
+  count = one_more c ∙ ap (λ n. n + 1) c.requires.count ∙ sym (length-append c.args.values.now (c.args.value ∷ [])) ∙ ap length (sym c.in_ok-push.ensures.ok);
+  all = λ t. pushed c ∙ ap (λ (vs : List Value). vs ++ c.args.value ∷ []) (c.requires.all t) ∙ sym c.in_ok-push.ensures.ok;
 }
