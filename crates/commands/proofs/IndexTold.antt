@@ -14,7 +14,7 @@ use Rattle.directory.specs.IndexTexts.{index_rows, index_text, stamp}
 use Rattle.directory.specs.Searches.{ReflectsDump, ShowsIndexText}
 use Rattle.index.specs.Postings.{Shown}
 use Rattle.commands.specs.Failures.{FailsToRead}
-use Rattle.commands.specs.IndexFiles.{Said, SaysOf, said_by}
+use Rattle.commands.specs.IndexFiles.{SaysOf}
 use Rattle.commands.specs.inner.IndexFiles.{IsTrue}
 use Rattle.commands.specs.declared.messages.CommandFault.{CommandFault}
 

@@ -1,31 +1,28 @@
 -- How a search ends, from what its parts say.
-use Rattle.std.proofs.Common.{◌≡◌, ℕ, inl, inr, Bool, true, false, List, [], Option, Some, None, refl, sym, ap, ◌∙◌, subst}
+use Rattle.std.proofs.Common.{◌≡◌, ℕ, inl, inr, Bool, true, false, List, [], Option, Some, None, refl, sym, subst}
 use Rattle.std.specs.Prelude.{Ok, Err, codes}
 use Rattle.device.specs.Device.{Written}
 use Rattle.schema.specs.declared.code.Code.TheVariants.{SizeLimitExceeded}
-use Rattle.stored_index.specs.Stored.{Stored}
 use Rattle.stored_index.specs.declared.fault.IndexFaultKind.{IndexFaultKind}
 use Rattle.command_line.specs.declared.request.SearchOptions.{SearchOptions}
-use Rattle.commands.specs.Failures.{IsMemory}
 use Rattle.commands.specs.Folders.{Files}
 use Rattle.commands.specs.IndexFiles.{Said, SaysOf, Warns, IsWarned}
 use Rattle.commands.specs.Messages.{IsTold, code_text}
 use Rattle.commands.specs.Prints.{search_query, IsFoundText, SearchText, SearchGoesThrough, IsSaid, ComesFirst, SearchStops}
-use Rattle.commands.specs.Queries.{Basis, HasBasis, StopsWith, HasBegun, PrintsPartly}
+use Rattle.commands.specs.Queries.{Basis, StopsWith, HasBegun, PrintsPartly}
 use Rattle.commands.specs.Worlds.{World}
 use Rattle.commands.specs.inner.IndexFiles.{said, FailsToSay, HasLoaded}
 use Rattle.commands.specs.inner.Printed.{HasPrinted}
-use Rattle.commands.specs.inner.Stopped.{CanTell, HasStopped}
+use Rattle.commands.specs.inner.Stopped.{CanTell}
 use Rattle.commands.specs.inner.Views.{basis_of}
 use Rattle.commands.specs.declared.messages.CommandFault.{CommandFault}
-use Rattle.commands.specs.declared.messages.CommandFault.TheVariants as faults
 use Rattle.commands.specs.declared.messages.Status.{Status}
 use Rattle.commands.specs.declared.messages.Status.TheVariants.{Done, Refused}
 use Rattle.commands.specs.declared.messages.Stop.{Stop}
 use Rattle.commands.specs.declared.messages.Stop.TheVariants as stops
 use Rattle.commands.specs.declared.searching.Loaded.{Loaded}
 use Rattle.commands.proofs.Ends.{has_basis}
-use Rattle.commands.proofs.Stopping.{stopped, query_stops, first_prints, of_memory}
+use Rattle.commands.proofs.Stopping.{query_stops, first_prints, of_memory}
 
 -- what was loaded, and what its index.txt says
 module _ (asked : SearchOptions) (files : Option Files) (loaded : Loaded) (h : HasLoaded asked files loaded) where

@@ -65,7 +65,7 @@ pub trait FileText {
     ghost text: { Self → List ℕ };
 
     /// What holds of an answer.
-    ghost answers: { Self → Answer → Type 0 };
+    ghost answers: { Self → Self.Answer → Type 0 };
 
     /// Writes all of it. On a fault a beginning was written.
     fn write<W: Sink>(&self, alloc: Global, sink: &mut W) -> Result<Self::Answer, WriteFault>

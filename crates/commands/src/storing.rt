@@ -21,7 +21,7 @@ impl FileText for Directory {
 
     ghost text = { λ d. dump d.conf d.entries };
 
-    ghost answers = { λ d s. s ≡ stamp d.conf d.entries };
+    ghost answers = { λ d s. s ≡ stamp_by d.conf d.entries };
 
     fn write<W: Sink>(&self, alloc: Global, sink: &mut W) -> Result<[u8; 32], WriteFault> {
         self.stamped_dump(alloc, sink)
@@ -81,6 +81,7 @@ fn store_index_with<F: Folder>(
 }
 
 /// Puts the text of a directory's index in place of the folder's index.txt.
+#[tactic(auto, using(crate::proofs::StoredFiles::memory_fails))]
 pub fn store_index<F: Folder>(
     alloc: Global,
     folder: &mut F,

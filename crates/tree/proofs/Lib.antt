@@ -28,7 +28,7 @@ pub mod SetValues
 pub mod Modified
 pub mod ModifyLemmas
 pub mod LeftFrom
-pub mod Copied
+pub mod KeptAttributes
 pub mod Planned
 pub mod ClassLemmas
 pub mod ClassLaw

@@ -12,6 +12,13 @@ use Rattle.tree.specs.Entries.{Attributes, EntryContent}
 abbrev pub EntryAttribute : Type 0
 EntryAttribute = ℕ × List Value
 
+-- attributes in order
+pub record StoredAttributes : Type 0 where
+  pub entries : List EntryAttribute
+
+abbrev pub attributes_code : Coded StoredAttributes
+attributes_code = code_by (List EntryAttribute) (coded_list (coded× coded_ℕ (coded_list value_code))) (λ a. a.entries) (λ es. record { entries = es }) (λ _. refl)
+
 pub record Entry : Type 0 where
   pub rdn : Rdn
   pub attrs : List EntryAttribute

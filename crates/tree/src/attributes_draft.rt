@@ -9,7 +9,7 @@ ghost use Rattle.tree.specs.StoredEntries.{attributes_of, IsMade};
 ghost use Rattle.tree.specs.inner.ValuesDrafts.{put_back, IsTaken};
 ghost use Rattle.tree.specs.Gives.{Gives};
 
-use crate::entry::Attributes;
+use crate::kept_attributes::Attributes;
 use crate::modified_values::change_values;
 use crate::refusal::Refusal;
 use crate::values_draft::ValuesDraft;
@@ -43,33 +43,6 @@ impl Model for AttributesDraft {
     ghost invariant = { λ d. IsTaken d.attrs.entries d.taken };
 }
 
-/// Takes the values of a type, so that others can be set in their place.
-pub(crate) fn take_values(attrs: &mut Attributes, t: TypeId) -> Values
-    ensures values { result ≡ values_of attrs.old.entries t }
-    ensures place { (vs : List values.Value) → set_values attrs.new.entries t vs ≡ set_values attrs.old.entries t vs }
-{
-    match attrs.get_mut(&t) {
-        Some(values) => std::mem::replace(values, Values::new()),
-        None => Values::new(),
-    }
-}
-
-/// Puts these values in place of those of a type, or last. An attribute without values goes.
-pub(crate) fn set_values(
-    attrs: &mut Attributes,
-    t: TypeId,
-    values: Values,
-) -> Result<(), AllocError>
-    ensures { OnOk result (attrs.new.entries ≡ set_values attrs.old.entries t values) }
-{
-    if values.is_empty() {
-        attrs.shift_remove(&t);
-    } else {
-        attrs.insert(t, values)?;
-    }
-    Ok(())
-}
-
 // Puts values back that were taken out.
 fn put_back(
     alloc: Global,
@@ -80,7 +53,7 @@ fn put_back(
 {
     match taken {
         None => Ok(()),
-        Some((t, values)) => set_values(attrs, t, values.into_values(alloc)?),
+        Some((t, values)) => attrs.set(t, values.into_values(alloc)?),
     }
 }
 
@@ -100,9 +73,9 @@ fn take_out(
         if u == t {
             return Ok(values);
         }
-        set_values(attrs, u, values.into_values(alloc)?)?;
+        attrs.set(u, values.into_values(alloc)?)?;
     }
-    Ok(ValuesDraft::new(take_values(attrs, t)))
+    Ok(ValuesDraft::new(attrs.take(t)))
 }
 
 // Where none of its values are left, a type has no place.
@@ -111,7 +84,7 @@ fn drop_place(attrs: &mut Attributes, t: TypeId, values: &ValuesDraft)
     ensures none { values.now ≡ [] → lookup (nat_eq t) attrs.new.entries ≡ None }
 {
     if !values.has_values() {
-        attrs.shift_remove(&t);
+        attrs.remove(t);
     }
 }
 

@@ -9,7 +9,7 @@ ghost use Rattle.tree.specs.inner.ClassChecks.{has_all_required, is_allowed_by, 
 ghost use Rattle.tree.specs.StoredEntries.{attributes_of, raws, IsMade};
 
 use crate::attributes::has_class;
-use crate::entry::Attributes;
+use crate::kept_attributes::Attributes;
 use schema::{Conf, TypeId};
 use smallvec::SmallVec;
 use std::alloc::{AllocError, Global};
@@ -46,7 +46,7 @@ fn own_classes(
     ensures named { IfOk result (λ found. MatchOption found (are_classes conf.now.classes (raws (values_of attrs.now.entries 0)) ≡ false) (λ cs. (are_classes conf.now.classes (raws (values_of attrs.now.entries 0)) ≡ true) × (cs.items ≡ named_classes conf.now.classes (raws (values_of attrs.now.entries 0))))) }
     ensures known { IfOk result (λ found. MatchOption found Unit (λ cs. AllByRecursion (λ c. c < length conf.now.classes) cs.items)) }
 {
-    match attrs.get(&TypeId::OBJECT_CLASS) {
+    match attrs.get(TypeId::OBJECT_CLASS) {
         Some(values) => named_classes(alloc, conf, values),
         None => Ok(Some(SmallVec::new(alloc))),
     }
@@ -55,7 +55,7 @@ fn own_classes(
 fn has_type(attrs: &Attributes, t: TypeId) -> bool
     ensures { result ≡ has_type (attributes_of attrs.now.entries) t }
 {
-    attrs.get(&t).is_some()
+    attrs.get(t).is_some()
 }
 
 fn has_each(attrs: &Attributes, types: &[TypeId]) -> bool

@@ -2,22 +2,17 @@
 
 ghost use Rattle.std.specs.Prelude.{◌≡◌, IfOk};
 
-use indexmap::IndexMap;
-use indexmap::map::Iter;
-use schema::{Rdn, TypeId};
+use crate::kept_attributes::{Attributes, AttributesIter};
+use schema::Rdn;
 use std::alloc::{AllocError, Global};
 use std::marker::Model;
-use values::Values;
-
-/// Attributes in order, each a type with its values in order.
-pub(crate) type Attributes = IndexMap<TypeId, Values>;
 
 /// An entry (RFC 4512, 2.2): its RDN as written, and its attributes in order, each with its values in order. A contract sees
 /// the RDN's parts, and the list of the types with their values.
 #[derive(Drop)]
 pub struct Entry {
     rdn: Rdn,
-    attrs: IndexMap<TypeId, Values>,
+    attrs: Attributes,
 }
 
 impl Model for Entry {
@@ -45,7 +40,7 @@ impl Entry {
     }
 
     /// Each type with its values, in order.
-    pub fn attrs(&self) -> Iter<'_, TypeId, Values>
+    pub fn attrs(&self) -> AttributesIter<'_>
         ensures { result ≡ self.now.attrs }
     {
         self.attrs.iter()
@@ -55,10 +50,6 @@ impl Entry {
     pub(crate) fn copy_attributes(&self, alloc: Global) -> Result<Attributes, AllocError>
         ensures { IfOk result (λ attrs. attrs.entries ≡ self.now.attrs) }
     {
-        let mut copied = IndexMap::with_capacity(alloc, self.attrs.len())?;
-        for (t, values) in self.attrs.iter() {
-            copied.insert(*t, values.copy(alloc)?)?;
-        }
-        Ok(copied)
+        self.attrs.copy(alloc)
     }
 }

@@ -9,6 +9,7 @@ mod attributes_draft;
 mod class_checks;
 mod entry;
 mod entry_checks;
+mod kept_attributes;
 mod laws;
 mod modified_values;
 mod modifies;
@@ -29,6 +30,7 @@ mod tree;
 mod values_draft;
 
 pub use entry::Entry;
+pub use kept_attributes::AttributesIter;
 pub use laws::{
     adding_keeps_a_directory, an_entry_adds_itself, classes_are_kept, empty_is_a_directory,
     modifying_keeps_an_entry, moving_keeps_a_directory, moving_takes_all_along,

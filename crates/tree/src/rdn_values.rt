@@ -9,8 +9,7 @@ ghost use Rattle.tree.specs.Modifies.{has_rdn};
 ghost use Rattle.tree.specs.StoredEntries.{attributes_of, IsMade};
 ghost use Rattle.values.specs.Norms.{has_norm};
 
-use crate::attributes::put_value;
-use crate::entry::Attributes;
+use crate::kept_attributes::Attributes;
 use base::Bytes;
 use schema::{Conf, Rdn, TypeId, Value, ValueFault};
 use std::alloc::{AllocError, Global};
@@ -46,7 +45,7 @@ fn add_part(
 {
     let (t, raw) = part;
     let value = valid_value(alloc, conf, *t, raw.as_slice())?;
-    put_value(alloc, attrs, *t, value)?;
+    attrs.put(alloc, *t, value)?;
     Ok(())
 }
 
@@ -73,7 +72,7 @@ pub(crate) fn add_rdn(
 fn has_norm_at(attrs: &Attributes, t: TypeId, norm: &[u8]) -> bool
     ensures { result ≡ has_norm norm.now (values_of attrs.now.entries t) }
 {
-    match attrs.get(&t) {
+    match attrs.get(t) {
         Some(values) => values.has_norm(norm),
         None => false,
     }

@@ -1,4 +1,4 @@
-use Rattle.std.proofs.Common.{ℕ, zero, suc, ◌<◌, List, [], ◌∷◌, get_or, arith}
+use Rattle.std.proofs.Common.{arith}
 use Rattle.commands.proofs.IndexTold.{each_byte}
 use Rattle.commands.proofs.index_file.are_bytes.Goals as goal
 

@@ -1,12 +1,8 @@
-use Rattle.std.proofs.Common.{◌≡◌, ℕ, ◌<◌, List, Option, Some, None, length, refl, sym, ap, ◌∙◌, subst, rules}
-use Rattle.std.specs.Prelude.{Result, Ok, Err}
+use Rattle.std.proofs.Common.{◌≡◌, ℕ, List, length, sym, ap, ◌∙◌, subst, rules}
+use Rattle.std.specs.Prelude.{Ok, Err}
 use Rattle.std.specs.List.{AllByRecursion}
-use Rattle.std.specs.FinMap as finite
-use Rattle.schema.specs.Conf.{Conf, IsConf}
+use Rattle.schema.specs.Conf.{IsConf}
 use Rattle.stored_index.specs.Rows.{IsByte}
-use Rattle.stored_index.specs.Stored.{Stored, index_in}
-use Rattle.stored_index.specs.declared.fault.IndexFaultKind.{IndexFaultKind}
-use Rattle.directory.specs.IndexTexts.{stamp}
 use Rattle.commands.proofs.IndexTold.{read_so, named_so, said_so, true_so, answered}
 use Rattle.commands.proofs.Loading.{opened_so}
 use Rattle.commands.proofs.index_file.read_index.Goals as goal

@@ -14,8 +14,8 @@ returns-clause-made c =
     let es : List EntryAttribute = c.args.attrs.now.entries in
     let t = c.args.part.now.0 in
     let v : Value = c.in_ok-value.value in
-    subst (IsMade types) (sym c.in_ok-put_value.ensures.entries)
-    (elim c.in_ok-put_value.field-0 as (λ (b : Bool). IsMade types (cond b (push_value es t v) es)) [
+    subst (IsMade types) (sym c.in_ok-put.ensures.entries)
+    (elim c.in_ok-put.field-0 as (λ (b : Bool). IsMade types (cond b (push_value es t v) es)) [
       | true ↦ made_pushed types t es v c.requires.made (ltb-true t (length types) c.requires.part.known) (part_normal types t c.as_slice.result.now v c.in_ok-value.ensures)
       | false ↦ c.requires.made
     ])
@@ -27,7 +27,7 @@ returns-clause-values c =
     let t = c.args.part.now.0 in
     let v : Value = c.in_ok-value.value in
     let there : Bool = has_norm v.norm (values_of es t) in
-    ap attributes_of (c.in_ok-put_value.ensures.entries ∙ ap (λ (b : Bool). cond b (push_value es t v) es) c.in_ok-put_value.ensures.is_new)
+    ap attributes_of (c.in_ok-put.ensures.entries ∙ ap (λ (b : Bool). cond b (push_value es t v) es) c.in_ok-put.ensures.is_new)
     ∙ (elim there as (λ (b : Bool). attributes_of (cond (not b) (push_value es t v) es) ≡ cond b (attributes_of es) (push_value (attributes_of es) t v.raw)) [
       | true ↦ refl
       | false ↦ raws_pushed es t v

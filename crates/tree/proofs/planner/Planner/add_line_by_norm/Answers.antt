@@ -22,11 +22,11 @@ returns-then-not-branch-clause-gives c =
 
 pub returns-clause-made : goal.returns-clause-made
 returns-clause-made c =
-    subst (IsMade c.args.self.now.conf.now.types) (sym c.in_ok-push_value.ensures) (made_pushed c.args.self.now.conf.now.types c.in_ok-t.t c.args.attrs.now.entries c.in_ok-t.value c.requires.made c.in_ok-t.ensures.known c.in_ok-t.ensures.normal)
+    subst (IsMade c.args.self.now.conf.now.types) (sym c.in_ok-push.ensures.ok) (made_pushed c.args.self.now.conf.now.types c.in_ok-t.t c.args.attrs.now.entries c.in_ok-t.value c.requires.made c.in_ok-t.ensures.known c.in_ok-t.ensures.normal)
 
 pub returns-clause-norms : goal.returns-clause-norms
 returns-clause-norms c =
-    subst (AreNormsOf c.insert.new.self) (sym c.in_ok-push_value.ensures) (norms_pushed c.args.norms.now c.insert.new.self c.args.attrs.now.entries c.in_ok-t.t c.in_ok-t.value c.requires.norms
+    subst (AreNormsOf c.insert.new.self) (sym c.in_ok-push.ensures.ok) (norms_pushed c.args.norms.now c.insert.new.self c.args.attrs.now.entries c.in_ok-t.t c.in_ok-t.value c.requires.norms
     (λ q. c.in_ok-insert.ensures.updates.0 q ∙ ap (λ (n : List ℕ). cond (is_eq (pair_cmp (c.in_ok-t.t, n) q)) true (contains pair_cmp c.args.norms.now q)) (c.in_ok-from_slice.ensures ∙ c.norm.ensures)))
 
 pub returns-clause-gives : goal.returns-clause-gives
@@ -36,4 +36,4 @@ returns-clause-gives c =
     line_is c.args.self.now.conf.now.types c.args.attrs.now.entries c.requires.made c.in_ok-t.t c.in_ok-t.value c.in_ok-t.ensures.normal (contains pair_cmp c.args.norms.now (c.in_ok-t.t, c.in_ok-t.value.norm))
     (c.requires.norms.each c.in_ok-t.t c.in_ok-t.value.norm) c.args.self.now.mode c.args.line.now c.in_ok-t.ensures.gives
     ∙ ap (λ b. cond b (Err AttributeOrValueExists) (Ok (push_value (attributes_of c.args.attrs.now.entries) c.in_ok-t.t c.in_ok-t.value.raw))) new
-    ∙ ap (λ (x : Attributes). Ok x) (sym (raws_pushed c.args.attrs.now.entries c.in_ok-t.t c.in_ok-t.value) ∙ ap attributes_of (sym c.in_ok-push_value.ensures))
+    ∙ ap (λ (x : Attributes). Ok x) (sym (raws_pushed c.args.attrs.now.entries c.in_ok-t.t c.in_ok-t.value) ∙ ap attributes_of (sym c.in_ok-push.ensures.ok))
