@@ -4,12 +4,13 @@
 ghost use Rattle.std.specs.Prelude.{◌≡◌, IfOk};
 
 use crate::directories::loaded_under;
+use dir_conf::read_conf;
 use directory::Directory;
 use filter::{Prepared, prepare};
 use filter_text::{Filter, read_filter};
 use id_sets::KeySet;
 use reading_tests::spend;
-use schema::{Path, read_conf};
+use schema::Path;
 use search::{Hits, Scope, scan};
 use std::alloc::{AllocError, Global};
 use std::process::Abort;

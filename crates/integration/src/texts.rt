@@ -1,8 +1,9 @@
 //! The texts of faults that no command prints as they are.
 
 use definitions::DefinitionFault;
+use dir_conf::{ConfFault, ConfFaultKind};
 use ldif::{LdifFault, LdifFaultKind, WriteFault};
-use schema::{Code, ConfFault, ConfFaultKind, PathFault, ValueFault};
+use schema::{Code, PathFault, ValueFault};
 use std::alloc::{AllocError, Global};
 use std::fmt::Display;
 use std::test::Fail;
