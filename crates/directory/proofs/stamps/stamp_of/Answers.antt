@@ -1,7 +1,7 @@
 use Rattle.std.proofs.Common.{◌≡◌, ℕ, List, ◌++◌, None, [], sym, ap, ◌∙◌, subst, append_assoc}
 use Rattle.std.specs.List.{AllByRecursion}
 use Rattle.paths.specs.Paths.{Path}
-use Rattle.tree.specs.StoredEntries.{Entry}
+use Rattle.entries.specs.StoredEntries.{Entry}
 use Rattle.tree.specs.Trees.{Tree}
 use Rattle.directory.specs.Selections.{Selection}
 use Rattle.directory.specs.inner.Dumps.{IsThere, entry_text, entries_text}

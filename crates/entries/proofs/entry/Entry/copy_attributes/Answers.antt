@@ -1,0 +1,21 @@
+use Rattle.std.proofs.Common.{◌∙◌, sym, ap, subst, ◌++◌, List, nat_eq}
+use Rattle.std.specs.List.{IsDistinct}
+use Rattle.std.specs.Map.{keys_of}
+use Rattle.indexmap.specs.IndexMap.{insert_entry}
+use Rattle.entries.specs.StoredEntries.{Entry, EntryAttribute}
+use Rattle.entries.proofs.Copied.{copied_more}
+use Rattle.entries.proofs.entry.Entry.copy_attributes.Goals as goal
+
+pub loop-t-preserved-in_ok-insert : goal.loop-t-preserved-in_ok-insert
+loop-t-preserved-in_ok-insert c =
+    let apart = subst (λ (s : Entry). IsDistinct nat_eq (keys_of s.attrs)) c.self.view_is c.iter-t-items.ensures.unique in
+    ap (λ (es : List EntryAttribute). es ++ c.next.new.self) (c.in_ok-insert.ensures.entries ∙ ap (insert_entry nat_eq c.loop-t.copied.entries c.in-Some.t.now) c.in_ok-copy.ensures)
+    ∙ copied_more c.args.self.now.attrs c.loop-t.copied.entries c.next.new.self c.in-Some.t.now c.in-Some.values.now apart
+    (ap (λ (xs : List EntryAttribute). c.loop-t.copied.entries ++ xs) (sym c.in-Some.ensures.steps) ∙ c.loop-t.invariant)
+
+pub loop-t-preserved : goal.loop-t-preserved
+loop-t-preserved c =
+    let apart = subst (λ (s : Entry). IsDistinct nat_eq (keys_of s.attrs)) c.self.view_is c.iter-t-items.ensures.unique in
+    ap (λ (es : List EntryAttribute). es ++ c.next.new.self) (c.in_ok-insert.ensures.entries ∙ ap (insert_entry nat_eq c.loop-t.copied.entries c.in-Some.t.now) c.in_ok-copy.ensures)
+    ∙ copied_more c.args.self.now.attrs c.loop-t.copied.entries c.next.new.self c.in-Some.t.now c.in-Some.values.now apart
+    (ap (λ (xs : List EntryAttribute). c.loop-t.copied.entries ++ xs) (sym c.in-Some.ensures.steps) ∙ c.loop-t.invariant)
