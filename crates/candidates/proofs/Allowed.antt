@@ -7,8 +7,8 @@ use Rattle.values.specs.declared.types.AttributeType.{AttributeType}
 use Rattle.matching.specs.Substrings.{Fits}
 use Rattle.schema.specs.declared.slots.IndexKind.TheVariants as kinds
 use Rattle.schema.specs.Conf.{Conf, IsConf}
-use Rattle.tree.specs.Entries.{Attributes, IsAttribute}
-use Rattle.tree.specs.StoredEntries.{EntryAttribute, attributes_of, IsMade}
+use Rattle.entries.specs.Entries.{Attributes, IsAttribute}
+use Rattle.entries.specs.StoredEntries.{EntryAttribute, attributes_of, IsMade}
 use Rattle.filter_text.specs.declared.items.Item.{Item}
 use Rattle.filter_text.specs.Spells as texts
 use Rattle.filter.specs.declared.truth.Truth.{Truth}

@@ -7,8 +7,8 @@ use Rattle.values.specs.declared.types.AttributeType.{AttributeType}
 use Rattle.values.specs.Values.{Value}
 use Rattle.schema.specs.Subtypes.{is_subtype, subtypes}
 use Rattle.schema.specs.Values.{norm_at}
-use Rattle.tree.specs.Entries.{Attributes, IsAttribute}
-use Rattle.tree.specs.StoredEntries.{EntryAttribute, raws, attributes_of, AreNormal, IsMadeAttribute}
+use Rattle.entries.specs.Entries.{Attributes, IsAttribute}
+use Rattle.entries.specs.StoredEntries.{EntryAttribute, raws, attributes_of, AreNormal, IsMadeAttribute}
 use Rattle.filter.specs.Prepared.{is_among}
 use Rattle.filter.proofs.SubtypeLists.{among_subtypes}
 use Rattle.index.specs.EntryKeys.{norms_under}

@@ -3,7 +3,7 @@ use Rattle.std.specs.Prelude.{◌≡◌, ℕ, true, List, Some}
 use Rattle.std.specs.FinSet.{contains}
 use Rattle.values.specs.declared.types.AttributeType.{AttributeType}
 use Rattle.schema.specs.declared.slots.IndexKind.{IndexKind}
-use Rattle.tree.specs.Entries.{Attributes}
+use Rattle.entries.specs.Entries.{Attributes}
 use Rattle.filter.specs.declared.truth.Truth.{Truth}
 use Rattle.filter.specs.declared.truth.Truth.TheVariants.{True, False}
 use Rattle.index.specs.EntryKeys.{has_key}

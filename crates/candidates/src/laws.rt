@@ -4,7 +4,7 @@ ghost use Rattle.std.specs.Prelude.{◌≡◌, ℕ};
 ghost use Rattle.std.specs.List.{AllByRecursion};
 ghost use Rattle.std.specs.FinSet as set;
 ghost use Rattle.schema.specs.Conf.{Conf, IsConf};
-ghost use Rattle.tree.specs.Entries.{Attributes, IsAttribute};
+ghost use Rattle.entries.specs.Entries.{Attributes, IsAttribute};
 ghost use Rattle.filter_text.specs.Spells.{Tree};
 ghost use Rattle.filter.specs.Filters.{truth};
 ghost use Rattle.filter.specs.Prepared.{prepared_tree};

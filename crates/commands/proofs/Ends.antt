@@ -6,7 +6,7 @@ use Rattle.std.specs.FinMap as finite
 use Rattle.device.specs.Device.{Written, Took}
 use Rattle.paths.specs.Paths.{Path}
 use Rattle.schema.specs.Conf.{Conf}
-use Rattle.tree.specs.Entries.{EntryContent}
+use Rattle.entries.specs.Entries.{EntryContent}
 use Rattle.tree.specs.Trees.{Tree}
 use Rattle.filter_text.specs.Spells.{view}
 use Rattle.filter.specs.Made.{Made}

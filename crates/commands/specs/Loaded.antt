@@ -5,8 +5,8 @@ use Rattle.std.specs.Option.{option_map}
 use Rattle.std.specs.FinMap as finite
 use Rattle.ldif_lines.specs.Records.{records}
 use Rattle.schema.specs.Conf.{Conf}
-use Rattle.schema.specs.Configurations.{conf_of}
-use Rattle.schema.specs.declared.conf_fault.ConfFaultKind.{ConfFaultKind}
+use Rattle.dir_conf.specs.Configurations.{conf_of}
+use Rattle.dir_conf.specs.declared.conf_fault.ConfFaultKind.{ConfFaultKind}
 use Rattle.tree.specs.Directories.{Entries}
 use Rattle.directory.specs.Runs.{LoadsRecords, Loads, loaded_after}
 use Rattle.directory.specs.Folds.{Over}

@@ -5,7 +5,7 @@ use Rattle.base.specs.Ascii.{line_feed}
 use Rattle.device.specs.Device.{Written, Took, Broke}
 use Rattle.schema.specs.declared.code.Code.{Code}
 use Rattle.schema.specs.Codes.{code_report}
-use Rattle.schema.specs.ConfFaults.{kind_report}
+use Rattle.dir_conf.specs.ConfFaults.{kind_report}
 use Rattle.filter_text.specs.FaultReports as filters
 use Rattle.directory.specs.Reports.{reason_report}
 use Rattle.commands.specs.declared.messages.Status.{Status}

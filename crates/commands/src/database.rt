@@ -10,9 +10,10 @@ ghost use Rattle.commands.specs.inner.LoadFaults.{TellsLoadFault};
 use crate::folder::{FileText, Folder, FolderFault};
 use crate::messages::CommandFault;
 use device::{Device, Sink, Source};
+use dir_conf::{ConfFault, read_conf};
 use directory::{Directory, LoadFault, load_tree, write_dump};
 use ldif::WriteFault;
-use schema::{Conf, ConfFault, read_conf};
+use schema::Conf;
 use std::alloc::{AllocError, Global};
 use tree::Tree;
 

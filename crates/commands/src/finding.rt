@@ -7,10 +7,10 @@ ghost use Rattle.commands.specs.Asked.{IsFilter, base_of, IsBase};
 ghost use Rattle.commands.specs.inner.Refusals.{FilterFails, Refuses, refusal_fault};
 
 use crate::messages::CommandFault;
+use entries::Refusal;
 use filter_text::{Filter, FilterFault, read_filter};
 use schema::{Conf, Path, PathFault};
 use std::alloc::Global;
-use tree::Refusal;
 
 /// A filter that is True of every entry, since each has an object class (RFC 4512, 2.4).
 const ANY_ENTRY: &str = "(objectClass=*)";

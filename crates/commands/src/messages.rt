@@ -10,10 +10,11 @@ ghost use Rattle.commands.specs.inner.Stopped.{CanTell};
 ghost use Rattle.commands.specs.inner.WriteFaults.{TellsWriteFault};
 
 use device::{Sink, push_all};
+use dir_conf::ConfFaultKind;
 use directory::{Reason, Tally};
 use filter_text::FilterFault;
 use ldif::WriteFault;
-use schema::{Code, ConfFaultKind};
+use schema::Code;
 use std::alloc::{AllocError, AllocFailed, Global};
 use std::error::Error;
 use std::fmt;

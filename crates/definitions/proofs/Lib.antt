@@ -1,4 +1,3 @@
-pub mod Groups
 pub mod ToClose
 pub mod FieldLoop
 pub mod LastLine

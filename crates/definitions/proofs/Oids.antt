@@ -3,7 +3,7 @@ use Rattle.std.proofs.Common.{◌≡◌, ℕ, ◌<◌, Bool, true, false, cond, 
 use Rattle.std.specs.List.{list_all, join_with_byte}
 use Rattle.std.specs.Char.{is_ascii_digit}
 use Rattle.std.proofs.lemmas.Bool.{and_parts, eqb-true}
-use Rattle.definitions.specs.Naming.{are_groups, is_oid}
+use Rattle.terms.specs.Naming.{are_groups, is_oid}
 use Rattle.definitions.specs.Grammar.{is_number, IsOid}
 
 -- ---- numbers joined by dots are groups

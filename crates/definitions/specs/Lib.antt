@@ -1,6 +1,5 @@
 pub mod Words
 pub mod Lines
-pub mod Naming
 pub mod Gives
 pub mod Texts
 pub mod Elements

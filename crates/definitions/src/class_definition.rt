@@ -12,6 +12,7 @@ use crate::texts::names_at;
 use crate::words::word_at;
 use base::{Bytes, Sequence};
 use std::alloc::{AllocError, Global};
+use terms::ClassKind;
 
 /// A field that names classes or types.
 #[derive(Clone, Copy, Debug, PartialEq, Eq)]
@@ -22,17 +23,6 @@ pub(crate) enum ClassList {
     Must,
     /// MAY
     May,
-}
-
-/// What a class is for (RFC 4512, 2.4).
-#[derive(Clone, Copy, Debug, PartialEq, Eq)]
-pub enum ClassKind {
-    /// ABSTRACT
-    Abstract,
-    /// STRUCTURAL
-    Structural,
-    /// AUXILIARY
-    Auxiliary,
 }
 
 /// A field of a definition.

@@ -9,11 +9,11 @@ ghost use Rattle.definitions.specs.Elements.{is_extension, is_allowed, names_fie
 ghost use Rattle.definitions.specs.Gives.{Gives};
 
 use crate::fault::DefinitionFault;
-use crate::naming::{is_name, is_oid, is_type_name};
 use crate::texts::quoted_texts_at;
 use crate::words::{quoted_at, sign_at, skip, word_at};
 use base::{Bytes, Sequence};
 use std::alloc::{AllocError, Global};
+use terms::{is_name, is_oid, is_type_name};
 
 /// What a definition defines.
 #[derive(Clone, Copy, Debug, PartialEq, Eq)]

@@ -4,7 +4,7 @@ ghost use Rattle.std.specs.Prelude.{◌≡◌, ℕ, true, Some, List};
 ghost use Rattle.std.specs.List.{list_all};
 ghost use Rattle.definitions.specs.declared.class_definition.ClassDefinition.{ClassDefinition};
 ghost use Rattle.definitions.specs.declared.type_definition.TypeDefinition.{TypeDefinition};
-ghost use Rattle.definitions.specs.Naming.{is_oid, is_type_name};
+ghost use Rattle.terms.specs.Naming.{is_oid, is_type_name};
 ghost use Rattle.definitions.specs.TypeDefinitions.{type_definition_of};
 ghost use Rattle.definitions.specs.TypeGrammar.{IsTypeField, SpellsType, AreTypeFieldsMoved};
 ghost use Rattle.definitions.specs.ClassDefinitions.{class_definition_of};

@@ -8,13 +8,12 @@ mod element;
 mod fault;
 mod laws;
 mod lines;
-mod naming;
 mod texts;
 mod type_definition;
 mod type_field;
 mod words;
 
-pub use class_definition::{ClassDefinition, ClassKind, read_class_definition};
+pub use class_definition::{ClassDefinition, read_class_definition};
 pub use element::Element;
 pub use fault::DefinitionFault;
 pub use laws::{

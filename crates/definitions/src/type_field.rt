@@ -11,10 +11,10 @@ ghost use Rattle.definitions.specs.Gives.{Gives};
 
 use crate::element::{ElementField, Sort, element_field};
 use crate::fault::DefinitionFault;
-use crate::naming::is_oid;
 use crate::words::{plain_or_quoted_at, word_at};
 use base::Bytes;
 use std::alloc::Global;
+use terms::is_oid;
 
 /// A field that names a type, a rule or a syntax.
 #[derive(Clone, Copy, Debug, PartialEq, Eq)]

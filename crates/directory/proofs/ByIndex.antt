@@ -7,7 +7,7 @@ use Rattle.paths.specs.Paths.{Path, path_cmp}
 use Rattle.schema.specs.declared.slots.IndexKind.{IndexKind}
 use Rattle.schema.specs.declared.slots.IndexKind.TheVariants as kinds
 use Rattle.schema.specs.Conf.{Conf, IsConf}
-use Rattle.tree.specs.Entries.{Attributes, EntryContent, IsAttribute}
+use Rattle.entries.specs.Entries.{Attributes, EntryContent, IsAttribute}
 use Rattle.tree.specs.Directories.{Entries, IsDirectory}
 use Rattle.tree.specs.Trees.{Tree, HasEntry, IsNumbered, number_at}
 use Rattle.tree.proofs.Order.{path_total}

@@ -6,9 +6,9 @@ use Rattle.std.specs.Cmp.{IsTotalOrder}
 use Rattle.ldif.specs.Contents.{write_content}
 use Rattle.paths.specs.Paths.{Path, path_cmp, begins}
 use Rattle.schema.specs.Conf.{Conf}
-use Rattle.tree.specs.Entries.{EntryContent}
+use Rattle.entries.specs.Entries.{EntryContent}
 use Rattle.tree.specs.Directories.{Entries, IsDirectory, record_at}
-use Rattle.tree.specs.StoredEntries.{Entry, content_of}
+use Rattle.entries.specs.StoredEntries.{Entry, content_of}
 use Rattle.tree.specs.Trees.{seen_entries}
 use Rattle.directory.specs.Runs.{record_of, dump}
 use Rattle.directory.specs.inner.Dumps.{IsThere, entries_text}

@@ -8,11 +8,11 @@ use Rattle.ldif.specs.Writing.{written_line}
 use Rattle.values.specs.declared.types.AttributeType.{AttributeType}
 use Rattle.values.specs.Values.{Value}
 use Rattle.values.specs.Types.{name_of}
-use Rattle.tree.specs.Entries.{Attributes, EntryContent, IsAttribute, lines_of, attribute_lines}
+use Rattle.entries.specs.Entries.{Attributes, EntryContent, IsAttribute, lines_of, attribute_lines}
 use Rattle.paths.specs.Paths.{Path}
 use Rattle.schema.specs.Conf.{Conf}
 use Rattle.tree.specs.Directories.{Entries, name_of_entry}
-use Rattle.tree.specs.StoredEntries.{Entry, EntryAttribute, attributes_of, raws}
+use Rattle.entries.specs.StoredEntries.{Entry, EntryAttribute, attributes_of, raws}
 use Rattle.directory.specs.Selections.{Selection, selects, selected}
 use Rattle.directory.specs.inner.Dumps.{AreKnown, attr_of, values_text, attributes_text, attribute_text, selected_text, entry_text}
 

@@ -41,7 +41,7 @@ use Rattle.tree.specs.Changes.{Change, changed}
 use Rattle.tree.specs.Adds.{add, add_at, added}
 use Rattle.tree.specs.Directories as directories
 use Rattle.tree.specs.Directories.{Entries, rdn_in}
-use Rattle.tree.specs.Entries.{EntryContent, push_value, add_lines, with_rdn, lines_of}
+use Rattle.entries.specs.Entries.{EntryContent, push_value, add_lines, with_rdn, lines_of}
 use Rattle.directory.specs.Runs.{State, start, of_change, take_up, outcome, step, after_records, after, record_of, dump, Loads}
 use Rattle.directory.specs.Loading.{StopsAt}
 use Rattle.directory.specs.declared.loading.LoadFault.TheVariants as loads

@@ -22,7 +22,7 @@ use Rattle.schema.specs.declared.slots.Slot.{Slot}
 use Rattle.schema.specs.TypeRules.{object_class}
 use Rattle.schema.specs.Values.{norm_at}
 use Rattle.schema.specs.Conf.{Conf}
-use Rattle.tree.specs.Entries.{EntryContent}
+use Rattle.entries.specs.Entries.{EntryContent}
 use Rattle.tree.specs.Directories.{Entries}
 use Rattle.index.specs.EntryKeys.{entry_keys}
 use Rattle.index_text.specs.IndexTexts.{Row, slot_text}

@@ -23,7 +23,7 @@ use Rattle.paths.specs.Paths.{Path, path_cmp}
 use Rattle.values.specs.declared.types.AttributeType.{AttributeType}
 use Rattle.schema.specs.declared.slots.Slot.{Slot}
 use Rattle.schema.specs.Conf.{Conf}
-use Rattle.tree.specs.Entries.{EntryContent}
+use Rattle.entries.specs.Entries.{EntryContent}
 use Rattle.tree.specs.Directories.{IsDirectory}
 use Rattle.tree.specs.Trees.{Tree, number_at, IsNumbered}
 use Rattle.tree.proofs.Order.{path_exact}

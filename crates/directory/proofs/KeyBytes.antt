@@ -34,7 +34,7 @@ use Rattle.schema.proofs.Locating.{printed_is_text}
 use Rattle.schema.proofs.Found.{name_has_parts, rdns_are}
 use Rattle.schema.specs.Names.{name_in}
 use Rattle.schema.specs.Rdns.{typed}
-use Rattle.tree.specs.Entries.{Attribute, Attributes, IsAttribute}
+use Rattle.entries.specs.Entries.{Attribute, Attributes, IsAttribute}
 use Rattle.schema.specs.declared.slots.IndexKind.{IndexKind}
 use Rattle.schema.specs.declared.slots.IndexKind.TheVariants as kinds
 use Rattle.schema.specs.Subtypes.{is_subtype}

@@ -17,7 +17,7 @@ use Rattle.schema.specs.declared.code.Code.{Code}
 use Rattle.base.specs.Answers.{◌>>=◌}
 use Rattle.paths.specs.Paths.{RdnKey, Path, path_cmp}
 use Rattle.schema.specs.Conf.{Conf, IsConf}
-use Rattle.tree.specs.Entries.{EntryContent}
+use Rattle.entries.specs.Entries.{EntryContent}
 use Rattle.tree.specs.Directories.{Entries, IsDirectory, record_at}
 use Rattle.tree.specs.Changes.{Change, changed}
 use Rattle.tree.specs.Adds.{add, added, MayCome}

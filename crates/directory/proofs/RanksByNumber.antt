@@ -12,7 +12,7 @@ use Rattle.std.proofs.lemmas.List.{append-nil, length-map, length-append}
 use Rattle.std.proofs.lemmas.List.Folds.{list_any-append}
 use Rattle.id_sets.specs.inner.Lists.{holds}
 use Rattle.paths.specs.Paths.{Path, path_cmp, begins}
-use Rattle.tree.specs.Entries.{EntryContent}
+use Rattle.entries.specs.Entries.{EntryContent}
 use Rattle.tree.specs.Directories.{IsDirectory}
 use Rattle.tree.specs.Trees.{Tree, Placed, unnumbered, seen_entries, number_at, IsNumbered}
 use Rattle.tree.proofs.Ancestors.{some_at}

@@ -17,7 +17,7 @@ use Rattle.schema.specs.declared.slots.Slot.{Slot}
 use Rattle.schema.specs.Slots.{same_slot}
 use Rattle.schema.specs.Conf.{Conf}
 use Rattle.schema.proofs.SlotOrder.{same_is}
-use Rattle.tree.specs.Entries.{EntryContent}
+use Rattle.entries.specs.Entries.{EntryContent}
 use Rattle.tree.specs.Directories.{Entries}
 use Rattle.tree.proofs.Order.{path_exact}
 use Rattle.id_sets.specs.inner.Lists.{holds}

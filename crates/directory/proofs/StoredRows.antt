@@ -24,7 +24,7 @@ use Rattle.paths.specs.Paths.{Path, path_cmp}
 use Rattle.values.specs.declared.types.AttributeType.{AttributeType}
 use Rattle.schema.specs.Conf.{Conf, IsConf}
 use Rattle.schema.specs.declared.slots.Slot.{Slot}
-use Rattle.tree.specs.Entries.{EntryContent, IsGood}
+use Rattle.entries.specs.Entries.{EntryContent, IsGood}
 use Rattle.tree.specs.Directories.{Entries, IsDirectory}
 use Rattle.tree.proofs.Order.{path_total}
 use Rattle.tree.proofs.Views.{all_found}

@@ -7,7 +7,7 @@ use Rattle.ldif.specs.Contents.{ContentRecord, write_content}
 use Rattle.ldif.specs.declared.write.WriteFault.{WriteFault}
 use Rattle.paths.specs.Paths.{Path}
 use Rattle.schema.specs.Conf.{Conf}
-use Rattle.tree.specs.Entries.{EntryContent}
+use Rattle.entries.specs.Entries.{EntryContent}
 use Rattle.tree.specs.Directories.{Entries, record_at}
 use Rattle.directory.specs.Selections.{Selection, selected}
 use Rattle.directory.specs.Dumps.{Writes}

@@ -14,7 +14,7 @@ use Rattle.ldif.specs.Contents.{ContentRecord, write_content}
 use Rattle.schema.specs.declared.code.Code.{Code}
 use Rattle.paths.specs.Paths.{Path}
 use Rattle.schema.specs.Conf.{Conf}
-use Rattle.tree.specs.Entries.{EntryContent}
+use Rattle.entries.specs.Entries.{EntryContent}
 use Rattle.tree.specs.Directories.{Entries, record_at}
 use Rattle.tree.specs.Operations.{apply}
 use Rattle.directory.specs.declared.reason.Outcome.{Outcome}

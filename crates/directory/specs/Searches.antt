@@ -9,11 +9,11 @@ use Rattle.schema.specs.declared.code.Code.TheVariants.{NoSuchObject}
 use Rattle.schema.specs.declared.slots.IndexKind.{IndexKind}
 use Rattle.schema.specs.declared.slots.Slot.{Slot}
 use Rattle.schema.specs.Conf.{Conf}
-use Rattle.tree.specs.Entries.{EntryContent}
+use Rattle.entries.specs.Entries.{EntryContent}
 use Rattle.tree.specs.Directories.{Entries}
 use Rattle.tree.specs.Trees.{Tree, number_at}
-use Rattle.tree.specs.declared.refusal.Refusal.{Refusal}
-use Rattle.tree.specs.declared.refusal.Refusal.TheVariants.{Code, OutOfMemory}
+use Rattle.entries.specs.declared.refusal.Refusal.{Refusal}
+use Rattle.entries.specs.declared.refusal.Refusal.TheVariants.{Code, OutOfMemory}
 use Rattle.filter.specs.Made.{Made}
 use Rattle.index.specs.Postings.{Shown, slot_in}
 use Rattle.candidates.specs.Brackets.{Reflects}

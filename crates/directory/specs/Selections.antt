@@ -4,7 +4,7 @@ use Rattle.std.specs.List.{list_any, filter, slice_get}
 use Rattle.std.specs.Str.{bytes_eq}
 use Rattle.values.specs.declared.types.AttributeType.{AttributeType}
 use Rattle.values.specs.Types.{type_of, type_at}
-use Rattle.tree.specs.Entries.{EntryContent}
+use Rattle.entries.specs.Entries.{EntryContent}
 use Rattle.schema.specs.Subtypes.{passes, is_subtype}
 
 -- ---- attribute lists

@@ -4,18 +4,19 @@ ghost use Rattle.std.specs.Prelude.{◌≡◌, ◌+◌, Err, IfOk, OnOk, OnErr, 
 ghost use Rattle.ldif.specs.Reading.{reading};
 ghost use Rattle.tree.specs.Changes.{changed};
 ghost use Rattle.tree.specs.Operations.{apply};
-ghost use Rattle.tree.specs.Gives.{Gives};
+ghost use Rattle.entries.specs.Gives.{Gives};
 ghost use Rattle.directory.specs.Indexes.{IsIndexOf, edits_of, record_edits};
 ghost use Rattle.schema.specs.declared.code.Code.{Code};
 ghost use Rattle.directory.specs.RunEdits.{read_edits};
 ghost use Rattle.directory.specs.Runs.{is_empty, outcome};
 
 use crate::reason::{Outcome, Reason};
+use entries::Refusal;
 use index::{Index, KeyChanges, key_changes};
 use ldif::{LdifFault, Mode, RawRecord, Record, read_record};
 use schema::Conf;
 use std::alloc::{AllocError, Global};
-use tree::{Plan, Refusal, Tree, plan};
+use tree::{Plan, Tree, plan};
 
 /// What a record changed in the index.
 #[derive(Clone, Copy, Debug, PartialEq, Eq)]

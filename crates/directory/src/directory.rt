@@ -4,7 +4,7 @@ ghost use Rattle.std.specs.Prelude.{◌≡◌, ◌+◌, true, Err, map, IfOk, If
 ghost use Rattle.std.specs.FinMap as finite;
 ghost use Rattle.ldif.specs.Reading.{reading};
 ghost use Rattle.tree.specs.Operations.{apply};
-ghost use Rattle.tree.specs.Gives.{Gives};
+ghost use Rattle.entries.specs.Gives.{Gives};
 ghost use Rattle.filter_text.specs.Spells.{view};
 ghost use Rattle.index.specs.Indexes as indexes;
 ghost use Rattle.index.specs.Postings.{shown_by};
@@ -22,6 +22,7 @@ use crate::applying::{Edits, apply_record, carry_out};
 use crate::indexing::index_of;
 use crate::reason::Outcome;
 use crate::searching::search_with_index;
+use entries::Refusal;
 use filter::Prepared;
 use id_sets::KeySet;
 use index::Index;
@@ -30,7 +31,7 @@ use schema::{Conf, Path};
 use search::{Hits, Scope};
 use std::alloc::{AllocError, Global};
 use std::marker::Model;
-use tree::{Refusal, Tree};
+use tree::Tree;
 
 /// A directory under a configuration, with its index. A contract sees its rules, its entries by their paths, their numbers, and how many
 /// edits of the index were made; the index is that of the entries at all times.

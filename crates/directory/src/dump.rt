@@ -3,7 +3,7 @@
 ghost use Rattle.std.specs.Prelude.{◌≡◌, ◌<◌, ◌-◌, ◌^◌, ◌++◌, ◌∷◌, [], Some, OnOk, length};
 ghost use Rattle.std.specs.FinMap as finite;
 ghost use Rattle.ldif.specs.Writing.{written_line};
-ghost use Rattle.tree.specs.StoredEntries.{content_of};
+ghost use Rattle.entries.specs.StoredEntries.{content_of};
 ghost use Rattle.directory.specs.Runs.{dump, LoadsBack};
 ghost use Rattle.directory.specs.Dumps.{Writes};
 ghost use Rattle.directory.specs.inner.Dumps.{WritesOn, AreKnown, values_text, attribute_text, selected_text, entry_text};
@@ -12,10 +12,11 @@ use crate::directory::Directory;
 use crate::laws::loading_a_dump;
 use crate::selection::Selection;
 use device::{Device, Sink, push_all};
+use entries::{Entry, Values};
 use ldif::{WriteFault, put_line};
 use schema::{Conf, Path, TypeId};
 use std::alloc::{AllocError, Global};
-use tree::{Entry, Names, Tree, Values};
+use tree::{Names, Tree};
 
 // so many bytes are handed on at once
 pub(crate) const PIECE: usize = 65536;

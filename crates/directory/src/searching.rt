@@ -4,7 +4,7 @@ ghost use Rattle.std.specs.Prelude.{◌≡◌, true, is_ok, map, IfOk, IfErr};
 ghost use Rattle.std.specs.FinMap as finite;
 ghost use Rattle.schema.specs.Conf.{IsConf};
 ghost use Rattle.schema.specs.declared.code.Code.TheVariants.{NoSuchObject};
-ghost use Rattle.tree.specs.declared.refusal.Refusal.TheVariants.{Code as refused_with};
+ghost use Rattle.entries.specs.declared.refusal.Refusal.TheVariants.{Code as refused_with};
 ghost use Rattle.filter_text.specs.Spells.{view};
 ghost use Rattle.index.specs.Indexes as indexes;
 ghost use Rattle.index.specs.Postings.{shown_by};
@@ -15,13 +15,14 @@ ghost use Rattle.directory.specs.Indexes.{IsIndexOf};
 ghost use Rattle.directory.specs.Searches.{IsRefused, may_by_number, may_by_rank, ReflectsDump};
 
 use candidates::{brackets_hold, indexes_reflect_entries, may_match};
+use entries::Refusal;
 use filter::Prepared;
 use id_sets::KeySet;
 use index::{Index, Postings};
 use schema::{Code, Conf, Path};
 use search::{Hits, Scope, candidates_suffice, scan, search, search_by_ranks};
 use std::alloc::Global;
-use tree::{Refusal, Tree};
+use tree::Tree;
 
 /// The entries of a tree in scope of which the filter is True, in dump order (RFC 4511, 4.5.1), with no index: each entry in scope is
 /// tested. The filter was prepared under the configuration that the tree was made with. `NoSuchObject` where the base isn't there, and no

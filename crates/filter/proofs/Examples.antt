@@ -16,7 +16,7 @@ use Rattle.values.specs.declared.types.EqualityRule.TheVariants as rules
 use Rattle.values.specs.Types.{type_of}
 use Rattle.schema.specs.TypeRules.{object_class}
 use Rattle.schema.specs.Values.{is_valid_at, norm_at}
-use Rattle.tree.specs.Entries.{Attributes}
+use Rattle.entries.specs.Entries.{Attributes}
 use Rattle.filter_text.specs.declared.items.Item.TheVariants.{Equality, Approx, GreaterOrEqual, LessOrEqual, Present, Substrings, Extensible}
 use Rattle.filter_text.specs.Spells.{Tree, Trees, All_of, Any_of, Not_of, Leaf, No_more, And_then}
 use Rattle.filter.specs.declared.truth.Truth.{Truth}

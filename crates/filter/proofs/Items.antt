@@ -9,7 +9,7 @@ use Rattle.values.specs.declared.types.EqualityRule.{EqualityRule}
 use Rattle.values.specs.Types.{type_at, type_of, has_equality, plain_family}
 use Rattle.schema.specs.Values.{is_valid_at, norm_at}
 use Rattle.schema.proofs.Found.{found_is_known}
-use Rattle.tree.specs.StoredEntries.{EntryAttribute, attributes_of, IsMadeAttribute}
+use Rattle.entries.specs.StoredEntries.{EntryAttribute, attributes_of, IsMadeAttribute}
 use Rattle.filter_text.specs.declared.items.Item.{Item}
 use Rattle.filter_text.specs.declared.items.Item.TheVariants as items
 use Rattle.filter.specs.declared.truth.Truth.TheVariants as truths

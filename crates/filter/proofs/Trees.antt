@@ -4,7 +4,7 @@ use Rattle.std.specs.List.{AllByRecursion}
 use Rattle.std.proofs.lemmas.List.{map-append}
 use Rattle.std.proofs.Math.ListN.{drop_of_length-le}
 use Rattle.values.specs.declared.types.AttributeType.{AttributeType}
-use Rattle.tree.specs.StoredEntries.{EntryAttribute, attributes_of, IsMadeAttribute}
+use Rattle.entries.specs.StoredEntries.{EntryAttribute, attributes_of, IsMadeAttribute}
 use Rattle.filter_text.specs.declared.filters.Filter.{Filter}
 use Rattle.filter_text.specs.Spells as texts
 use Rattle.filter.specs.declared.prepared_filter.PreparedFilter.{PreparedFilter}

@@ -5,7 +5,7 @@ use Rattle.std.proofs.lemmas.List.Folds.{list_any-append}
 use Rattle.values.specs.declared.types.AttributeType.{AttributeType}
 use Rattle.values.specs.Values.{Value}
 use Rattle.schema.specs.Values.{norm_at}
-use Rattle.tree.specs.StoredEntries.{EntryAttribute, raws, attributes_of, AreNormal, IsMadeAttribute}
+use Rattle.entries.specs.StoredEntries.{EntryAttribute, raws, attributes_of, AreNormal, IsMadeAttribute}
 use Rattle.filter.specs.declared.assertion.Assertion.{Assertion}
 use Rattle.schema.specs.Subtypes.{is_subtype, subtypes}
 use Rattle.filter.specs.Items.{values_under}

@@ -1,7 +1,7 @@
 -- What a filter says of an entry (RFC 4511, 4.5.1.7).
 use Rattle.std.specs.Prelude.{List, [], ◌∷◌}
 use Rattle.values.specs.declared.types.AttributeType.{AttributeType}
-use Rattle.tree.specs.Entries.{Attributes}
+use Rattle.entries.specs.Entries.{Attributes}
 use Rattle.filter_text.specs.Spells.{Tree, Trees, All_of, Any_of, Not_of, Leaf, No_more, And_then}
 use Rattle.filter.specs.declared.truth.Truth.{Truth}
 use Rattle.filter.specs.Truths.{and_of, or_of, opposite}

@@ -8,7 +8,7 @@ use Rattle.matching.specs.declared.substrings.Pieces.{Pieces}
 use Rattle.values.specs.declared.types.AttributeType.{AttributeType}
 use Rattle.values.specs.Types.{type_of, type_at, has_equality, plain_family}
 use Rattle.schema.specs.Values.{is_valid_at, norm_at, are_equal, pieces_of}
-use Rattle.tree.specs.Entries.{Attributes}
+use Rattle.entries.specs.Entries.{Attributes}
 use Rattle.filter_text.specs.declared.items.Item.{Item}
 use Rattle.filter_text.specs.declared.items.Item.TheVariants.{Equality, Approx, GreaterOrEqual, LessOrEqual, Present, Substrings, Extensible}
 use Rattle.filter.specs.declared.truth.Truth.{Truth}

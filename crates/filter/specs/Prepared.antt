@@ -5,7 +5,7 @@ use Rattle.std.specs.Str.{bytes_eq}
 use Rattle.values.specs.declared.types.AttributeType.{AttributeType}
 use Rattle.values.specs.Types.{type_at, has_equality}
 use Rattle.schema.specs.Values.{is_valid_at, norm_at}
-use Rattle.tree.specs.StoredEntries.{EntryAttribute}
+use Rattle.entries.specs.StoredEntries.{EntryAttribute}
 use Rattle.filter_text.specs.declared.items.Item as written
 use Rattle.filter_text.specs.declared.items.Item.TheVariants as items
 use Rattle.filter_text.specs.Spells as texts

@@ -2,7 +2,7 @@
 
 ghost use Rattle.std.specs.Prelude.{◌≡◌, ◌+◌, ◌<◌, ◌^◌};
 ghost use Rattle.schema.specs.Conf.{IsConf};
-ghost use Rattle.tree.specs.StoredEntries.{attributes_of, IsMade};
+ghost use Rattle.entries.specs.StoredEntries.{attributes_of, IsMade};
 ghost use Rattle.filter_text.specs.Spells.{view};
 ghost use Rattle.filter.specs.Filters.{truth};
 ghost use Rattle.filter.specs.Prepared.{prepared_tree, tree_of};
@@ -10,11 +10,11 @@ ghost use Rattle.filter.specs.Prepared.{prepared_tree, tree_of};
 use crate::meter::Meter;
 use crate::prepared_filter::PreparedFilter;
 use crate::truth::Truth;
+use entries::Entry;
 use filter_text::Filter;
 use schema::Conf;
 use std::marker::Model;
 use std::snapshot::Snapshot;
-use tree::Entry;
 
 /// A filter with its items settled under a configuration. A contract sees the two that it was made of.
 #[derive(Drop)]

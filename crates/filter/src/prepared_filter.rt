@@ -6,7 +6,7 @@ ghost use Rattle.filter.specs.Prepared.{filter_test, tree_of};
 
 use crate::prepared_item::PreparedItem;
 use crate::truth::Truth;
-use tree::Entry;
+use entries::Entry;
 
 /// A filter whose items are settled.
 #[derive(Drop)]

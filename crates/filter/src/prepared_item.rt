@@ -7,8 +7,8 @@ ghost use Rattle.filter.specs.Prepared.{has_match, is_among, item_test, matches}
 use crate::assertion::Assertion;
 use crate::truth::Truth;
 use base::Sequence;
+use entries::{Entry, Values};
 use schema::TypeId;
-use tree::{Entry, Values};
 
 /// An item of a filter, settled under a configuration.
 #[derive(Debug, Drop)]

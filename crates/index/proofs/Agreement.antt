@@ -12,7 +12,7 @@ use Rattle.schema.specs.declared.slots.IndexKind.{IndexKind}
 use Rattle.schema.specs.declared.slots.Slot.{Slot}
 use Rattle.schema.specs.Slots.{same_slot}
 use Rattle.schema.specs.Conf.{Conf}
-use Rattle.tree.specs.Entries.{Attributes, EntryContent}
+use Rattle.entries.specs.Entries.{Attributes, EntryContent}
 use Rattle.schema.proofs.SlotOrder.{same_is}
 use Rattle.index.specs.declared.slot_key.SlotKey.{SlotKey}
 use Rattle.index.specs.SlotKeys.{slot_key, slot_key_cmp, same_slot_key, is_among}

@@ -6,7 +6,7 @@ use Rattle.std.specs.Str.{bytes_eq}
 use Rattle.values.specs.declared.types.AttributeType.{AttributeType}
 use Rattle.schema.specs.declared.slots.IndexKind.TheVariants.{Equality, Presence, Substrings}
 use Rattle.schema.specs.Values.{norm_at}
-use Rattle.tree.specs.Entries.{Attributes}
+use Rattle.entries.specs.Entries.{Attributes}
 use Rattle.schema.specs.Subtypes.{is_subtype}
 use Rattle.index.specs.EntryKeys.{norms_under, windows, empty_key, has_key}
 

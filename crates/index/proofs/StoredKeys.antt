@@ -6,7 +6,7 @@ use Rattle.values.specs.Values.{Value}
 use Rattle.schema.specs.declared.slots.IndexKind.{IndexKind}
 use Rattle.schema.specs.declared.slots.IndexKind.TheVariants.{Equality, Presence, Substrings}
 use Rattle.schema.specs.Values.{norm_at}
-use Rattle.tree.specs.StoredEntries.{EntryAttribute, raws, attributes_of, AreNormal, IsMadeAttribute}
+use Rattle.entries.specs.StoredEntries.{EntryAttribute, raws, attributes_of, AreNormal, IsMadeAttribute}
 use Rattle.schema.specs.Subtypes.{is_subtype}
 use Rattle.index.specs.EntryKeys.{norms_under, keys_by}
 use Rattle.index.specs.inner.StoredKeys.{norms_of, stored_norms, keys_left}

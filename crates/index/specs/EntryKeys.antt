@@ -9,7 +9,7 @@ use Rattle.schema.specs.declared.slots.IndexKind.TheVariants.{Equality, Presence
 use Rattle.schema.specs.declared.slots.Slot.{Slot}
 use Rattle.schema.specs.Conf.{Conf}
 use Rattle.schema.specs.Values.{norm_at}
-use Rattle.tree.specs.Entries.{Attributes, EntryContent}
+use Rattle.entries.specs.Entries.{Attributes, EntryContent}
 use Rattle.index.specs.declared.slot_key.SlotKey.{SlotKey}
 use Rattle.schema.specs.Subtypes.{is_subtype}
 use Rattle.index.specs.SlotKeys.{SlotKeys, slot_key}

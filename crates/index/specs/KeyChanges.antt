@@ -7,8 +7,8 @@ use Rattle.std.specs.Borrow.{Bor}
 use Rattle.std.specs.FinSet as set
 use Rattle.values.specs.declared.types.AttributeType.{AttributeType}
 use Rattle.schema.specs.Conf.{Conf}
-use Rattle.tree.specs.Entries.{EntryContent}
-use Rattle.tree.specs.StoredEntries.{Entry, content_of, IsMade}
+use Rattle.entries.specs.Entries.{EntryContent}
+use Rattle.entries.specs.StoredEntries.{Entry, content_of, IsMade}
 use Rattle.index.specs.declared.slot_key.SlotKey.{SlotKey}
 use Rattle.index.specs.SlotKeys.{slot_key_cmp, same_slot_key, is_among}
 use Rattle.index.specs.EntryKeys.{slot_keys_in, edits}

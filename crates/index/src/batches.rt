@@ -4,7 +4,7 @@ ghost use Rattle.std.specs.Prelude.{◌≡◌, ◌<◌, ◌+◌, ◌==◌, ◌&&
 ghost use Rattle.std.specs.List.{list_any, AllByRecursion, IsDistinct};
 ghost use Rattle.std.specs.Str.{bytes_eq};
 ghost use Rattle.std.specs.FinSet as set;
-ghost use Rattle.tree.specs.StoredEntries.{attributes_of, IsMade};
+ghost use Rattle.entries.specs.StoredEntries.{attributes_of, IsMade};
 ghost use Rattle.index.specs.EntryKeys.{slot_keys};
 ghost use Rattle.index.specs.SlotKeys.{same_slot_key, is_among};
 ghost use Rattle.index.specs.Indexes.{members, Inserts, Removes, KeepsMembers};
@@ -12,9 +12,9 @@ ghost use Rattle.index.specs.Indexes.{members, Inserts, Removes, KeepsMembers};
 use crate::entry_keys::EntryKeys;
 use crate::index::Index;
 use crate::slot_key::{SlotKey, SlotNumber};
+use entries::Entry;
 use schema::Conf;
 use std::alloc::AllocError;
-use tree::Entry;
 
 impl Index {
     /// Takes a number from each key of a list. It takes no memory.

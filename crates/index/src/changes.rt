@@ -3,7 +3,7 @@
 ghost use Rattle.std.specs.Prelude.{◌≡◌, take, IfOk, OnOk};
 ghost use Rattle.std.specs.List.Sorted.{IsStrictlySortedBy};
 ghost use Rattle.std.specs.FinSet as set;
-ghost use Rattle.tree.specs.StoredEntries.{attributes_of, IsMade};
+ghost use Rattle.entries.specs.StoredEntries.{attributes_of, IsMade};
 ghost use Rattle.index.specs.SlotKeys.{slot_key_cmp};
 ghost use Rattle.index.specs.EntryKeys.{slot_keys};
 ghost use Rattle.index.specs.inner.SlotTests.{norms_in, is_only_in};
@@ -14,9 +14,9 @@ use crate::distinct_keys::{keys_among, keys_behind};
 use crate::key_lists::push_missing;
 use crate::norms::same_norms;
 use crate::slot_key::{SlotKey, SlotNumber};
+use entries::Entry;
 use schema::{Conf, Slot};
 use std::alloc::{AllocError, Global};
-use tree::Entry;
 
 /// The keys that come and those that go where one entry is put in place of another, by slot, and then by their bytes.
 #[derive(Drop)]

@@ -13,9 +13,9 @@ ghost use Rattle.index.specs.inner.SlotTests.{norms_in};
 
 use crate::entry_keys::EntryKeys;
 use crate::key_lists::is_among;
+use entries::Entry;
 use schema::{Conf, Slot};
 use std::alloc::{AllocError, Global};
-use tree::Entry;
 
 /// So many keys at least are gathered before those that stand there twice are left out.
 const MANY: usize = 4096;

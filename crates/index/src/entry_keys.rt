@@ -3,15 +3,15 @@
 ghost use Rattle.std.specs.Prelude.{◌≡◌, ◌++◌, drop};
 ghost use Rattle.std.specs.List.{flat_map};
 ghost use Rattle.std.specs.Map.Iter.{TakesFirst, deref};
-ghost use Rattle.tree.specs.StoredEntries.{attributes_of, IsMade};
+ghost use Rattle.entries.specs.StoredEntries.{attributes_of, IsMade};
 ghost use Rattle.index.specs.EntryKeys.{windows, norms_under, keys_by, entry_keys};
 ghost use Rattle.index.specs.inner.StoredKeys.{presence_left};
 
 use crate::norms::Norms;
 use crate::windows::first_window;
+use entries::Entry;
 use schema::{Conf, IndexKind, Slot};
 use std::marker::Model;
-use tree::Entry;
 
 /// The keys of an entry under a slot, as its values give them, perhaps one several times; they are lent. A contract sees the list
 /// of those that are still to come.

@@ -4,7 +4,7 @@ ghost use Rattle.std.specs.Prelude.{◌≡◌, ℕ, List, Some};
 ghost use Rattle.std.specs.FinSet as set;
 ghost use Rattle.schema.specs.declared.slots.IndexKind.{IndexKind};
 ghost use Rattle.schema.specs.Conf.{Conf};
-ghost use Rattle.tree.specs.Entries.{Attributes};
+ghost use Rattle.entries.specs.Entries.{Attributes};
 ghost use Rattle.index.specs.EntryKeys.{has_key, slot_keys};
 ghost use Rattle.index.specs.Postings.{slot_in};
 ghost use Rattle.index.specs.SlotKeys.{slot_key};

@@ -3,14 +3,14 @@
 ghost use Rattle.std.specs.Prelude.{◌≡◌, ◌<◌, ◌++◌, [], if◌then◌else◌, take, drop, length};
 ghost use Rattle.std.specs.List.{AllByRecursion};
 ghost use Rattle.std.specs.Map.Iter.{TakesFirst, deref};
-ghost use Rattle.tree.specs.StoredEntries.{IsMade, IsMadeAttribute};
+ghost use Rattle.entries.specs.StoredEntries.{IsMade, IsMadeAttribute};
 ghost use Rattle.schema.specs.Subtypes.{is_subtype};
 ghost use Rattle.index.specs.inner.StoredKeys.{norms_left, norms_of, stored_norms};
 
+use entries::{Entry, Values};
 use indexmap::map::Iter;
 use schema::{Conf, TypeId};
 use std::marker::Model;
-use tree::{Entry, Values};
 use values::ValuesIter;
 
 /// The normal forms of the values of a type and of its subtypes, as an entry has them in order; they are lent. A contract sees the
@@ -28,7 +28,7 @@ pub(crate) struct Norms<'a> {
 impl<'a> Model for Norms<'a> {
     ghost use Rattle.std.specs.Prelude.{List, ℕ, ◌++◌};
     ghost use Rattle.std.specs.List.{AllByRecursion};
-    ghost use Rattle.tree.specs.StoredEntries.{IsMadeAttribute};
+    ghost use Rattle.entries.specs.StoredEntries.{IsMadeAttribute};
     ghost use Rattle.index.specs.inner.StoredKeys.{norms_left, stored_norms};
 
     ghost Value = { List (List ℕ) };

@@ -3,9 +3,10 @@
 ghost use Rattle.std.specs.Prelude.{◌<◌};
 
 use device::{TrySink, TrySource};
+use dir_conf::{ConfFault, read_conf};
 use directory::{Directory, RunFault, Tally, load, run};
 use ldif::Mode;
-use schema::{Conf, ConfFault, read_conf};
+use schema::Conf;
 use std::alloc::{AllocError, Global};
 use std::test::Fail;
 

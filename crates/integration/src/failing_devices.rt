@@ -2,9 +2,10 @@
 
 use crate::directories::{Devices, ROOT, has_dump, loaded, loaded_under, run_over};
 use device::{TrySink, TrySource};
+use dir_conf::{ConfFault, read_conf};
 use directory::{Directory, LoadFault, RunFault, Tally, load};
 use ldif::{Mode, WriteFault};
-use schema::{Conf, ConfFault, read_conf};
+use schema::Conf;
 use std::alloc::{AllocError, Global};
 use std::ops::RangeInclusive;
 use std::process::Abort;

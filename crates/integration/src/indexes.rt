@@ -4,9 +4,10 @@ ghost use Rattle.std.specs.Prelude.{◌<◌, ◌-◌, ◌^◌};
 
 use crate::directories::{has_index, loaded_under};
 use device::{Source, TrySource};
+use dir_conf::read_conf;
 use directory::Directory;
 use ldif::{Mode, Reader, read_record};
-use schema::{Conf, read_conf};
+use schema::Conf;
 use std::alloc::Global;
 use std::test::Fail;
 

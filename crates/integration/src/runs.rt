@@ -6,11 +6,12 @@ use crate::directories::{Devices, ROOT, conf, has_dump, loaded, run_over};
 use base::{Bytes, Sequence};
 use device::TrySource;
 use directory::{Directory, Edits, LoadFault, RunFault, Tally, load, load_tree};
+use entries::Refusal;
 use ldif::{Mode, Record};
 use schema::{Conf, Path};
 use std::alloc::Global;
 use std::test::Fail;
-use tree::{Refusal, Tree};
+use tree::Tree;
 
 // the records on lines 1, 4 and 9 are refused
 const THREE: &str =

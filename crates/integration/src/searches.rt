@@ -5,6 +5,7 @@ ghost use Rattle.std.specs.Prelude.{◌≡◌, IfOk};
 use crate::indexes::{TURNED, empty, indexed};
 use crate::searches_in_little_memory::has_rdn;
 use directory::{Directory, search_with};
+use entries::Refusal;
 use filter::{Prepared, prepare};
 use filter_text::read_filter;
 use id_sets::IdSet;
@@ -13,7 +14,6 @@ use schema::{Code, Path};
 use search::{Hits, Scope};
 use std::alloc::Global;
 use std::test::Fail;
-use tree::Refusal;
 
 // a filter, the values of the RDNs that it finds, in dump order, and how many entries are tested
 type Row = (&'static str, &'static [&'static str], u64);

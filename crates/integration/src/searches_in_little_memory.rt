@@ -4,17 +4,19 @@
 ghost use Rattle.std.specs.Prelude.{◌≡◌, IfOk};
 
 use crate::directories::loaded_under;
+use dir_conf::read_conf;
 use directory::Directory;
+use entries::Entry;
 use filter::{Prepared, prepare};
 use filter_text::{Filter, read_filter};
 use id_sets::KeySet;
 use reading_tests::spend;
-use schema::{Path, read_conf};
+use schema::Path;
 use search::{Hits, Scope, scan};
 use std::alloc::{AllocError, Global};
 use std::process::Abort;
 use std::test::Fail;
-use tree::{Entry, Tree};
+use tree::Tree;
 
 // types with an order, with pieces and with a subtype
 const CONF: &[u8] = b"suffix dc=ex

@@ -1,12 +1,13 @@
 //! The texts of faults that no command prints as they are.
 
 use definitions::DefinitionFault;
+use dir_conf::{ConfFault, ConfFaultKind};
+use entries::Refusal;
 use ldif::{LdifFault, LdifFaultKind, WriteFault};
-use schema::{Code, ConfFault, ConfFaultKind, PathFault, ValueFault};
+use schema::{Code, PathFault, ValueFault};
 use std::alloc::{AllocError, Global};
 use std::fmt::Display;
 use std::test::Fail;
-use tree::Refusal;
 
 fn put<T: Display + Drop>(alloc: Global, fault: T, out: &mut String) -> Result<(), AllocError> {
     let text = format!(in alloc; "{fault}\n")?;

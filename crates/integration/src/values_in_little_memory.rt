@@ -3,8 +3,9 @@
 
 ghost use Rattle.std.specs.Prelude.{◌<◌, length};
 
+use dir_conf::{ConfFault, read_conf};
 use reading_tests::spend;
-use schema::{Conf, ConfFault, PathFault, TypeId, Value, ValueFault, read_conf};
+use schema::{Conf, PathFault, TypeId, Value, ValueFault};
 use std::alloc::Global;
 use std::process::Abort;
 use std::test::Fail;

@@ -14,7 +14,7 @@ use values::NameIndex;
 
 /// Object classes, each at its number. A contract sees them as a list.
 #[derive(Debug, Drop)]
-pub(crate) struct ClassTable {
+pub struct ClassTable {
     classes: Sequence<ObjectClass>,
     // the number of the first class with a name or OID
     numbers: NameIndex,
@@ -61,7 +61,7 @@ fn add_class(
 
 impl ClassTable {
     /// No classes. As many `names` as are expected are found quickly, more than them less so.
-    pub(crate) fn with_room(alloc: Global, names: usize) -> Result<ClassTable, AllocError>
+    pub fn with_room(alloc: Global, names: usize) -> Result<ClassTable, AllocError>
         ensures { IfOk result (λ t. t ≡ []) }
     {
         Ok(ClassTable {
@@ -71,7 +71,7 @@ impl ClassTable {
     }
 
     /// These classes and one more, at the end.
-    pub(crate) fn with(self, alloc: Global, class: ObjectClass) -> Result<ClassTable, AllocError>
+    pub fn with(self, alloc: Global, class: ObjectClass) -> Result<ClassTable, AllocError>
         ensures { IfOk result (λ t. t ≡ self ++ class ∷ []) }
     {
         let ClassTable {
@@ -84,14 +84,14 @@ impl ClassTable {
     }
 
     /// The classes, each at its number.
-    pub(crate) fn as_slice(&self) -> &[ObjectClass]
+    pub fn as_slice(&self) -> &[ObjectClass]
         ensures { result.now ≡ self.now }
     {
         self.classes.as_slice()
     }
 
     /// The number of the first class with this name or OID, without ASCII case.
-    pub(crate) fn class_of(&self, name: &[u8]) -> Option<usize>
+    pub fn class_of(&self, name: &[u8]) -> Option<usize>
         ensures place { result ≡ class_of self.now name.now }
         ensures known { IfSome result (λ c. c < length self.now) }
     {

@@ -6,7 +6,7 @@ ghost use Rattle.schema.specs.Classes.{class_of};
 ghost use Rattle.values.specs.Types.{type_of, name_of, type_at};
 
 use crate::class_table::ClassTable;
-use crate::locate::TypedName;
+use crate::locate::path_of;
 use crate::object_class::ObjectClass;
 use crate::settled::{Settled, settle};
 use crate::slots::Slot;
@@ -44,27 +44,26 @@ impl Model for Conf {
 
 impl Conf {
     ghost use Rattle.schema.specs.Conf.{IsConf, root_rdn};
-    ghost use Rattle.schema.specs.inner.Keys.{KeysFit};
     ghost use Rattle.schema.specs.inner.Settled.{IsSettled};
 
-    pub(crate) fn new(
+    /// The configuration of these types, suffix, slots and classes.
+    pub fn new(
         alloc: Global,
         types: TypeTable,
-        suffix: TypedName,
+        suffix: Sequence<Rdn>,
         slots: Sequence<Slot>,
         classes: ClassTable,
     ) -> Result<Conf, AllocError>
-        requires same_conf { IsConf (record { types = types; suffix = suffix.rdns.items; slots = slots; classes = classes }) }
-        requires keys { KeysFit types suffix }
-        ensures { IfOk result (λ conf. conf ≡ record { types = types; suffix = suffix.rdns.items; slots = slots; classes = classes }) }
+        requires { IsConf (record { types = types; suffix = suffix; slots = slots; classes = classes }) }
+        ensures { IfOk result (λ conf. conf ≡ record { types = types; suffix = suffix; slots = slots; classes = classes }) }
     {
+        let root = path_of(alloc, &types, suffix.as_slice())?;
         let settled = settle(alloc, classes.as_slice())?;
-        let TypedName { rdns, path } = suffix;
         Ok(Conf {
             types,
-            suffix: Sequence::from_vec(rdns),
+            suffix,
             slots,
-            root: path,
+            root,
             classes,
             settled,
         })

@@ -11,7 +11,7 @@ ghost use Rattle.schema.specs.Values.{rdns_in, normal_part, normal_parts, normal
 use crate::fault::PathFault;
 use crate::names::read_dn;
 use crate::rdns::{rdn_key_of, typed_rdns};
-use base::Bytes;
+use base::{Bytes, Sequence};
 use dn::put_value;
 use paths::Rdn;
 use std::alloc::{AllocError, Global};
@@ -137,13 +137,15 @@ fn normal_text(
     Ok(Bytes::from_vec(out))
 }
 
+/// The RDNs of the name that bytes spell under these types, its own first, or the code of the first part that has a fault.
 #[tactic(auto, unfolding(crate::specs::Values::rdns_in))]
-fn rdns_in(alloc: Global, types: &TypeTable, text: &[u8]) -> Result<Vec<Rdn>, PathFault>
-    ensures gives { Gives (λ v. v.items) result (rdns_in types.now text.now) }
-    ensures known { IfOk result (λ v. AllByRecursion (AreKnown types.now) v.items) }
+pub fn rdns_in(alloc: Global, types: &TypeTable, text: &[u8]) -> Result<Sequence<Rdn>, PathFault>
+    ensures gives { Gives (λ rdns. rdns) result (rdns_in types.now text.now) }
+    ensures known { IfOk result (AllByRecursion (AreKnown types.now)) }
 {
     let name = read_dn(alloc, text)?;
-    typed_rdns(alloc, types, &name)
+    let rdns = typed_rdns(alloc, types, &name)?;
+    Ok(Sequence::from_vec(rdns))
 }
 
 /// The normal form of the name that bytes spell, or `None` where they are no value of DN syntax.
@@ -156,7 +158,7 @@ pub(crate) fn normal_name(
     ensures { IfOk result (λ o. o ≡ normal_name types.now text.now) }
 {
     match rdns_in(alloc, types, text) {
-        Ok(rdns) => Ok(Some(normal_text(alloc, types, &rdns, text.len())?)),
+        Ok(rdns) => Ok(Some(normal_text(alloc, types, rdns.as_slice(), text.len())?)),
         Err(PathFault::Code(_)) => Ok(None),
         Err(PathFault::OutOfMemory) => Err(AllocError),
     }

@@ -1,23 +1,19 @@
 //! Laws of names and configurations, for the crates above.
 
-ghost use Rattle.std.specs.Prelude.{◌≡◌, ◌<◌, ◌↔◌, ℕ, true, false, length, Ok, Err, Some, nat_lt, List, map};
+ghost use Rattle.std.specs.Prelude.{◌≡◌, ◌<◌, ◌↔◌, ℕ, true, false, length, Ok, Some, nat_lt, List, map};
 ghost use Rattle.std.specs.List.{list_all, AllByRecursion};
 ghost use Rattle.std.specs.List.Sorted.{IsNonDecreasingBy, IsPermutation};
 ghost use Rattle.values.specs.Types.{type_of, name_of, is_known};
-ghost use Rattle.definitions.specs.Naming.{is_reserved};
+ghost use Rattle.terms.specs.Naming.{is_reserved};
 ghost use Rattle.values.specs.declared.types.AttributeType.{AttributeType};
 ghost use Rattle.schema.specs.Rdns.{Rdn, type_of_pair, pair_of, rdn_key_of};
 ghost use Rattle.schema.specs.GoodRdns.{IsRdn};
 ghost use Rattle.schema.specs.Values.{is_valid_at};
 ghost use Rattle.dn.specs.Names.{is_type};
 ghost use Rattle.schema.specs.Conf.{Conf, IsConf, located, name_text, located_at};
-ghost use Rattle.schema.specs.declared.conf_fault.ConfFaultKind.{ConfFaultKind};
-ghost use Rattle.schema.specs.Configurations.{conf_of};
 ghost use Rattle.schema.specs.Superclasses.{has_number, with_superclasses, IsAtOrAboveOne};
-ghost use Rattle.schema.specs.FaultyLines.{IsConfFault};
 ghost use Rattle.schema.specs.Subtypes.{IsSubtype, is_subtype};
 
-use definitions::{spelled_classes_are_read, spelled_types_are_read};
 use dn::{spelled_names_are_read, written_names_are_read};
 
 /// The name that a type is printed by names it, and no other type before it; it is made of letters, digits, `-`, `_` and
@@ -66,13 +62,3 @@ pub fn located_rdns_are_good()
 pub fn superclasses_are_listed()
     ensures { (conf : Conf) (named : List ℕ) (c : ℕ) → IsConf conf → (has_number (with_superclasses conf.classes named) c ≡ true) ↔ IsAtOrAboveOne conf.classes named c }
 {}
-
-/// Which fault a configuration has: that of the first line that is at fault beside what is defined above it; where none is, that of the
-/// first suffix or index that is; and last, that no suffix stands. It has one such fault at most.
-pub fn conf_faults_stand_at_lines()
-    ensures fault { (text : List ℕ) (line : ℕ) (kind : ConfFaultKind) → (conf_of text ≡ Err (line, kind)) ↔ IsConfFault text line kind }
-    ensures one { (text : List ℕ) (a b : ℕ) (j k : ConfFaultKind) → IsConfFault text a j → IsConfFault text b k → (a ≡ b) × (j ≡ k) }
-{
-    spelled_types_are_read();
-    spelled_classes_are_read();
-}

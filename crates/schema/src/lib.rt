@@ -3,45 +3,33 @@
 //! The functions of `laws` do nothing, and neither does `Conf::holds`: a call of one is made for what it states alone.
 #![tactic(auto)]
 
-mod class_lines;
 mod class_readers;
 mod class_table;
 mod code;
 mod conf;
-mod conf_fault;
-mod conf_lines;
-mod configuration;
-mod defined;
 mod dn_values;
 mod fault;
-mod index_lines;
-mod later_lines;
 mod laws;
 mod locate;
 mod names;
 mod object_class;
 mod rdns;
-mod rule_names;
 mod settled;
 mod slots;
-mod suffix_lines;
-mod type_lines;
+mod syntaxes;
 mod type_readers;
-mod type_rules;
 mod type_set;
 mod typed_values;
 
+pub use class_table::ClassTable;
 pub use code::Code;
 pub use conf::Conf;
-pub use conf_fault::{ConfFault, ConfFaultKind};
-pub use configuration::read_conf;
-pub use definitions::ClassKind;
 pub use dn::Name;
+pub use dn_values::rdns_in;
 pub use fault::PathFault;
 pub use laws::{
-    conf_faults_stand_at_lines, keys_are_sorted, located_rdns_are_good,
-    printed_names_name_their_types, subtypes_are_told, superclasses_are_listed,
-    valid_values_are_bytes, written_names_are_located,
+    keys_are_sorted, located_rdns_are_good, printed_names_name_their_types, subtypes_are_told,
+    superclasses_are_listed, valid_values_are_bytes, written_names_are_located,
 };
 pub use locate::Located;
 pub use matching::{Family, Pieces, Syntax, contains_pieces, is_less};
@@ -49,4 +37,6 @@ pub use names::read_dn;
 pub use object_class::ObjectClass;
 pub use paths::{Path, Rdn, RdnKey, order_of_paths};
 pub use slots::{IndexKind, Slot};
+pub use syntaxes::is_syntax;
+pub use terms::ClassKind;
 pub use values::{AttributeType, EqualityRule, TypeId, TypeSyntax, Value, ValueFault};

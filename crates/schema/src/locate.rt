@@ -28,13 +28,13 @@ pub struct Located {
 
 // RDNs, and what they come to from the last on
 #[derive(Drop)]
-pub(crate) struct TypedName {
-    pub(crate) rdns: Vec<Rdn>,
-    pub(crate) path: Path,
+struct TypedName {
+    rdns: Vec<Rdn>,
+    path: Path,
 }
 
-// what RDNs come to, from the last on
-fn path_of(alloc: Global, types: &TypeTable, rdns: &[Rdn]) -> Result<Path, AllocError>
+/// What RDNs come to, from the last on.
+pub(crate) fn path_of(alloc: Global, types: &TypeTable, rdns: &[Rdn]) -> Result<Path, AllocError>
     requires { AllByRecursion (AreKnown types.now) rdns.now }
     ensures { IfOk result (λ p. p ≡ map (rdn_key_of types.now) (reverse rdns.now)) }
 {
@@ -45,8 +45,8 @@ fn path_of(alloc: Global, types: &TypeTable, rdns: &[Rdn]) -> Result<Path, Alloc
     Ok(path.into_path())
 }
 
-/// The RDNs of a name, its own first, and what they come to.
-pub(crate) fn typed(alloc: Global, types: &TypeTable, name: &Name) -> Result<TypedName, PathFault>
+// the RDNs of a name, its own first, and what they come to
+fn typed(alloc: Global, types: &TypeTable, name: &Name) -> Result<TypedName, PathFault>
     ensures rdns { Gives (λ x. x.rdns.items) result (typed types.now name.now) }
     ensures keys { IfOk result (KeysFit types.now) }
 {

@@ -1,7 +1,7 @@
 //! Object classes.
 
 use base::{Bytes, Sequence};
-use definitions::ClassKind;
+use terms::ClassKind;
 use values::TypeId;
 
 /// An object class (RFC 4512, 4.1.1), with what its definition names.

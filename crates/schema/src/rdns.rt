@@ -8,7 +8,7 @@ ghost use Rattle.schema.specs.Gives.{Gives};
 
 use crate::code::Code;
 use crate::fault::PathFault;
-use crate::type_rules::is_syntax;
+use crate::syntaxes::is_syntax;
 use base::{Bytes, Sequence};
 use dn::{Ava, Name};
 use matching::is_valid;

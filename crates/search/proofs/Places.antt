@@ -10,9 +10,9 @@ use Rattle.std.specs.FinMap.Entries.{is_sorted, below_all}
 use Rattle.std.proofs.lemmas.Cmp.{tied_itself}
 use Rattle.std.proofs.lemmas.List.Sums.{take_while-cons}
 use Rattle.paths.specs.Paths.{Path, rdn_key_cmp, path_cmp, begins}
-use Rattle.tree.specs.Entries.{EntryContent}
+use Rattle.entries.specs.Entries.{EntryContent}
 use Rattle.tree.specs.Directories.{Entries}
-use Rattle.tree.specs.StoredEntries.{content_of}
+use Rattle.entries.specs.StoredEntries.{content_of}
 use Rattle.tree.specs.Trees.{Placed, unnumbered, seen_entries}
 use Rattle.tree.proofs.Order.{rdn_key_total, path_total}
 use Rattle.tree.proofs.Stretch.{stretch}

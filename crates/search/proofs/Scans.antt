@@ -6,9 +6,9 @@ use Rattle.std.specs.FinMap as finite
 use Rattle.paths.specs.Paths.{Path, path_cmp, begins}
 use Rattle.values.specs.declared.types.AttributeType.{AttributeType}
 use Rattle.schema.specs.Conf.{Conf}
-use Rattle.tree.specs.Entries.{EntryContent}
+use Rattle.entries.specs.Entries.{EntryContent}
 use Rattle.tree.specs.Directories.{Entries}
-use Rattle.tree.specs.StoredEntries.{content_of, attributes_of, IsMade}
+use Rattle.entries.specs.StoredEntries.{content_of, attributes_of, IsMade}
 use Rattle.tree.specs.Trees.{Tree, Placed, unnumbered, seen_entries, number_at}
 use Rattle.tree.proofs.Order.{path_total}
 use Rattle.tree.proofs.Views.{all_found}

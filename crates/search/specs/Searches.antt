@@ -3,7 +3,7 @@ use Rattle.std.specs.Prelude.{ℕ, ◌+◌, Bool, ◌&&◌, List, [], ◌∷◌,
 use Rattle.std.specs.FinMap as finite
 use Rattle.paths.specs.Paths.{Path}
 use Rattle.schema.specs.Conf.{Conf}
-use Rattle.tree.specs.Entries.{EntryContent}
+use Rattle.entries.specs.Entries.{EntryContent}
 use Rattle.tree.specs.Directories.{Entries}
 use Rattle.filter_text.specs.Spells.{Tree}
 use Rattle.filter.specs.Truths.{is_true}

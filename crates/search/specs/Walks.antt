@@ -4,8 +4,8 @@ use Rattle.std.specs.Coded.{Coded, code_by, coded×, coded_ℕ, coded_list}
 use Rattle.std.specs.Borrow.{Bor}
 use Rattle.paths.specs.Paths.{Path}
 use Rattle.values.specs.declared.types.AttributeType.{AttributeType}
-use Rattle.tree.specs.Entries.{EntryContent}
-use Rattle.tree.specs.StoredEntries.{Entry, content_of, attributes_of, entry_code}
+use Rattle.entries.specs.Entries.{EntryContent}
+use Rattle.entries.specs.StoredEntries.{Entry, content_of, attributes_of, entry_code}
 use Rattle.tree.specs.Trees.{path_code}
 use Rattle.filter_text.specs.Spells.{Tree}
 use Rattle.filter.specs.Truths.{is_true}

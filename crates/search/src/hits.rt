@@ -2,17 +2,17 @@
 
 ghost use Rattle.std.specs.Prelude.{◌≡◌, ◌+◌, ◌<◌, ◌^◌, length};
 ghost use Rattle.std.specs.List.{AllByRecursion};
-ghost use Rattle.tree.specs.StoredEntries.{IsMade};
+ghost use Rattle.entries.specs.StoredEntries.{IsMade};
 ghost use Rattle.filter_text.specs.Spells.{view};
 ghost use Rattle.search.specs.Walks.{walk, Steps};
 
 use crate::marked::MarkedEntries;
 use crate::scope::Scope;
+use entries::Entry;
 use filter::{Meter, Prepared, Truth};
 use id_sets::IdSet;
 use schema::Path;
 use std::marker::Model;
-use tree::Entry;
 
 /// The entries that a search finds, in dump order, each with its path. They are lent, and it takes no memory to find them. A contract
 /// sees those that are still to come, each with the number of entries tested by then.
@@ -28,7 +28,7 @@ pub struct Hits<'a, S: IdSet> {
 impl<'a, S: IdSet> Model for Hits<'a, S> {
     ghost use Rattle.std.specs.Prelude.{◌+◌, ◌<◌, ◌^◌, length};
     ghost use Rattle.std.specs.List.{AllByRecursion};
-    ghost use Rattle.tree.specs.StoredEntries.{IsMade};
+    ghost use Rattle.entries.specs.StoredEntries.{IsMade};
     ghost use Rattle.filter_text.specs.Spells.{view as seen};
     ghost use Rattle.search.specs.Walks.{Walk, walk_code, walk};
 

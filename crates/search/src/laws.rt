@@ -5,7 +5,7 @@ ghost use Rattle.std.specs.List.{slice_get};
 ghost use Rattle.std.specs.FinMap as finite;
 ghost use Rattle.paths.specs.Paths.{Path};
 ghost use Rattle.schema.specs.Conf.{Conf};
-ghost use Rattle.tree.specs.Entries.{EntryContent};
+ghost use Rattle.entries.specs.Entries.{EntryContent};
 ghost use Rattle.tree.specs.Directories.{Entries};
 ghost use Rattle.filter_text.specs.Spells.{Tree};
 ghost use Rattle.filter.specs.Truths.{is_true};

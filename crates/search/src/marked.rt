@@ -7,10 +7,11 @@ ghost use Rattle.search.specs.inner.Marks.{marked};
 
 use crate::numbering::Numbering;
 use candidates::Ids;
+use entries::Entry;
 use id_sets::IdSet;
 use schema::Path;
 use std::marker::Model;
-use tree::{Entry, NumberedEntries};
+use tree::NumberedEntries;
 
 /// Entries that follow each other in the dump, each with whether it is a candidate. A contract sees those that are left.
 #[derive(Drop)]

@@ -8,9 +8,9 @@ use Rattle.std.specs.FinMap as finite
 use Rattle.cells.specs.Cells.{cell, IsTaken, taken, most, IsSet}
 use Rattle.paths.specs.Paths.{Path, path_cmp}
 use Rattle.schema.specs.Conf.{Conf}
-use Rattle.tree.specs.Entries.{EntryContent}
+use Rattle.entries.specs.Entries.{EntryContent}
 use Rattle.tree.specs.Directories.{Entries, IsDirectory}
-use Rattle.tree.specs.StoredEntries.{Entry, content_of, IsMade}
+use Rattle.entries.specs.StoredEntries.{Entry, content_of, IsMade}
 use Rattle.tree.specs.Trees.{Tree, Numbers, IsNumbered, number_at}
 use Rattle.tree.specs.inner.Trees.{Cells, numbers_of, entries_in, AreNumbered, IsKept}
 use Rattle.tree.proofs.Kept.{equal}

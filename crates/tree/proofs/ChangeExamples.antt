@@ -32,11 +32,11 @@ use Rattle.schema.specs.Conf.{Conf}
 use Rattle.base.specs.Answers.{each, through, ◌>>=◌}
 use Rattle.dn.specs.Reading.{octets_from, trimmed, value_of, part_at, part_of, cut_raw, rdn_of, name_of}
 use Rattle.paths.specs.Paths.{RdnKey, Path, path_cmp, begins}
-use Rattle.tree.specs.Entries.{Attribute, Attributes, EntryContent, push_value, with_rdn}
+use Rattle.entries.specs.Entries.{Attribute, Attributes, EntryContent, push_value, with_rdn}
 use Rattle.tree.specs.Directories.{Entries}
 use Rattle.tree.specs.Changes.{Change, Put, Remove, Move, moved_path, moved_entries, moved, changed, allowed}
 use Rattle.tree.specs.Trees.{is_child, has_child}
-use Rattle.tree.specs.Modifies.{set_values, modify_at, modify_block, modify_entry, without_rdn, rename_entry}
+use Rattle.entries.specs.Modifies.{set_values, modify_at, modify_block, modify_entry, without_rdn, rename_entry}
 use Rattle.tree.specs.Deletes.{delete_at, delete}
 use Rattle.tree.specs.Renames.{rdn_in, same_path, renamed_to, rename_to, rename_below, rename_there}
 use Rattle.tree.specs.Operations.{change_of}

@@ -6,9 +6,9 @@ use Rattle.std.specs.Ordering.{eq_by_cmp}
 use Rattle.paths.specs.Paths.{Path, path_cmp, begins}
 use Rattle.tree.specs.declared.plans.Change as stored
 use Rattle.tree.specs.declared.plans.Change.TheVariants as changes
-use Rattle.tree.specs.Entries.{EntryContent}
+use Rattle.entries.specs.Entries.{EntryContent}
 use Rattle.tree.specs.Directories.{Entries}
-use Rattle.tree.specs.StoredEntries.{content_of}
+use Rattle.entries.specs.StoredEntries.{content_of}
 use Rattle.tree.specs.Changes.{Put, Remove, Move, moved, moved_path}
 use Rattle.tree.specs.Trees.{Tree, Numbers, IsNumbered, HasEntry, number_at}
 use Rattle.tree.specs.Plans.{KeepsEntries}

@@ -7,8 +7,8 @@ use Rattle.std.proofs.lemmas.Cmp.{tied_itself}
 use Rattle.paths.specs.Paths.{Path, path_cmp}
 use Rattle.tree.specs.declared.plans.Change as stored
 use Rattle.tree.specs.declared.plans.Change.TheVariants as changes
-use Rattle.tree.specs.Entries.{EntryContent}
-use Rattle.tree.specs.StoredEntries.{content_of}
+use Rattle.entries.specs.Entries.{EntryContent}
+use Rattle.entries.specs.StoredEntries.{content_of}
 use Rattle.tree.specs.Changes.{Put, moved, moved_path}
 use Rattle.tree.specs.Trees.{Tree, Numbers, number_at}
 use Rattle.tree.specs.Plans.{KeepsNumbers}

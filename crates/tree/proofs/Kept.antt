@@ -17,19 +17,16 @@ use Rattle.schema.specs.Rdns.{Rdn, rdn_key_of}
 use Rattle.schema.specs.GoodRdns.{IsRdn}
 use Rattle.schema.specs.Conf.{Conf, IsConf, root_rdn, first_rdn, located, located_at, path_of}
 use Rattle.base.specs.Answers.{◌>>=◌}
-use Rattle.tree.specs.Entries.{EntryContent, Attributes, IsGood, add_lines, has_its_classes, are_single}
+use Rattle.entries.specs.Entries.{EntryContent, Attributes, IsGood, add_lines, has_its_classes, are_single}
 use Rattle.tree.specs.Directories.{Entries, IsDirectory}
 use Rattle.tree.specs.Changes.{Change, Put, changed, MayStand}
 use Rattle.ldif.specs.declared.record.Mode.{Mode}
 use Rattle.tree.specs.Adds.{own_rdn, with_entry, entry_of, add_at, add}
 use Rattle.tree.proofs.Order.{path_total, path_exact}
 use Rattle.base.proofs.Bound.{bind_ok, same_ok}
-use Rattle.tree.proofs.Pushed.{AreGood, lines_good, rdn_good, all_come}
+use Rattle.entries.proofs.Pushed.{AreGood, lines_good, rdn_good, all_come}
+use Rattle.entries.proofs.StaysGood.{guard_ok}
 use Rattle.tree.proofs.Adding.{parent_is}
-
-pub guard_ok : {A : Type 0} (b : Bool) (d : Code) (x : Result A Code) (y : A) → cond b (Err d) x ≡ Ok y → (b ≡ false) × (x ≡ Ok y)
-guard_ok true d x y e = absurd cc
-guard_ok false d x y e = (refl, e)
 
 pub equal : (o : Ordering) → is_eq o ≡ true → o ≡ Equal
 equal Less h = cc

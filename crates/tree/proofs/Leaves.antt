@@ -8,7 +8,7 @@ use Rattle.std.proofs.lemmas.Cmp.{tied_itself}
 use Rattle.paths.specs.Paths.{RdnKey, Path, path_cmp, begins}
 use Rattle.schema.specs.Rdns.{rdn_key_of}
 use Rattle.schema.specs.Conf.{Conf}
-use Rattle.tree.specs.Entries.{EntryContent, IsGood}
+use Rattle.entries.specs.Entries.{EntryContent, IsGood}
 use Rattle.tree.specs.Directories.{Entries, IsDirectory}
 use Rattle.tree.specs.Changes.{MayStand}
 use Rattle.tree.specs.Trees.{is_child, has_child}

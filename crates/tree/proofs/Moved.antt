@@ -11,7 +11,7 @@ use Rattle.std.proofs.lemmas.Bool.{and_parts}
 use Rattle.paths.specs.Paths.{RdnKey, Path, path_cmp, rdn_key_cmp, begins, parent_of, is_root}
 use Rattle.schema.specs.Rdns.{rdn_key_of}
 use Rattle.schema.specs.Conf.{Conf}
-use Rattle.tree.specs.Entries.{EntryContent, IsGood}
+use Rattle.entries.specs.Entries.{EntryContent, IsGood}
 use Rattle.tree.specs.Directories.{Entries, IsDirectory}
 use Rattle.tree.specs.Changes.{MayStand, MayMove, IsMoved, moved_path, moved_entries, moved}
 use Rattle.tree.specs.Trees.{Numbers, has_child, IsNumbered}

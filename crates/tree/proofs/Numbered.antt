@@ -11,9 +11,9 @@ use Rattle.std.specs.Cmp.{eq_by_cmp_equiv, alike_right}
 use Rattle.std.proofs.lemmas.Cmp.{tied_itself}
 use Rattle.paths.specs.Paths.{Path, path_cmp}
 use Rattle.schema.specs.Conf.{Conf}
-use Rattle.tree.specs.Entries.{EntryContent}
+use Rattle.entries.specs.Entries.{EntryContent}
 use Rattle.tree.specs.Directories.{Entries}
-use Rattle.tree.specs.StoredEntries.{Entry, content_of, IsMade}
+use Rattle.entries.specs.StoredEntries.{Entry, content_of, IsMade}
 use Rattle.tree.specs.Trees.{Numbers, seen_entries}
 use Rattle.cells.specs.Cells.{cell, IsSet}
 use Rattle.tree.specs.inner.Trees.{Cells, entry_at, joined, numbers_of, entries_in, AreNumbered}

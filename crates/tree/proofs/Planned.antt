@@ -7,11 +7,11 @@ use Rattle.paths.specs.Paths.{RdnKey, Path, path_cmp, begins, parent_of, is_root
 use Rattle.schema.specs.Rdns.{Rdn, rdn_key_of}
 use Rattle.schema.specs.GoodRdns.{IsRdn}
 use Rattle.schema.specs.Conf.{Conf}
-use Rattle.tree.specs.Entries.{EntryContent, IsGood}
+use Rattle.entries.specs.Entries.{EntryContent, IsGood}
 use Rattle.tree.specs.Directories.{Entries, IsDirectory}
-use Rattle.tree.specs.StoredEntries.{Entry, EntryAttribute, content_of, IsMade}
+use Rattle.entries.specs.StoredEntries.{Entry, EntryAttribute, content_of, IsMade}
 use Rattle.tree.specs.Changes.{MayStand, MayMove}
-use Rattle.tree.specs.Modifies.{modify_entry, rename_entry, changed_to}
+use Rattle.entries.specs.Modifies.{modify_entry, rename_entry, changed_to}
 use Rattle.tree.specs.Renames.{same_path}
 use Rattle.tree.specs.Trees.{Tree}
 use Rattle.tree.specs.declared.plans.Change.TheVariants as changes
@@ -20,7 +20,7 @@ use Rattle.tree.proofs.Adding.{parent_is}
 use Rattle.tree.proofs.Kept.{equal, not_root}
 use Rattle.tree.proofs.Leaves.{replaced_kept}
 use Rattle.tree.proofs.Moved.{moved_kept}
-use Rattle.tree.proofs.Modified.{modify_keeps, rename_keeps}
+use Rattle.entries.proofs.StaysGood.{modify_keeps, rename_keeps}
 use Rattle.tree.proofs.Order.{path_exact}
 
 -- ---- under the configuration that a tree was made with

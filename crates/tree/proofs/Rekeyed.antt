@@ -8,7 +8,7 @@ use Rattle.cells.specs.Cells.{taken, IsSet}
 use Rattle.paths.specs.Paths.{Path, path_cmp, begins}
 use Rattle.schema.specs.Conf.{Conf}
 use Rattle.tree.specs.Directories.{Entries, IsDirectory}
-use Rattle.tree.specs.StoredEntries.{Entry, content_of, IsMade}
+use Rattle.entries.specs.StoredEntries.{Entry, content_of, IsMade}
 use Rattle.tree.specs.Changes.{moved_path, moved_entries, moved}
 use Rattle.tree.specs.Trees.{Tree, Numbers, seen_entries}
 use Rattle.tree.specs.inner.Trees.{Cells, joined, numbers_of, entries_in, AreNumbered, IsKept}

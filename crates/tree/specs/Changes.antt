@@ -5,7 +5,7 @@ use Rattle.schema.specs.declared.code.Code.{Code}
 use Rattle.paths.specs.Paths.{RdnKey, Path, path_cmp, parent_of, is_root, begins}
 use Rattle.schema.specs.Rdns.{rdn_key_of}
 use Rattle.schema.specs.Conf.{Conf, root_rdn}
-use Rattle.tree.specs.Entries.{EntryContent, IsGood}
+use Rattle.entries.specs.Entries.{EntryContent, IsGood}
 use Rattle.tree.specs.Directories.{Entries}
 
 pub data Change : Type 0 where

@@ -1,23 +1,18 @@
 //! Laws of directories, for the crates above.
 
-ghost use Rattle.std.specs.Prelude.{◌≡◌, ◌↔◌, Bool, true, false, Some, List, ℕ};
+ghost use Rattle.std.specs.Prelude.{◌≡◌, true, false, Some, List, ℕ};
 ghost use Rattle.std.specs.FinMap as finite;
 ghost use Rattle.ldif.specs.Attrs.{Attr};
 ghost use Rattle.ldif.specs.Contents.{IsWritableContent};
-ghost use Rattle.ldif.specs.declared.record.Mod.{Mod};
 ghost use Rattle.ldif.specs.declared.record.Mode.{Mode};
 ghost use Rattle.ldif.specs.declared.record.Mode.TheVariants as modes;
 ghost use Rattle.paths.specs.Paths.{Path};
 ghost use Rattle.schema.specs.Conf.{Conf, IsConf};
-ghost use Rattle.schema.specs.Rdns.{Rdn};
-ghost use Rattle.schema.specs.GoodRdns.{IsRdn};
-ghost use Rattle.tree.specs.Entries.{Attributes, EntryContent, IsGood};
-ghost use Rattle.tree.specs.EntryClasses.{fits_classes, FitsClasses};
+ghost use Rattle.entries.specs.Entries.{EntryContent};
 ghost use Rattle.tree.specs.Directories.{Entries, IsDirectory, record_at};
 ghost use Rattle.tree.specs.Changes.{Change, Move, changed, allowed, MayStand, MayMove, IsMoved};
 ghost use Rattle.tree.specs.Trees.{has_child};
 ghost use Rattle.tree.specs.Adds.{add, added, MayCome};
-ghost use Rattle.tree.specs.Modifies.{modify_entry, rename_entry, changed_to};
 
 /// The empty map is a directory.
 pub fn empty_is_a_directory()
@@ -67,20 +62,3 @@ pub fn own_content_is_written()
     schema::written_names_are_located();
     schema::valid_values_are_bytes();
 }
-
-/// What a configuration's object classes ask of an entry is what each class that it is of asks.
-pub fn classes_are_kept()
-    ensures { (conf : Conf) (attrs : Attributes) → IsConf conf → (fits_classes conf attrs ≡ true) ↔ FitsClasses conf attrs }
-{
-    schema::superclasses_are_listed();
-}
-
-/// A modify leaves an entry that a directory can have, with its RDN.
-pub fn modifying_keeps_an_entry()
-    ensures { (conf : Conf) (e out : EntryContent) (mods : List Mod) → IsGood conf e → modify_entry conf e mods ≡ changed_to out → IsGood conf out × (out.rdn ≡ e.rdn) }
-{}
-
-/// Another RDN leaves an entry that a directory can have.
-pub fn renaming_keeps_an_entry()
-    ensures { (conf : Conf) (e out : EntryContent) (new : Rdn) (delete_old : Bool) → IsGood conf e → IsRdn conf.types new → rename_entry conf e new delete_old ≡ changed_to out → IsGood conf out × (out.rdn ≡ new) }
-{}

@@ -6,12 +6,12 @@ ghost use Rattle.tree.specs.Changes.{path_before};
 ghost use Rattle.tree.specs.Deletes.{delete_at, delete};
 ghost use Rattle.tree.specs.Operations.{path_in};
 ghost use Rattle.tree.specs.inner.Plans.{seen_change, IsChange};
-ghost use Rattle.tree.specs.Gives.{Gives};
+ghost use Rattle.entries.specs.Gives.{Gives};
 
 use crate::laws::removing_keeps_a_directory;
 use crate::planner::Planner;
 use crate::plans::Change;
-use crate::refusal::Refusal;
+use entries::Refusal;
 use schema::{Code, Located, Path};
 
 impl Planner<'_> {

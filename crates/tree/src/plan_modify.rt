@@ -7,12 +7,11 @@ ghost use Rattle.tree.specs.Changes.{path_before};
 ghost use Rattle.tree.specs.Modifies.{modify_there, modify};
 ghost use Rattle.tree.specs.Operations.{path_in};
 ghost use Rattle.tree.specs.inner.Plans.{seen_change, IsChange};
-ghost use Rattle.tree.specs.Gives.{Gives};
+ghost use Rattle.entries.specs.Gives.{Gives};
 
-use crate::modifies::modified;
 use crate::planner::Planner;
 use crate::plans::Change;
-use crate::refusal::Refusal;
+use entries::{Refusal, modified};
 use ldif::Mod;
 use schema::{Code, Located, Path};
 

@@ -4,11 +4,11 @@ ghost use Rattle.std.specs.Prelude.{◌≡◌, IfOk};
 ghost use Rattle.tree.specs.Changes.{path_before};
 ghost use Rattle.tree.specs.Operations.{has_critical, controls_of, change_asked, change_of, record_path};
 ghost use Rattle.tree.specs.inner.Plans.{seen_change, IsChange};
-ghost use Rattle.tree.specs.Gives.{Gives};
+ghost use Rattle.entries.specs.Gives.{Gives};
 
 use crate::plans::{Change, Plan};
-use crate::refusal::Refusal;
 use crate::tree::Tree;
+use entries::Refusal;
 use ldif::{Control, Mode, Record};
 use schema::{Code, Conf};
 use std::alloc::Global;

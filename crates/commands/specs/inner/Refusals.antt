@@ -4,8 +4,8 @@ use Rattle.std.specs.Borrow.{Bor}
 use Rattle.schema.specs.Conf.{Conf}
 use Rattle.schema.specs.declared.code.Code.{Code}
 use Rattle.tree.specs.Directories.{Entries}
-use Rattle.tree.specs.declared.refusal.Refusal.{Refusal}
-use Rattle.tree.specs.declared.refusal.Refusal.TheVariants as refusals
+use Rattle.entries.specs.declared.refusal.Refusal.{Refusal}
+use Rattle.entries.specs.declared.refusal.Refusal.TheVariants as refusals
 use Rattle.commands.specs.Asked.{IsNoFilterFor}
 use Rattle.commands.specs.Failures.{IsMemory, FailsToWrite}
 use Rattle.commands.specs.Queries.{Query, LacksBase, target_of}

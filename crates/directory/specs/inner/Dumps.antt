@@ -13,8 +13,8 @@ use Rattle.values.specs.Values.{Value}
 use Rattle.paths.specs.Paths.{Path}
 use Rattle.schema.specs.Conf.{Conf}
 use Rattle.tree.specs.Directories.{Entries, record_at}
-use Rattle.tree.specs.Entries.{lines_of}
-use Rattle.tree.specs.StoredEntries.{Entry, EntryAttribute, content_of, attributes_of}
+use Rattle.entries.specs.Entries.{lines_of}
+use Rattle.entries.specs.StoredEntries.{Entry, EntryAttribute, content_of, attributes_of}
 use Rattle.directory.specs.Dumps.{SoFar, Writes}
 use Rattle.directory.specs.Selections.{Selection, selects, selected}
 

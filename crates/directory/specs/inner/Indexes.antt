@@ -4,7 +4,7 @@ use Rattle.std.specs.List.{list_any}
 use Rattle.std.specs.FinMap as finite
 use Rattle.std.specs.FinSet as set
 use Rattle.schema.specs.Conf.{Conf}
-use Rattle.tree.specs.StoredEntries.{attributes_of}
+use Rattle.entries.specs.StoredEntries.{attributes_of}
 use Rattle.tree.specs.Trees.{Tree, Placed, number_at}
 use Rattle.index.specs.declared.slot_key.SlotKey.{SlotKey}
 use Rattle.index.specs.EntryKeys.{slot_keys}

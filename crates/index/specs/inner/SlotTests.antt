@@ -4,7 +4,7 @@ use Rattle.std.specs.List.{slice_get}
 use Rattle.values.specs.declared.types.AttributeType.{AttributeType}
 use Rattle.schema.specs.declared.slots.Slot.{Slot}
 use Rattle.schema.specs.Conf.{Conf}
-use Rattle.tree.specs.Entries.{EntryContent}
+use Rattle.entries.specs.Entries.{EntryContent}
 use Rattle.index.specs.declared.slot_key.SlotKey.{SlotKey}
 use Rattle.index.specs.EntryKeys.{norms_under, gives_key}
 

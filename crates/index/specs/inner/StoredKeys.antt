@@ -5,7 +5,7 @@ use Rattle.values.specs.declared.types.AttributeType.{AttributeType}
 use Rattle.values.specs.Values.{Value}
 use Rattle.schema.specs.declared.slots.IndexKind.{IndexKind}
 use Rattle.schema.specs.declared.slots.IndexKind.TheVariants.{Equality, Presence, Substrings}
-use Rattle.tree.specs.StoredEntries.{EntryAttribute}
+use Rattle.entries.specs.StoredEntries.{EntryAttribute}
 use Rattle.schema.specs.Subtypes.{is_subtype}
 use Rattle.index.specs.EntryKeys.{windows, empty_key}
 

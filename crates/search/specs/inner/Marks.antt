@@ -2,7 +2,7 @@
 use Rattle.std.specs.Prelude.{ℕ, ◌+◌, Bool, List, [], ◌∷◌, refl}
 use Rattle.std.specs.Coded.{Coded, code_by, coded×, coded_bool}
 use Rattle.paths.specs.Paths.{Path}
-use Rattle.tree.specs.StoredEntries.{Entry, entry_code}
+use Rattle.entries.specs.StoredEntries.{Entry, entry_code}
 use Rattle.tree.specs.Trees.{Placed, path_code}
 use Rattle.search.specs.declared.numbering.Numbering.{Numbering}
 use Rattle.search.specs.declared.numbering.Numbering.TheVariants.{InTree, InDump}

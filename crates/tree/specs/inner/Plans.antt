@@ -5,7 +5,7 @@ use Rattle.paths.specs.Paths.{Path, begins}
 use Rattle.tree.specs.declared.plans.Change as stored
 use Rattle.tree.specs.declared.plans.Change.TheVariants as changes
 use Rattle.tree.specs.Directories.{IsDirectory}
-use Rattle.tree.specs.StoredEntries.{content_of, IsMade}
+use Rattle.entries.specs.StoredEntries.{content_of, IsMade}
 use Rattle.tree.specs.Changes.{Change, Nothing, Put, Remove, Move, changed}
 use Rattle.tree.specs.Trees.{Tree, IsNumbered}
 use Rattle.tree.specs.Plans.{Planned, number_of}

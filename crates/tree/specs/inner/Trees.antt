@@ -7,7 +7,7 @@ use Rattle.cells.specs.Cells.{cell, taken}
 use Rattle.paths.specs.Paths.{Path, path_cmp, begins}
 use Rattle.schema.specs.Conf.{Conf}
 use Rattle.tree.specs.Directories.{Entries, IsDirectory}
-use Rattle.tree.specs.StoredEntries.{Entry, IsMade}
+use Rattle.entries.specs.StoredEntries.{Entry, IsMade}
 use Rattle.tree.specs.Trees.{Numbers, Placed, seen_entries}
 
 abbrev pub numbers_of : List (Path × ℕ) → Numbers

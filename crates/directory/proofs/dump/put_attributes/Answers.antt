@@ -1,5 +1,5 @@
 use Rattle.std.proofs.Common.{◌≡◌, ℕ, List, ◌++◌, sym, ap, ◌∙◌, subst}
-use Rattle.tree.specs.StoredEntries.{EntryAttribute}
+use Rattle.entries.specs.StoredEntries.{EntryAttribute}
 use Rattle.directory.specs.inner.Dumps.{AreKnown, attribute_text, selected_text}
 use Rattle.directory.proofs.EntryText.{first_selected, no_attribute}
 use Rattle.directory.proofs.Pieces.{put_on}

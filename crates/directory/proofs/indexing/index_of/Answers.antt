@@ -3,7 +3,7 @@ use Rattle.paths.specs.Paths.{begins}
 use Rattle.std.specs.FinMap as finite
 use Rattle.std.specs.List.{AllByRecursion}
 use Rattle.schema.specs.Conf.{Conf}
-use Rattle.tree.specs.StoredEntries.{IsMade}
+use Rattle.entries.specs.StoredEntries.{IsMade}
 use Rattle.tree.specs.Trees.{Placed, unnumbered, seen_entries}
 use Rattle.directory.specs.inner.Indexes.{has_in_tree}
 use Rattle.directory.proofs.WholeIndex.{none_yet, one_more, whole}

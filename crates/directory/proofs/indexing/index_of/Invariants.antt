@@ -1,7 +1,7 @@
 use Rattle.std.proofs.Common.{◌≡◌, ◌||◌, ℕ}
 use Rattle.std.specs.List.{AllByRecursion}
 use Rattle.std.specs.FinSet as set
-use Rattle.tree.specs.StoredEntries.{IsMade}
+use Rattle.entries.specs.StoredEntries.{IsMade}
 use Rattle.index.specs.declared.slot_key.SlotKey.{SlotKey}
 use Rattle.index.specs.Indexes.{members}
 use Rattle.directory.specs.inner.Indexes.{has_among, has_in_tree}

@@ -1,4 +1,4 @@
-use Rattle.tree.specs.StoredEntries.{content_of}
+use Rattle.entries.specs.StoredEntries.{content_of}
 use Rattle.index.proofs.Changed.{all_come}
 use Rattle.index.proofs.changes.keys_of.Goals as goal
 

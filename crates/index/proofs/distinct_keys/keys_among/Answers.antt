@@ -2,7 +2,7 @@ use Rattle.std.proofs.Common.{◌&&◌, Option, [], map, sym, subst, ap}
 use Rattle.std.specs.List.{list_any}
 use Rattle.std.specs.Str.{bytes_eq}
 use Rattle.std.specs.Borrow.{Bor}
-use Rattle.tree.specs.StoredEntries.{Entry}
+use Rattle.entries.specs.StoredEntries.{Entry}
 use Rattle.index.specs.EntryKeys.{gives_key}
 use Rattle.index.specs.KeyChanges.{content_in}
 use Rattle.index.specs.inner.KeyLists.{AreKeys}

@@ -1,6 +1,6 @@
 use Rattle.std.proofs.Common.{Option, [], map, drop, sym, subst}
 use Rattle.std.specs.Borrow.{Bor}
-use Rattle.tree.specs.StoredEntries.{Entry}
+use Rattle.entries.specs.StoredEntries.{Entry}
 use Rattle.index.specs.EntryKeys.{gives_key}
 use Rattle.index.specs.KeyChanges.{content_in}
 use Rattle.index.specs.inner.KeyLists.{AreKeys}

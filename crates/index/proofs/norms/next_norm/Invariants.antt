@@ -1,6 +1,6 @@
 use Rattle.std.proofs.Common.{◌≡◌, ◌++◌, []}
 use Rattle.std.specs.List.{AllByRecursion}
-use Rattle.tree.specs.StoredEntries.{IsMadeAttribute}
+use Rattle.entries.specs.StoredEntries.{IsMadeAttribute}
 use Rattle.index.specs.inner.StoredKeys.{norms_left, stored_norms}
 use Rattle.index.proofs.norms.next_norm.Given as goal
 

@@ -1,5 +1,4 @@
-use Rattle.std.proofs.Common.{◌≡◌, ◌||◌, ◌<◌, ◌∙◌, ℕ, length, List, get_or, ap, subst}
-use Rattle.std.specs.List.{list_any, AllByRecursion}
+use Rattle.std.proofs.Common.{◌||◌, ◌<◌, ◌∙◌, ℕ, length, List, get_or, ap, subst}
 use Rattle.schema.specs.Superclasses.{has_number}
 use Rattle.schema.specs.inner.Settled.{settled_at}
 use Rattle.schema.specs.declared.settled.Settled.{Settled}

@@ -1,6 +1,6 @@
 use Rattle.std.proofs.Common.{◌≡◌, ◌<◌, ◌||◌, ℕ, drop, length}
 use Rattle.std.specs.List.{list_any, AllByRecursion}
-use Rattle.schema.specs.Superclasses.{has_number, is_listed}
+use Rattle.schema.specs.Superclasses.{has_number}
 use Rattle.schema.specs.inner.Settled.{settled_at}
 use Rattle.schema.proofs.settled.required_by.Given as goal
 

@@ -1,5 +1,4 @@
-use Rattle.std.proofs.Common.{◌≡◌, ◌<◌, ◌∙◌, ◌++◌, ◌∷◌, [], ℕ, length, List, ap, subst, sym, arith, ◌+◌}
-use Rattle.std.specs.List.{AllByRecursion}
+use Rattle.std.proofs.Common.{◌∙◌, length, List, ap, subst, sym, ◌+◌}
 use Rattle.std.proofs.lemmas.List.{length-append}
 use Rattle.schema.specs.Classes.{no_class}
 use Rattle.schema.specs.declared.settled.Settled.{Settled}

@@ -1,6 +1,6 @@
 use Rattle.std.proofs.Common.{◌≡◌, ◌+◌, ◌<◌, ◌^◌, length}
 use Rattle.std.specs.List.{AllByRecursion}
-use Rattle.tree.specs.StoredEntries.{IsMade}
+use Rattle.entries.specs.StoredEntries.{IsMade}
 use Rattle.filter_text.specs.Spells.{view}
 use Rattle.search.specs.Walks.{lent, tested_in_all}
 use Rattle.search.proofs.hits.next_hit.Given as goal

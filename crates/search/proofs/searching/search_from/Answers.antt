@@ -4,7 +4,7 @@ use Rattle.std.specs.List.{AllByRecursion}
 use Rattle.std.specs.FinMap as finite
 use Rattle.paths.specs.Paths.{Path, begins}
 use Rattle.schema.specs.Conf.{Conf}
-use Rattle.tree.specs.StoredEntries.{IsMade}
+use Rattle.entries.specs.StoredEntries.{IsMade}
 use Rattle.tree.specs.Trees.{number_at}
 use Rattle.filter_text.specs.Spells.{view}
 use Rattle.candidates.specs.Ids.{ids_contain}

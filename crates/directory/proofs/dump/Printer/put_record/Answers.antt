@@ -3,7 +3,7 @@ use Rattle.std.specs.Prelude.{OnOk}
 use Rattle.ldif.specs.Writing.{written_line}
 use Rattle.schema.specs.Conf.{Conf}
 use Rattle.tree.specs.Directories.{IsDirectory, name_of_entry}
-use Rattle.tree.specs.StoredEntries.{content_of}
+use Rattle.entries.specs.StoredEntries.{content_of}
 use Rattle.tree.specs.Trees.{Tree}
 use Rattle.directory.specs.inner.Dumps.{AreKnown, selected_text, entry_text}
 use Rattle.directory.proofs.EntryText.{entry_is, all_known}

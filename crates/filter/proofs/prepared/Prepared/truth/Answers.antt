@@ -1,5 +1,5 @@
 use Rattle.std.proofs.Common.{◌∙◌, ap, sym, subst}
-use Rattle.tree.specs.StoredEntries.{attributes_of, IsMade}
+use Rattle.entries.specs.StoredEntries.{attributes_of, IsMade}
 use Rattle.filter_text.specs.Spells.{view}
 use Rattle.filter.specs.Filters.{truth}
 use Rattle.filter.specs.Made.{Made}

@@ -2,7 +2,7 @@ use Rattle.std.proofs.Common.{◌+◌, ◌&&◌, ◌∙◌, List, ℕ, cond, nat
 use Rattle.std.specs.List.{list_any}
 use Rattle.std.specs.Str.{bytes_eq}
 use Rattle.std.specs.FinSet as set
-use Rattle.tree.specs.StoredEntries.{attributes_of}
+use Rattle.entries.specs.StoredEntries.{attributes_of}
 use Rattle.index.specs.EntryKeys.{slot_keys}
 use Rattle.index.specs.Indexes.{members}
 use Rattle.index.proofs.Agreement.{known_key, told_there}

@@ -1,6 +1,6 @@
 use Rattle.std.proofs.Common.{◌≡◌, ◌&&◌, nat_lt}
 use Rattle.std.specs.FinSet as set
-use Rattle.tree.specs.StoredEntries.{attributes_of}
+use Rattle.entries.specs.StoredEntries.{attributes_of}
 use Rattle.index.specs.EntryKeys.{slot_keys}
 use Rattle.index.specs.Indexes.{Inserts}
 use Rattle.index.proofs.index.Index.insert_entry.Given as goal

@@ -1,5 +1,5 @@
 use Rattle.std.proofs.Common.{sym}
-use Rattle.tree.specs.StoredEntries.{content_of}
+use Rattle.entries.specs.StoredEntries.{content_of}
 use Rattle.tree.proofs.Planned.{good_under, modified_change}
 use Rattle.tree.proofs.planner.Planner.modify_at.Goals as goal
 

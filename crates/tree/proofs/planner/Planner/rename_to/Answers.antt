@@ -1,7 +1,7 @@
 use Rattle.std.proofs.Common.{sym, ◌∙◌, ap, not, Bool}
 use Rattle.std.specs.Prelude.{◌&&◌}
 use Rattle.std.specs.FinMap as finite
-use Rattle.tree.specs.StoredEntries.{content_of}
+use Rattle.entries.specs.StoredEntries.{content_of}
 use Rattle.tree.proofs.Planned.{good_under, respelled_change, moved_change}
 use Rattle.tree.proofs.planner.Planner.rename_to.Goals as goal
 

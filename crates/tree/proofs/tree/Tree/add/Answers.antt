@@ -2,7 +2,7 @@ use Rattle.std.proofs.Common.{◌≡◌, ◌∙◌, ◌+◌, ◌<◌, sym, ap, s
 use Rattle.std.specs.FinMap as finite
 use Rattle.cells.specs.Cells as seen
 use Rattle.cells.specs.Cells.{cell, taken, most, IsSet}
-use Rattle.tree.specs.StoredEntries.{Entry, content_of}
+use Rattle.entries.specs.StoredEntries.{Entry, content_of}
 use Rattle.tree.specs.Trees.{Tree}
 use Rattle.tree.specs.inner.Trees.{Cells}
 use Rattle.tree.proofs.Carried.{IsCarried, cell_left, new_done, no_number, number_new}

@@ -3,7 +3,7 @@ use Rattle.std.specs.Prelude.{IsSomeAnd}
 use Rattle.std.specs.FinMap as finite
 use Rattle.cells.specs.Cells.{cell}
 use Rattle.paths.specs.Paths.{Path}
-use Rattle.tree.specs.StoredEntries.{Entry, IsMade}
+use Rattle.entries.specs.StoredEntries.{Entry, IsMade}
 use Rattle.tree.specs.Trees.{Tree}
 use Rattle.tree.proofs.tree.Tree.next_number.Goals as goal
 

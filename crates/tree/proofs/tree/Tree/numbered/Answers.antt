@@ -4,7 +4,7 @@ use Rattle.std.specs.List.{AllByRecursion}
 use Rattle.std.specs.FinMap as finite
 use Rattle.std.specs.FinMap.{entries}
 use Rattle.paths.specs.Paths.{Path, begins}
-use Rattle.tree.specs.StoredEntries.{IsMade}
+use Rattle.entries.specs.StoredEntries.{IsMade}
 use Rattle.tree.specs.Trees.{Tree, Placed, unnumbered, seen_entries}
 use Rattle.tree.specs.inner.Trees.{joined, placed, numbers_of, AreFilled}
 use Rattle.tree.proofs.TreeLemmas.{range_seen, range_good, unnumbered_while, placed_made, placed_numbers}

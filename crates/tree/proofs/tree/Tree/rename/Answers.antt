@@ -3,7 +3,7 @@ use Rattle.std.specs.Prelude.{OnOk}
 use Rattle.std.specs.FinMap as finite
 use Rattle.paths.specs.Paths.{begins}
 use Rattle.tree.specs.Directories.{Entries, IsDirectory}
-use Rattle.tree.specs.StoredEntries.{content_of}
+use Rattle.entries.specs.StoredEntries.{content_of}
 use Rattle.tree.specs.Changes.{moved}
 use Rattle.tree.specs.Trees.{Numbers, number_at}
 use Rattle.tree.proofs.Moved.{spare_of, alone_of, of_numbers, alone_moved}

@@ -1,6 +1,6 @@
 use Rattle.std.proofs.Common.{◌∙◌, sym, ap}
 use Rattle.std.specs.FinMap as finite
-use Rattle.tree.specs.StoredEntries.{content_of}
+use Rattle.entries.specs.StoredEntries.{content_of}
 use Rattle.tree.proofs.Carried.{IsCarried, cell_there, move_done, number_is, no_number}
 use Rattle.tree.proofs.tree.Tree.rename_alone.Goals as goal
 

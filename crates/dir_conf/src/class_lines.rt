@@ -1,0 +1,193 @@
+//! Reading the object classes of a configuration.
+
+ghost use Rattle.std.specs.Prelude.{◌≡◌, Some, IfOk};
+ghost use Rattle.std.specs.List.{list_any};
+ghost use Rattle.base.specs.Answers.{each};
+ghost use Rattle.definitions.specs.ClassDefinitions.{class_definition_of};
+ghost use Rattle.schema.specs.Classes.{is_class, top, extensible_object};
+ghost use Rattle.dir_conf.specs.Configurations.{shares_class_name, is_class_taken, class_named, kind_with, class_with, class_placed};
+ghost use Rattle.dir_conf.specs.NamesInLines.{type_named};
+ghost use Rattle.dir_conf.specs.Reads.{Reads};
+
+use crate::conf_fault::{ConfFault, ConfFaultKind};
+use crate::conf_lines::fault;
+use crate::type_lines::{has_twin, is_built_in, type_named};
+use base::{Bytes, Sequence};
+use definitions::{ClassDefinition, DefinitionFault, Element, read_class_definition};
+use schema::{ClassTable, ObjectClass};
+use std::alloc::{AllocError, Global};
+use terms::ClassKind;
+use values::{TypeId, TypeTable};
+
+/// The abstract class of every entry (RFC 4512, 2.4.1).
+pub(crate) fn top(alloc: Global) -> Result<ObjectClass, AllocError>
+    ensures { IfOk result (λ c. c ≡ top) }
+{
+    let mut names = Sequence::new(alloc);
+    names.push(Bytes::from_slice(alloc, b"top")?)?;
+    let mut must = Sequence::new(alloc);
+    must.push(TypeId::OBJECT_CLASS)?;
+    Ok(ObjectClass {
+        oid: Bytes::from_slice(alloc, b"2.5.6.0")?,
+        names,
+        kind: ClassKind::Abstract,
+        superiors: Sequence::new(alloc),
+        must,
+        may: Sequence::new(alloc),
+    })
+}
+
+/// The auxiliary class of entries that may have any type (RFC 4512, 4.3), below the class of number 0.
+pub(crate) fn extensible_object(alloc: Global) -> Result<ObjectClass, AllocError>
+    ensures { IfOk result (λ c. c ≡ extensible_object) }
+{
+    let mut names = Sequence::new(alloc);
+    names.push(Bytes::from_slice(alloc, b"extensibleObject")?)?;
+    let mut superiors = Sequence::new(alloc);
+    superiors.push(0)?;
+    Ok(ObjectClass {
+        oid: Bytes::from_slice(alloc, b"1.3.6.1.4.1.1466.101.120.111")?,
+        names,
+        kind: ClassKind::Auxiliary,
+        superiors,
+        must: Sequence::new(alloc),
+        may: Sequence::new(alloc),
+    })
+}
+
+// whether a class has this name or OID
+fn is_class(classes: &ClassTable, name: &[u8]) -> bool
+    ensures { result ≡ is_class classes.now name.now }
+{
+    classes.class_of(name).is_some()
+}
+
+fn any_classes(classes: &ClassTable, names: &[Bytes]) -> bool
+    ensures { result ≡ list_any (is_class classes.now) names.now }
+{
+    names.iter().any(|name| is_class(classes, name.as_slice()))
+}
+
+fn is_known(classes: &ClassTable, element: &Element) -> bool
+    ensures { result ≡ list_any (shares_class_name element.now) classes.now }
+{
+    is_class(classes, element.oid.as_slice()) || any_classes(classes, element.names.as_slice())
+}
+
+fn is_class_taken(
+    alloc: Global,
+    classes: &ClassTable,
+    element: &Element,
+) -> Result<bool, AllocError>
+    ensures { IfOk result (λ b. b ≡ is_class_taken classes.now element.now) }
+{
+    Ok(is_known(classes, element) || has_twin(alloc, element.names.as_slice())?)
+}
+
+fn class_named(classes: &ClassTable, line: u64, name: &[u8]) -> Result<usize, ConfFault>
+    ensures { Reads (λ n. n) result (class_named classes.now line name.now) }
+{
+    match classes.class_of(name) {
+        Some(number) => Ok(number),
+        None => Err(fault(line, ConfFaultKind::UnknownName)),
+    }
+}
+
+fn classes_named(
+    alloc: Global,
+    classes: &ClassTable,
+    line: u64,
+    names: &[Bytes],
+) -> Result<Sequence<usize>, ConfFault>
+    ensures { Reads (λ s. s) result (each (class_named classes.now line) names.now) }
+{
+    let mut numbers = Vec::with_capacity(alloc, names.len())?;
+    for name in names {
+        numbers.push(class_named(classes, line, name.as_slice())?)?;
+    }
+    Ok(Sequence::from_vec(numbers))
+}
+
+fn types_named(
+    alloc: Global,
+    types: &TypeTable,
+    line: u64,
+    names: &[Bytes],
+) -> Result<Sequence<TypeId>, ConfFault>
+    ensures { Reads (λ s. s) result (each (type_named types.now line) names.now) }
+{
+    let mut numbers = Vec::with_capacity(alloc, names.len())?;
+    for name in names {
+        numbers.push(type_named(types, line, name.as_slice())?)?;
+    }
+    Ok(Sequence::from_vec(numbers))
+}
+
+fn kind_with(stated: Option<ClassKind>) -> ClassKind
+    ensures { result ≡ kind_with stated }
+{
+    stated.unwrap_or(ClassKind::Structural)
+}
+
+#[tactic(auto, unfolding(crate::specs::Configurations::class_with))]
+fn class_with(
+    alloc: Global,
+    types: &TypeTable,
+    classes: &ClassTable,
+    line: u64,
+    definition: ClassDefinition,
+) -> Result<ObjectClass, ConfFault>
+    ensures { Reads (λ c. c) result (class_with (record { types = types.now; classes = classes.now }) line definition) }
+{
+    let superiors = classes_named(alloc, classes, line, definition.superiors.as_slice())?;
+    let must = types_named(alloc, types, line, definition.must.as_slice())?;
+    let may = types_named(alloc, types, line, definition.may.as_slice())?;
+    let ClassDefinition { element, kind, .. } = definition;
+    let Element { oid, names, .. } = element;
+    Ok(ObjectClass {
+        oid,
+        names,
+        kind: kind_with(kind),
+        superiors,
+        must,
+        may,
+    })
+}
+
+#[tactic(auto, unfolding(crate::specs::Configurations::class_placed))]
+fn place_class(
+    alloc: Global,
+    types: &TypeTable,
+    classes: ClassTable,
+    line: u64,
+    definition: ClassDefinition,
+) -> Result<ClassTable, ConfFault>
+    ensures { Reads (λ t. record { types = types.now; classes = t }) result (class_placed (record { types = types.now; classes = classes }) line (Some definition)) }
+{
+    if is_built_in(definition.element.oid.as_slice()) {
+        return Ok(classes);
+    }
+    if is_class_taken(alloc, &classes, &definition.element)? {
+        return Err(fault(line, ConfFaultKind::Twice));
+    }
+    let class = class_with(alloc, types, &classes, line, definition)?;
+    Ok(classes.with(alloc, class)?)
+}
+
+/// The classes, and one more as its definition reads.
+#[tactic(auto, unfolding(crate::specs::Configurations::class_placed))]
+pub(crate) fn define_class(
+    alloc: Global,
+    types: &TypeTable,
+    classes: ClassTable,
+    line: u64,
+    text: &[u8],
+) -> Result<ClassTable, ConfFault>
+    ensures { Reads (λ t. record { types = types.now; classes = t }) result (class_placed (record { types = types.now; classes = classes }) line (class_definition_of text.now)) }
+{
+    match read_class_definition(alloc, text) {
+        Ok(definition) => place_class(alloc, types, classes, line, definition),
+        Err(DefinitionFault::Form) => Err(fault(line, ConfFaultKind::Form)),
+        Err(DefinitionFault::OutOfMemory) => Err(ConfFault::OutOfMemory),
+    }
+}

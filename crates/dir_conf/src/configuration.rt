@@ -1,0 +1,39 @@
+//! Reading the text of a configuration.
+
+ghost use Rattle.dir_conf.specs.Configurations.{conf_of};
+ghost use Rattle.dir_conf.specs.Reads.{Reads};
+
+use crate::conf_fault::{ConfFault, ConfFaultKind};
+use crate::conf_lines::fault;
+use crate::defined::{Defined, defined_by};
+use crate::later_lines::{Found, found_in};
+use crate::slots::in_order;
+use definitions::{defined_types_have_names, lines_of};
+use dn::spelled_names_are_read;
+use schema::Conf;
+use std::alloc::Global;
+
+/// Few texts have more names and OIDs than one in so many bytes.
+const BYTES_OF_A_NAME: usize = 32;
+
+/// The configuration that the text of a `dir.conf` says. It is refused with the first line that is at fault; lines of suffixes and
+/// indexes are looked at after all others, and a missing suffix last of all.
+///
+/// Behind the first word of an index line stand two words: a comma list of names or OIDs of types, and one of the kinds `eq`, `pres` and
+/// `sub`. Else, or where a member of a list is empty, it is at fault with `Form`; where no type has one of the names, with
+/// `UnknownName`; and where one of the kinds is no such word, or one of the types has no rule of equality for `eq` or of substrings for
+/// `sub`, with `Index`. The first of these answers.
+#[tactic(auto, unfolding(crate::specs::Configurations::conf_of))]
+pub fn read_conf(alloc: Global, text: &[u8]) -> Result<Conf, ConfFault>
+    ensures { Reads (λ c. c) result (conf_of text.now) }
+{
+    defined_types_have_names();
+    spelled_names_are_read();
+    let lines = lines_of(alloc, text)?;
+    let Defined { types, classes } = defined_by(alloc, text.len() / BYTES_OF_A_NAME, &lines)?;
+    let Found { suffix, slots } = found_in(alloc, &types, &lines)?;
+    match suffix {
+        Some(suffix) => Ok(Conf::new(alloc, types, suffix, in_order(alloc, slots)?, classes)?),
+        None => Err(fault(0, ConfFaultKind::Suffix)),
+    }
+}

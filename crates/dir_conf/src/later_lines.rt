@@ -1,0 +1,64 @@
+//! Reading the lines that are looked at after all others: the suffix and the indexes.
+
+ghost use Rattle.dir_conf.specs.Configurations.{later_line, found_in, none_found};
+ghost use Rattle.dir_conf.specs.Reads.{Reads};
+
+use crate::conf_fault::{ConfFault, ConfFaultKind};
+use crate::conf_lines::{fault, is_first, says_nothing};
+use crate::index_lines::slots_in;
+use crate::suffix_lines::{suffix_at, suffix_text};
+use base::Sequence;
+use definitions::{Line, split_first_word};
+use paths::Rdn;
+use schema::Slot;
+use std::alloc::Global;
+use values::TypeTable;
+
+/// What the lines say: a suffix, and slots as often as they are said.
+#[derive(Drop)]
+pub(crate) struct Found {
+    pub(crate) suffix: Option<Sequence<Rdn>>,
+    pub(crate) slots: Vec<Slot>,
+}
+
+#[tactic(auto, unfolding(crate::specs::Configurations::later_line))]
+fn read_later_line(
+    alloc: Global,
+    types: &TypeTable,
+    found: &mut Found,
+    line: &Line,
+) -> Result<(), ConfFault>
+    ensures { Reads (λ _. record { suffix = found.new.suffix; slots = found.new.slots.items }) result (later_line types.now (record { suffix = found.old.suffix; slots = found.old.slots.items }) line.now) }
+{
+    let text = line.text.as_slice();
+    if says_nothing(text) {
+        return Ok(());
+    }
+    if is_first(b"index", text) {
+        let slots = slots_in(alloc, types, line.number, split_first_word(text).1)?;
+        found.slots.extend_from_slice(&slots)?;
+        return Ok(());
+    }
+    if !is_first(b"suffix", text) {
+        return Ok(());
+    }
+    if found.suffix.is_some() {
+        return Err(fault(line.number, ConfFaultKind::Suffix));
+    }
+    found.suffix = Some(suffix_at(alloc, types, line.number, suffix_text(text))?);
+    Ok(())
+}
+
+/// The suffix and the slots that the lines say.
+pub(crate) fn found_in(alloc: Global, types: &TypeTable, lines: &[Line]) -> Result<Found, ConfFault>
+    ensures { Reads (λ f. record { suffix = f.suffix; slots = f.slots.items }) result (found_in types.now none_found lines.now) }
+{
+    let mut found = Found {
+        suffix: None,
+        slots: Vec::new(alloc),
+    };
+    for line in lines {
+        read_later_line(alloc, types, &mut found, line)?;
+    }
+    Ok(found)
+}

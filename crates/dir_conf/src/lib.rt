@@ -1,0 +1,22 @@
+//! Reading `dir.conf`: the configuration that its lines say, or the first of its faults.
+//!
+//! The function of `laws` does nothing: a call of it is made for what it states alone.
+#![tactic(auto)]
+
+mod class_lines;
+mod conf_fault;
+mod conf_lines;
+mod configuration;
+mod defined;
+mod index_lines;
+mod later_lines;
+mod laws;
+mod rule_names;
+mod slots;
+mod suffix_lines;
+mod type_lines;
+mod type_rules;
+
+pub use conf_fault::{ConfFault, ConfFaultKind};
+pub use configuration::read_conf;
+pub use laws::conf_faults_stand_at_lines;

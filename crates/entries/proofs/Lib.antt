@@ -1,0 +1,13 @@
+pub mod Rebuilt
+pub mod Pushed
+pub mod StoredLemmas
+pub mod NormLemmas
+pub mod LineLemmas
+pub mod SetValues
+pub mod StaysGood
+pub mod ModifyLemmas
+pub mod LeftFrom
+pub mod KeptAttributes
+pub mod ClassLemmas
+pub mod ClassLaw
+pub mod ClassRuleExamples

@@ -1,0 +1,3 @@
+pub mod StoredEntries
+pub mod ValuesDrafts
+pub mod ClassChecks

@@ -1,0 +1,156 @@
+//! The attributes of an entry that is added.
+
+ghost use Rattle.std.specs.Prelude.{◌≡◌, ◌<◌, not, [], if◌then◌else◌, IfOk, OnOk, length};
+ghost use Rattle.schema.specs.Values.{norm_at};
+ghost use Rattle.entries.specs.Entries.{values_of, push_value, is_barred, line_value, add_line, add_lines, has_class};
+ghost use Rattle.entries.specs.StoredEntries.{attributes_of, IsMade};
+ghost use Rattle.values.specs.Norms.{has_norm};
+ghost use Rattle.entries.specs.inner.StoredEntries.{AreNormsOf};
+ghost use Rattle.entries.specs.Gives.{Gives};
+
+use crate::kept_attributes::Attributes;
+use crate::refusal::Refusal;
+use base::Bytes;
+use ldif::{Attr, Mode};
+use schema::{Code, Conf, TypeId, Value};
+use std::alloc::{AllocError, Global};
+use std::collections::BTreeSet;
+
+/// As many lines as each is compared with all that came before it; in more, values are looked up in a set.
+const FEW_LINES: usize = 64;
+
+/// As many attributes as room is made for ahead, at most.
+const FEW_ATTRIBUTES: usize = 18;
+
+// how many runs of lines with one name there are, which is how many attributes where each stands together
+fn runs_in(lines: &[Attr<'_>]) -> usize {
+    let mut count = 0usize;
+    let mut last: &[u8] = b"";
+    for line in lines {
+        if line.name() != last {
+            count = count.saturating_add(1);
+        }
+        last = line.name();
+    }
+    count
+}
+
+/// Whether there is an attribute objectClass.
+pub(crate) fn has_class(attrs: &Attributes) -> bool
+    ensures { result ≡ has_class (attributes_of attrs.now.entries) }
+{
+    attrs.get(TypeId::OBJECT_CLASS).is_some()
+}
+
+/// Adds lines to attributes under a configuration; `mode` says what kind of records they stand in.
+#[derive(Clone, Copy)]
+struct LineAdder<'a> {
+    alloc: Global,
+    conf: &'a Conf,
+    mode: Mode,
+}
+
+impl LineAdder<'_> {
+    // whether a change can't set values of a type
+    fn is_barred(&self, t: TypeId) -> bool
+        requires { t < length self.now.conf.now.types }
+        ensures { result ≡ is_barred self.now.mode self.now.conf.now.types t }
+    {
+        match self.mode {
+            Mode::Content => false,
+            Mode::Changes { .. } => self.conf.fixed(t),
+        }
+    }
+
+    // a line's type and value
+    fn line_value(&self, line: &Attr<'_>) -> Result<(TypeId, Value), Refusal>
+        ensures gives { Gives (λ x. (x.0, x.1.raw)) result (line_value self.now.mode self.now.conf.now.types line.now) }
+        ensures known { IfOk result (λ x. x.0 < length self.now.conf.now.types) }
+        ensures normal { IfOk result (λ x. x.1.norm ≡ norm_at self.now.conf.now.types x.0 x.1.raw) }
+    {
+        let Some(t) = self.conf.type_of(line.name()) else {
+            return Err(Refusal::Code(Code::UndefinedAttributeType));
+        };
+        if self.is_barred(t) {
+            return Err(Refusal::Code(Code::ConstraintViolation));
+        }
+        let value = self.conf.make_value(self.alloc, t, line.value())?;
+        Ok((t, value))
+    }
+
+    fn add_line(&self, attrs: &mut Attributes, line: &Attr<'_>) -> Result<(), Refusal>
+        requires { IsMade self.now.conf.now.types attrs.old.entries }
+        ensures made { OnOk result (IsMade self.now.conf.now.types attrs.new.entries) }
+        ensures gives { Gives (λ _. attributes_of attrs.new.entries) result (add_line self.now.mode self.now.conf.now.types (attributes_of attrs.old.entries) line.now) }
+    {
+        let (t, value) = self.line_value(line)?;
+        if !attrs.put(self.alloc, t, value)? {
+            return Err(Refusal::Code(Code::AttributeOrValueExists));
+        }
+        Ok(())
+    }
+
+    // the same, where the normal forms of the values that came before are kept in a set
+    fn add_line_by_norm(
+        &self,
+        attrs: &mut Attributes,
+        norms: &mut BTreeSet<(TypeId, Bytes)>,
+        line: &Attr<'_>,
+    ) -> Result<(), Refusal>
+        requires made { IsMade self.now.conf.now.types attrs.old.entries }
+        requires norms { AreNormsOf norms.old attrs.old.entries }
+        ensures made { OnOk result (IsMade self.now.conf.now.types attrs.new.entries) }
+        ensures norms { OnOk result (AreNormsOf norms.new attrs.new.entries) }
+        ensures gives { Gives (λ _. attributes_of attrs.new.entries) result (add_line self.now.mode self.now.conf.now.types (attributes_of attrs.old.entries) line.now) }
+    {
+        let (t, value) = self.line_value(line)?;
+        if !norms.insert((t, Bytes::from_slice(self.alloc, value.norm())?))? {
+            return Err(Refusal::Code(Code::AttributeOrValueExists));
+        }
+        attrs.push(self.alloc, t, value)?;
+        Ok(())
+    }
+
+    #[tactic(auto, unfolding(crate::specs::Entries::add_lines))]
+    fn attributes_of_few(&self, lines: &[Attr<'_>]) -> Result<Attributes, Refusal>
+        ensures made { IfOk result (λ attrs. IsMade self.now.conf.now.types attrs.entries) }
+        ensures gives { Gives (λ attrs. attributes_of attrs.entries) result (add_lines self.now.mode self.now.conf.now.types [] lines.now) }
+    {
+        let mut attrs = Attributes::with_capacity(self.alloc, runs_in(lines).min(FEW_ATTRIBUTES))?;
+        for line in lines {
+            self.add_line(&mut attrs, line)?;
+        }
+        Ok(attrs)
+    }
+
+    #[tactic(auto, unfolding(crate::specs::Entries::add_lines))]
+    fn attributes_of_many(&self, lines: &[Attr<'_>]) -> Result<Attributes, Refusal>
+        ensures made { IfOk result (λ attrs. IsMade self.now.conf.now.types attrs.entries) }
+        ensures gives { Gives (λ attrs. attributes_of attrs.entries) result (add_lines self.now.mode self.now.conf.now.types [] lines.now) }
+    {
+        let mut attrs = Attributes::new(self.alloc);
+        let mut norms = BTreeSet::new(self.alloc);
+        for line in lines {
+            self.add_line_by_norm(&mut attrs, &mut norms, line)?;
+        }
+        Ok(attrs)
+    }
+}
+
+/// The attributes that lines give, in order. The first line that is refused answers.
+pub fn attributes_of_lines(
+    alloc: Global,
+    conf: &Conf,
+    mode: Mode,
+    lines: &[Attr<'_>],
+) -> Result<Attributes, Refusal>
+    ensures made { IfOk result (λ attrs. IsMade conf.now.types attrs.entries) }
+    ensures gives { Gives (λ attrs. attributes_of attrs.entries) result (add_lines mode conf.now.types [] lines.now) }
+{
+    let adder = LineAdder { alloc, conf, mode };
+    if lines.len() <= FEW_LINES {
+        adder.attributes_of_few(lines)
+    } else {
+        adder.attributes_of_many(lines)
+    }
+}

@@ -1,0 +1,56 @@
+//! Entries.
+
+ghost use Rattle.std.specs.Prelude.{◌≡◌, IfOk};
+
+use crate::kept_attributes::{Attributes, AttributesIter};
+use schema::Rdn;
+use std::alloc::{AllocError, Global};
+use std::marker::Model;
+
+/// An entry (RFC 4512, 2.2): its RDN as written, and its attributes in order, each with its values in order. A contract sees
+/// the RDN's parts, and the list of the types with their values.
+#[derive(Drop)]
+pub struct Entry {
+    rdn: Rdn,
+    attrs: Attributes,
+}
+
+impl Model for Entry {
+    ghost use Rattle.entries.specs.StoredEntries.{Entry, entry_code};
+
+    ghost Value = { Entry };
+
+    ghost coded = { entry_code };
+
+    ghost view = { λ e. record { rdn = e.rdn; attrs = e.attrs.entries } };
+}
+
+impl Entry {
+    /// The entry with this RDN and these attributes.
+    pub fn new(rdn: Rdn, attrs: Attributes) -> Entry
+        ensures { result ≡ record { rdn = rdn; attrs = attrs.entries } }
+    {
+        Entry { rdn, attrs }
+    }
+
+    /// Its RDN as written. That of the suffix's entry is as the configuration has it.
+    pub fn rdn(&self) -> &Rdn
+        ensures { result.now ≡ self.now.rdn }
+    {
+        &self.rdn
+    }
+
+    /// Each type with its values, in order.
+    pub fn attrs(&self) -> AttributesIter<'_>
+        ensures { result ≡ self.now.attrs }
+    {
+        self.attrs.iter()
+    }
+
+    /// Its attributes again.
+    pub(crate) fn copy_attributes(&self, alloc: Global) -> Result<Attributes, AllocError>
+        ensures { IfOk result (λ attrs. attrs.entries ≡ self.now.attrs) }
+    {
+        self.attrs.copy(alloc)
+    }
+}

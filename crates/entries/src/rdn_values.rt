@@ -1,0 +1,114 @@
+//! The values of an RDN among an entry's attributes.
+
+ghost use Rattle.std.specs.Prelude.{◌≡◌, ◌<◌, true, IfOk, OnOk, length};
+ghost use Rattle.std.specs.List.{AllByRecursion};
+ghost use Rattle.schema.specs.GoodRdns.{IsAva};
+ghost use Rattle.schema.specs.Values.{norm_at, is_valid_at};
+ghost use Rattle.entries.specs.Entries.{values_of, has_equal, with_part, with_rdn};
+ghost use Rattle.entries.specs.Modifies.{has_rdn};
+ghost use Rattle.entries.specs.StoredEntries.{attributes_of, IsMade};
+ghost use Rattle.values.specs.Norms.{has_norm};
+
+use crate::kept_attributes::Attributes;
+use base::Bytes;
+use schema::{Conf, Rdn, TypeId, Value, ValueFault};
+use std::alloc::{AllocError, Global};
+
+/// A value that is valid.
+pub(crate) fn valid_value(
+    alloc: Global,
+    conf: &Conf,
+    t: TypeId,
+    raw: &[u8],
+) -> Result<Value, AllocError>
+    requires known { t < length conf.now.types }
+    requires valid { is_valid_at conf.now.types t raw.now ≡ true }
+    ensures { IfOk result (λ v. v ≡ record { raw = raw.now; norm = norm_at conf.now.types t raw.now }) }
+{
+    match conf.make_value(alloc, t, raw) {
+        Ok(value) => Ok(value),
+        Err(ValueFault::OutOfMemory) => Err(AllocError),
+        Err(ValueFault::Invalid) => unreachable!(),
+    }
+}
+
+fn add_part(
+    alloc: Global,
+    conf: &Conf,
+    attrs: &mut Attributes,
+    part: &(TypeId, Bytes),
+) -> Result<(), AllocError>
+    requires made { IsMade conf.now.types attrs.old.entries }
+    requires part { IsAva conf.now.types part.now }
+    ensures made { OnOk result (IsMade conf.now.types attrs.new.entries) }
+    ensures values { OnOk result (attributes_of attrs.new.entries ≡ with_part conf.now.types part.now (attributes_of attrs.old.entries)) }
+{
+    let (t, raw) = part;
+    let value = valid_value(alloc, conf, *t, raw.as_slice())?;
+    attrs.put(alloc, *t, value)?;
+    Ok(())
+}
+
+/// Appends each value of the RDN that has no equal one there.
+#[tactic(auto, unfolding(crate::specs::Entries::with_rdn))]
+pub fn add_rdn(
+    alloc: Global,
+    conf: &Conf,
+    attrs: &mut Attributes,
+    rdn: &Rdn,
+) -> Result<(), AllocError>
+    requires made { IsMade conf.now.types attrs.old.entries }
+    requires parts { AllByRecursion (IsAva conf.now.types) rdn.now }
+    ensures made { OnOk result (IsMade conf.now.types attrs.new.entries) }
+    ensures values { OnOk result (attributes_of attrs.new.entries ≡ with_rdn conf.now.types rdn.now (attributes_of attrs.old.entries)) }
+{
+    for part in rdn.parts() {
+        add_part(alloc, conf, attrs, part)?;
+    }
+    Ok(())
+}
+
+// whether a type has a value with this normal form
+fn has_norm_at(attrs: &Attributes, t: TypeId, norm: &[u8]) -> bool
+    ensures { result ≡ has_norm norm.now (values_of attrs.now.entries t) }
+{
+    match attrs.get(t) {
+        Some(values) => values.has_norm(norm),
+        None => false,
+    }
+}
+
+// whether a value that equals this part's is there
+fn has_value(
+    alloc: Global,
+    conf: &Conf,
+    attrs: &Attributes,
+    part: &(TypeId, Bytes),
+) -> Result<bool, AllocError>
+    requires made { IsMade conf.now.types attrs.now.entries }
+    requires part { IsAva conf.now.types part.now }
+    ensures { IfOk result (λ there. there ≡ has_equal conf.now.types part.now.0 part.now.1 (values_of (attributes_of attrs.now.entries) part.now.0)) }
+{
+    let (t, raw) = part;
+    let value = valid_value(alloc, conf, *t, raw.as_slice())?;
+    Ok(has_norm_at(attrs, *t, value.norm()))
+}
+
+/// Whether each value of the RDN is there, in whatever spelling.
+pub(crate) fn has_rdn(
+    alloc: Global,
+    conf: &Conf,
+    attrs: &Attributes,
+    rdn: &Rdn,
+) -> Result<bool, AllocError>
+    requires made { IsMade conf.now.types attrs.now.entries }
+    requires parts { AllByRecursion (IsAva conf.now.types) rdn.now }
+    ensures { IfOk result (λ there. there ≡ has_rdn conf.now.types rdn.now (attributes_of attrs.now.entries)) }
+{
+    for part in rdn.parts() {
+        if !has_value(alloc, conf, attrs, part)? {
+            return Ok(false);
+        }
+    }
+    Ok(true)
+}

@@ -1,0 +1,129 @@
+//! What another RDN makes of an entry (RFC 4511, 4.9).
+
+ghost use Rattle.std.specs.Prelude.{◌≡◌, ◌&&◌, nat_eq, OnOk, IfOk, if◌then◌else◌};
+ghost use Rattle.std.specs.List.{AllByRecursion, list_any};
+ghost use Rattle.std.specs.Str.{bytes_eq};
+ghost use Rattle.schema.specs.GoodRdns.{IsAva, IsRdn};
+ghost use Rattle.schema.specs.Values.{norm_at};
+ghost use Rattle.entries.specs.Modifies.{has_part, without_part, without_rdn, rename_entry};
+ghost use Rattle.entries.specs.StoredEntries.{attributes_of, content_of, IsMade};
+ghost use Rattle.entries.specs.Gives.{Gives};
+
+use crate::entry::Entry;
+use crate::entry_checks::entry_fault;
+use crate::kept_attributes::Attributes;
+use crate::rdn_values::{add_rdn, valid_value};
+use crate::refusal::Refusal;
+use base::Bytes;
+use schema::{Conf, Rdn, TypeId};
+use std::alloc::{AllocError, Global};
+
+// whether a part has this type and a value with this normal form
+fn is_part(
+    alloc: Global,
+    conf: &Conf,
+    part: &(TypeId, Bytes),
+    t: TypeId,
+    norm: &[u8],
+) -> Result<bool, AllocError>
+    requires { IsAva conf.now.types part.now }
+    ensures { IfOk result (λ b. b ≡ (nat_eq t part.now.0 && bytes_eq (norm_at conf.now.types t part.now.1) norm.now)) }
+{
+    let (u, raw) = part;
+    if t != *u {
+        return Ok(false);
+    }
+    let value = valid_value(alloc, conf, t, raw.as_slice())?;
+    Ok(value.norm() == norm)
+}
+
+// whether the RDN has such a part
+fn has_part(
+    alloc: Global,
+    conf: &Conf,
+    rdn: &Rdn,
+    t: TypeId,
+    norm: &[u8],
+) -> Result<bool, AllocError>
+    requires { AllByRecursion (IsAva conf.now.types) rdn.now }
+    ensures { IfOk result (λ b. b ≡ list_any (λ q. nat_eq t q.0 && bytes_eq (norm_at conf.now.types t q.1) norm.now) rdn.now) }
+{
+    for part in rdn.parts() {
+        if is_part(alloc, conf, part, t, norm)? {
+            return Ok(true);
+        }
+    }
+    Ok(false)
+}
+
+// Takes away the value of a part, unless the new RDN has an equal one.
+fn remove_part(
+    alloc: Global,
+    conf: &Conf,
+    attrs: &mut Attributes,
+    new: &Rdn,
+    part: &(TypeId, Bytes),
+) -> Result<(), AllocError>
+    requires made { IsMade conf.now.types attrs.old.entries }
+    requires new { AllByRecursion (IsAva conf.now.types) new.now }
+    requires part { IsAva conf.now.types part.now }
+    ensures made { OnOk result (IsMade conf.now.types attrs.new.entries) }
+    ensures values { OnOk result (attributes_of attrs.new.entries ≡ (if has_part conf.now.types new.now part.now then attributes_of attrs.old.entries else without_part conf.now.types part.now (attributes_of attrs.old.entries))) }
+{
+    let (t, raw) = part;
+    let value = valid_value(alloc, conf, *t, raw.as_slice())?;
+    if has_part(alloc, conf, new, *t, value.norm())? {
+        return Ok(());
+    }
+    let mut values = attrs.take(*t);
+    values.remove_norm(alloc, value.norm())?;
+    attrs.set(*t, values)?;
+    Ok(())
+}
+
+// Takes away the values of the old RDN, but for those that the new one has.
+#[tactic(auto, unfolding(crate::specs::Modifies::without_rdn))]
+fn remove_rdn(
+    alloc: Global,
+    conf: &Conf,
+    attrs: &mut Attributes,
+    new: &Rdn,
+    old: &Rdn,
+) -> Result<(), AllocError>
+    requires made { IsMade conf.now.types attrs.old.entries }
+    requires new { AllByRecursion (IsAva conf.now.types) new.now }
+    requires parts { AllByRecursion (IsAva conf.now.types) old.now }
+    ensures made { OnOk result (IsMade conf.now.types attrs.new.entries) }
+    ensures values { OnOk result (attributes_of attrs.new.entries ≡ without_rdn conf.now.types new.now old.now (attributes_of attrs.old.entries)) }
+{
+    for part in old.parts() {
+        remove_part(alloc, conf, attrs, new, part)?;
+    }
+    Ok(())
+}
+
+/// The entry with another RDN. The first check that fails answers.
+#[tactic(auto, unfolding(crate::specs::Modifies::rename_entry))]
+pub fn renamed(
+    alloc: Global,
+    conf: &Conf,
+    entry: &Entry,
+    new: Rdn,
+    delete_old: bool,
+) -> Result<Entry, Refusal>
+    requires made { IsMade conf.now.types entry.now.attrs }
+    requires old { IsRdn conf.now.types entry.now.rdn }
+    requires new { IsRdn conf.now.types new }
+    ensures made { IfOk result (λ e. IsMade conf.now.types e.attrs) }
+    ensures gives { Gives (λ e. content_of e) result (rename_entry conf.now (content_of entry.now) new delete_old) }
+{
+    let mut attrs = entry.copy_attributes(alloc)?;
+    add_rdn(alloc, conf, &mut attrs, &new)?;
+    if delete_old {
+        remove_rdn(alloc, conf, &mut attrs, &new, entry.rdn())?;
+    }
+    if let Some(code) = entry_fault(alloc, conf, &attrs)? {
+        return Err(Refusal::Code(code));
+    }
+    Ok(Entry::new(new, attrs))
+}

@@ -1,0 +1,279 @@
+//! The values of an attribute while a modify changes them.
+
+ghost use Rattle.std.specs.Prelude.{◌≡◌, ◌++◌, ◌∷◌, [], not, if◌then◌else◌, IfOk, OnOk};
+ghost use Rattle.std.specs.BTreeMap.{get};
+ghost use Rattle.std.specs.Cmp.Lexicographic.{slice_cmp};
+ghost use Rattle.std.specs.Ordering.{nat_cmp};
+ghost use Rattle.entries.specs.Modifies.{has_values};
+ghost use Rattle.values.specs.Norms.{has_norm, but_norm};
+ghost use Rattle.entries.specs.inner.ValuesDrafts.{is_from, left_from, KeepsPlaces, AreAllLeft};
+
+use base::Bytes;
+use schema::Value;
+use std::alloc::{AllocError, Global};
+use std::collections::BTreeMap;
+use std::marker::Model;
+use values::Values;
+
+/// As many searches as go through all values; for more, a map is made of their normal forms.
+const FEW_SEARCHES: u32 = 16;
+
+/// Which of an attribute's values are left, where some were taken away: those keep their places, and go in the end.
+pub(crate) struct Places {
+    // for each normal form, the place from which on values that have it are left
+    since: BTreeMap<Bytes, usize>,
+    // how many places there are
+    count: usize,
+    // none was taken away
+    all_left: bool,
+}
+
+impl Drop for Places {
+    fn drop(self) {
+        let Places {
+            since,
+            count: _,
+            all_left: _,
+        } = self;
+        drop(since);
+    }
+}
+
+/// The values of an attribute while they're changed. A contract sees the list of those that are left.
+///
+/// Where many are searched for, a map is made of their normal forms, and stays: so each further search takes the logarithm of their
+/// number.
+pub(crate) struct ValuesDraft {
+    values: Values,
+    // without them, all values are left
+    places: Option<Places>,
+    searches: u32,
+}
+
+impl Drop for ValuesDraft {
+    fn drop(self) {
+        let ValuesDraft {
+            values,
+            places,
+            searches: _,
+        } = self;
+        drop(values);
+        drop(places);
+    }
+}
+
+impl Model for ValuesDraft {
+    ghost use Rattle.std.specs.Prelude.{List};
+    ghost use Rattle.values.specs.Values as stored;
+    ghost use Rattle.entries.specs.inner.ValuesDrafts.{left_of, KeepPlaces};
+
+    ghost Value = { List stored.Value };
+
+    ghost view = { λ d. left_of d.places d.values };
+
+    ghost invariant = { λ d. KeepPlaces d.places d.values };
+}
+
+// All values are left, from the first place on.
+fn first_places(alloc: Global, values: &Values) -> Result<Places, AllocError>
+    ensures { IfOk result (λ places. AreAllLeft places values.now) }
+{
+    let mut since = BTreeMap::new(alloc);
+    let mut count = 0usize;
+    for value in values.iter() {
+        since.insert(Bytes::from_slice(alloc, value.norm())?, 0)?;
+        count = count.checked_add(1).ok_or(AllocError)?;
+    }
+    Ok(Places {
+        since,
+        count,
+        all_left: true,
+    })
+}
+
+// Puts a value last, unless an equal one is there, and tells whether it did.
+fn push_new(alloc: Global, values: &mut Values, value: Value) -> Result<bool, AllocError>
+    ensures is_new { IfOk result (λ put. put ≡ not (has_norm value.norm values.old)) }
+    ensures values { IfOk result (λ put. values.new ≡ (if put then values.old ++ value ∷ [] else values.old)) }
+{
+    if values.has_norm(value.norm()) {
+        return Ok(false);
+    }
+    values.push(alloc, value)?;
+    Ok(true)
+}
+
+// the same, where places tell which ones are left
+fn push_last(
+    alloc: Global,
+    values: &mut Values,
+    places: &mut Places,
+    value: Value,
+) -> Result<bool, AllocError>
+    requires { KeepsPlaces places.old values.old }
+    ensures places { OnOk result (KeepsPlaces places.new values.new) }
+    ensures is_new { IfOk result (λ put. put ≡ not (has_norm value.norm (left_from places.old.since 0 values.old))) }
+    ensures values { IfOk result (λ put. left_from places.new.since 0 values.new ≡ (if put then left_from places.old.since 0 values.old ++ value ∷ [] else left_from places.old.since 0 values.old)) }
+{
+    let key = Bytes::from_slice(alloc, value.norm())?;
+    if places.since.contains_key(&key) {
+        return Ok(false);
+    }
+    let count = places.count.checked_add(1).ok_or(AllocError)?;
+    places.since.insert(key, places.count)?;
+    places.count = count;
+    values.push(alloc, value)?;
+    Ok(true)
+}
+
+// Takes away the values with this normal form, and tells whether there were any.
+fn remove_norm(alloc: Global, values: &mut Values, norm: &[u8]) -> Result<bool, AllocError>
+    ensures there { IfOk result (λ there. there ≡ has_norm norm.now values.old) }
+    ensures values { OnOk result (values.new ≡ but_norm norm.now values.old) }
+{
+    let there = values.has_norm(norm);
+    values.remove_norm(alloc, norm)?;
+    Ok(there)
+}
+
+// the same, where places tell which ones are left
+fn remove_places(
+    alloc: Global,
+    values: &Values,
+    places: &mut Places,
+    norm: &[u8],
+) -> Result<bool, AllocError>
+    requires { KeepsPlaces places.old values.now }
+    ensures places { OnOk result (KeepsPlaces places.new values.now) }
+    ensures there { IfOk result (λ there. there ≡ has_norm norm.now (left_from places.old.since 0 values.now)) }
+    ensures values { OnOk result (left_from places.new.since 0 values.now ≡ but_norm norm.now (left_from places.old.since 0 values.now)) }
+{
+    let _ = values;
+    let key = Bytes::from_slice(alloc, norm)?;
+    places.all_left = false;
+    Ok(places.since.remove(&key).is_some())
+}
+
+// whether a value with this normal form is left at a place
+fn is_left(
+    alloc: Global,
+    since: &BTreeMap<Bytes, usize>,
+    place: usize,
+    norm: &[u8],
+) -> Result<bool, AllocError>
+    ensures { IfOk result (λ b. b ≡ is_from place (get (slice_cmp nat_cmp) since.now norm.now)) }
+{
+    let key = Bytes::from_slice(alloc, norm)?;
+    match since.get(&key) {
+        Some(first) => Ok(*first <= place),
+        None => Ok(false),
+    }
+}
+
+// The values that are left.
+#[tactic(auto, unfolding(crate::specs::inner::ValuesDrafts::left_from))]
+fn left_from(alloc: Global, values: &Values, places: &Places) -> Result<Values, AllocError>
+    requires { KeepsPlaces places.now values.now }
+    ensures { IfOk result (λ left. left ≡ left_from places.now.since 0 values.now) }
+{
+    let mut left = Values::new();
+    let mut place = 0usize;
+    for value in values.iter() {
+        if is_left(alloc, &places.since, place, value.norm())? {
+            left.push(alloc, value.copy(alloc)?)?;
+        }
+        place += 1;
+    }
+    Ok(left)
+}
+
+impl ValuesDraft {
+    pub(crate) fn new(values: Values) -> ValuesDraft
+        ensures { result ≡ values }
+    {
+        ValuesDraft {
+            values,
+            places: None,
+            searches: 0,
+        }
+    }
+
+    /// Whether any are left.
+    pub(crate) fn has_values(&self) -> bool
+        ensures { result ≡ has_values self.now }
+    {
+        match &self.places {
+            None => !self.values.is_empty(),
+            Some(places) => places.since.len() > 0,
+        }
+    }
+
+    // Makes the map before the search, where there were many.
+    fn search(&mut self, alloc: Global) -> Result<(), AllocError>
+        ensures { OnOk result (self.new ≡ self.old) }
+    {
+        if self.places.is_some() {
+            return Ok(());
+        }
+        if self.searches < FEW_SEARCHES {
+            self.searches += 1;
+            return Ok(());
+        }
+        let places = first_places(alloc, &self.values)?;
+        self.places = Some(places);
+        Ok(())
+    }
+
+    /// Puts a value last, unless an equal one is there, and tells whether it did.
+    pub(crate) fn push(&mut self, alloc: Global, value: Value) -> Result<bool, AllocError>
+        ensures is_new { IfOk result (λ put. put ≡ not (has_norm value.norm self.old)) }
+        ensures values { IfOk result (λ put. self.new ≡ (if put then self.old ++ value ∷ [] else self.old)) }
+    {
+        self.search(alloc)?;
+        // the places come back, unless memory runs out
+        match self.places.take() {
+            None => push_new(alloc, &mut self.values, value),
+            Some(mut places) => {
+                let put = push_last(alloc, &mut self.values, &mut places, value)?;
+                self.places = Some(places);
+                Ok(put)
+            }
+        }
+    }
+
+    /// Takes away the values with this normal form, and tells whether there were any.
+    pub(crate) fn remove(&mut self, alloc: Global, norm: &[u8]) -> Result<bool, AllocError>
+        ensures there { IfOk result (λ there. there ≡ has_norm norm.now self.old) }
+        ensures values { OnOk result (self.new ≡ but_norm norm.now self.old) }
+    {
+        self.search(alloc)?;
+        match self.places.take() {
+            None => remove_norm(alloc, &mut self.values, norm),
+            Some(mut places) => {
+                let there = remove_places(alloc, &self.values, &mut places, norm)?;
+                self.places = Some(places);
+                Ok(there)
+            }
+        }
+    }
+
+    /// Those that are left.
+    pub(crate) fn into_values(self, alloc: Global) -> Result<Values, AllocError>
+        ensures { IfOk result (λ values. values ≡ self) }
+    {
+        let ValuesDraft {
+            values,
+            places,
+            searches: _,
+        } = self;
+        match places {
+            None => Ok(values),
+            Some(places) => {
+                if places.all_left {
+                    return Ok(values);
+                }
+                left_from(alloc, &values, &places)
+            }
+        }
+    }
+}

@@ -1,6 +1,0 @@
-use Rattle.std.proofs.Common.{◌≡◌, drop}
-use Rattle.schema.specs.Configurations.{built_in, defined_by}
-use Rattle.schema.proofs.defined.defined_by.Given as goal
-
-abbrev pub invariant-loop-line : goal.invariant-loop-line
-invariant-loop-line l = defined_by (record { types = l.known.types; classes = l.known.classes }) (drop l.line-index l.lines) ≡ defined_by built_in l.lines

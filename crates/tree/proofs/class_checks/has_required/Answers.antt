@@ -1,7 +1,0 @@
-use Rattle.std.proofs.Common.{◌∙◌}
-use Rattle.tree.specs.StoredEntries.{attributes_of}
-use Rattle.tree.proofs.ClassLemmas.{required_at}
-use Rattle.tree.proofs.class_checks.has_required.Goals as goal
-
-pub returns : goal.returns
-returns c = c.has_each.ensures ∙ required_at c.args.conf.now (attributes_of c.args.attrs.now.entries) c.args.class c.required.result.now c.required.ensures

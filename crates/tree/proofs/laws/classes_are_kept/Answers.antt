@@ -1,7 +1,0 @@
-use Rattle.tree.specs.Entries.{values_of}
-use Rattle.tree.specs.EntryClasses.{named_classes}
-use Rattle.tree.proofs.ClassLaw.{fits_is}
-use Rattle.tree.proofs.laws.classes_are_kept.Goals as goal
-
-pub returns : goal.returns
-returns c = λ conf attrs is. fits_is conf attrs (λ d. c.superclasses_are_listed.ensures conf (named_classes conf.classes (values_of attrs 0)) d is)
