@@ -1,5 +1,6 @@
 pub mod Agreement
 pub mod Changed
+pub mod Counted
 pub mod Distinct
 pub mod Fronts
 pub mod KeyTests

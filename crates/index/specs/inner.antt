@@ -1,3 +1,4 @@
+pub mod Counts
 pub mod EditCounts
 pub mod JoinedSets
 pub mod KeyLists

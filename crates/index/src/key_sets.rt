@@ -1,15 +1,14 @@
 //! The keys of one slot, each with a set of numbers.
 
-ghost use Rattle.std.specs.Prelude.{◌≡◌, ℕ, List, not, if◌then◌else◌, IfOk, OnOk, OnErr, MatchOption};
-ghost use Rattle.std.specs.Str.{bytes_eq};
+ghost use Rattle.std.specs.Prelude.{◌≡◌, ℕ, List, MatchOption};
 ghost use Rattle.std.specs.FinMap as finite;
 ghost use Rattle.std.specs.FinSet as set;
-ghost use Rattle.index.specs.KeySets.{members_in, AreRowsOf};
+ghost use Rattle.index.specs.KeySets.{members_in, AreRowsOf, Puts, Takes};
 ghost use Rattle.index.specs.inner.MergedRows.{comes_first};
 
-use crate::other_sets::OtherSets;
+use crate::keyed_sets::KeyedSets;
+use crate::stored_key::StoredKey;
 use crate::window::Window;
-use crate::window_sets::WindowSets;
 use id_sets::KeySet;
 use std::alloc::{AllocError, Global};
 use std::collections::btree_map::Iter;
@@ -19,21 +18,22 @@ use std::marker::Model;
 /// their own. A contract sees a finite map from keys to members.
 #[derive(Drop)]
 pub(crate) struct KeySets {
-    windows: WindowSets,
-    others: OtherSets,
+    windows: KeyedSets<Window>,
+    others: KeyedSets<Vec<u8>>,
 }
 
 impl Model for KeySets {
     ghost use Rattle.index.specs.KeySets as seen;
     ghost use Rattle.index.specs.inner.JoinedSets.{joined, AreApart};
+    ghost use Rattle.index.specs.inner.Windows.{is_window};
 
     ghost Value = { seen.SetsByKey };
 
     ghost coded = { seen.sets_code };
 
-    ghost view = { λ s. joined s.windows s.others };
+    ghost view = { λ s. joined is_window s.windows s.others };
 
-    ghost invariant = { λ s. AreApart s.windows s.others };
+    ghost invariant = { λ s. AreApart is_window s.windows s.others };
 }
 
 impl KeySets {
@@ -41,8 +41,8 @@ impl KeySets {
         ensures { result ≡ finite.empty }
     {
         KeySets {
-            windows: WindowSets::new(alloc),
-            others: OtherSets::new(alloc),
+            windows: KeyedSets::new(alloc),
+            others: KeyedSets::new(alloc),
         }
     }
 
@@ -51,7 +51,7 @@ impl KeySets {
         ensures { MatchOption result (members_in self.now key.now ≡ set.empty) (λ s. s.now.members ≡ members_in self.now key.now) }
     {
         match Window::of(key) {
-            Some(window) => self.windows.get(window),
+            Some(window) => self.windows.get(&window),
             None => self.others.get(key),
         }
     }
@@ -79,25 +79,30 @@ impl KeySets {
         key: &[u8],
         number: u32,
     ) -> Result<bool, AllocError>
-        ensures new { IfOk result (λ new. new ≡ not (set.contains (members_in self.old key.now) number)) }
-        ensures ok { OnOk result ((q : List ℕ) → members_in self.new q ≡ (if bytes_eq key.now q then set.insert (members_in self.old q) number else members_in self.old q)) }
-        ensures err { OnErr result ((q : List ℕ) → members_in self.new q ≡ members_in self.old q) }
+        ensures { Puts key.now number (members_in self.old) (members_in self.new) result }
     {
         match Window::of(key) {
-            Some(window) => self.windows.insert(alloc, window, number),
+            Some(window) => self.windows.insert(alloc, &window, number),
             None => self.others.insert(alloc, key, number),
         }
     }
 
     /// Takes a number from a key, and answers whether it was there. It takes no memory.
     pub(crate) fn remove(&mut self, key: &[u8], number: u32) -> bool
-        ensures was { result ≡ set.contains (members_in self.old key.now) number }
-        ensures members { (q : List ℕ) → members_in self.new q ≡ (if bytes_eq key.now q then set.remove (members_in self.old q) number else members_in self.old q) }
+        ensures { Takes key.now number (members_in self.old) (members_in self.new) result }
     {
         match Window::of(key) {
-            Some(window) => self.windows.remove(window, number),
+            Some(window) => self.windows.remove(&window, number),
             None => self.others.remove(key, number),
         }
+    }
+
+    /// Takes a number from every key. It takes no memory.
+    pub(crate) fn forget(&mut self, number: u32)
+        ensures { (q : List ℕ) → members_in self.new q ≡ set.remove (members_in self.old q) number }
+    {
+        self.windows.forget(number);
+        self.others.forget(number);
     }
 }
 

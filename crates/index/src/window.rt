@@ -3,6 +3,7 @@
 ghost use Rattle.std.specs.Prelude.{◌≡◌, true, false, MatchOption};
 ghost use Rattle.index.specs.inner.Windows.{is_window, IsNumberOf};
 
+use crate::stored_key::StoredKey;
 use std::cmp::Ordering;
 
 /// A key of three bytes, as all windows are. They are ordered by their bytes, which are compared as one number.
@@ -22,12 +23,6 @@ impl Window {
             }),
             _ => None,
         }
-    }
-
-    pub(crate) fn as_slice(&self) -> &[u8]
-        ensures { result.now ≡ self.now.bytes }
-    {
-        &self.bytes
     }
 
     fn number(&self) -> u32
@@ -87,5 +82,17 @@ impl Ord for Window {
 
     fn cmp(&self, other: &Window) -> Ordering {
         self.number().cmp(&other.number())
+    }
+}
+
+impl StoredKey for Window {
+    ghost use Rattle.std.specs.Prelude.{refl};
+
+    ghost bytes = { λ w. w.bytes };
+
+    ghost by_bytes = { λ p q. refl };
+
+    fn as_slice(&self) -> &[u8] {
+        &self.bytes
     }
 }

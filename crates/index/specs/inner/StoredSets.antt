@@ -23,21 +23,8 @@ sets_by bytes sets = finite.from_entries (rows_by bytes sets.entries)
 abbrev pub vec_bytes : {A : Type 0} → Vec ℕ A → List ℕ
 vec_bytes k = k.items
 
-abbrev pub rows_of : {A : Type 0} → List (Vec ℕ A × KeySet) → List Row
-rows_of es = rows_by vec_bytes es
-
-abbrev pub sets_of : {A : Type 0} → BTreeMap (Vec ℕ A) KeySet → SetsByKey
-sets_of sets = sets_by vec_bytes sets
-
--- the same of keys of three bytes
 abbrev pub window_bytes : Window → List ℕ
 window_bytes w = w.bytes
-
-abbrev pub window_rows : List (Window × KeySet) → List Row
-window_rows es = rows_by window_bytes es
-
-abbrev pub sets_of_windows : BTreeMap Window KeySet → SetsByKey
-sets_of_windows sets = sets_by window_bytes sets
 
 -- each key has a member
 abbrev pub HaveMembers : List Row → Type 0

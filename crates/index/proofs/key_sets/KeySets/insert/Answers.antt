@@ -1,24 +1,12 @@
-use Rattle.std.proofs.Common.{not, sym, ap, ◌∙◌}
-use Rattle.std.specs.FinSet as set
-use Rattle.std.proofs.lemmas.Result.{IfOk-weaker, on_ok_weaker, on_err_weaker}
-use Rattle.index.specs.KeySets.{Members}
-use Rattle.index.proofs.Joined.{window_members, window_moved, window_stays, other_members, other_moved, other_stays}
+use Rattle.std.proofs.Common.{List, ℕ, refl, subst}
+use Rattle.index.specs.KeySets.{members_in, Puts}
+use Rattle.index.specs.inner.Windows.{is_window}
+use Rattle.index.proofs.Keyed.{puts_alike}
+use Rattle.index.proofs.Joined.{both_are, puts_first, puts_second}
 use Rattle.index.proofs.key_sets.KeySets.insert.Goals as goal
 
-pub returns-in-Some-clause-new : goal.returns-in-Some-clause-new
-returns-in-Some-clause-new c = IfOk-weaker c.insert.result _ _ (λ new h. h ∙ ap (λ (s : Members). not (set.contains s c.args.number)) (sym (window_members c.self.inside.windows c.self.inside.others c.args.self.now c.args.key.now c.in-Some.window.bytes c.in-Some.ensures.1 c.in-Some.ensures.0 c.self.view_is))) c.insert.ensures.new
+pub returns-in-Some : goal.returns-in-Some
+returns-in-Some c = puts_alike _ _ _ _ _ _ _ (both_are is_window c.self.inside.windows c.self.inside.others c.args.self.now c.self.view_is) (both_are is_window c.insert.new.self c.self.inside.others _ refl) (puts_first is_window c.args.key.now c.args.number c.insert.result (members_in c.self.inside.windows) (members_in c.insert.new.self) (members_in c.self.inside.others) c.in-Some.ensures.0 (subst (λ (k : List ℕ). Puts k c.args.number (members_in c.self.inside.windows) (members_in c.insert.new.self) c.insert.result) c.in-Some.ensures.1 c.insert.ensures))
 
-pub returns-in-Some-clause-ok : goal.returns-in-Some-clause-ok
-returns-in-Some-clause-ok c = on_ok_weaker c.insert.result (window_moved c.self.inside.windows c.self.inside.others c.args.self.now c.args.key.now c.in-Some.window.bytes c.in-Some.ensures.1 c.in-Some.ensures.0 c.self.view_is (λ s. set.insert s c.args.number) c.insert.new.self) c.insert.ensures.ok
-
-pub returns-in-Some-clause-err : goal.returns-in-Some-clause-err
-returns-in-Some-clause-err c = on_err_weaker c.insert.result (window_stays c.self.inside.windows c.self.inside.others c.args.self.now c.args.key.now c.in-Some.window.bytes c.in-Some.ensures.1 c.in-Some.ensures.0 c.self.view_is c.insert.new.self) c.insert.ensures.err
-
-pub returns-in-None-clause-new : goal.returns-in-None-clause-new
-returns-in-None-clause-new c = IfOk-weaker c.insert-in-None.result _ _ (λ new h. h ∙ ap (λ (s : Members). not (set.contains s c.args.number)) (sym (other_members c.self.inside.windows c.self.inside.others c.args.self.now c.args.key.now c.in-None.ensures c.self.view_is))) c.insert-in-None.ensures.new
-
-pub returns-in-None-clause-ok : goal.returns-in-None-clause-ok
-returns-in-None-clause-ok c = on_ok_weaker c.insert-in-None.result (other_moved c.self.inside.windows c.self.inside.others c.args.self.now c.args.key.now c.in-None.ensures c.self.view_is (λ s. set.insert s c.args.number) c.insert-in-None.new.self) c.insert-in-None.ensures.ok
-
-pub returns-in-None-clause-err : goal.returns-in-None-clause-err
-returns-in-None-clause-err c = on_err_weaker c.insert-in-None.result (other_stays c.self.inside.windows c.self.inside.others c.args.self.now c.args.key.now c.in-None.ensures c.self.view_is c.insert-in-None.new.self) c.insert-in-None.ensures.err
+pub returns-in-None : goal.returns-in-None
+returns-in-None c = puts_alike _ _ _ _ _ _ _ (both_are is_window c.self.inside.windows c.self.inside.others c.args.self.now c.self.view_is) (both_are is_window c.self.inside.windows c.insert-in-None.new.self _ refl) (puts_second is_window c.args.key.now c.args.number c.insert-in-None.result (members_in c.self.inside.windows) (members_in c.self.inside.others) (members_in c.insert-in-None.new.self) c.in-None.ensures c.insert-in-None.ensures)

@@ -1,17 +1,12 @@
-use Rattle.std.proofs.Common.{sym, ap, ◌∙◌}
-use Rattle.std.specs.FinSet as set
-use Rattle.index.specs.KeySets.{Members}
-use Rattle.index.proofs.Joined.{window_members, window_moved, other_members, other_moved}
+use Rattle.std.proofs.Common.{List, ℕ, refl, subst}
+use Rattle.index.specs.KeySets.{members_in, Takes}
+use Rattle.index.specs.inner.Windows.{is_window}
+use Rattle.index.proofs.Keyed.{takes_alike}
+use Rattle.index.proofs.Joined.{both_are, takes_first, takes_second}
 use Rattle.index.proofs.key_sets.KeySets.remove.Goals as goal
 
-pub returns-in-Some-clause-was : goal.returns-in-Some-clause-was
-returns-in-Some-clause-was c = c.remove.ensures.was ∙ ap (λ (s : Members). set.contains s c.args.number) (sym (window_members c.self.inside.windows c.self.inside.others c.args.self.now c.args.key.now c.in-Some.window.bytes c.in-Some.ensures.1 c.in-Some.ensures.0 c.self.view_is))
+pub returns-in-Some : goal.returns-in-Some
+returns-in-Some c = takes_alike _ _ _ _ _ _ _ (both_are is_window c.self.inside.windows c.self.inside.others c.args.self.now c.self.view_is) (both_are is_window c.remove.new.self c.self.inside.others _ refl) (takes_first is_window c.args.key.now c.args.number c.remove.result (members_in c.self.inside.windows) (members_in c.remove.new.self) (members_in c.self.inside.others) c.in-Some.ensures.0 (subst (λ (k : List ℕ). Takes k c.args.number (members_in c.self.inside.windows) (members_in c.remove.new.self) c.remove.result) c.in-Some.ensures.1 c.remove.ensures))
 
-pub returns-in-Some-clause-members : goal.returns-in-Some-clause-members
-returns-in-Some-clause-members c = window_moved c.self.inside.windows c.self.inside.others c.args.self.now c.args.key.now c.in-Some.window.bytes c.in-Some.ensures.1 c.in-Some.ensures.0 c.self.view_is (λ s. set.remove s c.args.number) c.remove.new.self c.remove.ensures.members
-
-pub returns-in-None-clause-was : goal.returns-in-None-clause-was
-returns-in-None-clause-was c = c.remove-in-None.ensures.was ∙ ap (λ (s : Members). set.contains s c.args.number) (sym (other_members c.self.inside.windows c.self.inside.others c.args.self.now c.args.key.now c.in-None.ensures c.self.view_is))
-
-pub returns-in-None-clause-members : goal.returns-in-None-clause-members
-returns-in-None-clause-members c = other_moved c.self.inside.windows c.self.inside.others c.args.self.now c.args.key.now c.in-None.ensures c.self.view_is (λ s. set.remove s c.args.number) c.remove-in-None.new.self c.remove-in-None.ensures.members
+pub returns-in-None : goal.returns-in-None
+returns-in-None c = takes_alike _ _ _ _ _ _ _ (both_are is_window c.self.inside.windows c.self.inside.others c.args.self.now c.self.view_is) (both_are is_window c.self.inside.windows c.remove-in-None.new.self _ refl) (takes_second is_window c.args.key.now c.args.number c.remove-in-None.result (members_in c.self.inside.windows) (members_in c.self.inside.others) (members_in c.remove-in-None.new.self) c.in-None.ensures c.remove-in-None.ensures)
