@@ -6,7 +6,9 @@ use Rattle.std.specs.Cmp.{nat_cmp_total, unsigned_tied}
 use Rattle.std.proofs.lemmas.Bool.{eqb-true, eqb-false, eq-eqb, ne_eqb}
 use Rattle.std.proofs.lemmas.Cmp.{eq_by_cmp_equiv}
 use Rattle.schema.specs.Conf.{Conf}
+use Rattle.std.specs.Borrow.{Bor}
 use Rattle.tree.specs.Entries.{EntryContent}
+use Rattle.tree.specs.StoredEntries.{Entry}
 use Rattle.tree.specs.Directories.{Entries}
 use Rattle.tree.specs.Changes.{Change, Nothing, Put, Remove, Move, changed}
 use Rattle.tree.specs.Trees.{Tree, Numbers, HasEntry}
@@ -16,7 +18,7 @@ use Rattle.index.specs.KeySets.{Members}
 use Rattle.index.specs.SlotKeys.{same_slot_key, is_among, slot_key_cmp}
 use Rattle.index.specs.Indexes.{Index, members, Inserts, Removes, KeepsMembers, Forgets, IsNowhere}
 use Rattle.index.specs.EntryKeys.{slot_keys, slot_keys_in, edits}
-use Rattle.index.specs.KeyChanges.{AreChanges}
+use Rattle.index.specs.KeyChanges.{AreChanges, content_in}
 use Rattle.index.proofs.OneByOne.{back}
 use Rattle.index.proofs.SlotKeyOrder.{itself, slot_key_total, slot_key_exact}
 use Rattle.directory.specs.Indexes.{IsIndexOf, edits_of}
@@ -254,24 +256,26 @@ added conf old new p x y n stored of kept follows number is_new is_after puts sa
     (came n (set.contains (slot_keys_in conf (after p))) x y (nowhere_yet conf old p x n of kept follows number is_new) (subst (λ (o : Option EntryContent). Inserts (set.contains (slot_keys_in conf o)) n x y) is_after puts))
     old new of same_conf entries numbers
 
-pub add_edits : (conf : Conf) (d : Entries) (p : Planned) (stored : Option EntryContent) (count : ℕ) → p.tree.entries ≡ d → before p ≡ None → stored ≡ after p → count ≡ edits conf None stored → count ≡ edits_of conf d p.change
-add_edits conf d p stored count of is_new is_after counted =
-    counted
-    ∙ (λ i. edits conf (sym is_new i) (is_after i))
-    ∙ ap (λ (e : Entries). edits_of conf e p.change) of
-
-pub nothing_edits : (conf : Conf) (p : Planned) (d : Entries) → None ≡ number_of p → 0 ≡ edits_of conf d p.change
-nothing_edits conf p d is = by p.change is
+no_edits : (conf : Conf) → edits conf None None ≡ 0
+no_edits conf = ap (λ s. set.len s + set.len s) same ∙ ap (λ k. k + k) (set.len-empty slot_key_cmp)
   where
     same : set.difference (set.empty {R = slot_key_cmp}) set.empty ≡ set.empty
     same = set.same_set slot_key_total slot_key_exact _ _ (λ k.
         set.contains-difference slot_key_total set.empty set.empty k ∙ ap (λ b. b && not (set.contains (set.empty {R = slot_key_cmp}) k)) (set.contains-empty slot_key_cmp k) ∙ sym (set.contains-empty slot_key_cmp k))
 
-    none : edits conf None None ≡ 0
-    none = ap (λ s. set.len s + set.len s) same ∙ ap (λ k. k + k) (set.len-empty slot_key_cmp)
-
+pub nothing_edits : (conf : Conf) (p : Planned) (d : Entries) → None ≡ number_of p → 0 ≡ edits_of conf d p.change
+nothing_edits conf p d is = by p.change is
+  where
     by : (c : Change) → None ≡ number_of (record { tree = p.tree; change = c }) → 0 ≡ edits_of conf d c
-    by Nothing is = sym none
+    by Nothing is = sym (no_edits conf)
     by (Put path e) is = cc
     by (Remove path) is = cc
     by (Move from to e) is = cc
+
+-- where no entry is stored, no key comes
+pub none_come : (conf : Conf) (stored : Option (Bor Entry)) (x : Index) (n : ℕ) → stored ≡ None → Inserts (set.contains (slot_keys_in conf (content_in stored))) n x x
+none_come conf stored x n is k =
+    sym (ap (λ (o : Option (Bor Entry)). cond (set.contains (slot_keys_in conf (content_in o)) k) (set.insert (members x k) n) (members x k)) is ∙ ap (λ b. cond b (set.insert (members x k) n) (members x k)) (set.contains-empty slot_key_cmp k))
+
+pub none_count : (conf : Conf) (stored : Option (Bor Entry)) → stored ≡ None → 0 ≡ edits conf None (content_in stored)
+none_count conf stored is = sym (ap (λ (o : Option (Bor Entry)). edits conf None (content_in o)) is ∙ no_edits conf)
