@@ -11,7 +11,7 @@ use Rattle.id_sets.specs.declared.key_set.KeySet.{KeySet}
 use Rattle.index.specs.KeySets.{Members, SetsByKey, Row, members_in, Puts, Takes}
 use Rattle.index.specs.inner.JoinedSets.{joined, AreApart}
 use Rattle.std.proofs.lemmas.Result.{on_ok_weaker, on_err_weaker}
-use Rattle.index.proofs.Keyed.{at, find_is, same_bytes, none_in, remove_none}
+use Rattle.index.proofs.Keyed.{at, find_is, same_bytes, none_in, remove_none, puts_alike, takes_alike}
 
 abbrev either : Option Members → Option Members → Option Members
 either None p = p
@@ -75,7 +75,7 @@ module _ (test : List ℕ → Bool) where
 
   -- ---- the members of keys, of both kinds
 
-  abbrev pub both : (List ℕ → Members) → (List ℕ → Members) → List ℕ → Members
+  abbrev both : (List ℕ → Members) → (List ℕ → Members) → List ℕ → Members
   both f g q = cond (test q) (f q) (g q)
 
   pub members_joined : (first others : SetsByKey) (q : List ℕ) → members_in (joined test first others) q ≡ both (members_in first) (members_in others) q
@@ -85,14 +85,17 @@ module _ (test : List ℕ → Bool) where
       by true = refl
       by false = refl
 
-  pub both_are : (first others s : SetsByKey) → joined test first others ≡ s → (q : List ℕ) → both (members_in first) (members_in others) q ≡ members_in s q
-  both_are first others s is q = sym (members_joined first others q) ∙ ap (λ (m : SetsByKey). members_in m q) is
-
-  pub first_are : (f g : List ℕ → Members) (key : List ℕ) → test key ≡ true → both f g key ≡ f key
+  first_are : (f g : List ℕ → Members) (key : List ℕ) → test key ≡ true → both f g key ≡ f key
   first_are f g key kind = ap (λ b. cond b (f key) (g key)) kind
 
-  pub second_are : (f g : List ℕ → Members) (key : List ℕ) → test key ≡ false → both f g key ≡ g key
+  second_are : (f g : List ℕ → Members) (key : List ℕ) → test key ≡ false → both f g key ≡ g key
   second_are f g key kind = ap (λ b. cond b (f key) (g key)) kind
+
+  pub first_members : (first others : SetsByKey) (key : List ℕ) → test key ≡ true → members_in first key ≡ members_in (joined test first others) key
+  first_members first others key kind = sym (members_joined first others key ∙ first_are (members_in first) (members_in others) key kind)
+
+  pub second_members : (first others : SetsByKey) (key : List ℕ) → test key ≡ false → members_in others key ≡ members_in (joined test first others) key
+  second_members first others key kind = sym (members_joined first others key ∙ second_are (members_in first) (members_in others) key kind)
 
   -- a key of one kind changes
   module _ (change : Members → Members) (key : List ℕ) where
@@ -118,19 +121,25 @@ module _ (test : List ℕ → Bool) where
     alone kind f h is step none q other = step q ∙ ap (λ b. cond b (change (f q)) (f q)) (differ key q kind is other) ∙ none q other
 
   module _ (key : List ℕ) (number : ℕ) {E : Type 0} (r : Result Bool E) where
-    pub puts_first : (f h g : List ℕ → Members) → test key ≡ true → Puts key number f h r → Puts key number (both f g) (both h g) r
+    puts_first : (f h g : List ℕ → Members) → test key ≡ true → Puts key number f h r → Puts key number (both f g) (both h g) r
     puts_first f h g kind puts = record {
       is_new = subst (λ (s : Members). IfOk r (λ b. b ≡ not (set.contains s number))) (sym (first_are f g key kind)) puts.is_new;
       came = on_ok_weaker r (first_changes (λ s. set.insert s number) key f h g kind) puts.came;
       stayed = on_err_weaker r (λ same q. ap (λ (s : Members). cond (test q) s (g q)) (same q)) puts.stayed;
     }
 
-    pub puts_second : (f g h : List ℕ → Members) → test key ≡ false → Puts key number g h r → Puts key number (both f g) (both f h) r
+    puts_second : (f g h : List ℕ → Members) → test key ≡ false → Puts key number g h r → Puts key number (both f g) (both f h) r
     puts_second f g h kind puts = record {
       is_new = subst (λ (s : Members). IfOk r (λ b. b ≡ not (set.contains s number))) (sym (second_are f g key kind)) puts.is_new;
       came = on_ok_weaker r (second_changes (λ s. set.insert s number) key f g h kind) puts.came;
       stayed = on_err_weaker r (λ same q. ap (λ (s : Members). cond (test q) (f q) s) (same q)) puts.stayed;
     }
+
+    pub put_first : (first new others : SetsByKey) → test key ≡ true → Puts key number (members_in first) (members_in new) r → Puts key number (members_in (joined test first others)) (members_in (joined test new others)) r
+    put_first first new others kind puts = puts_alike _ _ _ _ _ _ _ (λ q. sym (members_joined first others q)) (λ q. sym (members_joined new others q)) (puts_first (members_in first) (members_in new) (members_in others) kind puts)
+
+    pub put_second : (first others new : SetsByKey) → test key ≡ false → Puts key number (members_in others) (members_in new) r → Puts key number (members_in (joined test first others)) (members_in (joined test first new)) r
+    put_second first others new kind puts = puts_alike _ _ _ _ _ _ _ (λ q. sym (members_joined first others q)) (λ q. sym (members_joined first new q)) (puts_second (members_in first) (members_in others) (members_in new) kind puts)
 
     put_alone : (kind : Bool) (f h : List ℕ → Members) → test key ≡ kind → Puts key number f h r → ((q : List ℕ) → test q ≡ not kind → f q ≡ set.empty) → (q : List ℕ) → test q ≡ not kind → h q ≡ set.empty
     put_alone kind f h is puts none q other = by r puts.came puts.stayed
@@ -146,17 +155,23 @@ module _ (test : List ℕ → Bool) where
     apart_second first others new kind puts apart = record { first_alone = apart.first_alone; others_alone = put_alone false (members_in others) (members_in new) kind puts apart.others_alone }
 
   module _ (key : List ℕ) (number : ℕ) (was : Bool) where
-    pub takes_first : (f h g : List ℕ → Members) → test key ≡ true → Takes key number f h was → Takes key number (both f g) (both h g) was
+    takes_first : (f h g : List ℕ → Members) → test key ≡ true → Takes key number f h was → Takes key number (both f g) (both h g) was
     takes_first f h g kind takes = record {
       was = takes.was ∙ ap (λ (s : Members). set.contains s number) (sym (first_are f g key kind));
       went = first_changes (λ s. set.remove s number) key f h g kind takes.went;
     }
 
-    pub takes_second : (f g h : List ℕ → Members) → test key ≡ false → Takes key number g h was → Takes key number (both f g) (both f h) was
+    takes_second : (f g h : List ℕ → Members) → test key ≡ false → Takes key number g h was → Takes key number (both f g) (both f h) was
     takes_second f g h kind takes = record {
       was = takes.was ∙ ap (λ (s : Members). set.contains s number) (sym (second_are f g key kind));
       went = second_changes (λ s. set.remove s number) key f g h kind takes.went;
     }
+
+    pub take_first : (first new others : SetsByKey) → test key ≡ true → Takes key number (members_in first) (members_in new) was → Takes key number (members_in (joined test first others)) (members_in (joined test new others)) was
+    take_first first new others kind takes = takes_alike _ _ _ _ _ _ _ (λ q. sym (members_joined first others q)) (λ q. sym (members_joined new others q)) (takes_first (members_in first) (members_in new) (members_in others) kind takes)
+
+    pub take_second : (first others new : SetsByKey) → test key ≡ false → Takes key number (members_in others) (members_in new) was → Takes key number (members_in (joined test first others)) (members_in (joined test first new)) was
+    take_second first others new kind takes = takes_alike _ _ _ _ _ _ _ (λ q. sym (members_joined first others q)) (λ q. sym (members_joined first new q)) (takes_second (members_in first) (members_in others) (members_in new) kind takes)
 
     pub left_first : (first new others : SetsByKey) → test key ≡ true → Takes key number (members_in first) (members_in new) was → AreApart test first others → AreApart test new others
     left_first first new others kind takes apart = record {
@@ -172,12 +187,19 @@ module _ (test : List ℕ → Bool) where
 
   -- each key of both kinds changes
   module _ (number : ℕ) where
-    pub forgets_both : (f g h i : List ℕ → Members) → ((q : List ℕ) → h q ≡ set.remove (f q) number) → ((q : List ℕ) → i q ≡ set.remove (g q) number) → (q : List ℕ) → both h i q ≡ set.remove (both f g q) number
+    forgets_both : (f g h i : List ℕ → Members) → ((q : List ℕ) → h q ≡ set.remove (f q) number) → ((q : List ℕ) → i q ≡ set.remove (g q) number) → (q : List ℕ) → both h i q ≡ set.remove (both f g q) number
     forgets_both f g h i first second q = by (test q)
       where
         by : (b : Bool) → cond b (h q) (i q) ≡ set.remove (cond b (f q) (g q)) number
         by true = first q
         by false = second q
+
+    pub forgets_joined : (first others new rest : SetsByKey) → ((q : List ℕ) → members_in new q ≡ set.remove (members_in first q) number) → ((q : List ℕ) → members_in rest q ≡ set.remove (members_in others q) number)
+        → (q : List ℕ) → members_in (joined test new rest) q ≡ set.remove (members_in (joined test first others) q) number
+    forgets_joined first others new rest h i q =
+        members_joined new rest q
+        ∙ forgets_both (members_in first) (members_in others) (members_in new) (members_in rest) h i q
+        ∙ ap (λ (s : Members). set.remove s number) (sym (members_joined first others q))
 
     pub forgets_apart : (first others new rest : SetsByKey) → ((q : List ℕ) → members_in new q ≡ set.remove (members_in first q) number) → ((q : List ℕ) → members_in rest q ≡ set.remove (members_in others q) number)
         → AreApart test first others → AreApart test new rest

@@ -5,11 +5,13 @@ pub mod Distinct
 pub mod Fronts
 pub mod KeyTests
 pub mod Joined
+pub mod KeyForms
 pub mod Keyed
 pub mod Listed
 pub mod Merged
 pub mod OneByOne
 pub mod Search
+pub mod ShortKeys
 pub mod SlotKeyOrder
 pub mod StoredKeys
 pub mod WindowSteps

@@ -9,22 +9,21 @@ use Rattle.std.specs.Cmp.Lexicographic.{slice_cmp, nat_list_cmp_total, nat_list_
 use Rattle.std.specs.List.{AllByRecursion}
 use Rattle.std.specs.List.Sorted.{IsStrictlySortedBy}
 use Rattle.std.specs.Map.{keys_of}
-use Rattle.std.specs.Map.Iter.{TakesFirst, deref_pair}
+use Rattle.std.specs.Map.Iter.{TakesFirst}
 use Rattle.std.specs.Str.{bytes_eq}
 use Rattle.std.specs.FinSet as set
 use Rattle.std.proofs.lemmas.Map.Text.{is_eq-slice_cmp}
 use Rattle.id_sets.specs.declared.key_set.KeySet.{KeySet}
 use Rattle.index.specs.KeySets.{Members, SetsByKey, Row, members_in, members_at, AreRowsOf}
 use Rattle.index.specs.inner.JoinedSets.{joined, AreApart}
-use Rattle.index.specs.inner.StoredSets.{rows_by}
-use Rattle.index.specs.inner.MergedRows.{is_before, put_among, merged, ahead}
+use Rattle.index.specs.inner.MergedRows.{is_before, put_among, merged, row_lent, ahead}
 use Rattle.index.proofs.Keyed.{at}
 use Rattle.index.proofs.Joined.{members_joined, differ}
 
 -- what was taken, and what is left
-pub taken : {K : Type 0} (bytes : K → List ℕ) (es : List (K × KeySet)) (r : Option (Bor K × Bor KeySet)) (left : List (K × KeySet)) → TakesFirst deref_pair es r left → rows_by bytes es ≡ ahead bytes r left
-taken bytes es None left h = ap (rows_by bytes) h.0
-taken bytes es (Some e) left h = ap (rows_by bytes) h
+pub taken : (rows : List Row) (r : Option (Bor (List ℕ) × Bor KeySet)) (left : List Row) → TakesFirst row_lent rows r left → rows ≡ ahead r left
+taken rows None left h = h.0
+taken rows (Some e) left h = h
 
 -- ---- rows in order
 

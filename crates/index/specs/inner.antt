@@ -4,6 +4,7 @@ pub mod JoinedSets
 pub mod KeyLists
 pub mod MergedRows
 pub mod SlotTests
+pub mod ShortKeyOrder
+pub mod ShortKeys
 pub mod StoredKeys
 pub mod StoredSets
-pub mod Windows

@@ -15,9 +15,10 @@ mod keyed_sets;
 mod laws;
 mod norms;
 mod postings;
+mod rows;
+mod short_key;
 mod slot_key;
 mod stored_key;
-mod window;
 mod windows;
 
 pub use changes::{KeyChanges, key_changes, keys_of};

@@ -1,12 +1,20 @@
-use Rattle.std.proofs.Common.{List, ℕ, refl, subst}
-use Rattle.index.specs.KeySets.{members_in, Puts}
-use Rattle.index.specs.inner.Windows.{is_window}
-use Rattle.index.proofs.Keyed.{puts_alike}
-use Rattle.index.proofs.Joined.{both_are, puts_first, puts_second}
+use Rattle.index.proofs.KeyForms.{put_tiny, put_short, put_long}
 use Rattle.index.proofs.key_sets.KeySets.insert.Goals as goal
 
-pub returns-in-Some : goal.returns-in-Some
-returns-in-Some c = puts_alike _ _ _ _ _ _ _ (both_are is_window c.self.inside.windows c.self.inside.others c.args.self.now c.self.view_is) (both_are is_window c.insert.new.self c.self.inside.others _ refl) (puts_first is_window c.args.key.now c.args.number c.insert.result (members_in c.self.inside.windows) (members_in c.insert.new.self) (members_in c.self.inside.others) c.in-Some.ensures.0 (subst (λ (k : List ℕ). Puts k c.args.number (members_in c.self.inside.windows) (members_in c.insert.new.self) c.insert.result) c.in-Some.ensures.1 c.insert.ensures))
+pub invariant_of-self : goal.invariant_of-self
+invariant_of-self c = (put_tiny c.self.inside.tiny c.self.inside.short c.self.inside.long c.args.key.now c.args.number c.insert.result c.args.self.now c.self.view_is c.self.invariant c.insert.new.self _ c.in-Some.ensures.0 c.in-Some.ensures.1 c.insert.ensures).0
 
-pub returns-in-None : goal.returns-in-None
-returns-in-None c = puts_alike _ _ _ _ _ _ _ (both_are is_window c.self.inside.windows c.self.inside.others c.args.self.now c.self.view_is) (both_are is_window c.self.inside.windows c.insert-in-None.new.self _ refl) (puts_second is_window c.args.key.now c.args.number c.insert-in-None.result (members_in c.self.inside.windows) (members_in c.self.inside.others) (members_in c.insert-in-None.new.self) c.in-None.ensures c.insert-in-None.ensures)
+pub returns-in-Some : goal.returns-in-Some
+returns-in-Some c = (put_tiny c.self.inside.tiny c.self.inside.short c.self.inside.long c.args.key.now c.args.number c.insert.result c.args.self.now c.self.view_is c.self.invariant c.insert.new.self _ c.in-Some.ensures.0 c.in-Some.ensures.1 c.insert.ensures).1
+
+pub invariant_of-self-in-Some-of : goal.invariant_of-self-in-Some-of
+invariant_of-self-in-Some-of c = (put_short c.self.inside.tiny c.self.inside.short c.self.inside.long c.args.key.now c.args.number c.insert-in-Some-of.result c.args.self.now c.self.view_is c.self.invariant c.insert-in-Some-of.new.self _ c.in-None.ensures c.in-Some-of.ensures.0 c.in-Some-of.ensures.1 c.insert-in-Some-of.ensures).0
+
+pub returns-in-Some-of : goal.returns-in-Some-of
+returns-in-Some-of c = (put_short c.self.inside.tiny c.self.inside.short c.self.inside.long c.args.key.now c.args.number c.insert-in-Some-of.result c.args.self.now c.self.view_is c.self.invariant c.insert-in-Some-of.new.self _ c.in-None.ensures c.in-Some-of.ensures.0 c.in-Some-of.ensures.1 c.insert-in-Some-of.ensures).1
+
+pub invariant_of-self-in-None-of : goal.invariant_of-self-in-None-of
+invariant_of-self-in-None-of c = (put_long c.self.inside.tiny c.self.inside.short c.self.inside.long c.args.key.now c.args.number c.insert-in-None-of.result c.args.self.now c.self.view_is c.self.invariant c.insert-in-None-of.new.self c.in-None.ensures c.in-None-of.ensures c.insert-in-None-of.ensures).0
+
+pub returns-in-None-of : goal.returns-in-None-of
+returns-in-None-of c = (put_long c.self.inside.tiny c.self.inside.short c.self.inside.long c.args.key.now c.args.number c.insert-in-None-of.result c.args.self.now c.self.view_is c.self.invariant c.insert-in-None-of.new.self c.in-None.ensures c.in-None-of.ensures c.insert-in-None-of.ensures).1

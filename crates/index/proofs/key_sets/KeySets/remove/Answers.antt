@@ -1,12 +1,20 @@
-use Rattle.std.proofs.Common.{List, ℕ, refl, subst}
-use Rattle.index.specs.KeySets.{members_in, Takes}
-use Rattle.index.specs.inner.Windows.{is_window}
-use Rattle.index.proofs.Keyed.{takes_alike}
-use Rattle.index.proofs.Joined.{both_are, takes_first, takes_second}
+use Rattle.index.proofs.KeyForms.{take_tiny, take_short, take_long}
 use Rattle.index.proofs.key_sets.KeySets.remove.Goals as goal
 
-pub returns-in-Some : goal.returns-in-Some
-returns-in-Some c = takes_alike _ _ _ _ _ _ _ (both_are is_window c.self.inside.windows c.self.inside.others c.args.self.now c.self.view_is) (both_are is_window c.remove.new.self c.self.inside.others _ refl) (takes_first is_window c.args.key.now c.args.number c.remove.result (members_in c.self.inside.windows) (members_in c.remove.new.self) (members_in c.self.inside.others) c.in-Some.ensures.0 (subst (λ (k : List ℕ). Takes k c.args.number (members_in c.self.inside.windows) (members_in c.remove.new.self) c.remove.result) c.in-Some.ensures.1 c.remove.ensures))
+pub invariant_of-self : goal.invariant_of-self
+invariant_of-self c = (take_tiny c.self.inside.tiny c.self.inside.short c.self.inside.long c.args.key.now c.args.number c.remove.result c.args.self.now c.self.view_is c.self.invariant c.remove.new.self _ c.in-Some.ensures.0 c.in-Some.ensures.1 c.remove.ensures).0
 
-pub returns-in-None : goal.returns-in-None
-returns-in-None c = takes_alike _ _ _ _ _ _ _ (both_are is_window c.self.inside.windows c.self.inside.others c.args.self.now c.self.view_is) (both_are is_window c.self.inside.windows c.remove-in-None.new.self _ refl) (takes_second is_window c.args.key.now c.args.number c.remove-in-None.result (members_in c.self.inside.windows) (members_in c.self.inside.others) (members_in c.remove-in-None.new.self) c.in-None.ensures c.remove-in-None.ensures)
+pub returns-in-Some : goal.returns-in-Some
+returns-in-Some c = (take_tiny c.self.inside.tiny c.self.inside.short c.self.inside.long c.args.key.now c.args.number c.remove.result c.args.self.now c.self.view_is c.self.invariant c.remove.new.self _ c.in-Some.ensures.0 c.in-Some.ensures.1 c.remove.ensures).1
+
+pub invariant_of-self-in-Some-of : goal.invariant_of-self-in-Some-of
+invariant_of-self-in-Some-of c = (take_short c.self.inside.tiny c.self.inside.short c.self.inside.long c.args.key.now c.args.number c.remove-in-Some-of.result c.args.self.now c.self.view_is c.self.invariant c.remove-in-Some-of.new.self _ c.in-None.ensures c.in-Some-of.ensures.0 c.in-Some-of.ensures.1 c.remove-in-Some-of.ensures).0
+
+pub returns-in-Some-of : goal.returns-in-Some-of
+returns-in-Some-of c = (take_short c.self.inside.tiny c.self.inside.short c.self.inside.long c.args.key.now c.args.number c.remove-in-Some-of.result c.args.self.now c.self.view_is c.self.invariant c.remove-in-Some-of.new.self _ c.in-None.ensures c.in-Some-of.ensures.0 c.in-Some-of.ensures.1 c.remove-in-Some-of.ensures).1
+
+pub invariant_of-self-in-None-of : goal.invariant_of-self-in-None-of
+invariant_of-self-in-None-of c = (take_long c.self.inside.tiny c.self.inside.short c.self.inside.long c.args.key.now c.args.number c.remove-in-None-of.result c.args.self.now c.self.view_is c.self.invariant c.remove-in-None-of.new.self c.in-None.ensures c.in-None-of.ensures c.remove-in-None-of.ensures).0
+
+pub returns-in-None-of : goal.returns-in-None-of
+returns-in-None-of c = (take_long c.self.inside.tiny c.self.inside.short c.self.inside.long c.args.key.now c.args.number c.remove-in-None-of.result c.args.self.now c.self.view_is c.self.invariant c.remove-in-None-of.new.self c.in-None.ensures c.in-None-of.ensures c.remove-in-None-of.ensures).1
