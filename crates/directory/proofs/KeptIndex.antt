@@ -6,7 +6,9 @@ use Rattle.std.specs.Cmp.{nat_cmp_total, unsigned_tied}
 use Rattle.std.proofs.lemmas.Bool.{eqb-true, eqb-false, eq-eqb, ne_eqb}
 use Rattle.std.proofs.lemmas.Cmp.{eq_by_cmp_equiv}
 use Rattle.schema.specs.Conf.{Conf}
-use Rattle.entries.specs.Entries.{EntryContent}
+use Rattle.std.specs.Borrow.{Bor}
+use Rattle.tree.specs.Entries.{EntryContent}
+use Rattle.tree.specs.StoredEntries.{Entry}
 use Rattle.tree.specs.Directories.{Entries}
 use Rattle.tree.specs.Changes.{Change, Nothing, Put, Remove, Move, changed}
 use Rattle.tree.specs.Trees.{Tree, Numbers, HasEntry}
@@ -14,9 +16,9 @@ use Rattle.tree.specs.Plans.{Planned, KeepsEntries, before, after, number_of, nu
 use Rattle.index.specs.declared.slot_key.SlotKey.{SlotKey}
 use Rattle.index.specs.KeySets.{Members}
 use Rattle.index.specs.SlotKeys.{same_slot_key, is_among, slot_key_cmp}
-use Rattle.index.specs.Indexes.{Index, members, Inserts, Removes, KeepsMembers}
+use Rattle.index.specs.Indexes.{Index, members, Inserts, Removes, KeepsMembers, Forgets, IsNowhere}
 use Rattle.index.specs.EntryKeys.{slot_keys, slot_keys_in, edits}
-use Rattle.index.specs.KeyChanges.{AreChanges}
+use Rattle.index.specs.KeyChanges.{AreChanges, content_in}
 use Rattle.index.proofs.OneByOne.{back}
 use Rattle.index.proofs.SlotKeyOrder.{itself, slot_key_total, slot_key_exact}
 use Rattle.directory.specs.Indexes.{IsIndexOf, edits_of}
@@ -61,6 +63,54 @@ kept_same conf old new x y is kept same_conf same = subst (λ (t : Tree). IsInde
   has = λ n e h k. ap (λ (s : Members). set.contains s n) (same k) ∙ kept.has n e h k;
   none = λ n nobody k. ap (λ (s : Members). set.contains s n) (same k) ∙ kept.none n nobody k;
 })
+
+-- ---- an index that is settled: the number stands under the keys that its entry has afterwards, and each other number where it stood
+
+module _ (conf : Conf) (p : Planned) (x z : Index) (n : ℕ) (kept : IsIndexOf conf p.tree.entries p.tree.numbers x) (follows : KeepsEntries p) (number : number_of p ≡ Some n)
+    (settles : (k : SlotKey) (m : ℕ) → set.contains (members z k) m ≡ cond (nat_eq m n) (set.contains (slot_keys_in conf (after p)) k) (set.contains (members x k) m)) where
+  at_own : (k : SlotKey) (m : ℕ) → m ≡ n → set.contains (members z k) m ≡ set.contains (slot_keys_in conf (after p)) k
+  at_own k m is = settles k m ∙ ap (λ b. cond b (set.contains (slot_keys_in conf (after p)) k) (set.contains (members x k) m)) (eq-eqb m n is)
+
+  at_other : (k : SlotKey) (m : ℕ) → m ≢ n → set.contains (members z k) m ≡ set.contains (members x k) m
+  at_other k m apart = settles k m ∙ ap (λ b. cond b (set.contains (slot_keys_in conf (after p)) k) (set.contains (members x k) m)) (ne_eqb m n apart)
+
+  other_number : (m : ℕ) → m ≢ n → number_of p ≢ Some m
+  other_number m apart is = apart (let same : Some m ≡ Some n = sym is ∙ number in cc)
+
+  abbrev Now : ℕ → EntryContent → Type 0
+  Now m e = HasEntry (changed p.tree.entries p.change) (numbers_after p.tree p.change) m e
+
+  has_new : (m : ℕ) (e : EntryContent) → Now m e → (k : SlotKey) → set.contains (members z k) m ≡ set.contains (slot_keys conf e.attrs) k
+  has_new m e h k = by (nat_eq m n) refl
+    where
+      by : (b : Bool) → nat_eq m n ≡ b → set.contains (members z k) m ≡ set.contains (slot_keys conf e.attrs) k
+      by true is =
+          let same = eqb-true m n is in
+          at_own k m same ∙ ap (λ (o : Option EntryContent). set.contains (slot_keys_in conf o) k) ((follows.has n e number).0 (subst (λ (i : ℕ). Now i e) same h))
+      by false is =
+          let apart = eqb-false m n is in
+          at_other k m apart ∙ kept.has m e ((follows.others m e (other_number m apart)).1 h) k
+
+  none_new : (m : ℕ) → ((e : EntryContent) → Now m e → ⊥) → (k : SlotKey) → set.contains (members z k) m ≡ false
+  none_new m nobody k = by (nat_eq m n) refl
+    where
+      nothing : (o : Option EntryContent) → after p ≡ o → m ≡ n → set.contains (slot_keys_in conf o) k ≡ false
+      nothing None is same = set.contains-empty slot_key_cmp k
+      nothing (Some e) is same = absurd (nobody e (subst (λ (i : ℕ). Now i e) (sym same) ((follows.has n e number).1 is)))
+
+      by : (b : Bool) → nat_eq m n ≡ b → set.contains (members z k) m ≡ false
+      by true is = let same = eqb-true m n is in at_own k m same ∙ nothing (after p) refl same
+      by false is =
+          let apart = eqb-false m n is in
+          at_other k m apart ∙ kept.none m (λ e h. nobody e ((follows.others m e (other_number m apart)).0 h)) k
+
+  index_after : z.conf ≡ x.conf → IsIndexOf conf (changed p.tree.entries p.change) (numbers_after p.tree p.change) z
+  index_after same_conf = record { same_conf = same_conf ∙ kept.same_conf; has = has_new; none = none_new }
+
+  pub settled_index : (old new : Tree) → p.tree ≡ old → z.conf ≡ x.conf → new.entries ≡ changed old.entries p.change → new.numbers ≡ numbers_after old p.change → IsIndexOf conf new.entries new.numbers z
+  settled_index old new of same_conf entries numbers =
+      subst (λ (d : Entries). IsIndexOf conf d new.numbers z) (sym (entries ∙ ap (λ (t : Tree). changed t.entries p.change) (sym of)))
+      (subst (λ (m : Numbers). IsIndexOf conf (changed p.tree.entries p.change) m z) (sym (numbers ∙ ap (λ (t : Tree). numbers_after t p.change) (sym of))) (index_after same_conf))
 
 -- ---- a change that is ready to be carried out
 
@@ -152,49 +202,8 @@ module _ (conf : Conf) (p : Planned) (x : Index) (n : ℕ) (came gone : List Slo
     settles : (k : SlotKey) (m : ℕ) → set.contains (members z k) m ≡ cond (nat_eq m n) (set.contains (slot_keys_in conf (after p)) k) (set.contains (members x k) m)
     settles k m = settled (members x k) (members y k) (members z k) (is_among k came) (is_among k gone) _ _ n m (r.changes.come.exact k) (r.changes.go.exact k) (had_is k) (mid_is k) (new_is k)
 
-    at_own : (k : SlotKey) (m : ℕ) → m ≡ n → set.contains (members z k) m ≡ set.contains (slot_keys_in conf (after p)) k
-    at_own k m is = settles k m ∙ ap (λ b. cond b (set.contains (slot_keys_in conf (after p)) k) (set.contains (members x k) m)) (eq-eqb m n is)
-
-    at_other : (k : SlotKey) (m : ℕ) → m ≢ n → set.contains (members z k) m ≡ set.contains (members x k) m
-    at_other k m apart = settles k m ∙ ap (λ b. cond b (set.contains (slot_keys_in conf (after p)) k) (set.contains (members x k) m)) (ne_eqb m n apart)
-
-    other_number : (m : ℕ) → m ≢ n → number_of p ≢ Some m
-    other_number m apart is = apart (let same : Some m ≡ Some n = sym is ∙ r.number in cc)
-
-    abbrev Now : ℕ → EntryContent → Type 0
-    Now m e = HasEntry (changed p.tree.entries p.change) (numbers_after p.tree p.change) m e
-
-    has_new : (m : ℕ) (e : EntryContent) → Now m e → (k : SlotKey) → set.contains (members z k) m ≡ set.contains (slot_keys conf e.attrs) k
-    has_new m e h k = by (nat_eq m n) refl
-      where
-        by : (b : Bool) → nat_eq m n ≡ b → set.contains (members z k) m ≡ set.contains (slot_keys conf e.attrs) k
-        by true is =
-            let same = eqb-true m n is in
-            at_own k m same ∙ ap (λ (o : Option EntryContent). set.contains (slot_keys_in conf o) k) ((r.follows.has n e r.number).0 (subst (λ (i : ℕ). Now i e) same h))
-        by false is =
-            let apart = eqb-false m n is in
-            at_other k m apart ∙ r.kept.has m e ((r.follows.others m e (other_number m apart)).1 h) k
-
-    none_new : (m : ℕ) → ((e : EntryContent) → Now m e → ⊥) → (k : SlotKey) → set.contains (members z k) m ≡ false
-    none_new m nobody k = by (nat_eq m n) refl
-      where
-        nothing : (o : Option EntryContent) → after p ≡ o → m ≡ n → set.contains (slot_keys_in conf o) k ≡ false
-        nothing None is same = set.contains-empty slot_key_cmp k
-        nothing (Some e) is same = absurd (nobody e (subst (λ (i : ℕ). Now i e) (sym same) ((r.follows.has n e r.number).1 is)))
-
-        by : (b : Bool) → nat_eq m n ≡ b → set.contains (members z k) m ≡ false
-        by true is = let same = eqb-true m n is in at_own k m same ∙ nothing (after p) refl same
-        by false is =
-            let apart = eqb-false m n is in
-            at_other k m apart ∙ r.kept.none m (λ e h. nobody e ((r.follows.others m e (other_number m apart)).0 h)) k
-
-    index_after : z.conf ≡ x.conf → IsIndexOf conf (changed p.tree.entries p.change) (numbers_after p.tree p.change) z
-    index_after same_conf = record { same_conf = same_conf ∙ r.kept.same_conf; has = has_new; none = none_new }
-
     pub done : (old new : Tree) → p.tree ≡ old → z.conf ≡ x.conf → new.entries ≡ changed old.entries p.change → new.numbers ≡ numbers_after old p.change → IsIndexOf conf new.entries new.numbers z
-    done old new of same_conf entries numbers =
-        subst (λ (d : Entries). IsIndexOf conf d new.numbers z) (sym (entries ∙ ap (λ (t : Tree). changed t.entries p.change) (sym of)))
-        (subst (λ (m : Numbers). IsIndexOf conf (changed p.tree.entries p.change) m z) (sym (numbers ∙ ap (λ (t : Tree). numbers_after t p.change) (sym of))) (index_after same_conf))
+    done = settled_index conf p x z n r.kept r.follows r.number settles
 
   -- those that go have the number until then
   pub there : (y : Index) (ls ms : List SlotKey) → ls ≡ came → ms ≡ gone → Inserts (λ k. is_among k ls) n x y → AllByRecursion (λ k. set.contains (members y k) n ≡ true) ms
@@ -208,18 +217,65 @@ module _ (conf : Conf) (p : Planned) (x : Index) (n : ℕ) (came gone : List Slo
   pub count_is : (d : Entries) → p.tree.entries ≡ d → length came + length gone ≡ edits_of conf d p.change
   count_is d is = r.changes.count ∙ ap (λ (e : Entries). edits_of conf e p.change) is
 
-pub nothing_edits : (conf : Conf) (p : Planned) (d : Entries) → None ≡ number_of p → 0 ≡ edits_of conf d p.change
-nothing_edits conf p d is = by p.change is
+-- ---- an entry that is new
+
+taken : (s : Members) (n : ℕ) → set.contains s n ≡ false → set.remove s n ≡ s
+taken s n lacks = set.same_set nat_cmp_total set.nat_cmp-IsAntisymmetric _ _ (λ q. take_has s n q ∙ by q (nat_eq q n) refl)
+  where
+    by : (q : ℕ) (b : Bool) → nat_eq q n ≡ b → (not b && set.contains s q) ≡ set.contains s q
+    by q true is = sym lacks ∙ ap (set.contains s) (sym (eqb-true q n is))
+    by q false is = refl
+
+-- no key has the number that it gets
+pub nowhere_yet : (conf : Conf) (d : Tree) (p : Planned) (x : Index) (n : ℕ) → p.tree ≡ d → IsIndexOf conf d.entries d.numbers x → KeepsEntries p → number_of p ≡ Some n → before p ≡ None → IsNowhere n x
+nowhere_yet conf d p x n of kept follows number new =
+    (subst (λ (t : Tree). IsIndexOf conf t.entries t.numbers x) (sym of) kept).none n (λ e h. absurd (let bad : None ≡ Some e = sym new ∙ (follows.had n e number).0 h in cc))
+
+pub never_came : (n : ℕ) (x z : Index) → IsNowhere n x → Forgets n x z → KeepsMembers x z
+never_came n x z nowhere gone k = gone k ∙ taken (members x k) n (nowhere k)
+
+module _ (n : ℕ) (has : SlotKey → Bool) (x y : Index) (nowhere : IsNowhere n x) (puts : Inserts has n x y) where
+  pub came_and_went : (z : Index) → Forgets n y z → KeepsMembers x z
+  came_and_went z gone k = gone k ∙ ap (λ (s : Members). set.remove s n) (puts k) ∙ by (has k)
+    where
+      by : (b : Bool) → set.remove (cond b (set.insert (members x k) n) (members x k)) n ≡ members x k
+      by true = back (members x k) n (nowhere k)
+      by false = taken (members x k) n (nowhere k)
+
+  came : (k : SlotKey) (m : ℕ) → set.contains (members y k) m ≡ cond (nat_eq m n) (has k) (set.contains (members x k) m)
+  came k m = settled (members x k) (members y k) (members y k) (has k) false false (has k) n m (sym (and_true (has k))) refl (nowhere k) (puts k) refl
+    where
+      and_true : (b : Bool) → (b && true) ≡ b
+      and_true true = refl
+      and_true false = refl
+
+pub added : (conf : Conf) (old new : Tree) (p : Planned) (x y : Index) (n : ℕ) (stored : Option EntryContent) → p.tree ≡ old → IsIndexOf conf old.entries old.numbers x → KeepsEntries p → number_of p ≡ Some n → before p ≡ None
+    → stored ≡ after p → Inserts (set.contains (slot_keys_in conf stored)) n x y → y.conf ≡ x.conf → new.entries ≡ changed old.entries p.change → new.numbers ≡ numbers_after old p.change → IsIndexOf conf new.entries new.numbers y
+added conf old new p x y n stored of kept follows number is_new is_after puts same_conf entries numbers =
+    settled_index conf p x y n (subst (λ (t : Tree). IsIndexOf conf t.entries t.numbers x) (sym of) kept) follows number
+    (came n (set.contains (slot_keys_in conf (after p))) x y (nowhere_yet conf old p x n of kept follows number is_new) (subst (λ (o : Option EntryContent). Inserts (set.contains (slot_keys_in conf o)) n x y) is_after puts))
+    old new of same_conf entries numbers
+
+no_edits : (conf : Conf) → edits conf None None ≡ 0
+no_edits conf = ap (λ s. set.len s + set.len s) same ∙ ap (λ k. k + k) (set.len-empty slot_key_cmp)
   where
     same : set.difference (set.empty {R = slot_key_cmp}) set.empty ≡ set.empty
     same = set.same_set slot_key_total slot_key_exact _ _ (λ k.
         set.contains-difference slot_key_total set.empty set.empty k ∙ ap (λ b. b && not (set.contains (set.empty {R = slot_key_cmp}) k)) (set.contains-empty slot_key_cmp k) ∙ sym (set.contains-empty slot_key_cmp k))
 
-    none : edits conf None None ≡ 0
-    none = ap (λ s. set.len s + set.len s) same ∙ ap (λ k. k + k) (set.len-empty slot_key_cmp)
-
+pub nothing_edits : (conf : Conf) (p : Planned) (d : Entries) → None ≡ number_of p → 0 ≡ edits_of conf d p.change
+nothing_edits conf p d is = by p.change is
+  where
     by : (c : Change) → None ≡ number_of (record { tree = p.tree; change = c }) → 0 ≡ edits_of conf d c
-    by Nothing is = sym none
+    by Nothing is = sym (no_edits conf)
     by (Put path e) is = cc
     by (Remove path) is = cc
     by (Move from to e) is = cc
+
+-- where no entry is stored, no key comes
+pub none_come : (conf : Conf) (stored : Option (Bor Entry)) (x : Index) (n : ℕ) → stored ≡ None → Inserts (set.contains (slot_keys_in conf (content_in stored))) n x x
+none_come conf stored x n is k =
+    sym (ap (λ (o : Option (Bor Entry)). cond (set.contains (slot_keys_in conf (content_in o)) k) (set.insert (members x k) n) (members x k)) is ∙ ap (λ b. cond b (set.insert (members x k) n) (members x k)) (set.contains-empty slot_key_cmp k))
+
+pub none_count : (conf : Conf) (stored : Option (Bor Entry)) → stored ≡ None → 0 ≡ edits conf None (content_in stored)
+none_count conf stored is = sym (ap (λ (o : Option (Bor Entry)). edits conf None (content_in o)) is ∙ no_edits conf)

@@ -1,14 +1,17 @@
 pub mod Agreement
 pub mod Changed
+pub mod Counted
 pub mod Distinct
 pub mod Fronts
 pub mod KeyTests
 pub mod Joined
+pub mod KeyForms
 pub mod Keyed
 pub mod Listed
 pub mod Merged
 pub mod OneByOne
 pub mod Search
+pub mod ShortKeys
 pub mod SlotKeyOrder
 pub mod StoredKeys
 pub mod WindowSteps

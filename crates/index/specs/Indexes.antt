@@ -1,5 +1,5 @@
 -- An index: which numbers stand under which keys.
-use Rattle.std.specs.Prelude.{◌≡◌, ℕ, Bool, List, refl, slice_index_or, if◌then◌else◌}
+use Rattle.std.specs.Prelude.{◌≡◌, ℕ, Bool, false, List, refl, slice_index_or, if◌then◌else◌}
 use Rattle.std.specs.Coded.{Coded, code_by, coded×, coded_ℕ, coded_list}
 use Rattle.std.specs.FinMap as finite
 use Rattle.std.specs.FinSet as set
@@ -36,3 +36,11 @@ Removes test number old new = (p : SlotKey) → members new p ≡ (if test p the
 -- each key has the members that it had
 abbrev pub KeepsMembers : Index → Index → Type 0
 KeepsMembers old new = (p : SlotKey) → members new p ≡ members old p
+
+-- every key lost the number
+abbrev pub Forgets : ℕ → Index → Index → Type 0
+Forgets number old new = (p : SlotKey) → members new p ≡ set.remove (members old p) number
+
+-- no key has the number
+abbrev pub IsNowhere : ℕ → Index → Type 0
+IsNowhere number index = (p : SlotKey) → set.contains (members index p) number ≡ false

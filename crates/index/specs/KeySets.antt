@@ -1,5 +1,5 @@
 -- Keys, each with its members: the numbers of the entries that have it.
-use Rattle.std.specs.Prelude.{◌≡◌, ◌≢◌, ℕ, List, unwrap_or}
+use Rattle.std.specs.Prelude.{◌≡◌, ◌≢◌, ℕ, Bool, not, List, unwrap_or, if◌then◌else◌, Result, IfOk, OnOk, OnErr}
 use Rattle.std.specs.Coded.{Coded, coded×, coded_ℕ, coded_list}
 use Rattle.std.specs.Cmp.Lexicographic.{slice_cmp}
 use Rattle.std.specs.Ordering.{nat_cmp}
@@ -43,3 +43,16 @@ pub record AreRowsOf (sets : SetsByKey) (rows : List Row) : Type 0 where
   pub rise : IsStrictlySortedBy (slice_cmp nat_cmp) (keys_of rows)
   pub full : AllByRecursion (λ row. row.1 ≢ set.empty) rows
   pub exact : (key : List ℕ) → members_at rows key ≡ members_in sets key
+
+-- ---- one number
+
+-- It was to come under a key. It did, and the answer is whether it is new there; or the members are what they were.
+pub record Puts {E : Type 0} (key : List ℕ) (number : ℕ) (old new : List ℕ → Members) (result : Result Bool E) : Type 0 where
+  pub is_new : IfOk result (λ b. b ≡ not (set.contains (old key) number))
+  pub came : OnOk result ((q : List ℕ) → new q ≡ (if bytes_eq key q then set.insert (old q) number else old q))
+  pub stayed : OnErr result ((q : List ℕ) → new q ≡ old q)
+
+-- It went from a key, and the answer is whether it was there.
+pub record Takes (key : List ℕ) (number : ℕ) (old new : List ℕ → Members) (result : Bool) : Type 0 where
+  pub was : result ≡ set.contains (old key) number
+  pub went : (q : List ℕ) → new q ≡ (if bytes_eq key q then set.remove (old q) number else old q)

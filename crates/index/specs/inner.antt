@@ -1,8 +1,10 @@
+pub mod Counts
 pub mod EditCounts
 pub mod JoinedSets
 pub mod KeyLists
 pub mod MergedRows
 pub mod SlotTests
+pub mod ShortKeyOrder
+pub mod ShortKeys
 pub mod StoredKeys
 pub mod StoredSets
-pub mod Windows

@@ -1,20 +1,28 @@
 //! One number under several keys.
 
-ghost use Rattle.std.specs.Prelude.{◌≡◌, ◌<◌, ◌+◌, ◌==◌, ◌&&◌, true, false, length, OnOk, OnErr};
+ghost use Rattle.std.specs.Prelude.{◌≡◌, ◌<◌, ◌+◌, ◌==◌, ◌&&◌, true, false, length, if◌then◌else◌, Some, None, IfOk, OnOk, OnErr};
 ghost use Rattle.std.specs.List.{list_any, AllByRecursion, IsDistinct};
 ghost use Rattle.std.specs.Str.{bytes_eq};
 ghost use Rattle.std.specs.FinSet as set;
-ghost use Rattle.entries.specs.StoredEntries.{attributes_of, IsMade};
-ghost use Rattle.index.specs.EntryKeys.{slot_keys};
+ghost use Rattle.tree.specs.StoredEntries.{attributes_of, content_of, IsMade};
+ghost use Rattle.index.specs.EntryKeys.{slot_keys, edits};
 ghost use Rattle.index.specs.SlotKeys.{same_slot_key, is_among};
-ghost use Rattle.index.specs.Indexes.{members, Inserts, Removes, KeepsMembers};
+ghost use Rattle.index.specs.Indexes.{members, Inserts, Removes, KeepsMembers, Forgets, IsNowhere};
+ghost use Rattle.index.specs.inner.Counts.{HaveNumber, KeepsOthers};
 
 use crate::entry_keys::EntryKeys;
 use crate::index::Index;
 use crate::slot_key::{SlotKey, SlotNumber};
-use entries::Entry;
 use schema::Conf;
 use std::alloc::AllocError;
+use tree::Entry;
+
+// one more for a key that is new; more than can be counted have no room in memory
+fn counted(count: usize, new: bool) -> Result<usize, AllocError>
+    ensures { IfOk result (λ after. after ≡ count + (if new then 1 else 0)) }
+{
+    count.checked_add(usize::from(new)).ok_or(AllocError)
+}
 
 impl Index {
     /// Takes a number from each key of a list. It takes no memory.
@@ -51,39 +59,69 @@ impl Index {
         Ok(())
     }
 
-    // adds a number under keys of one slot
+    // adds a number under keys of one slot, and counts on for each that hadn't it
     fn insert_under(
         &mut self,
         slot: SlotNumber,
         keys: EntryKeys<'_>,
         number: u32,
-    ) -> Result<(), AllocError>
+        count: usize,
+    ) -> Result<usize, AllocError>
         requires { slot.0 < length self.old.conf.slots }
         ensures same_conf { self.new.conf ≡ self.old.conf }
         ensures ok { OnOk result (Inserts (λ p. (slot.0 == p.slot.0) && list_any (λ k. bytes_eq k p.key) keys.entry) number self.old self.new) }
+        ensures count { IfOk result (λ after. HaveNumber self.old number count → HaveNumber self.new number after) }
+        ensures edits { IfOk result (λ after. self.new.edits + count ≡ self.old.edits + after) }
+        ensures err { OnErr result (KeepsOthers number self.old self.new) }
     {
+        let mut count = count;
         for key in keys {
-            let _ = self.insert(slot, key, number)?;
+            let new = self.insert(slot, key, number)?;
+            count = counted(count, new)?;
         }
-        Ok(())
+        Ok(count)
     }
 
-    /// Adds a number under each key of an entry, one after the other, without a list of them. After a refusal some of them have it.
+    // adds a number under each key of an entry, and counts those that hadn't it
+    fn insert_keys(&mut self, conf: &Conf, entry: &Entry, number: u32) -> Result<usize, AllocError>
+        requires same_conf { self.old.conf ≡ conf.now }
+        requires made { IsMade conf.now.types entry.now.attrs }
+        ensures same_conf { self.new.conf ≡ self.old.conf }
+        ensures ok { OnOk result (Inserts (set.contains (slot_keys conf.now (attributes_of entry.now.attrs))) number self.old self.new) }
+        ensures count { IfOk result (λ count. HaveNumber self.old number 0 → HaveNumber self.new number count) }
+        ensures edits { IfOk result (λ count. self.new.edits ≡ self.old.edits + count) }
+        ensures err { OnErr result (KeepsOthers number self.old self.new) }
+    {
+        let mut count = 0;
+        for (place, slot) in conf.slots().iter().enumerate() {
+            let keys = EntryKeys::of(conf, entry, slot);
+            count = self.insert_under(SlotNumber(place), keys, number, count)?;
+        }
+        Ok(count)
+    }
+
+    /// Adds a number under each key of an entry, one after the other, without a list of them, and answers how many of these hadn't it, an
+    /// edit each. After a refusal no key has the number.
     pub fn insert_entry(
         &mut self,
         conf: &Conf,
         entry: &Entry,
         number: u32,
-    ) -> Result<(), AllocError>
+    ) -> Result<usize, AllocError>
         requires same_conf { self.old.conf ≡ conf.now }
         requires made { IsMade conf.now.types entry.now.attrs }
         ensures same_conf { self.new.conf ≡ self.old.conf }
         ensures ok { OnOk result (Inserts (set.contains (slot_keys conf.now (attributes_of entry.now.attrs))) number self.old self.new) }
+        ensures count { IfOk result (λ count. IsNowhere number self.old → count ≡ edits conf.now None (Some (content_of entry.now))) }
+        ensures edits { IfOk result (λ count. self.new.edits ≡ self.old.edits + count) }
+        ensures err { OnErr result (Forgets number self.old self.new) }
     {
-        for (place, slot) in conf.slots().iter().enumerate() {
-            let keys = EntryKeys::of(conf, entry, slot);
-            self.insert_under(SlotNumber(place), keys, number)?;
+        match self.insert_keys(conf, entry, number) {
+            Ok(count) => Ok(count),
+            Err(error) => {
+                self.forget(number);
+                Err(error)
+            }
         }
-        Ok(())
     }
 }

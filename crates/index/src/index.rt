@@ -1,14 +1,14 @@
 //! Indexes.
 
-ghost use Rattle.std.specs.Prelude.{◌≡◌, ◌<◌, ◌+◌, ℕ, not, length, if◌then◌else◌, IfOk, OnOk, OnErr};
+ghost use Rattle.std.specs.Prelude.{◌≡◌, ◌<◌, ◌+◌, ℕ, List, not, length, slice_index_or, if◌then◌else◌, IfOk, OnOk, OnErr};
 ghost use Rattle.std.specs.List.{AllByRecursion, position};
 ghost use Rattle.std.specs.FinMap as finite;
 ghost use Rattle.std.specs.FinSet as set;
 ghost use Rattle.schema.specs.Slots.{same_slot};
 ghost use Rattle.index.specs.declared.slot_key.SlotKey as seen;
-ghost use Rattle.index.specs.KeySets.{AreRowsOf};
+ghost use Rattle.index.specs.KeySets.{members_in, AreRowsOf};
 ghost use Rattle.index.specs.SlotKeys.{slot_key, same_slot_key};
-ghost use Rattle.index.specs.Indexes.{members, sets_at, Inserts, Removes, KeepsMembers};
+ghost use Rattle.index.specs.Indexes.{members, sets_at, Inserts, Removes, KeepsMembers, Forgets};
 
 use crate::edit_count::EditCount;
 use crate::key_sets::{KeySets, Keys};
@@ -56,6 +56,15 @@ fn no_keys(alloc: Global, count: usize) -> Result<Vec<KeySets>, AllocError>
         sets.push(KeySets::new(alloc))?;
     }
     Ok(sets)
+}
+
+// takes a number from every key of each slot
+fn forget_in(sets: &mut [KeySets], number: u32)
+    ensures { (slot : ℕ) (key : List ℕ) → members_in (slice_index_or sets.new slot finite.empty) key ≡ set.remove (members_in (slice_index_or sets.old slot finite.empty) key) number }
+{
+    for keys in sets.iter_mut() {
+        keys.forget(number);
+    }
 }
 
 // where a slot stands among others
@@ -120,6 +129,15 @@ impl Index {
             self.edits.count_one();
         }
         was
+    }
+
+    /// Takes a number from every key. It takes no memory, and what goes this way is no edit.
+    pub fn forget(&mut self, number: u32)
+        ensures same_conf { self.new.conf ≡ self.old.conf }
+        ensures members { Forgets number self.old self.new }
+        ensures edits { self.new.edits ≡ self.old.edits }
+    {
+        forget_in(self.sets.as_mut_slice(), number);
     }
 }
 

@@ -1,39 +1,39 @@
 //! The keys of one slot, each with a set of numbers.
 
-ghost use Rattle.std.specs.Prelude.{◌≡◌, ℕ, List, not, if◌then◌else◌, IfOk, OnOk, OnErr, MatchOption};
-ghost use Rattle.std.specs.Str.{bytes_eq};
+ghost use Rattle.std.specs.Prelude.{◌≡◌, ℕ, List, MatchOption};
 ghost use Rattle.std.specs.FinMap as finite;
 ghost use Rattle.std.specs.FinSet as set;
-ghost use Rattle.index.specs.KeySets.{members_in, AreRowsOf};
-ghost use Rattle.index.specs.inner.MergedRows.{comes_first};
+ghost use Rattle.index.specs.KeySets.{members_in, AreRowsOf, Puts, Takes};
 
-use crate::other_sets::OtherSets;
-use crate::window::Window;
-use crate::window_sets::WindowSets;
+use crate::keyed_sets::KeyedSets;
+use crate::rows::{Merge, Rows};
+use crate::short_key::ShortKey;
 use id_sets::KeySet;
 use std::alloc::{AllocError, Global};
 use std::collections::btree_map::Iter;
 use std::marker::Model;
 
-/// The keys of a slot, each with its members, of which there is one at least. Most are windows, so those of three bytes have a map of
-/// their own. A contract sees a finite map from keys to members.
+/// The keys of a slot, each with its members, of which there is one at least. Those of few bytes lie in their map
+/// itself, so that a look-up goes to no other place: most are windows, of three bytes. A contract sees a finite map from keys to members.
 #[derive(Drop)]
 pub(crate) struct KeySets {
-    windows: WindowSets,
-    others: OtherSets,
+    tiny: KeyedSets<ShortKey<4>>,
+    short: KeyedSets<ShortKey<32>>,
+    long: KeyedSets<Vec<u8>>,
 }
 
 impl Model for KeySets {
     ghost use Rattle.index.specs.KeySets as seen;
     ghost use Rattle.index.specs.inner.JoinedSets.{joined, AreApart};
+    ghost use Rattle.index.specs.inner.ShortKeys.{fits};
 
     ghost Value = { seen.SetsByKey };
 
     ghost coded = { seen.sets_code };
 
-    ghost view = { λ s. joined s.windows s.others };
+    ghost view = { λ s. joined (fits 4) s.tiny (joined (fits 32) s.short s.long) };
 
-    ghost invariant = { λ s. AreApart s.windows s.others };
+    ghost invariant = { λ s. AreApart (fits 4) s.tiny (joined (fits 32) s.short s.long) × AreApart (fits 32) s.short s.long };
 }
 
 impl KeySets {
@@ -41,8 +41,9 @@ impl KeySets {
         ensures { result ≡ finite.empty }
     {
         KeySets {
-            windows: WindowSets::new(alloc),
-            others: OtherSets::new(alloc),
+            tiny: KeyedSets::new(alloc),
+            short: KeyedSets::new(alloc),
+            long: KeyedSets::new(alloc),
         }
     }
 
@@ -50,9 +51,12 @@ impl KeySets {
     pub(crate) fn get(&self, key: &[u8]) -> Option<&KeySet>
         ensures { MatchOption result (members_in self.now key.now ≡ set.empty) (λ s. s.now.members ≡ members_in self.now key.now) }
     {
-        match Window::of(key) {
-            Some(window) => self.windows.get(window),
-            None => self.others.get(key),
+        match ShortKey::of(key) {
+            Some(tiny) => self.tiny.get(&tiny),
+            None => match ShortKey::of(key) {
+                Some(short) => self.short.get(&short),
+                None => self.long.get(key),
+            },
         }
     }
 
@@ -60,15 +64,9 @@ impl KeySets {
     pub(crate) fn rows(&self) -> Keys<'_>
         ensures { AreRowsOf self.now result }
     {
-        let mut windows = self.windows.rows();
-        let mut others = self.others.rows();
-        let window = windows.next();
-        let other = others.next();
+        let others = Merge::of(self.short.rows(), self.long.rows());
         Keys {
-            window,
-            windows,
-            other,
-            others,
+            rows: Merge::of(self.tiny.rows(), others),
         }
     }
 
@@ -79,25 +77,37 @@ impl KeySets {
         key: &[u8],
         number: u32,
     ) -> Result<bool, AllocError>
-        ensures new { IfOk result (λ new. new ≡ not (set.contains (members_in self.old key.now) number)) }
-        ensures ok { OnOk result ((q : List ℕ) → members_in self.new q ≡ (if bytes_eq key.now q then set.insert (members_in self.old q) number else members_in self.old q)) }
-        ensures err { OnErr result ((q : List ℕ) → members_in self.new q ≡ members_in self.old q) }
+        ensures { Puts key.now number (members_in self.old) (members_in self.new) result }
     {
-        match Window::of(key) {
-            Some(window) => self.windows.insert(alloc, window, number),
-            None => self.others.insert(alloc, key, number),
+        match ShortKey::of(key) {
+            Some(tiny) => self.tiny.insert(alloc, &tiny, number),
+            None => match ShortKey::of(key) {
+                Some(short) => self.short.insert(alloc, &short, number),
+                None => self.long.insert(alloc, key, number),
+            },
         }
     }
 
     /// Takes a number from a key, and answers whether it was there. It takes no memory.
     pub(crate) fn remove(&mut self, key: &[u8], number: u32) -> bool
-        ensures was { result ≡ set.contains (members_in self.old key.now) number }
-        ensures members { (q : List ℕ) → members_in self.new q ≡ (if bytes_eq key.now q then set.remove (members_in self.old q) number else members_in self.old q) }
+        ensures { Takes key.now number (members_in self.old) (members_in self.new) result }
     {
-        match Window::of(key) {
-            Some(window) => self.windows.remove(window, number),
-            None => self.others.remove(key, number),
+        match ShortKey::of(key) {
+            Some(tiny) => self.tiny.remove(&tiny, number),
+            None => match ShortKey::of(key) {
+                Some(short) => self.short.remove(&short, number),
+                None => self.long.remove(key, number),
+            },
         }
+    }
+
+    /// Takes a number from every key. It takes no memory.
+    pub(crate) fn forget(&mut self, number: u32)
+        ensures { (q : List ℕ) → members_in self.new q ≡ set.remove (members_in self.old q) number }
+    {
+        self.tiny.forget(number);
+        self.short.forget(number);
+        self.long.forget(number);
     }
 }
 
@@ -105,59 +115,41 @@ impl KeySets {
 /// that are still to come.
 #[derive(Drop)]
 pub struct Keys<'a> {
-    // the next key of three bytes, and those behind it
-    window: Option<(&'a Window, &'a KeySet)>,
-    windows: Iter<'a, Window, KeySet>,
-    // the same of all others
-    other: Option<(&'a Vec<u8>, &'a KeySet)>,
-    others: Iter<'a, Vec<u8>, KeySet>,
+    rows: Merge<'a, Tiny<'a>, Merge<'a, Short<'a>, Long<'a>>>,
 }
+
+type Tiny<'a> = Iter<'a, ShortKey<4>, KeySet>;
+
+type Short<'a> = Iter<'a, ShortKey<32>, KeySet>;
+
+type Long<'a> = Iter<'a, Vec<u8>, KeySet>;
 
 impl<'a> Model for Keys<'a> {
     ghost use Rattle.std.specs.Prelude.{List};
     ghost use Rattle.index.specs.KeySets.{Row, rows_code};
-    ghost use Rattle.index.specs.inner.MergedRows.{rows_left};
+    ghost use Rattle.index.specs.inner.MergedRows.{ahead, merged};
+    ghost use Rattle.index.specs.inner.StoredSets.{short_rows, long_rows};
 
     ghost Value = { List Row };
 
     ghost coded = { rows_code };
 
-    ghost view = { λ k. rows_left k.window k.windows k.other k.others };
-}
-
-// whether the first of two rows comes next
-fn is_first(window: Option<(&Window, &KeySet)>, other: Option<(&Vec<u8>, &KeySet)>) -> bool
-    ensures { result ≡ comes_first window.entry other.entry }
-{
-    match window {
-        Some((window, _)) => match other {
-            Some((other, _)) => window.as_slice().cmp(other.as_slice()).is_lt(),
-            None => true,
-        },
-        None => false,
-    }
+    ghost view = { λ k. merged (ahead k.rows.row (short_rows 4 k.rows.rows)) (ahead k.rows.other (merged (ahead k.rows.others.row (short_rows 32 k.rows.others.rows)) (ahead k.rows.others.other (long_rows k.rows.others.others)))) };
 }
 
 impl<'a> Iterator for Keys<'a> {
     ghost use Rattle.std.specs.Prelude.{length};
     ghost use Rattle.std.specs.Iterator.{at_most};
     ghost use Rattle.std.specs.Map.Iter.{TakesFirst};
+    ghost use Rattle.index.specs.inner.MergedRows.{row_lent};
 
     type Item = (&'a [u8], &'a KeySet);
 
-    ghost next_gives = { TakesFirst (λ row. (row.0.now, row.1.now.members)) };
+    ghost next_gives = { TakesFirst row_lent };
 
     ghost remaining = { λ k. at_most (length k) };
 
     fn next(&mut self) -> Option<(&'a [u8], &'a KeySet)> {
-        if is_first(self.window, self.other) {
-            let (key, members) = self.window?;
-            self.window = self.windows.next();
-            Some((key.as_slice(), members))
-        } else {
-            let (key, members) = self.other?;
-            self.other = self.others.next();
-            Some((key.as_slice(), members))
-        }
+        self.rows.next_row()
     }
 }

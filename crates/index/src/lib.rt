@@ -11,13 +11,14 @@ mod entry_keys;
 mod index;
 mod key_lists;
 mod key_sets;
+mod keyed_sets;
 mod laws;
 mod norms;
-mod other_sets;
 mod postings;
+mod rows;
+mod short_key;
 mod slot_key;
-mod window;
-mod window_sets;
+mod stored_key;
 mod windows;
 
 pub use changes::{KeyChanges, key_changes, keys_of};

@@ -8,7 +8,8 @@ use Rattle.std.specs.FinSet as set
 use Rattle.std.specs.declared.vec.Vec.{Vec}
 use Rattle.id_sets.specs.declared.key_set.KeySet.{KeySet}
 use Rattle.index.specs.KeySets.{Row, SetsByKey}
-use Rattle.index.specs.declared.window.Window.{Window}
+use Rattle.index.specs.declared.short_key.ShortKey.{ShortKey}
+use Rattle.index.specs.inner.ShortKeys.{key_in}
 
 -- the bytes of a key, and its members
 abbrev pub row_by : {K : Type 0} → (K → List ℕ) → K × KeySet → Row
@@ -20,24 +21,12 @@ rows_by bytes es = map (row_by bytes) es
 abbrev pub sets_by : {K : Type 0} → (K → List ℕ) → BTreeMap K KeySet → SetsByKey
 sets_by bytes sets = finite.from_entries (rows_by bytes sets.entries)
 
-abbrev pub vec_bytes : {A : Type 0} → Vec ℕ A → List ℕ
-vec_bytes k = k.items
+-- of keys that lie in a map themselves, with room for so many bytes
+abbrev pub short_rows : (n : ℕ) → List (ShortKey n × KeySet) → List Row
+short_rows n es = rows_by (λ k. key_in n k.bytes) es
 
-abbrev pub rows_of : {A : Type 0} → List (Vec ℕ A × KeySet) → List Row
-rows_of es = rows_by vec_bytes es
-
-abbrev pub sets_of : {A : Type 0} → BTreeMap (Vec ℕ A) KeySet → SetsByKey
-sets_of sets = sets_by vec_bytes sets
-
--- the same of keys of three bytes
-abbrev pub window_bytes : Window → List ℕ
-window_bytes w = w.bytes
-
-abbrev pub window_rows : List (Window × KeySet) → List Row
-window_rows es = rows_by window_bytes es
-
-abbrev pub sets_of_windows : BTreeMap Window KeySet → SetsByKey
-sets_of_windows sets = sets_by window_bytes sets
+abbrev pub long_rows : {A : Type 0} → List (Vec ℕ A × KeySet) → List Row
+long_rows es = rows_by (λ k. k.items) es
 
 -- each key has a member
 abbrev pub HaveMembers : List Row → Type 0

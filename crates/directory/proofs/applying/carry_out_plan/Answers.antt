@@ -6,31 +6,31 @@ pub returns-in_default-clause-count : goal.returns-in_default-clause-count
 returns-in_default-clause-count c = nothing_edits c.args.conf.now c.args.plan c.args.tree.now.entries (sym c.in_default.is ∙ c.number.ensures)
 
 pub insert_all-requires-clause-slots : goal.insert_all-requires-clause-slots
-insert_all-requires-clause-slots c = come_known _ _ _ _ _ _ (ready c.args.conf.now c.args.tree.now c.args.plan c.args.index.now c.in-Some.number _ _ _ _ c.requires.of c.requires.indexed c.keeps_entries.ensures (sym c.in-Some.is ∙ c.number.ensures) c.before-2.ensures.entry c.after.ensures.entry c.in_ok-came.ensures) c.args.index.now _ refl c.deref.ensures.value
+insert_all-requires-clause-slots c = come_known _ _ _ _ _ _ (ready c.args.conf.now c.args.tree.now c.args.plan c.args.index.now c.in-Some.number _ _ _ _ c.requires.of c.requires.indexed c.keeps_entries.ensures (sym c.in-Some.is ∙ c.number.ensures) c.before-3.ensures.entry c.after.ensures.entry c.in_ok-came.ensures) c.args.index.now _ refl c.deref.ensures.value
 
 pub insert_all-requires-clause-lacking : goal.insert_all-requires-clause-lacking
-insert_all-requires-clause-lacking c = lacking _ _ _ _ _ _ (ready c.args.conf.now c.args.tree.now c.args.plan c.args.index.now c.in-Some.number _ _ _ _ c.requires.of c.requires.indexed c.keeps_entries.ensures (sym c.in-Some.is ∙ c.number.ensures) c.before-2.ensures.entry c.after.ensures.entry c.in_ok-came.ensures) _ c.deref.ensures.value
+insert_all-requires-clause-lacking c = lacking _ _ _ _ _ _ (ready c.args.conf.now c.args.tree.now c.args.plan c.args.index.now c.in-Some.number _ _ _ _ c.requires.of c.requires.indexed c.keeps_entries.ensures (sym c.in-Some.is ∙ c.number.ensures) c.before-3.ensures.entry c.after.ensures.entry c.in_ok-came.ensures) _ c.deref.ensures.value
 
 pub returns-in_err-insert_all-clause-indexed : goal.returns-in_err-insert_all-clause-indexed
 returns-in_err-insert_all-clause-indexed c = kept_same c.args.conf.now c.args.tree.now c.args.tree.now c.args.index.now c.insert_all.new.self refl c.requires.indexed c.insert_all.ensures.same_conf c.in_err-insert_all.ensures.err
 
 pub remove_all-requires : goal.remove_all-requires
-remove_all-requires c = come_known _ _ _ _ _ _ (ready c.args.conf.now c.args.tree.now c.args.plan c.args.index.now c.in-Some.number _ _ _ _ c.requires.of c.requires.indexed c.keeps_entries.ensures (sym c.in-Some.is ∙ c.number.ensures) c.before-2.ensures.entry c.after.ensures.entry c.in_ok-came.ensures) c.insert_all.new.self _ c.insert_all.ensures.same_conf c.deref-in-Err.ensures.value
+remove_all-requires c = come_known _ _ _ _ _ _ (ready c.args.conf.now c.args.tree.now c.args.plan c.args.index.now c.in-Some.number _ _ _ _ c.requires.of c.requires.indexed c.keeps_entries.ensures (sym c.in-Some.is ∙ c.number.ensures) c.before-3.ensures.entry c.after.ensures.entry c.in_ok-came.ensures) c.insert_all.new.self _ c.insert_all.ensures.same_conf c.deref-in-Err.ensures.value
 
 pub returns-in-Err-clause-indexed : goal.returns-in-Err-clause-indexed
 returns-in-Err-clause-indexed c = kept_same c.args.conf.now c.args.tree.now c.commit.new.self c.args.index.now c.remove_all.new.self c.in-Err.ensures.err c.requires.indexed (c.remove_all.ensures.same_conf ∙ c.insert_all.ensures.same_conf)
-    (taken_back _ _ _ _ _ _ (ready c.args.conf.now c.args.tree.now c.args.plan c.args.index.now c.in-Some.number _ _ _ _ c.requires.of c.requires.indexed c.keeps_entries.ensures (sym c.in-Some.is ∙ c.number.ensures) c.before-2.ensures.entry c.after.ensures.entry c.in_ok-came.ensures) c.insert_all.new.self c.remove_all.new.self _ _ c.deref.ensures.value c.deref-in-Err.ensures.value c.in_ok-insert_all.ensures.ok c.remove_all.ensures.members)
+    (taken_back _ _ _ _ _ _ (ready c.args.conf.now c.args.tree.now c.args.plan c.args.index.now c.in-Some.number _ _ _ _ c.requires.of c.requires.indexed c.keeps_entries.ensures (sym c.in-Some.is ∙ c.number.ensures) c.before-3.ensures.entry c.after.ensures.entry c.in_ok-came.ensures) c.insert_all.new.self c.remove_all.new.self _ _ c.deref.ensures.value c.deref-in-Err.ensures.value c.in_ok-insert_all.ensures.ok c.remove_all.ensures.members)
 
 pub remove_all-requires-2 : goal.remove_all-requires-2
-remove_all-requires-2 c = go_known _ _ _ _ _ _ (ready c.args.conf.now c.args.tree.now c.args.plan c.args.index.now c.in-Some.number _ _ _ _ c.requires.of c.requires.indexed c.keeps_entries.ensures (sym c.in-Some.is ∙ c.number.ensures) c.before-2.ensures.entry c.after.ensures.entry c.in_ok-came.ensures) c.insert_all.new.self _ c.insert_all.ensures.same_conf c.deref-2.ensures.value
+remove_all-requires-2 c = go_known _ _ _ _ _ _ (ready c.args.conf.now c.args.tree.now c.args.plan c.args.index.now c.in-Some.number _ _ _ _ c.requires.of c.requires.indexed c.keeps_entries.ensures (sym c.in-Some.is ∙ c.number.ensures) c.before-3.ensures.entry c.after.ensures.entry c.in_ok-came.ensures) c.insert_all.new.self _ c.insert_all.ensures.same_conf c.deref-2.ensures.value
 
 pub returns-clause-indexed : goal.returns-clause-indexed
-returns-clause-indexed c = done _ _ _ _ _ _ (ready c.args.conf.now c.args.tree.now c.args.plan c.args.index.now c.in-Some.number _ _ _ _ c.requires.of c.requires.indexed c.keeps_entries.ensures (sym c.in-Some.is ∙ c.number.ensures) c.before-2.ensures.entry c.after.ensures.entry c.in_ok-came.ensures) c.insert_all.new.self c.remove_all-2.new.self _ _ c.deref.ensures.value c.deref-2.ensures.value c.in_ok-insert_all.ensures.ok c.remove_all-2.ensures.members
+returns-clause-indexed c = done _ _ _ _ _ _ (ready c.args.conf.now c.args.tree.now c.args.plan c.args.index.now c.in-Some.number _ _ _ _ c.requires.of c.requires.indexed c.keeps_entries.ensures (sym c.in-Some.is ∙ c.number.ensures) c.before-3.ensures.entry c.after.ensures.entry c.in_ok-came.ensures) c.insert_all.new.self c.remove_all-2.new.self _ _ c.deref.ensures.value c.deref-2.ensures.value c.in_ok-insert_all.ensures.ok c.remove_all-2.ensures.members
     c.args.tree.now c.commit.new.self c.requires.of (c.remove_all-2.ensures.same_conf ∙ c.insert_all.ensures.same_conf) c.in-Ok.ensures.entries c.in-Ok.ensures.numbers
 
 pub returns-clause-edits : goal.returns-clause-edits
 returns-clause-edits c =
-    let gone = c.remove_all-2.ensures.edits (apart_gone _ _ _ _ _ _ (ready c.args.conf.now c.args.tree.now c.args.plan c.args.index.now c.in-Some.number _ _ _ _ c.requires.of c.requires.indexed c.keeps_entries.ensures (sym c.in-Some.is ∙ c.number.ensures) c.before-2.ensures.entry c.after.ensures.entry c.in_ok-came.ensures) _ c.deref-2.ensures.value) (there _ _ _ _ _ _ (ready c.args.conf.now c.args.tree.now c.args.plan c.args.index.now c.in-Some.number _ _ _ _ c.requires.of c.requires.indexed c.keeps_entries.ensures (sym c.in-Some.is ∙ c.number.ensures) c.before-2.ensures.entry c.after.ensures.entry c.in_ok-came.ensures) c.insert_all.new.self _ _ c.deref.ensures.value c.deref-2.ensures.value c.in_ok-insert_all.ensures.ok) in
+    let gone = c.remove_all-2.ensures.edits (apart_gone _ _ _ _ _ _ (ready c.args.conf.now c.args.tree.now c.args.plan c.args.index.now c.in-Some.number _ _ _ _ c.requires.of c.requires.indexed c.keeps_entries.ensures (sym c.in-Some.is ∙ c.number.ensures) c.before-3.ensures.entry c.after.ensures.entry c.in_ok-came.ensures) _ c.deref-2.ensures.value) (there _ _ _ _ _ _ (ready c.args.conf.now c.args.tree.now c.args.plan c.args.index.now c.in-Some.number _ _ _ _ c.requires.of c.requires.indexed c.keeps_entries.ensures (sym c.in-Some.is ∙ c.number.ensures) c.before-3.ensures.entry c.after.ensures.entry c.in_ok-came.ensures) c.insert_all.new.self _ _ c.deref.ensures.value c.deref-2.ensures.value c.in_ok-insert_all.ensures.ok) in
     let came = c.in_ok-insert_all.ensures.edits in
     let a = ap length c.deref.ensures.value in
     let b = ap length c.deref-2.ensures.value in

@@ -1,38 +1,10 @@
-use Rattle.std.proofs.Common.{◌+◌, ◌&&◌, ◌∙◌, List, ℕ, cond, nat_eq, nat_lt, ap}
-use Rattle.std.specs.List.{list_any}
-use Rattle.std.specs.Str.{bytes_eq}
-use Rattle.std.specs.FinSet as set
-use Rattle.entries.specs.StoredEntries.{attributes_of}
-use Rattle.index.specs.EntryKeys.{slot_keys}
-use Rattle.index.specs.Indexes.{members}
-use Rattle.index.proofs.Agreement.{known_key, told_there}
-use Rattle.index.proofs.Changed.{slot_read, all_read}
-use Rattle.index.proofs.Listed.{which}
-use Rattle.index.proofs.OneByOne.{one_slot}
+use Rattle.std.proofs.Common.{◌∙◌}
+use Rattle.tree.specs.StoredEntries.{content_of}
+use Rattle.index.proofs.Counted.{none_has_number, all_counted}
 use Rattle.index.proofs.index.Index.insert_entry.Goals as goal
 
-pub loop-place-preserved : goal.loop-place-preserved
-loop-place-preserved c =
-    let conf = c.args.conf.now in
-    let attrs = attributes_of c.args.entry.now.attrs in
-    let place = c.loop-place.place in
-    let read = slot_read conf.slots c.slots-slot-items.result.now place c.slot-item.result c.slots-slot-items.ensures c.loop-place-test.true c.slot-item.is in
-    record {
-      same_conf = c.insert_under.ensures.same_conf ∙ c.loop-place.invariant.same_conf;
-      came = one_slot (members c.args.self.now) (members c.loop-place.self) (members c.insert_under.new.self) c.args.number
-          (λ p. nat_lt p.slot.0 place && set.contains (slot_keys conf attrs) p)
-          (λ p. nat_eq place p.slot.0 && list_any (λ k. bytes_eq k p.key) c.of-keys.result)
-          (λ p. nat_lt p.slot.0 (place + 1) && set.contains (slot_keys conf attrs) p)
-          c.loop-place.invariant.came
-          c.in_ok-insert_under.ensures.ok
-          (which place (set.contains (slot_keys conf attrs)) (λ q. list_any (λ k. bytes_eq k q) c.of-keys.result) (λ q. ap (λ (ks : List (List ℕ)). list_any (λ k. bytes_eq k q) ks) c.of-keys.ensures ∙ told_there conf attrs place c.slot-item.result read q));
-    }
+pub returns-in-Ok-clause-count : goal.returns-in-Ok-clause-count
+returns-in-Ok-clause-count c = λ nowhere. all_counted c.args.conf.now (content_of c.args.entry.now) c.args.self.now c.insert_keys.new.self c.args.number c.in-Ok.count c.in-Ok.ensures.ok nowhere (c.in-Ok.ensures.count (none_has_number c.args.self.now c.args.number nowhere))
 
-pub returns-clause-ok : goal.returns-clause-ok
-returns-clause-ok c =
-    let conf = c.args.conf.now in
-    let attrs = attributes_of c.args.entry.now.attrs in
-    let end = all_read conf.slots c.slots-slot-items.result.now c.loop-place.place c.slots-slot-items.ensures c.loop-place-test.false c.loop-place.auto.place-end in
-    λ p.
-    c.loop-place.invariant.came p
-    ∙ ap (λ b. cond b (set.insert (members c.args.self.now p) c.args.number) (members c.args.self.now p)) (ap (λ n. nat_lt p.slot.0 n && set.contains (slot_keys conf attrs) p) end ∙ known_key conf attrs p)
+pub returns-in-Err-clause-err : goal.returns-in-Err-clause-err
+returns-in-Err-clause-err c = λ p. c.forget.ensures.members p ∙ c.in-Err.ensures.err p

@@ -1,17 +1,20 @@
-use Rattle.std.proofs.Common.{sym, ap, ◌∙◌}
-use Rattle.std.specs.FinSet as set
-use Rattle.index.specs.KeySets.{Members}
-use Rattle.index.proofs.Joined.{window_members, window_moved, other_members, other_moved}
+use Rattle.index.proofs.KeyForms.{take_tiny, take_short, take_long}
 use Rattle.index.proofs.key_sets.KeySets.remove.Goals as goal
 
-pub returns-in-Some-clause-was : goal.returns-in-Some-clause-was
-returns-in-Some-clause-was c = c.remove.ensures.was ∙ ap (λ (s : Members). set.contains s c.args.number) (sym (window_members c.self.inside.windows c.self.inside.others c.args.self.now c.args.key.now c.in-Some.window.bytes c.in-Some.ensures.1 c.in-Some.ensures.0 c.self.view_is))
+pub invariant_of-self : goal.invariant_of-self
+invariant_of-self c = (take_tiny c.self.inside.tiny c.self.inside.short c.self.inside.long c.args.key.now c.args.number c.remove.result c.args.self.now c.self.view_is c.self.invariant c.remove.new.self _ c.in-Some.ensures.0 c.in-Some.ensures.1 c.remove.ensures).0
 
-pub returns-in-Some-clause-members : goal.returns-in-Some-clause-members
-returns-in-Some-clause-members c = window_moved c.self.inside.windows c.self.inside.others c.args.self.now c.args.key.now c.in-Some.window.bytes c.in-Some.ensures.1 c.in-Some.ensures.0 c.self.view_is (λ s. set.remove s c.args.number) c.remove.new.self c.remove.ensures.members
+pub returns-in-Some : goal.returns-in-Some
+returns-in-Some c = (take_tiny c.self.inside.tiny c.self.inside.short c.self.inside.long c.args.key.now c.args.number c.remove.result c.args.self.now c.self.view_is c.self.invariant c.remove.new.self _ c.in-Some.ensures.0 c.in-Some.ensures.1 c.remove.ensures).1
 
-pub returns-in-None-clause-was : goal.returns-in-None-clause-was
-returns-in-None-clause-was c = c.remove-in-None.ensures.was ∙ ap (λ (s : Members). set.contains s c.args.number) (sym (other_members c.self.inside.windows c.self.inside.others c.args.self.now c.args.key.now c.in-None.ensures c.self.view_is))
+pub invariant_of-self-in-Some-of : goal.invariant_of-self-in-Some-of
+invariant_of-self-in-Some-of c = (take_short c.self.inside.tiny c.self.inside.short c.self.inside.long c.args.key.now c.args.number c.remove-in-Some-of.result c.args.self.now c.self.view_is c.self.invariant c.remove-in-Some-of.new.self _ c.in-None.ensures c.in-Some-of.ensures.0 c.in-Some-of.ensures.1 c.remove-in-Some-of.ensures).0
 
-pub returns-in-None-clause-members : goal.returns-in-None-clause-members
-returns-in-None-clause-members c = other_moved c.self.inside.windows c.self.inside.others c.args.self.now c.args.key.now c.in-None.ensures c.self.view_is (λ s. set.remove s c.args.number) c.remove-in-None.new.self c.remove-in-None.ensures.members
+pub returns-in-Some-of : goal.returns-in-Some-of
+returns-in-Some-of c = (take_short c.self.inside.tiny c.self.inside.short c.self.inside.long c.args.key.now c.args.number c.remove-in-Some-of.result c.args.self.now c.self.view_is c.self.invariant c.remove-in-Some-of.new.self _ c.in-None.ensures c.in-Some-of.ensures.0 c.in-Some-of.ensures.1 c.remove-in-Some-of.ensures).1
+
+pub invariant_of-self-in-None-of : goal.invariant_of-self-in-None-of
+invariant_of-self-in-None-of c = (take_long c.self.inside.tiny c.self.inside.short c.self.inside.long c.args.key.now c.args.number c.remove-in-None-of.result c.args.self.now c.self.view_is c.self.invariant c.remove-in-None-of.new.self c.in-None.ensures c.in-None-of.ensures c.remove-in-None-of.ensures).0
+
+pub returns-in-None-of : goal.returns-in-None-of
+returns-in-None-of c = (take_long c.self.inside.tiny c.self.inside.short c.self.inside.long c.args.key.now c.args.number c.remove-in-None-of.result c.args.self.now c.self.view_is c.self.invariant c.remove-in-None-of.new.self c.in-None.ensures c.in-None-of.ensures c.remove-in-None-of.ensures).1

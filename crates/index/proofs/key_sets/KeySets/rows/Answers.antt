@@ -1,12 +1,14 @@
-use Rattle.std.proofs.Common.{subst}
+use Rattle.std.proofs.Common.{refl, sym, subst, ap, ◌∙◌}
 use Rattle.index.specs.KeySets.{AreRowsOf}
-use Rattle.index.specs.inner.StoredSets.{window_bytes, vec_bytes}
 use Rattle.index.specs.inner.MergedRows.{merged}
-use Rattle.index.proofs.Merged.{taken, rows_joined}
+use Rattle.index.specs.inner.StoredSets.{short_rows}
+use Rattle.index.specs.inner.ShortKeys.{fits}
+use Rattle.index.specs.inner.JoinedSets.{joined}
+use Rattle.index.proofs.Merged.{rows_joined}
 use Rattle.index.proofs.key_sets.KeySets.rows.Goals as goal
 
 pub returns : goal.returns
 returns c =
-    let windows = taken window_bytes c.rows-windows.result c.next-window.result c.next-window.new.self c.next-window.ensures.steps in
-    let others = taken vec_bytes c.rows-others.result c.next-other.result c.next-other.new.self c.next-other.ensures.steps in
-    subst (AreRowsOf c.args.self.now) (λ i. merged (windows i) (others i)) (rows_joined c.self.inside.windows c.self.inside.others c.args.self.now _ _ c.self.view_is c.self.invariant c.rows-windows.ensures c.rows-others.ensures)
+    subst (AreRowsOf c.args.self.now) (sym (c.of.ensures ∙ ap (merged (short_rows 4 c.rows-3.result)) c.of-others.ensures))
+    (rows_joined (fits 4) c.self.inside.tiny (joined (fits 32) c.self.inside.short c.self.inside.long) c.args.self.now _ _ c.self.view_is c.self.invariant.0 c.rows-3.ensures
+    (rows_joined (fits 32) c.self.inside.short c.self.inside.long _ _ _ refl c.self.invariant.1 c.rows.ensures c.rows-2.ensures))
