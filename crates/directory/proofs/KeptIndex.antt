@@ -7,8 +7,8 @@ use Rattle.std.proofs.lemmas.Bool.{eqb-true, eqb-false, eq-eqb, ne_eqb}
 use Rattle.std.proofs.lemmas.Cmp.{eq_by_cmp_equiv}
 use Rattle.schema.specs.Conf.{Conf}
 use Rattle.std.specs.Borrow.{Bor}
-use Rattle.tree.specs.Entries.{EntryContent}
-use Rattle.tree.specs.StoredEntries.{Entry}
+use Rattle.entries.specs.Entries.{EntryContent}
+use Rattle.entries.specs.StoredEntries.{Entry}
 use Rattle.tree.specs.Directories.{Entries}
 use Rattle.tree.specs.Changes.{Change, Nothing, Put, Remove, Move, changed}
 use Rattle.tree.specs.Trees.{Tree, Numbers, HasEntry}

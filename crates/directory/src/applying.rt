@@ -5,7 +5,7 @@ ghost use Rattle.std.specs.FinSet as set;
 ghost use Rattle.ldif.specs.Reading.{reading};
 ghost use Rattle.tree.specs.Changes.{changed};
 ghost use Rattle.tree.specs.Operations.{apply};
-ghost use Rattle.tree.specs.Gives.{Gives};
+ghost use Rattle.entries.specs.Gives.{Gives};
 ghost use Rattle.tree.specs.Plans.{before, number_of};
 ghost use Rattle.index.specs.EntryKeys.{slot_keys_in, edits};
 ghost use Rattle.index.specs.Indexes.{Inserts, Forgets, IsNowhere};
@@ -20,7 +20,8 @@ use index::{Index, KeyChanges, key_changes};
 use ldif::{LdifFault, Mode, RawRecord, Record, read_record};
 use schema::Conf;
 use std::alloc::{AllocError, Global};
-use tree::{Entry, Plan, Refusal, Tree, plan};
+use entries::{Entry, Refusal};
+use tree::{Plan, Tree, plan};
 
 /// What a record changed in the index.
 #[derive(Clone, Copy, Debug, PartialEq, Eq)]

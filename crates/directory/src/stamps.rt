@@ -3,7 +3,7 @@
 ghost use Rattle.std.specs.Prelude.{◌≡◌, ◌<◌, ◌-◌, ◌^◌, ◌++◌, [], ℕ, List, Some, None, IfOk, OnOk};
 ghost use Rattle.std.specs.FinMap as finite;
 ghost use Rattle.sha2.specs.Hashers.{Holds256};
-ghost use Rattle.tree.specs.StoredEntries.{content_of};
+ghost use Rattle.entries.specs.StoredEntries.{content_of};
 ghost use Rattle.directory.specs.Runs.{dump};
 ghost use Rattle.directory.specs.Dumps.{Writes, end_of};
 ghost use Rattle.directory.specs.IndexTexts.{stamp};
@@ -17,7 +17,8 @@ use ldif::WriteFault;
 use schema::{Conf, Path};
 use sha2::{Digest, Sha256};
 use std::alloc::{AllocError, Global};
-use tree::{Entry, Names, Tree};
+use entries::Entry;
+use tree::{Names, Tree};
 
 // takes all bytes into the stamp and hands them on, and forgets them
 fn pass_on_stamped<W: Sink>(

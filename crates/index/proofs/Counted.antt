@@ -7,7 +7,7 @@ use Rattle.std.specs.FinSet as set
 use Rattle.std.specs.Ordering.{nat_cmp, eq_by_cmp}
 use Rattle.std.specs.Cmp.{nat_cmp_total, eq_by_cmp_equiv}
 use Rattle.schema.specs.Conf.{Conf}
-use Rattle.tree.specs.Entries.{EntryContent}
+use Rattle.entries.specs.Entries.{EntryContent}
 use Rattle.index.specs.declared.slot_key.SlotKey.{SlotKey}
 use Rattle.index.specs.KeySets.{Members}
 use Rattle.index.specs.SlotKeys.{SlotKeys, same_slot_key, slot_key_cmp}

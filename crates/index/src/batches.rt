@@ -4,7 +4,7 @@ ghost use Rattle.std.specs.Prelude.{◌≡◌, ◌<◌, ◌+◌, ◌==◌, ◌&&
 ghost use Rattle.std.specs.List.{list_any, AllByRecursion, IsDistinct};
 ghost use Rattle.std.specs.Str.{bytes_eq};
 ghost use Rattle.std.specs.FinSet as set;
-ghost use Rattle.tree.specs.StoredEntries.{attributes_of, content_of, IsMade};
+ghost use Rattle.entries.specs.StoredEntries.{attributes_of, content_of, IsMade};
 ghost use Rattle.index.specs.EntryKeys.{slot_keys, edits};
 ghost use Rattle.index.specs.SlotKeys.{same_slot_key, is_among};
 ghost use Rattle.index.specs.Indexes.{members, Inserts, Removes, KeepsMembers, Forgets, IsNowhere};
@@ -15,7 +15,7 @@ use crate::index::Index;
 use crate::slot_key::{SlotKey, SlotNumber};
 use schema::Conf;
 use std::alloc::AllocError;
-use tree::Entry;
+use entries::Entry;
 
 // one more for a key that is new; more than can be counted have no room in memory
 fn counted(count: usize, new: bool) -> Result<usize, AllocError>

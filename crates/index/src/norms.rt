@@ -7,8 +7,7 @@ ghost use Rattle.entries.specs.StoredEntries.{IsMade, IsMadeAttribute};
 ghost use Rattle.schema.specs.Subtypes.{is_subtype};
 ghost use Rattle.index.specs.inner.StoredKeys.{norms_left, norms_of, stored_norms};
 
-use entries::{Entry, Values};
-use indexmap::map::Iter;
+use entries::{AttributesIter, Entry, Values};
 use schema::{Conf, TypeId};
 use std::marker::Model;
 use values::ValuesIter;
@@ -22,7 +21,7 @@ pub(crate) struct Norms<'a> {
     // what is left of the attribute in hand
     values: Option<ValuesIter<'a>>,
     // the attributes behind it
-    attrs: Iter<'a, TypeId, Values>,
+    attrs: AttributesIter<'a>,
 }
 
 impl<'a> Model for Norms<'a> {
@@ -81,7 +80,7 @@ fn next_norm<'a>(
     conf: &Conf,
     above: TypeId,
     values: &mut Option<ValuesIter<'a>>,
-    attrs: &mut Iter<'a, TypeId, Values>,
+    attrs: &mut AttributesIter<'a>,
 ) -> Option<&'a [u8]>
     requires { AllByRecursion (IsMadeAttribute conf.now.types) attrs.old }
     ensures made { AllByRecursion (IsMadeAttribute conf.now.types) attrs.new }

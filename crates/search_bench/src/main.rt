@@ -10,7 +10,7 @@ use device::TrySource;
 use directory::{Directory, load};
 use filter::{Prepared, prepare};
 use filter_text::read_filter;
-use schema::read_conf;
+use dir_conf::read_conf;
 use std::alloc::Global;
 use std::env;
 use std::fs;

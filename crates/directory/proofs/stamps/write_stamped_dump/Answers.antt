@@ -7,7 +7,7 @@ use Rattle.std.proofs.lemmas.List.{append-nil}
 use Rattle.std.proofs.lemmas.Result.{err_from_is_err_and}
 use Rattle.paths.specs.Paths.{Path, begins}
 use Rattle.tree.specs.Directories.{IsDirectory}
-use Rattle.tree.specs.StoredEntries.{Entry}
+use Rattle.entries.specs.StoredEntries.{Entry}
 use Rattle.tree.specs.Trees.{Tree, seen_entries}
 use Rattle.directory.specs.Runs.{dump}
 use Rattle.directory.specs.Dumps.{SoFar}

@@ -1,5 +1,5 @@
 use Rattle.std.proofs.Common.{◌∙◌}
-use Rattle.tree.specs.StoredEntries.{content_of}
+use Rattle.entries.specs.StoredEntries.{content_of}
 use Rattle.index.proofs.Counted.{none_has_number, all_counted}
 use Rattle.index.proofs.index.Index.insert_entry.Goals as goal
 

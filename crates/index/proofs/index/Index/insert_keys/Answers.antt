@@ -4,7 +4,7 @@ use Rattle.std.specs.Str.{bytes_eq}
 use Rattle.std.specs.FinSet as set
 use Rattle.schema.specs.Conf.{Conf}
 use Rattle.schema.specs.declared.slots.Slot.{Slot}
-use Rattle.tree.specs.StoredEntries.{attributes_of}
+use Rattle.entries.specs.StoredEntries.{attributes_of}
 use Rattle.index.specs.EntryKeys.{slot_keys}
 use Rattle.index.specs.Indexes.{members}
 use Rattle.index.proofs.Agreement.{known_key, told_there}
