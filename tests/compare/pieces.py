@@ -42,6 +42,8 @@ OTHER_LINES = [
     b"objectclass ( 9.9 SUP no )", b"objectclass ( 9.9 MUST $T MAY ( $T $ objectClass ) )", b"objectclass ( 9.9 MAY no )",
     b"objectclass ( 9.9 MUST ( $T $T ) )", b"objectclass ( 9.9 ABSTRACT AUXILIARY )", b"objectclass ( 9.9 SUP ( top $ ) )",
     b"objectclass ( 9.9 SUP ( 'top' $ 'TOP' ) )", b"objectclass ( 9.9 MUST 'cn' )",
+    b"objectclass ( 9.9 SUP ( top $ '' ) )", b"objectclass ( 9.9 SUP ( '(' $ top ) )", b"objectclass ( 9.9 SUP '2.5.6.0' )",
+    b"objectclass ( 9.9 SUP ( top $ '2.5.6.' ) )", b"objectclass ( 9.9 SUP 'top ' )", b"objectclass ( 9.9 SUP 2..5 )",
     b"objectclass ( 9.9 MAY $T SUP top x-a 'b' )",
     b"objectclass ( 9.9 NAME ( 'dn' 'control' ) )", b"objectclass ( 2.5.4.0 NAME 'objectClass' )",
     b"objectclass ( 9.9 SYNTAX 1.1 )", b"objectclass ( 9.9 STRUCTURAL structural )", b"objectclass ( 9.9 NAME ( ) )",
@@ -62,6 +64,8 @@ INDEX_LINES = [
 # definitions that don't go with those before them, or do so only just; and some with two faults
 DEFINITIONS = [
     b"( 9.8 NAME 'n' SUP $T )", b"( 9.8 NAME 'n' SUP '$T' )", b"( 9.8 NAME 'n' SUP no )", b"( 9.8 NAME 'n' SUP n )",
+    b"( 9.8 NAME 'n' SUP '' )", b"( 9.8 NAME 'n' SUP '(' )", b"( 9.8 NAME 'n' SUP ' $T' )", b"( 9.8 NAME 'n' SUP '2.5.4.0' )",
+    b"( 9.8 NAME 'n' SUP '$T{64}' )", b"( 9.8 NAME 'n' SUP 2..5 )",
     b"( 9.8 NAME 'n' SUP $T EQUALITY integerMatch )", b"( 9.8 NAME 'n' SUP $T EQUALITY caseExactMatch )",
     b"( 9.8 NAME 'n' SUP $T EQUALITY caseIgnoreIA5Match )", b"( 9.8 NAME 'n' SUP $T EQUALITY nosuchMatch )",
     b"( 9.8 NAME 'n' SUP $T SYNTAX $S26 )", b"( 9.8 NAME 'n' SUP $T SYNTAX $S15 )", b"( 9.8 NAME 'n' SUP $T SYNTAX $S40 )",
@@ -87,7 +91,9 @@ FIELDS = [
     b"SUBSTR ( x )", b"SYNTAX $S15", b"SYNTAX '$S15'", b"SYNTAX $S15{64}", b"SYNTAX '$S15{64}'", b"SYNTAX $S15{}",
     b"SYNTAX x",
     b"SYNTAX $S15 {64}", b"SYNTAX $S15{6 4}", b"SYNTAX 1", b"SYNTAX", b"EQUALITY 'caseIgnoreMatch'", b"EQUALITY 2.5.13.2",
-    b"EQUALITY ( caseIgnoreMatch )", b"SUP $T", b"SUP ( $T )", b"SUP ( $T $ $T )", b"MUST $T", b"MAY ( $T )", b"ABSTRACT",
+    b"EQUALITY ( caseIgnoreMatch )", b"EQUALITY ''", b"EQUALITY 'a b'", b"EQUALITY '2.5.13.2'", b"EQUALITY 1x{",
+    b"ORDERING ''", b"ORDERING '('", b"ORDERING 'n-_9'", b"SUBSTR ''", b"SUBSTR '1.2.'", b"SUBSTR '_'", b"SYNTAX ''",
+    b"SYNTAX 'x'", b"SUP ''", b"SUP $T", b"SUP ( $T )", b"SUP ( $T $ $T )", b"MUST $T", b"MAY ( $T )", b"ABSTRACT",
     b"STRUCTURAL", b"AUXILIARY", b"$", b"(", b")", b"'", b"''", b"x", b"{64}", b"-",
 ]
 # a definition; what changes only its blanks; and what is put in place of a part of it

@@ -37,13 +37,13 @@ WORD = re.compile(rb"[^ \t]+")
 
 # the fields of definitions, and how their values are read
 TYPE_FIELDS = {
-    b"name": "names", b"desc": "quoted", b"obsolete": "flag", b"sup": "word", b"equality": "word", b"ordering": "word",
-    b"substr": "word", b"syntax": "word", b"single-value": "flag", b"collective": "flag",
-    b"no-user-modification": "flag", b"usage": "usage",
+    b"name": "names", b"desc": "quoted", b"obsolete": "flag", b"sup": "name", b"equality": "name", b"ordering": "name",
+    b"substr": "name", b"syntax": "syntax", b"single-value": "flag", b"collective": "flag",
+    b"no-user-modification": "flag", b"usage": "word",
 }
 CLASS_FIELDS = {
-    b"name": "names", b"desc": "quoted", b"obsolete": "flag", b"sup": "words", b"abstract": "flag",
-    b"structural": "flag", b"auxiliary": "flag", b"must": "plain words", b"may": "plain words",
+    b"name": "names", b"desc": "quoted", b"obsolete": "flag", b"sup": "listed names", b"abstract": "flag",
+    b"structural": "flag", b"auxiliary": "flag", b"must": "listed words", b"may": "listed words",
 }
 CLASS_KINDS = (b"abstract", b"structural", b"auxiliary")
 
@@ -127,31 +127,38 @@ class Cursor:
             raise Wrong("C2")
         self.at += 1
 
-    def listed(self, whats, between):
+    def name(self):
+        """A bare word; in quotes, a name or an OID."""
+        what, text = self.peek()
+        if what == "quoted" and not NAME.fullmatch(text) and not OID.fullmatch(text):
+            raise Wrong("C2")
+        return self.take("word", "quoted")
+
+    def listed(self, form, between):
         """One text, or a list of them in parentheses."""
         if self.peek() != ("mark", b"("):
-            return [self.take(*whats)]
+            return [self.value(form)]
         self.mark(b"(")
-        found = [self.take(*whats)]
+        found = [self.value(form)]
         while self.peek() != ("mark", b")"):
             if between:
                 self.mark(between)
-            found.append(self.take(*whats))
+            found.append(self.value(form))
         self.mark(b")")
         return found
 
     def value(self, form):
         if form == "flag":
             return True
-        if form == "quoted":
-            return self.take("quoted")
-        if form == "word":
+        if form in ("quoted", "word"):
+            return self.take(form)
+        if form == "name":
+            return self.name()
+        if form == "syntax":
             return self.take("word", "quoted")
         if form in ("names", "extension"):
-            return self.listed(("quoted",), b"")
-        if form == "usage":
-            return self.take("word")
-        return self.listed(("word",) if form == "plain words" else ("word", "quoted"), b"$")
+            return self.listed("quoted", b"")
+        return self.listed("name" if form == "listed names" else "word", b"$")
 
 
 def read_definition(text, forms):

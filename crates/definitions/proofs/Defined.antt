@@ -14,12 +14,12 @@ use Rattle.definitions.specs.declared.type_field.TypeField.{TypeField}
 use Rattle.definitions.specs.declared.type_field.TypeField.TheVariants as fields
 use Rattle.definitions.specs.declared.type_definition.TypeDefinition.{TypeDefinition}
 use Rattle.terms.specs.Naming.{is_oid, is_type_name}
-use Rattle.definitions.specs.Words.{◌>>>◌, Cut, sign_at, word_at, quoted_at, plain_or_quoted_at}
+use Rattle.definitions.specs.Words.{◌>>>◌, Cut, sign_at, word_at, quoted_at}
 use Rattle.definitions.specs.Texts.{quoted_texts_at}
 use Rattle.definitions.specs.Elements as elements
 use Rattle.definitions.specs.Elements.{is_word, is_extension, is_allowed, names_field, description_field, extension_field, element_field, with_element_field, is_some_list, is_extended, ends_there, fields_to_end, numeric, head_at}
 use Rattle.definitions.specs.TypeFields as types
-use Rattle.definitions.specs.TypeFields.{reference_of, flag_of, refer, referred, usage_of, usage_field, of_element, other_field, or_flag, or_reference, field_of, field_at}
+use Rattle.definitions.specs.TypeFields.{reference_of, flag_of, refer, referred_at, usage_of, usage_field, of_element, other_field, or_flag, or_reference, field_of, field_at}
 use Rattle.definitions.specs.TypeDefinitions.{with_flag, with_reference, with_element, with_field, empty_definition, with_syntax, type_with, type_definition_of}
 
 -- what holds where there is something
@@ -81,15 +81,9 @@ flag_allowed : (flag : Option Flag) (rest : List ℕ) (other : Option types.Read
 flag_allowed None rest other h = h
 flag_allowed (Some flag) rest other h = tt
 
-refer_allowed : (reference : Reference) (part : Cut) → IfThere ReadsField (refer reference part)
-refer_allowed reference part = by (referred reference part.0) where
-  by : (o : Option (List ℕ)) → IfThere ReadsField ((o >>> λ name. Some (fields.Reference reference name)) >>> λ field. Some (field, part.1))
-  by None = tt
-  by (Some name) = tt
-
 reference_allowed : (reference : Option Reference) (rest : List ℕ) (other : Option types.Read) → IfThere ReadsField other → IfThere ReadsField (or_reference reference rest other)
 reference_allowed None rest other h = h
-reference_allowed (Some reference) rest other h = bound ReadsField (plain_or_quoted_at rest) (refer reference) (refer_allowed reference)
+reference_allowed (Some reference) rest other h = bound ReadsField (referred_at reference rest) (refer reference) (λ name. tt)
 
 field_allowed : (text : List ℕ) → IfThere ReadsField (field_at text)
 unfolding field_at

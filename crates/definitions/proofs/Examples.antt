@@ -6,17 +6,17 @@ use Rattle.definitions.specs.declared.type_definition.TypeDefinition.{TypeDefini
 use Rattle.terms.specs.declared.class_kind.ClassKind.TheVariants as kinds
 use Rattle.definitions.specs.declared.class_definition.ClassDefinition.{ClassDefinition}
 use Rattle.terms.specs.Naming.{are_groups}
-use Rattle.definitions.specs.Words.{word_at, sign_at, quoted_at, plain_or_quoted_at}
+use Rattle.definitions.specs.Words.{word_at, sign_at, quoted_at, plain_or_quoted_at, plain_or_named_at}
 use Rattle.definitions.specs.Texts.{to_close, quoted_texts_at, names_to_close, names_at}
 use Rattle.definitions.specs.Elements.{element_field, with_element_field, fields_to_end, head_at}
-use Rattle.definitions.specs.TypeFields.{reference_of, flag_of, usage_of, syntax_oid, referred, other_field, field_at}
+use Rattle.definitions.specs.TypeFields.{reference_of, flag_of, usage_of, syntax_oid, referred_at, other_field, field_at}
 use Rattle.definitions.specs.TypeDefinitions.{with_flag, with_reference, with_field, type_definition_of}
 use Rattle.definitions.specs.ClassDefinitions as classes
 use Rattle.definitions.specs.ClassDefinitions.{list_of, kind_of, with_list, class_definition_of}
 
 -- what a definition is read by
 unfoldable reads : ⊤
-unfolding are_groups word_at sign_at quoted_at plain_or_quoted_at to_close quoted_texts_at names_to_close names_at element_field with_element_field fields_to_end head_at reference_of flag_of usage_of syntax_oid referred other_field field_at with_flag with_reference with_field type_definition_of list_of kind_of with_list classes.field_at classes.with_field class_definition_of
+unfolding are_groups word_at sign_at quoted_at plain_or_quoted_at plain_or_named_at to_close quoted_texts_at names_to_close names_at element_field with_element_field fields_to_end head_at reference_of flag_of usage_of syntax_oid referred_at other_field field_at with_flag with_reference with_field type_definition_of list_of kind_of with_list classes.field_at classes.with_field class_definition_of
 reads = tt
 
 abbrev text_of : List ℕ → Option (List ℕ)
@@ -104,6 +104,19 @@ blanks_behind = refl
 no_names : type_definition_of (codes "( 1.2 NAME ( ) SYNTAX 1.3 )") ≡ no_type
 unfolding reads
 no_names = refl
+
+no_quoted_superior : type_definition_of (codes "( 1.2 SUP '' )") ≡ no_type
+unfolding reads
+no_quoted_superior = refl
+
+-- in quotes a rule is a name or an OID; bare it is any word
+quoted_blank : type_definition_of (codes "( 1.2 EQUALITY 'a b' SYNTAX 1.3 )") ≡ no_type
+unfolding reads
+quoted_blank = refl
+
+bare_digits : type_definition_of (codes "( 1.2 EQUALITY 1x SYNTAX 1.3 )") ≡ Some (record plain { equality = text_of (codes "1x") })
+unfolding reads
+bare_digits = refl
 
 dollar_in_names : type_definition_of (codes "( 1.2 NAME ( 'a' $ 'b' ) SYNTAX 1.3 )") ≡ no_type
 unfolding reads

@@ -1,10 +1,10 @@
 -- A numeric OID is numbers joined by dots.
-use Rattle.std.proofs.Common.{◌≡◌, ℕ, ◌<◌, Bool, true, false, cond, not, ◌&&◌, eqb, List, [], ◌∷◌, ◌++◌, length, refl, sym, ap, subst, ◌∙◌, ◌⊎◌, inl, inr, arith}
+use Rattle.std.proofs.Common.{◌≡◌, ℕ, ◌<◌, Bool, true, false, cond, not, ◌&&◌, ◌||◌, eqb, List, [], ◌∷◌, ◌++◌, length, refl, sym, ap, subst, ◌∙◌, ◌⊎◌, inl, inr, arith}
 use Rattle.std.specs.List.{list_all, join_with_byte}
 use Rattle.std.specs.Char.{is_ascii_digit}
 use Rattle.std.proofs.lemmas.Bool.{and_parts, eqb-true}
-use Rattle.terms.specs.Naming.{are_groups, is_oid}
-use Rattle.definitions.specs.Grammar.{is_number, IsOid}
+use Rattle.terms.specs.Naming.{is_name, are_groups, is_oid, is_name_or_oid}
+use Rattle.definitions.specs.Grammar.{is_number, IsOid, IsNameOrOid}
 
 -- ---- numbers joined by dots are groups
 
@@ -100,3 +100,18 @@ groups due (b ∷ bs) h = step due b bs (is_ascii_digit b) (eqb b 46) refl refl 
 
 pub oid_only : (text : List ℕ) → is_oid text ≡ true → IsOid text
 oid_only text h = groups true text h
+
+-- ---- names and OIDs
+
+pub name_or_oid_found : (text : List ℕ) → IsNameOrOid text → is_name_or_oid text ≡ true
+name_or_oid_found text (inl name) = ap (λ (t : Bool). t || is_oid text) name
+name_or_oid_found text (inr oid) = by (is_name text) (oid_found text oid) where
+  by : (t : Bool) → is_oid text ≡ true → (t || is_oid text) ≡ true
+  by true h = refl
+  by false h = h
+
+pub name_or_oid_only : (text : List ℕ) → is_name_or_oid text ≡ true → IsNameOrOid text
+name_or_oid_only text h = by (is_name text) refl h where
+  by : (t : Bool) → is_name text ≡ t → (t || is_oid text) ≡ true → IsNameOrOid text
+  by true e h = inl e
+  by false e h = inr (oid_only text h)

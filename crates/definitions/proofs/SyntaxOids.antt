@@ -11,7 +11,7 @@ use Rattle.terms.specs.Naming.{are_groups, is_oid}
 use Rattle.definitions.specs.Words.{end_of}
 use Rattle.definitions.specs.TypeFields.{is_brace, is_closed, is_length, syntax_oid}
 use Rattle.definitions.specs.Grammar.{is_number, IsOid}
-use Rattle.definitions.specs.TypeGrammar.{IsLength}
+use Rattle.definitions.specs.TypeGrammar.{IsLength, IsSyntax}
 use Rattle.definitions.proofs.There.{IfThere, chosen}
 use Rattle.definitions.proofs.Ends.{Stops, rest_stops, run_front, run_rest}
 use Rattle.definitions.proofs.Oids.{oid_found, oid_only}
@@ -86,9 +86,9 @@ length_only (b ∷ bs) stops h =
 
 -- ---- the OID
 
-pub syntax_found : (name text : List ℕ) → IsOid name → (size : List ℕ) → IsLength size → text ≡ name ++ size → syntax_oid text ≡ Some name
+found : (name text : List ℕ) → IsOid name → (size : List ℕ) → IsLength size → text ≡ name ++ size → syntax_oid text ≡ Some name
 unfolding syntax_oid
-syntax_found name text oid size length_is is =
+found name text oid size length_is is =
     let bare = no_brace true name (oid_found name oid) in
     let stops = length_stops size length_is in
     let front : take (end_of is_brace text) text ≡ name = ap (λ (t : List ℕ). take (end_of is_brace t) t) is ∙ run_front is_brace name size bare stops in
@@ -98,13 +98,13 @@ syntax_found name text oid size length_is is =
       some_text : List ℕ → Option (List ℕ)
       some_text text = Some text
 
-abbrev IsSyntax : List ℕ → List ℕ → Type 0
-IsSyntax text name = IsOid name × ((length : List ℕ) × IsLength length × (text ≡ name ++ length))
+pub syntax_found : (oid text : List ℕ) → IsSyntax oid text → syntax_oid text ≡ Some oid
+syntax_found oid text is = found oid text is.0 is.1.0 is.1.1 is.1.2
 
-pub syntax_only : (text : List ℕ) → IfThere (IsSyntax text) (syntax_oid text)
+pub syntax_only : (text : List ℕ) → IfThere (λ oid. IsSyntax oid text) (syntax_oid text)
 unfolding syntax_oid
 syntax_only text =
     let n = end_of is_brace text in
-    chosen (IsSyntax text) (is_oid (take n text) && is_length (drop n text)) (Some (take n text)) None (λ e.
+    chosen (λ oid. IsSyntax oid text) (is_oid (take n text) && is_length (drop n text)) (Some (take n text)) None (λ e.
     let k = and_parts (is_oid (take n text)) (is_length (drop n text)) e in
     (oid_only (take n text) k.0, (drop n text, length_only (drop n text) (rest_stops is_brace text) k.1, sym (take-append-drop n text)))) (λ e. tt)

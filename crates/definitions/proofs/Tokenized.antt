@@ -1,17 +1,19 @@
 -- A token is read exactly where it stands.
-use Rattle.std.proofs.Common.{◌≡◌, ℕ, ◌+◌, ◌<◌, Bool, true, false, cond, not, ◌&&◌, eqb, ltb, List, [], ◌∷◌, ◌++◌, take, drop, length, get_or, Option, Some, None, inl, inr, refl, sym, ap, subst, ◌∙◌, append_assoc, arith}
+use Rattle.std.proofs.Common.{◌≡◌, ℕ, ◌+◌, ◌<◌, Bool, true, false, cond, not, ◌&&◌, eqb, ltb, List, [], ◌∷◌, ◌++◌, take, drop, length, get_or, Option, Some, None, ◌⊎◌, inl, inr, refl, sym, ap, subst, ◌∙◌, append_assoc, arith}
 use Rattle.std.specs.List.{list_all}
 use Rattle.std.proofs.lemmas.Bool.{and_parts, eqb-true, ltb-true, lt-ltb}
 use Rattle.std.proofs.lemmas.Bool.Decides.{nat_tests}
 use Rattle.std.proofs.lemmas.List.{take-append-drop, drop_more, length-append, length_push}
 use Rattle.std.proofs.Math.Seq.{drop-append_seam, take-append_seam}
 use Rattle.base.specs.Ends.{begins_with}
-use Rattle.definitions.specs.Words.{◌>>>◌, Cut, is_blank, is_no_blank, end_of, skip, ends_word, cut_word, word_at, sign_at, is_quote, cut_quoted, quoted_at, plain_or_quoted_at}
+use Rattle.definitions.specs.Words.{◌>>>◌, Cut, is_blank, is_no_blank, end_of, skip, ends_word, cut_word, word_at, sign_at, is_quote, cut_quoted, quoted_at, plain_or_quoted_at, named, plain_or_named_at}
+use Rattle.definitions.specs.Naming.{is_name_or_oid}
 use Rattle.definitions.specs.Texts.{name_at}
 use Rattle.definitions.specs.Tokens.{Token, Opening, Closing, Dollar, Quoted, Word, written, is_in_word, is_in_quotes, ends_here, CanStand, Begins}
-use Rattle.definitions.specs.Grammar.{IsName}
+use Rattle.definitions.specs.Grammar.{IsNameOrOid, IsName}
 use Rattle.definitions.proofs.There.{IfThere, chosen, bound, there, weaker}
 use Rattle.definitions.proofs.Ends.{Stops, front_passes, rest_stops, end_len, run_end, run_front, run_rest}
+use Rattle.definitions.proofs.Oids.{name_or_oid_found, name_or_oid_only}
 
 -- ---- blanks
 
@@ -205,6 +207,51 @@ quoted_only text =
 
 -- ---- a word, or a text in quotes
 
+-- a word is there, or one in quotes
+pub record EitherStands (text : List ℕ) (w : Cut) : Type 0 where
+  pub token : Token
+  pub is : (token ≡ Word w.0) ⊎ (token ≡ Quoted w.0)
+  pub begins : Begins text token w.1
+
+pub either_only : (text : List ℕ) → IfThere (EitherStands text) (plain_or_quoted_at text)
+unfolding plain_or_quoted_at
+either_only text =
+    chosen (EitherStands text) (begins_with 39 (skip text)) (quoted_at text) (word_at text)
+    (λ e. weaker (λ (w : Cut). Begins text (Quoted w.0) w.1) (EitherStands text) (quoted_at text) (λ w begins. record { token = Quoted w.0; is = inr refl; begins = begins }) (quoted_only text))
+    (λ e. weaker (λ (w : Cut). Begins text (Word w.0) w.1) (EitherStands text) (word_at text) (λ w begins. record { token = Word w.0; is = inl refl; begins = begins }) (word_only text))
+
+abbrev begun : (text : List ℕ) (rest : List ℕ) → Token → Type 0
+begun text rest token = Begins text token rest
+
+module _ (text word rest : List ℕ) where
+  no_quote : Begins text (Word word) rest → begins_with 39 (skip text) ≡ false
+  no_quote begins = ap (begins_with 39) (token_next text (Word word) rest begins) ∙ no_sign 39 word rest refl begins.stands
+
+  a_quote : Begins text (Quoted word) rest → begins_with 39 (skip text) ≡ true
+  a_quote begins = ap (begins_with 39) (token_next text (Quoted word) rest begins)
+
+  pub either_found : (token : Token) → (token ≡ Word word) ⊎ (token ≡ Quoted word) → Begins text token rest → plain_or_quoted_at text ≡ Some (word, rest)
+  unfolding plain_or_quoted_at
+  either_found token (inl e) begins =
+      let k = subst (begun text rest) e begins in
+      ap (λ (t : Bool). cond t (quoted_at text) (word_at text)) (no_quote k) ∙ word_found text word rest k
+  either_found token (inr e) begins =
+      let k = subst (begun text rest) e begins in
+      ap (λ (t : Bool). cond t (quoted_at text) (word_at text)) (a_quote k) ∙ quoted_found text word rest k
+
+  word_named : Begins text (Word word) rest → plain_or_named_at text ≡ Some (word, rest)
+  unfolding plain_or_named_at
+  word_named begins = ap (λ (t : Bool). cond t (quoted_at text >>> named) (word_at text)) (no_quote begins) ∙ word_found text word rest begins
+
+  quoted_named : IsNameOrOid word → Begins text (Quoted word) rest → plain_or_named_at text ≡ Some (word, rest)
+  unfolding plain_or_named_at
+  quoted_named is begins =
+      ap (λ (t : Bool). cond t (quoted_at text >>> named) (word_at text)) (a_quote begins)
+      ∙ ap (λ (o : Option Cut). o >>> named) (quoted_found text word rest begins)
+      ∙ ap (λ (t : Bool). cond t (Some (word, rest)) None) (name_or_oid_found word is)
+
+-- ---- a name
+
 -- a token there is the name, and behind it comes the rest
 pub record NameStands (quotes : Bool) (text : List ℕ) (w : Cut) : Type 0 where
   pub token : Token
@@ -214,49 +261,38 @@ pub record NameStands (quotes : Bool) (text : List ℕ) (w : Cut) : Type 0 where
 as_word : (quotes : Bool) (text : List ℕ) (w : Cut) → Begins text (Word w.0) w.1 → NameStands quotes text w
 as_word quotes text w begins = record { token = Word w.0; is = inl refl; begins = begins }
 
-as_quoted : (text : List ℕ) (w : Cut) → Begins text (Quoted w.0) w.1 → NameStands true text w
-as_quoted text w begins = record { token = Quoted w.0; is = inr (refl, refl); begins = begins }
+as_quoted : (text : List ℕ) (w : Cut) → IsNameOrOid w.0 → Begins text (Quoted w.0) w.1 → NameStands true text w
+as_quoted text w is begins = record { token = Quoted w.0; is = inr (refl, is, refl); begins = begins }
 
-pub either_only : (text : List ℕ) → IfThere (NameStands true text) (plain_or_quoted_at text)
-unfolding plain_or_quoted_at
-either_only text =
-    chosen (NameStands true text) (begins_with 39 (skip text)) (quoted_at text) (word_at text)
-    (λ e. weaker (λ (w : Cut). Begins text (Quoted w.0) w.1) (NameStands true text) (quoted_at text) (as_quoted text) (quoted_only text))
+pub named_only : (text : List ℕ) → IfThere (NameStands true text) (plain_or_named_at text)
+unfolding plain_or_named_at
+named_only text =
+    chosen (NameStands true text) (begins_with 39 (skip text)) (quoted_at text >>> named) (word_at text)
+    (λ e.
+    bound (NameStands true text) (quoted_at text) named (λ w f.
+    chosen (NameStands true text) (is_name_or_oid w.0) (Some w) None
+    (λ is. as_quoted text w (name_or_oid_only w.0 is) (there (λ (v : Cut). Begins text (Quoted v.0) v.1) (quoted_at text) w f (quoted_only text)))
+    (λ is. tt)))
     (λ e. weaker (λ (w : Cut). Begins text (Word w.0) w.1) (NameStands true text) (word_at text) (as_word true text) (word_only text))
 
 pub name_only : (quotes : Bool) (text : List ℕ) → IfThere (NameStands quotes text) (name_at quotes text)
-name_only true text = either_only text
+name_only true text = named_only text
 name_only false text = weaker (λ (w : Cut). Begins text (Word w.0) w.1) (NameStands false text) (word_at text) (as_word false text) (word_only text)
 
-word_plain : (text word rest : List ℕ) → Begins text (Word word) rest → plain_or_quoted_at text ≡ Some (word, rest)
-unfolding plain_or_quoted_at
-word_plain text word rest begins =
-    ap (λ (t : Bool). cond t (quoted_at text) (word_at text)) (ap (begins_with 39) (token_next text (Word word) rest begins) ∙ no_sign 39 word rest refl begins.stands)
-    ∙ word_found text word rest begins
-
-quoted_plain : (text word rest : List ℕ) → Begins text (Quoted word) rest → plain_or_quoted_at text ≡ Some (word, rest)
-unfolding plain_or_quoted_at
-quoted_plain text word rest begins =
-    ap (λ (t : Bool). cond t (quoted_at text) (word_at text)) (ap (begins_with 39) (token_next text (Quoted word) rest begins))
-    ∙ quoted_found text word rest begins
-
-abbrev begun : (text : List ℕ) (rest : List ℕ) → Token → Type 0
-begun text rest token = Begins text token rest
-
 word_name : (quotes : Bool) (text name rest : List ℕ) → Begins text (Word name) rest → name_at quotes text ≡ Some (name, rest)
-word_name true text name rest begins = word_plain text name rest begins
+word_name true text name rest begins = word_named text name rest begins
 word_name false text name rest begins = word_found text name rest begins
 
-quoted_name : (quotes : Bool) (text name rest : List ℕ) → quotes ≡ true → Begins text (Quoted name) rest → name_at quotes text ≡ Some (name, rest)
-quoted_name true text name rest may begins = quoted_plain text name rest begins
-quoted_name false text name rest may begins = absurd cc
+quoted_name : (quotes : Bool) (text name rest : List ℕ) → quotes ≡ true → IsNameOrOid name → Begins text (Quoted name) rest → name_at quotes text ≡ Some (name, rest)
+quoted_name true text name rest may is begins = quoted_named text name rest is begins
+quoted_name false text name rest may is begins = absurd cc
 
 pub name_found : (quotes : Bool) (text name rest : List ℕ) (token : Token) → IsName quotes name token → Begins text token rest → name_at quotes text ≡ Some (name, rest)
 name_found quotes text name rest token (inl e) begins = word_name quotes text name rest (subst (begun text rest) e begins)
-name_found quotes text name rest token (inr e) begins = quoted_name quotes text name rest e.0 (subst (begun text rest) e.1 begins)
+name_found quotes text name rest token (inr e) begins = quoted_name quotes text name rest e.0 e.1 (subst (begun text rest) e.2 begins)
 
 -- a name is no sign
 pub name_no_sign : (sign : ℕ) (quotes : Bool) (text name rest : List ℕ) (token : Token) → ends_word sign ≡ true → eqb 39 sign ≡ false → IsName quotes name token → Begins text token rest → sign_at sign text ≡ None
 name_no_sign sign quotes text name rest token e f (inl is) begins = word_no_sign sign text name rest e (subst (begun text rest) is begins)
 name_no_sign sign quotes text name rest token e f (inr is) begins =
-    sign_is text (Quoted name) rest (subst (begun text rest) is.1 begins) sign ∙ ap (λ (t : Bool). cond t (Some ((name ++ 39 ∷ []) ++ rest)) None) f
+    sign_is text (Quoted name) rest (subst (begun text rest) is.2 begins) sign ∙ ap (λ (t : Bool). cond t (Some ((name ++ 39 ∷ []) ++ rest)) None) f

@@ -11,15 +11,15 @@ use Rattle.definitions.specs.declared.type_field.Usage.{Usage}
 use Rattle.definitions.specs.declared.type_field.Usage.TheVariants as usages
 use Rattle.definitions.specs.declared.type_field.TypeField.{TypeField}
 use Rattle.definitions.specs.declared.type_field.TypeField.TheVariants as fields
-use Rattle.definitions.specs.Words.{◌>>>◌, Cut, word_at, plain_or_quoted_at}
+use Rattle.definitions.specs.Words.{◌>>>◌, Cut, word_at, plain_or_quoted_at, plain_or_named_at}
 use Rattle.definitions.specs.Elements as elements
 use Rattle.definitions.specs.Elements.{is_word, element_field}
-use Rattle.definitions.specs.TypeFields.{Read, reference_of, flag_of, usage_of, referred, refer, usage_field, of_element, other_field, or_flag, or_reference, field_of, field_at}
+use Rattle.definitions.specs.TypeFields.{Read, reference_of, flag_of, usage_of, syntax_oid, without_length, referred_at, refer, usage_field, of_element, other_field, or_flag, or_reference, field_of, field_at}
 use Rattle.definitions.specs.Tokens.{Token, Word, Begins, AreTokens}
-use Rattle.definitions.specs.Grammar.{Headed, IsNothing, IsElementField}
-use Rattle.definitions.specs.TypeGrammar.{reference_word, flag_word, usage_word, IsReferred, IsReference, IsTypeField}
-use Rattle.definitions.proofs.There.{IfThere, chosen, bound, there}
-use Rattle.definitions.proofs.Tokenized.{NameStands, shorter, word_found, word_only, name_found, either_only}
+use Rattle.definitions.specs.Grammar.{Headed, IsNothing, IsName, IsElementField}
+use Rattle.definitions.specs.TypeGrammar.{reference_word, flag_word, usage_word, IsSyntax, IsReferred, IsReference, IsTypeField}
+use Rattle.definitions.proofs.There.{IfThere, chosen, bound, there, weaker}
+use Rattle.definitions.proofs.Tokenized.{EitherStands, NameStands, shorter, word_found, word_only, either_found, either_only, name_found, named_only}
 use Rattle.definitions.proofs.Keywords.{lowered, ElementWord, element_word_apart}
 use Rattle.definitions.proofs.ElementFields.{FieldReads, Headline, headline, no_end, nothing_more, ElementReads, element_found, Stands, element_only}
 use Rattle.definitions.proofs.SyntaxOids.{syntax_found, syntax_only}
@@ -99,7 +99,7 @@ module _ (text word rest : List ℕ) (begins : Begins text (Word word) rest) whe
   abbrev inner : Option Read
   inner = or_flag (flag_of word) rest (other_field word rest)
 
-  at_reference : (reference : Reference) → reference_of word ≡ Some reference → field_at text ≡ (plain_or_quoted_at rest >>> refer reference)
+  at_reference : (reference : Reference) → reference_of word ≡ Some reference → field_at text ≡ (referred_at reference rest >>> refer reference)
   at_reference reference e = at_word ∙ ap (λ (o : Option Reference). or_reference o rest inner) e
 
   at_flag : (flag : Flag) → reference_of word ≡ None → flag_of word ≡ Some flag → field_at text ≡ Some (fields.Flag flag, rest)
@@ -140,36 +140,34 @@ flag_type flag text tokens h =
       on = no_end text h.word h.rest h.begins;
     }
 
-referred_found : (reference : Reference) (name text : List ℕ) → IsReferred reference name text → referred reference text ≡ Some name
-unfolding referred
-referred_found references.Superior name text e = ap (λ (t : List ℕ). some_text t) e where
-  some_text : List ℕ → Option (List ℕ)
-  some_text t = Some t
-referred_found references.Equality name text e = ap (λ (t : List ℕ). some_text t) e where
-  some_text : List ℕ → Option (List ℕ)
-  some_text t = Some t
-referred_found references.Ordering name text e = ap (λ (t : List ℕ). some_text t) e where
-  some_text : List ℕ → Option (List ℕ)
-  some_text t = Some t
-referred_found references.Substrings name text e = ap (λ (t : List ℕ). some_text t) e where
-  some_text : List ℕ → Option (List ℕ)
-  some_text t = Some t
-referred_found references.Syntax name text e = syntax_found name text e.0 e.1.0 e.1.1 e.1.2
+-- one token is read, and behind it come the others
+abbrev Referred : Reference → List ℕ → List ℕ → List ℕ → Type 0
+Referred reference text name rest = referred_at reference text ≡ Some (name, rest)
 
-abbrev read_as : Reference → List ℕ → Option (List ℕ) → Option Read
-read_as reference rest name = (name >>> λ name. Some (fields.Reference reference name)) >>> λ field. Some (field, rest)
+syntax_at : (text oid rest : List ℕ) (token : Token) → IsReferred references.Syntax oid token → Begins text token rest → Referred references.Syntax text oid rest
+unfolding referred_at
+syntax_at text oid rest token is begins =
+    ap (λ (o : Option Cut). o >>> without_length) (either_found text is.0 rest token is.2 begins)
+    ∙ ap (λ (o : Option (List ℕ)). o >>> λ oid. Some (oid, rest)) (syntax_found oid is.0 is.1)
+
+referred_found : (reference : Reference) (text name rest : List ℕ) (token : Token) → IsReferred reference name token → Begins text token rest → Referred reference text name rest
+unfolding referred_at
+referred_found references.Superior text name rest token is begins = name_found true text name rest token is begins
+referred_found references.Equality text name rest token is begins = name_found true text name rest token is begins
+referred_found references.Ordering text name rest token is begins = name_found true text name rest token is begins
+referred_found references.Substrings text name rest token is begins = name_found true text name rest token is begins
+referred_found references.Syntax text name rest token is begins = syntax_at text name rest token is begins
 
 reference_type : (reference : Reference) (name text : List ℕ) (tokens : List Token) → Headline (reference_word reference) (IsReference reference name) tokens text → TypeReads (fields.Reference reference name) text tokens
 reference_type reference name text tokens h =
     let form = h.form in
-    let k = subst (λ (ts : List Token). AreTokens (ts ++ tokens) h.rest) form.4 h.left in
+    let k = subst (λ (ts : List Token). AreTokens (ts ++ tokens) h.rest) form.2 h.left in
     record {
       reads = record {
         rest = k.0;
         is = at_reference text h.word h.rest h.begins reference (same_reference (reference_word reference) h.word h.same ∙ reference_known reference)
-            ∙ ap (λ (o : Option Cut). o >>> refer reference) (name_found true h.rest form.0 k.0 form.1 form.3 k.1)
-            ∙ ap (read_as reference k.0) (referred_found reference name form.0 form.2);
-        fewer = omega (arith, shorter text (Word h.word) h.rest h.begins, shorter h.rest form.1 k.0 k.1);
+            ∙ ap (λ (o : Option Cut). o >>> refer reference) (referred_found reference h.rest name k.0 form.0 form.1 k.1);
+        fewer = omega (arith, shorter text (Word h.word) h.rest h.begins, shorter h.rest form.0 k.0 k.1);
         left = k.2;
       };
       on = no_end text h.word h.rest h.begins;
@@ -228,25 +226,41 @@ usage_is word =
     chosen P (is_word (codes "distributedOperation") word) (Some usages.DistributedOperation) _ (λ e. e) (λ e.
     chosen P (is_word (codes "dSAOperation") word) (Some usages.DsaOperation) None (λ e. e) (λ e. tt))))
 
-referred_only : (reference : Reference) (text : List ℕ) → IfThere (λ name. IsReferred reference name text) (referred reference text)
-unfolding referred
-referred_only references.Superior text = refl
-referred_only references.Equality text = refl
-referred_only references.Ordering text = refl
-referred_only references.Substrings text = refl
-referred_only references.Syntax text = syntax_only text
+record ReferredStands (reference : Reference) (text : List ℕ) (w : Cut) : Type 0 where
+  token : Token
+  is : IsReferred reference w.0 token
+  begins : Begins text token w.1
+
+syntax_stands : (text : List ℕ) (part : Cut) → EitherStands text part → IfThere (ReferredStands references.Syntax text) (without_length part)
+syntax_stands text part stands = by (syntax_oid part.0) (syntax_only part.0) where
+  by : (oid : Option (List ℕ)) → IfThere (λ oid. IsSyntax oid part.0) oid → IfThere (ReferredStands references.Syntax text) (oid >>> λ oid. Some (oid, part.1))
+  by None h = tt
+  by (Some oid) h = record { token = stands.token; is = (part.0, h, stands.is); begins = stands.begins }
+
+name_stands : (reference : Reference) (text : List ℕ) → ((name : List ℕ) (token : Token) → IsName true name token → IsReferred reference name token) → IfThere (ReferredStands reference text) (plain_or_named_at text)
+name_stands reference text as_name = weaker (NameStands true text) (ReferredStands reference text) (plain_or_named_at text) (λ w stands.
+    record { token = stands.token; is = as_name w.0 stands.token stands.is; begins = stands.begins }) (named_only text)
+
+referred_only : (reference : Reference) (text : List ℕ) → IfThere (ReferredStands reference text) (referred_at reference text)
+unfolding referred_at
+referred_only references.Superior text = name_stands references.Superior text (λ name token is. is)
+referred_only references.Equality text = name_stands references.Equality text (λ name token is. is)
+referred_only references.Ordering text = name_stands references.Ordering text (λ name token is. is)
+referred_only references.Substrings text = name_stands references.Substrings text (λ name token is. is)
+referred_only references.Syntax text =
+    bound (ReferredStands references.Syntax text) (plain_or_quoted_at text) without_length (λ part e.
+    syntax_stands text part (there (EitherStands text) (plain_or_quoted_at text) part e (either_only text)))
 
 module _ (text : List ℕ) (w : Cut) (begins : Begins text (Word w.0) w.1) where
   abbrev Field : Read → Type 0
   Field read = Stands IsTypeField text read
 
-  by_name : (reference : Reference) (part : Cut) → is_word (reference_word reference) w.0 ≡ true → NameStands true w.1 part → (name : Option (List ℕ)) → IfThere (λ name. IsReferred reference name part.0) name → IfThere Field (read_as reference part.1 name)
-  by_name reference part same stands None h = tt
-  by_name reference part same stands (Some name) h =
+  by_name : (reference : Reference) (name : Cut) → is_word (reference_word reference) w.0 ≡ true → ReferredStands reference w.1 name → Stands IsTypeField text (fields.Reference reference name.0, name.1)
+  by_name reference name same stands =
       record {
         front = Word w.0 ∷ stands.token ∷ [];
-        is = record { text = w.0; rest = stands.token ∷ []; tokens_are = refl; same = same; behind = (part.0, stands.token, h, stands.is, refl) };
-        behind = λ tokens left. (w.1, begins, (part.1, stands.begins, left));
+        is = record { text = w.0; rest = stands.token ∷ []; tokens_are = refl; same = same; behind = (stands.token, stands.is, refl) };
+        behind = λ tokens left. (w.1, begins, (name.1, stands.begins, left));
       }
 
   by_usage : (part : Cut) → is_word (codes "USAGE") w.0 ≡ true → Begins w.1 (Word part.0) part.1 → (usage : Option Usage) → IfThere (λ usage. is_word (usage_word usage) part.0 ≡ true) usage → IfThere Field (used part.1 usage)
@@ -282,8 +296,8 @@ module _ (text : List ℕ) (w : Cut) (begins : Begins text (Word w.0) w.1) where
       → IfThere Field (or_reference reference w.1 (or_flag (flag_of w.0) w.1 (other_field w.0 w.1)))
   by_reference None h = by_flag (flag_of w.0) (flag_is w.0)
   by_reference (Some reference) h =
-      bound Field (plain_or_quoted_at w.1) (refer reference) (λ part e.
-      by_name reference part h (there (NameStands true w.1) (plain_or_quoted_at w.1) part e (either_only w.1)) (referred reference part.0) (referred_only reference part.0))
+      bound Field (referred_at reference w.1) (refer reference) (λ name e.
+      by_name reference name h (there (ReferredStands reference w.1) (referred_at reference w.1) name e (referred_only reference w.1)))
 
   pub at_word_only : IfThere Field (field_of w)
   at_word_only = by_reference (reference_of w.0) (reference_is w.0)

@@ -7,6 +7,7 @@ use Rattle.definitions.specs.declared.element.Sort.{Sort}
 use Rattle.definitions.specs.declared.element.Element.{Element}
 use Rattle.definitions.specs.declared.element.ElementField.{ElementField}
 use Rattle.definitions.specs.declared.element.ElementField.TheVariants as fields
+use Rattle.definitions.specs.Naming.{is_name}
 use Rattle.definitions.specs.Elements.{is_word, is_allowed, is_some_list}
 use Rattle.definitions.specs.Tokens.{Token, Opening, Closing, Quoted, Word, AreTokens}
 
@@ -66,9 +67,14 @@ pub record IsExtension (name : List ℕ) (tokens : List Token) : Type 0 where
   pub name_is : is_extension_name name ≡ true
   pub texts : AreSomeTexts rest
 
--- what is to be a name or an OID stands bare; or in quotes, where it may. Whether it names anything is said elsewhere
+-- (RFC 4512, 1.4: oid)
+abbrev pub IsNameOrOid : List ℕ → Type 0
+IsNameOrOid text = (is_name text ≡ true) ⊎ IsOid text
+
+-- what is to be a name or an OID stands bare, as any word; in quotes, where it may stand so, it is one. Whether it names anything is
+-- said elsewhere
 abbrev pub IsName : Bool → List ℕ → Token → Type 0
-IsName quotes name token = (token ≡ Word name) ⊎ ((quotes ≡ true) × (token ≡ Quoted name))
+IsName quotes name token = (token ≡ Word name) ⊎ ((quotes ≡ true) × IsNameOrOid name × (token ≡ Quoted name))
 
 -- ---- fields
 

@@ -1,7 +1,7 @@
 -- Lists of names in a definition (RFC 4512, 4.1).
 use Rattle.std.specs.Prelude.{ℕ, Bool, if◌then◌else◌, List, [], ◌∷◌, Option, Some, None}
 use Rattle.base.specs.Ascii.{dollar_sign, left_parenthesis, right_parenthesis}
-use Rattle.definitions.specs.Words.{◌>>>◌, Cut, sign_at, word_at, quoted_at, plain_or_quoted_at}
+use Rattle.definitions.specs.Words.{◌>>>◌, Cut, sign_at, word_at, quoted_at, plain_or_named_at}
 
 abbrev pub Cuts : Type 0
 Cuts = List (List ℕ) × List ℕ
@@ -35,9 +35,9 @@ quoted_texts_at text = in_parentheses (sign_at left_parenthesis text) (quoted_at
 
 -- ---- lists with `$` between
 
--- a word; or one in quotes, where it may be
+-- a word; or in quotes, where it may stand so, a name or an OID
 abbrev pub name_at : Bool → List ℕ → Option Cut
-name_at quotes text = if quotes then plain_or_quoted_at text else word_at text
+name_at quotes text = if quotes then plain_or_named_at text else word_at text
 
 -- `$` and a name
 abbrev pub next_name_at : Bool → List ℕ → Option Cut

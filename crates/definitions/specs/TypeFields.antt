@@ -14,7 +14,7 @@ use Rattle.definitions.specs.declared.type_field.TypeField.{TypeField}
 use Rattle.definitions.specs.declared.type_field.TypeField.TheVariants as fields
 use Rattle.terms.specs.Naming.{is_oid}
 use Rattle.base.specs.Ends.{begins_with}
-use Rattle.definitions.specs.Words.{◌>>>◌, Cut, end_of, word_at, plain_or_quoted_at}
+use Rattle.definitions.specs.Words.{◌>>>◌, Cut, end_of, word_at, plain_or_quoted_at, plain_or_named_at}
 use Rattle.definitions.specs.Elements as elements
 use Rattle.definitions.specs.Elements.{is_word, element_field}
 
@@ -62,21 +62,22 @@ unfoldable pub syntax_oid : List ℕ → Option (List ℕ)
 syntax_oid text =
     if is_oid (take (end_of is_brace text) text) && is_length (drop (end_of is_brace text) text) then Some (take (end_of is_brace text) text) else None
 
-unfoldable pub referred : Reference → List ℕ → Option (List ℕ)
-referred references.Syntax text = syntax_oid text
-referred references.Superior text = Some text
-referred references.Equality text = Some text
-referred references.Ordering text = Some text
-referred references.Substrings text = Some text
+abbrev pub without_length : Cut → Option Cut
+without_length part = syntax_oid part.0 >>> λ oid. Some (oid, part.1)
+
+-- in quotes stands a name or an OID; behind SYNTAX an OID, with its length
+unfoldable pub referred_at : Reference → List ℕ → Option Cut
+referred_at references.Syntax text = plain_or_quoted_at text >>> without_length
+referred_at references.Superior text = plain_or_named_at text
+referred_at references.Equality text = plain_or_named_at text
+referred_at references.Ordering text = plain_or_named_at text
+referred_at references.Substrings text = plain_or_named_at text
 
 abbrev pub Read : Type 0
 Read = TypeField × List ℕ
 
-abbrev pub reference_field : Reference → List ℕ → Option TypeField
-reference_field reference text = referred reference text >>> λ name. Some (fields.Reference reference name)
-
 abbrev pub refer : Reference → Cut → Option Read
-refer reference part = reference_field reference part.0 >>> λ field. Some (field, part.1)
+refer reference name = Some (fields.Reference reference name.0, name.1)
 
 abbrev pub usage_field : Cut → Option Read
 usage_field part = usage_of part.0 >>> λ usage. Some (fields.Usage usage, part.1)
@@ -96,7 +97,7 @@ or_flag (Some flag) rest other = Some (fields.Flag flag, rest)
 
 abbrev pub or_reference : Option Reference → List ℕ → Option Read → Option Read
 or_reference None rest other = other
-or_reference (Some reference) rest other = plain_or_quoted_at rest >>> refer reference
+or_reference (Some reference) rest other = referred_at reference rest >>> refer reference
 
 abbrev pub field_of : Cut → Option Read
 field_of word = or_reference (reference_of word.0) word.1 (or_flag (flag_of word.0) word.1 (other_field word.0 word.1))

@@ -13,7 +13,7 @@ use Rattle.definitions.specs.declared.type_field.TypeField.{TypeField}
 use Rattle.definitions.specs.declared.type_field.TypeField.TheVariants as fields
 use Rattle.definitions.specs.declared.type_definition.TypeDefinition.{TypeDefinition}
 use Rattle.definitions.specs.Elements.{is_some_list}
-use Rattle.definitions.specs.Tokens.{Token}
+use Rattle.definitions.specs.Tokens.{Token, Quoted, Word}
 use Rattle.definitions.specs.Grammar.{is_number, IsOid, Headed, IsNothing, IsName, element_word, IsElementField, IsDefinition, AreApart, first, said, extensions_in, element_said}
 
 -- ---- fields
@@ -48,15 +48,19 @@ abbrev pub IsLength : List ℕ → Type 0
 IsLength text = (text ≡ []) ⊎ ((number : List ℕ) × (is_number number ≡ true) × (text ≡ left_brace ∷ (number ++ right_brace ∷ [])))
 
 -- a syntax is stated by its OID, and perhaps a length, which isn't kept
-abbrev pub IsReferred : Reference → List ℕ → List ℕ → Type 0
-IsReferred references.Superior name text = text ≡ name
-IsReferred references.Equality name text = text ≡ name
-IsReferred references.Ordering name text = text ≡ name
-IsReferred references.Substrings name text = text ≡ name
-IsReferred references.Syntax name text = IsOid name × ((length : List ℕ) × IsLength length × (text ≡ name ++ length))
+abbrev pub IsSyntax : List ℕ → List ℕ → Type 0
+IsSyntax oid text = IsOid oid × ((length : List ℕ) × IsLength length × (text ≡ oid ++ length))
+
+-- bare or in quotes
+abbrev pub IsReferred : Reference → List ℕ → Token → Type 0
+IsReferred references.Superior name token = IsName true name token
+IsReferred references.Equality name token = IsName true name token
+IsReferred references.Ordering name token = IsName true name token
+IsReferred references.Substrings name token = IsName true name token
+IsReferred references.Syntax oid token = (text : List ℕ) × IsSyntax oid text × ((token ≡ Word text) ⊎ (token ≡ Quoted text))
 
 abbrev pub IsReference : Reference → List ℕ → List Token → Type 0
-IsReference reference name tokens = (text : List ℕ) × (token : Token) × IsReferred reference name text × IsName true text token × (tokens ≡ token ∷ [])
+IsReference reference name tokens = (token : Token) × IsReferred reference name token × (tokens ≡ token ∷ [])
 
 abbrev pub IsTypeField : TypeField → List Token → Type 0
 IsTypeField (fields.Element field) tokens = IsElementField sorts.AttributeType field tokens

@@ -2,6 +2,7 @@
 use Rattle.std.specs.Prelude.{ℕ, ◌+◌, Bool, not, ◌||◌, ◌==◌, nat_lt, if◌then◌else◌, List, take, drop, length, position, unwrap_or, Option, Some, None}
 use Rattle.base.specs.Ascii.{tab, space, dollar_sign, apostrophe, left_parenthesis, right_parenthesis}
 use Rattle.base.specs.Ends.{begins_with}
+use Rattle.definitions.specs.Naming.{is_name_or_oid}
 
 infixl 10 ◌>>>◌
 abbrev pub ◌>>>◌ : {A B : Type 0} → Option A → (A → Option B) → Option B
@@ -61,3 +62,10 @@ quoted_at text = sign_at apostrophe text >>> λ inside. cut_quoted (end_of is_qu
 -- a word, or a text in quotes
 unfoldable pub plain_or_quoted_at : List ℕ → Option Cut
 plain_or_quoted_at text = if begins_with apostrophe (skip text) then quoted_at text else word_at text
+
+abbrev pub named : Cut → Option Cut
+named part = if is_name_or_oid part.0 then Some part else None
+
+-- a word; or in quotes, a name or an OID
+unfoldable pub plain_or_named_at : List ℕ → Option Cut
+plain_or_named_at text = if begins_with apostrophe (skip text) then (quoted_at text >>> named) else word_at text

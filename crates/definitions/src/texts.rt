@@ -7,7 +7,7 @@ ghost use Rattle.definitions.specs.Texts.{to_close, quoted_texts_at, name_at, ne
 ghost use Rattle.definitions.specs.Gives.{Gives};
 
 use crate::fault::DefinitionFault;
-use crate::words::{plain_or_quoted_at, quoted_at, sign_at, word_at};
+use crate::words::{plain_or_named_at, quoted_at, sign_at, word_at};
 use base::{Bytes, Sequence};
 use std::alloc::{AllocError, Global};
 
@@ -64,7 +64,7 @@ fn name_at(quotes: bool, text: &[u8]) -> Option<(&[u8], &[u8])>
     ensures { option_map (λ w. (w.0.now, w.1.now)) result ≡ name_at quotes text.now }
 {
     if quotes {
-        plain_or_quoted_at(text)
+        plain_or_named_at(text)
     } else {
         word_at(text)
     }

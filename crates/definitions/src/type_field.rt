@@ -6,12 +6,12 @@ ghost use Rattle.std.specs.List.{list_all};
 ghost use Rattle.std.specs.Char.{is_ascii_digit};
 ghost use Rattle.definitions.specs.Words.{◌>>>◌, word_at, plain_or_quoted_at};
 ghost use Rattle.definitions.specs.declared.type_field.TypeField.TheVariants as fields;
-ghost use Rattle.definitions.specs.TypeFields.{reference_of, flag_of, usage_of, is_brace, is_closed, is_length, syntax_oid, referred, reference_field, usage_field, refer, other_field, field_of, field_at};
+ghost use Rattle.definitions.specs.TypeFields.{reference_of, flag_of, usage_of, is_brace, is_closed, is_length, syntax_oid, without_length, referred_at, usage_field, refer, other_field, field_of, field_at};
 ghost use Rattle.definitions.specs.Gives.{Gives};
 
 use crate::element::{ElementField, Sort, element_field};
 use crate::fault::DefinitionFault;
-use crate::words::{plain_or_quoted_at, word_at};
+use crate::words::{plain_or_named_at, plain_or_quoted_at, word_at};
 use base::Bytes;
 use std::alloc::Global;
 use terms::is_oid;
@@ -160,26 +160,21 @@ fn syntax_oid(text: &[u8]) -> Option<&[u8]>
     }
 }
 
-#[tactic(auto, unfolding(crate::specs::TypeFields::referred))]
-fn referred(reference: Reference, text: &[u8]) -> Option<&[u8]>
-    ensures { option_map (λ name. name.now) result ≡ referred reference text.now }
+fn syntax_at(text: &[u8]) -> Option<(&[u8], &[u8])>
+    ensures { option_map (λ w. (w.0.now, w.1.now)) result ≡ (plain_or_quoted_at text.now >>> without_length) }
 {
-    match reference {
-        Reference::Syntax => syntax_oid(text),
-        _ => Some(text),
-    }
+    let (syntax, rest) = plain_or_quoted_at(text)?;
+    Some((syntax_oid(syntax)?, rest))
 }
 
-fn reference_field(
-    alloc: Global,
-    reference: Reference,
-    text: &[u8],
-) -> Result<TypeField, DefinitionFault>
-    ensures { Gives (λ field. field) result (reference_field reference text.now) }
+// the name or OID that stands there, and what follows it
+#[tactic(auto, unfolding(crate::specs::TypeFields::referred_at))]
+fn referred_at(reference: Reference, text: &[u8]) -> Option<(&[u8], &[u8])>
+    ensures { option_map (λ w. (w.0.now, w.1.now)) result ≡ referred_at reference text.now }
 {
-    match referred(reference, text) {
-        Some(name) => Ok(TypeField::Reference(reference, Bytes::from_slice(alloc, name)?)),
-        None => Err(DefinitionFault::Form),
+    match reference {
+        Reference::Syntax => syntax_at(text),
+        _ => plain_or_named_at(text),
     }
 }
 
@@ -219,12 +214,13 @@ fn refer(
     reference: Reference,
     text: &[u8],
 ) -> Result<(TypeField, &[u8]), DefinitionFault>
-    ensures { Gives (λ x. (x.0, x.1.now)) result (plain_or_quoted_at text.now >>> refer reference) }
+    ensures { Gives (λ x. (x.0, x.1.now)) result (referred_at reference text.now >>> refer reference) }
 {
-    let Some((name, rest)) = plain_or_quoted_at(text) else {
+    let Some((name, rest)) = referred_at(reference, text) else {
         return Err(DefinitionFault::Form);
     };
-    Ok((reference_field(alloc, reference, name)?, rest))
+    let name = Bytes::from_slice(alloc, name)?;
+    Ok((TypeField::Reference(reference, name), rest))
 }
 
 fn field_of<'a>(

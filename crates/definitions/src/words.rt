@@ -2,8 +2,9 @@
 
 ghost use Rattle.std.specs.Prelude.{◌≡◌, ◌<◌, IfSome, length, position};
 ghost use Rattle.std.specs.Option.{option_map};
-ghost use Rattle.definitions.specs.Words.{is_blank, is_no_blank, end_of, skip, first_word, after_word, ends_word, word_at, sign_at, is_quote, cut_quoted, quoted_at, plain_or_quoted_at};
+ghost use Rattle.definitions.specs.Words.{is_blank, is_no_blank, end_of, skip, first_word, after_word, ends_word, word_at, sign_at, is_quote, cut_quoted, quoted_at, plain_or_quoted_at, plain_or_named_at, named, ◌>>>◌};
 
+use crate::naming::is_name_or_oid;
 use base::begins_with;
 
 fn is_blank(b: u8) -> bool
@@ -117,6 +118,27 @@ pub(crate) fn plain_or_quoted_at(text: &[u8]) -> Option<(&[u8], &[u8])>
 {
     if begins_with(skip(text), b'\'') {
         quoted_at(text)
+    } else {
+        word_at(text)
+    }
+}
+
+fn named_at(text: &[u8]) -> Option<(&[u8], &[u8])>
+    ensures { option_map (λ w. (w.0.now, w.1.now)) result ≡ (quoted_at text.now >>> named) }
+{
+    match quoted_at(text) {
+        Some((name, rest)) if is_name_or_oid(name) => Some((name, rest)),
+        _ => None,
+    }
+}
+
+/// A word, or a name or an OID between two quotes, and what follows it.
+#[tactic(auto, unfolding(crate::specs::Words::plain_or_named_at))]
+pub(crate) fn plain_or_named_at(text: &[u8]) -> Option<(&[u8], &[u8])>
+    ensures { option_map (λ w. (w.0.now, w.1.now)) result ≡ plain_or_named_at text.now }
+{
+    if begins_with(skip(text), b'\'') {
+        named_at(text)
     } else {
         word_at(text)
     }

@@ -34,3 +34,6 @@ are_groups due (b ∷ bs) = if is_ascii_digit b then are_groups false bs else (b
 
 abbrev pub is_oid : List ℕ → Bool
 is_oid text = are_groups true text
+
+abbrev pub is_name_or_oid : List ℕ → Bool
+is_name_or_oid text = is_name text || is_oid text

@@ -5,4 +5,4 @@ mod class_kind;
 mod naming;
 
 pub use class_kind::ClassKind;
-pub use naming::{is_name, is_oid, is_type_name};
+pub use naming::{is_name, is_name_or_oid, is_oid, is_type_name};

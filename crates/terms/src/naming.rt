@@ -2,7 +2,7 @@
 
 ghost use Rattle.std.specs.Prelude.{◌≡◌};
 ghost use Rattle.std.specs.List.{list_all};
-ghost use Rattle.terms.specs.Naming.{is_name_byte, is_name, is_reserved, is_type_name, due_after, is_oid};
+ghost use Rattle.terms.specs.Naming.{is_name_byte, is_name, is_reserved, is_type_name, due_after, is_oid, is_name_or_oid};
 
 fn are_name_bytes(text: &[u8]) -> bool
     ensures { result ≡ list_all is_name_byte text.now }
@@ -61,4 +61,11 @@ pub fn is_oid(text: &[u8]) -> bool
         }
     }
     !due
+}
+
+/// Whether a text may name a type, a class or a rule: as a name or as a numeric OID.
+pub(crate) fn is_name_or_oid(text: &[u8]) -> bool
+    ensures { result ≡ is_name_or_oid text.now }
+{
+    is_name(text) || is_oid(text)
 }
