@@ -5,4 +5,5 @@ pub mod Texts
 pub mod Digits
 pub mod Stretches
 pub mod ValidBytes
+pub mod SpelledIntegers
 pub mod Examples

@@ -1,5 +1,6 @@
 pub mod Syntaxes
 pub mod Integers
+pub mod IntegerTexts
 pub mod Forms
 pub mod Orders
 pub mod Differences

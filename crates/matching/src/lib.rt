@@ -13,7 +13,7 @@ mod substrings;
 mod syntax;
 
 pub use family::Family;
-pub use laws::{normal_forms_stay, valid_values_are_bytes};
+pub use laws::{integers_are_spelled, normal_forms_stay, valid_values_are_bytes};
 pub use normal::{Form, normal_form};
 pub use order::is_less;
 pub use substrings::{Pieces, contains_pieces};
