@@ -22,6 +22,7 @@ pub mod NameLists
 pub mod ClassFieldsRead
 pub mod ClassSaid
 pub mod ClassesRead
+pub mod LinesStand
 pub mod Examples
 pub mod Reordered
 pub mod TypesReordered

@@ -1,5 +1,6 @@
 pub mod Words
 pub mod Lines
+pub mod LineGrammar
 pub mod Gives
 pub mod Texts
 pub mod Elements

@@ -4,6 +4,9 @@ ghost use Rattle.std.specs.Prelude.{◌≡◌, ℕ, true, Some, List};
 ghost use Rattle.std.specs.List.{list_all};
 ghost use Rattle.definitions.specs.declared.class_definition.ClassDefinition.{ClassDefinition};
 ghost use Rattle.definitions.specs.declared.type_definition.TypeDefinition.{TypeDefinition};
+ghost use Rattle.definitions.specs.declared.lines.Line.{Line};
+ghost use Rattle.definitions.specs.Lines.{lines_of};
+ghost use Rattle.definitions.specs.LineGrammar.{AreLines};
 ghost use Rattle.terms.specs.Naming.{is_oid, is_type_name};
 ghost use Rattle.definitions.specs.TypeDefinitions.{type_definition_of};
 ghost use Rattle.definitions.specs.TypeGrammar.{IsTypeField, SpellsType, AreTypeFieldsMoved};
@@ -36,4 +39,10 @@ pub fn spelled_classes_are_read()
 pub fn fields_stand_in_any_order()
     ensures types { (text other oid : List ℕ) (fields others : List TypeField) → IsDefinition IsTypeField text oid fields → IsDefinition IsTypeField other oid others → AreTypeFieldsMoved fields others → type_definition_of text ≡ type_definition_of other }
     ensures classes { (text other oid : List ℕ) (fields others : List ClassField) → IsDefinition IsClassField text oid fields → IsDefinition IsClassField other oid others → AreClassFieldsMoved fields others → class_definition_of text ≡ class_definition_of other }
+{}
+
+/// The lines of a text are those that stand there: each stands between ends of lines, with the lines that it goes on on.
+pub fn lines_stand_in_texts()
+    ensures only { (text : List ℕ) → AreLines text (lines_of text) }
+    ensures found { (text : List ℕ) (lines : List Line) → AreLines text lines → lines_of text ≡ lines }
 {}

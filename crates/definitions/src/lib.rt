@@ -17,8 +17,8 @@ pub use class_definition::{ClassDefinition, read_class_definition};
 pub use element::Element;
 pub use fault::DefinitionFault;
 pub use laws::{
-    defined_types_have_names, fields_stand_in_any_order, spelled_classes_are_read,
-    spelled_types_are_read,
+    defined_types_have_names, fields_stand_in_any_order, lines_stand_in_texts,
+    spelled_classes_are_read, spelled_types_are_read,
 };
 pub use lines::{Line, lines_of};
 pub use type_definition::{TypeDefinition, read_type_definition};
