@@ -3,3 +3,4 @@ pub mod LastByte
 pub mod Each
 pub mod Through
 pub mod Bound
+pub mod Extended

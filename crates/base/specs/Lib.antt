@@ -1,3 +1,4 @@
 pub mod Ascii
 pub mod Ends
 pub mod Answers
+pub mod Extends

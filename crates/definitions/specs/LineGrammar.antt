@@ -31,7 +31,7 @@ IsIndented part = (blank : ℕ) × (rest : List ℕ) × ((blank ≡ space) ⊎ (
 abbrev pub said : List ℕ → List (List ℕ) → List ℕ
 said first further = first ++ flat_map (λ part. space ∷ drop 1 part) further
 
--- no part goes on behind an empty one, and behind any other none that isn't indented
+-- further parts are indented, and the first isn't empty
 abbrev pub Continues : List ℕ → List (List ℕ) → Type 0
 Continues first [] = Unit {0}
 Continues first (part ∷ parts) = (0 < length first) × AllByRecursion IsIndented (part ∷ parts)

@@ -1,8 +1,9 @@
 //! Names are written.
 
-ghost use Rattle.std.specs.Prelude.{◌≡◌, ◌<◌, ◌∷◌, ◌++◌, map, true, IfOk, OnOk};
+ghost use Rattle.std.specs.Prelude.{◌≡◌, ◌<◌, ◌∷◌, ◌++◌, map, true, IfOk, OnErr, OnOk};
 ghost use Rattle.std.specs.List.{flat_map, join_with_byte};
 ghost use Rattle.std.specs.String.{string_bytes};
+ghost use Rattle.base.specs.Extends.{Extends};
 ghost use Rattle.dn.specs.Names.{is_name};
 ghost use Rattle.dn.specs.Spelling.{Spells};
 ghost use Rattle.dn.specs.Writing.{digit, needs_pair, stands, written, value_text, part_text, rdn_text, text_of};
@@ -33,7 +34,8 @@ fn stands(first: bool, last: bool, b: u8) -> bool
 
 #[tactic(auto, unfolding(crate::specs::Writing::written))]
 fn put_byte(out: &mut Vec<u8>, first: bool, last: bool, b: u8) -> Result<(), AllocError>
-    ensures { OnOk result (out.new.items ≡ out.old.items ++ written first last b) }
+    ensures put { OnOk result (out.new.items ≡ out.old.items ++ written first last b) }
+    ensures kept { OnErr result (out.new.items ≡ out.old.items) }
 {
     if needs_pair(b) {
         return out.extend_from_slice(&[b'\\', digit(b / 16), digit(b % 16)]);
@@ -44,9 +46,11 @@ fn put_byte(out: &mut Vec<u8>, first: bool, last: bool, b: u8) -> Result<(), All
     out.extend_from_slice(&[b'\\', b])
 }
 
-/// Writes a value as it stands in a name (RFC 4514, section 2.4), behind what `out` has.
+/// Writes a value as it stands in a name (RFC 4514, section 2.4), behind what `out` has. Where memory runs out, a beginning of it may
+/// stand there.
 pub fn put_value(out: &mut Vec<u8>, value: &[u8]) -> Result<(), AllocError>
-    ensures { OnOk result (out.new.items ≡ out.old.items ++ value_text value.now) }
+    ensures put { OnOk result (out.new.items ≡ out.old.items ++ value_text value.now) }
+    ensures kept { OnErr result (Extends out.old.items out.new.items) }
 {
     for i in 0..value.len() {
         put_byte(out, i == 0, i + 1 == value.len(), value[i])?;

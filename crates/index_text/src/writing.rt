@@ -1,9 +1,10 @@
-//! The lines of an index text, put behind what a vector holds. Where memory runs out, a beginning of a line may stand there.
+//! The lines of an index text, put behind what a vector holds. Where memory runs out, a beginning of the line may stand there.
 
-ghost use Rattle.std.specs.Prelude.{◌≡◌, ◌<◌, ◌++◌, ◌∷◌, [], OnOk, length, codes};
+ghost use Rattle.std.specs.Prelude.{◌≡◌, ◌<◌, ◌++◌, ◌∷◌, [], OnErr, OnOk, length, codes};
 ghost use Rattle.std.specs.List.{flat_map};
 ghost use Rattle.std.specs.Fmt.{decimal};
 ghost use Rattle.base.specs.Ascii.{space, line_feed};
+ghost use Rattle.base.specs.Extends.{Extends};
 ghost use Rattle.hex.specs.Hex.{encode_lower};
 ghost use Rattle.index_text.specs.IndexTexts.{ended, header_line, slot_line, kind_name, key_text, key_line, rank_text, end_line};
 
@@ -13,7 +14,8 @@ use std::alloc::{AllocError, Global};
 
 // the digits of bytes
 fn put_hex(alloc: Global, out: &mut Vec<u8>, bytes: &[u8]) -> Result<(), AllocError>
-    ensures { OnOk result (out.new.items ≡ out.old.items ++ encode_lower bytes.now) }
+    ensures put { OnOk result (out.new.items ≡ out.old.items ++ encode_lower bytes.now) }
+    ensures kept { OnErr result (out.new.items ≡ out.old.items) }
 {
     let digits = hex::encode(alloc, bytes)?;
     out.extend_from_slice(digits.as_bytes())
@@ -21,7 +23,8 @@ fn put_hex(alloc: Global, out: &mut Vec<u8>, bytes: &[u8]) -> Result<(), AllocEr
 
 // the number of the format, and how many entries there are
 fn put_count(out: &mut Vec<u8>, entries: usize) -> Result<(), AllocError>
-    ensures { OnOk result (out.new.items ≡ out.old.items ++ codes "slapindex 1 " ++ decimal entries) }
+    ensures put { OnOk result (out.new.items ≡ out.old.items ++ codes "slapindex 1 " ++ decimal entries) }
+    ensures kept { OnErr result (Extends out.old.items out.new.items) }
 {
     let mut digits = Buffer::new();
     out.extend_from_slice(b"slapindex 1 ")?;
@@ -30,7 +33,8 @@ fn put_count(out: &mut Vec<u8>, entries: usize) -> Result<(), AllocError>
 
 // the digest, which ends the line
 fn put_stamp(alloc: Global, out: &mut Vec<u8>, stamp: &[u8]) -> Result<(), AllocError>
-    ensures { OnOk result (out.new.items ≡ out.old.items ++ space ∷ encode_lower stamp.now ++ line_feed ∷ []) }
+    ensures put { OnOk result (out.new.items ≡ out.old.items ++ space ∷ encode_lower stamp.now ++ line_feed ∷ []) }
+    ensures kept { OnErr result (Extends out.old.items out.new.items) }
 {
     out.push(b' ')?;
     put_hex(alloc, out, stamp)?;
@@ -45,7 +49,8 @@ pub fn put_header(
     entries: usize,
     stamp: &[u8],
 ) -> Result<(), AllocError>
-    ensures { OnOk result (out.new.items ≡ out.old.items ++ ended (header_line entries stamp.now)) }
+    ensures put { OnOk result (out.new.items ≡ out.old.items ++ ended (header_line entries stamp.now)) }
+    ensures kept { OnErr result (Extends out.old.items out.new.items) }
 {
     put_count(out, entries)?;
     put_stamp(alloc, out, stamp)
@@ -64,7 +69,8 @@ fn kind_name(kind: IndexKind) -> &'static str
 /// The line of a slot, whose keys follow: the name of its type, and its kind.
 pub fn put_slot(out: &mut Vec<u8>, conf: &Conf, slot: &Slot) -> Result<(), AllocError>
     requires { slot.now.type_id < length conf.now.types }
-    ensures { OnOk result (out.new.items ≡ out.old.items ++ ended (slot_line conf.now.types slot.now)) }
+    ensures put { OnOk result (out.new.items ≡ out.old.items ++ ended (slot_line conf.now.types slot.now)) }
+    ensures kept { OnErr result (Extends out.old.items out.new.items) }
 {
     out.extend_from_slice(b"slot ")?;
     out.extend_from_slice(conf.name(slot.type_id))?;
@@ -75,7 +81,8 @@ pub fn put_slot(out: &mut Vec<u8>, conf: &Conf, slot: &Slot) -> Result<(), Alloc
 }
 
 fn put_key_text(alloc: Global, out: &mut Vec<u8>, key: &[u8]) -> Result<(), AllocError>
-    ensures { OnOk result (out.new.items ≡ out.old.items ++ key_text key.now) }
+    ensures put { OnOk result (out.new.items ≡ out.old.items ++ key_text key.now) }
+    ensures kept { OnErr result (out.new.items ≡ out.old.items) }
 {
     if key.is_empty() {
         out.push(b'-')?;
@@ -85,7 +92,8 @@ fn put_key_text(alloc: Global, out: &mut Vec<u8>, key: &[u8]) -> Result<(), Allo
 }
 
 fn put_rank(out: &mut Vec<u8>, rank: u32) -> Result<(), AllocError>
-    ensures { OnOk result (out.new.items ≡ out.old.items ++ rank_text rank) }
+    ensures put { OnOk result (out.new.items ≡ out.old.items ++ rank_text rank) }
+    ensures kept { OnErr result (Extends out.old.items out.new.items) }
 {
     let mut digits = Buffer::new();
     out.push(b' ')?;
@@ -93,7 +101,8 @@ fn put_rank(out: &mut Vec<u8>, rank: u32) -> Result<(), AllocError>
 }
 
 fn put_ranks(out: &mut Vec<u8>, ranks: &[u32]) -> Result<(), AllocError>
-    ensures { OnOk result (out.new.items ≡ out.old.items ++ flat_map rank_text ranks.now) }
+    ensures put { OnOk result (out.new.items ≡ out.old.items ++ flat_map rank_text ranks.now) }
+    ensures kept { OnErr result (Extends out.old.items out.new.items) }
 {
     for rank in ranks {
         put_rank(out, *rank)?;
@@ -108,7 +117,8 @@ pub fn put_key(
     key: &[u8],
     ranks: &[u32],
 ) -> Result<(), AllocError>
-    ensures { OnOk result (out.new.items ≡ out.old.items ++ ended (key_line (key.now, ranks.now))) }
+    ensures put { OnOk result (out.new.items ≡ out.old.items ++ ended (key_line (key.now, ranks.now))) }
+    ensures kept { OnErr result (Extends out.old.items out.new.items) }
 {
     put_key_text(alloc, out, key)?;
     put_ranks(out, ranks)?;
@@ -116,9 +126,10 @@ pub fn put_key(
     Ok(())
 }
 
-/// The last line.
+/// The last line. Where memory runs out, nothing is put.
 pub fn put_end(out: &mut Vec<u8>) -> Result<(), AllocError>
-    ensures { OnOk result (out.new.items ≡ out.old.items ++ ended end_line) }
+    ensures put { OnOk result (out.new.items ≡ out.old.items ++ ended end_line) }
+    ensures kept { OnErr result (out.new.items ≡ out.old.items) }
 {
     out.extend_from_slice(b"end\n")
 }

@@ -2,7 +2,6 @@ pub mod Colon
 pub mod Blocks
 pub mod ControlLines
 pub mod Folds
-pub mod Kept
 pub mod WrittenLines
 pub mod WrittenContents
 pub mod Inverted

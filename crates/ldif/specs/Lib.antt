@@ -11,4 +11,3 @@ pub mod Forms
 pub mod LineFaults
 pub mod Places
 pub mod RecordFaults
-pub mod inner

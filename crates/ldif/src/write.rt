@@ -5,10 +5,10 @@ ghost use Rattle.std.specs.List.{list_all};
 ghost use Rattle.base64.specs.GeneralPurpose.{encode_of};
 ghost use Rattle.base64.specs.Engines.{standard};
 ghost use Rattle.base.specs.Ascii.{line_feed, space};
+ghost use Rattle.base.specs.Extends.{Extends};
 ghost use Rattle.device.specs.Device.{Took, Broke};
 ghost use Rattle.ldif_lines.specs.Folding.{folded};
 ghost use Rattle.ldif.specs.Writing.{is_safe_byte, is_plain, line_text, written_line};
-ghost use Rattle.ldif.specs.inner.Writing.{Keeps};
 
 use base::{begins_with, ends_with};
 use base64::engine::general_purpose::STANDARD;
@@ -70,7 +70,7 @@ fn put_encoded(alloc: Global, out: &mut Vec<u8>, value: &[u8]) -> Result<(), All
 #[tactic(auto, unfolding(crate::specs::Writing::line_text))]
 fn put_text(alloc: Global, out: &mut Vec<u8>, name: &[u8], value: &[u8]) -> Result<(), AllocError>
     ensures put { OnOk result (out.new.items ≡ out.old.items ++ line_text name.now value.now) }
-    ensures kept { OnErr result (Keeps out.old.items out.new.items) }
+    ensures kept { OnErr result (Extends out.old.items out.new.items) }
 {
     out.extend_from_slice(name)?;
     if value.is_empty() {
@@ -98,7 +98,7 @@ fn split_piece(text: &[u8], room: usize) -> (&[u8], &[u8])
 
 fn push_piece(out: &mut Vec<u8>, piece: &[u8]) -> Result<(), AllocError>
     ensures put { OnOk result (out.new.items ≡ out.old.items ++ line_feed ∷ space ∷ piece.now) }
-    ensures kept { OnErr result (Keeps out.old.items out.new.items) }
+    ensures kept { OnErr result (Extends out.old.items out.new.items) }
 {
     out.extend_from_slice(b"\n ")?;
     out.extend_from_slice(piece)
@@ -107,7 +107,7 @@ fn push_piece(out: &mut Vec<u8>, piece: &[u8]) -> Result<(), AllocError>
 // Puts the line, folded, at the end.
 fn put_folded(out: &mut Vec<u8>, text: &[u8]) -> Result<(), AllocError>
     ensures put { OnOk result (out.new.items ≡ out.old.items ++ folded 76 text.now) }
-    ensures kept { OnErr result (Keeps out.old.items out.new.items) }
+    ensures kept { OnErr result (Extends out.old.items out.new.items) }
 {
     let (front, after) = split_piece(text, FIRST_PIECE);
     out.extend_from_slice(front)?;
@@ -124,7 +124,7 @@ fn put_folded(out: &mut Vec<u8>, text: &[u8]) -> Result<(), AllocError>
 // Puts the line at the end. Where memory runs out, a beginning of it may stand there.
 fn put_some(alloc: Global, out: &mut Vec<u8>, name: &[u8], value: &[u8]) -> Result<(), AllocError>
     ensures put { OnOk result (out.new.items ≡ out.old.items ++ written_line name.now value.now) }
-    ensures kept { OnErr result (Keeps out.old.items out.new.items) }
+    ensures kept { OnErr result (Extends out.old.items out.new.items) }
 {
     let start = out.len();
     put_text(alloc, out, name, value)?;
