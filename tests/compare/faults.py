@@ -34,6 +34,7 @@ ALONE = {
     "C2": [
         b"attributetype ( 1.9 NAME 'z' )", b"attributetype 1.9", b"attributetype ( 1.9 NAME '9' " + STRING + b" )",
         b"attributetype ( 1.9 NAME 'dn' " + STRING + b" )", b"objectclass ( 1.9 MUST )", b"objectclass ( 1.9 ABSTRACT AUXILIARY )",
+        b"attributetype ( 1.9 SUP 'a b' )", b"objectclass ( 1.9 SUP ( top $ '' ) )",
         b"index objectClass", b"index objectClass eq x", b"index objectClass, eq",
     ],
     "C3": [
