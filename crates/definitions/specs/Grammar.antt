@@ -67,7 +67,7 @@ pub record IsExtension (name : List ℕ) (tokens : List Token) : Type 0 where
   pub name_is : is_extension_name name ≡ true
   pub texts : AreSomeTexts rest
 
--- (RFC 4512, 1.4: oid)
+-- RFC 4512, 1.4: oid
 abbrev pub IsNameOrOid : List ℕ → Type 0
 IsNameOrOid text = (is_name text ≡ true) ⊎ IsOid text
 
