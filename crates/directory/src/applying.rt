@@ -16,11 +16,11 @@ ghost use Rattle.directory.specs.RunEdits.{read_edits};
 ghost use Rattle.directory.specs.Runs.{is_empty, outcome};
 
 use crate::reason::{Outcome, Reason};
+use entries::{Entry, Refusal};
 use index::{Index, KeyChanges, key_changes};
 use ldif::{LdifFault, Mode, RawRecord, Record, read_record};
 use schema::Conf;
 use std::alloc::{AllocError, Global};
-use entries::{Entry, Refusal};
 use tree::{Plan, Tree, plan};
 
 /// What a record changed in the index.

@@ -13,11 +13,11 @@ use crate::directory::Directory;
 use crate::dump::{PIECE, Printer, pass_on};
 use crate::selection::Selection;
 use device::{Nowhere, Sink};
+use entries::Entry;
 use ldif::WriteFault;
 use schema::{Conf, Path};
 use sha2::{Digest, Sha256};
 use std::alloc::{AllocError, Global};
-use entries::Entry;
 use tree::{Names, Tree};
 
 // takes all bytes into the stamp and hands them on, and forgets them

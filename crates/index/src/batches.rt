@@ -13,9 +13,9 @@ ghost use Rattle.index.specs.inner.Counts.{HaveNumber, KeepsOthers};
 use crate::entry_keys::EntryKeys;
 use crate::index::Index;
 use crate::slot_key::{SlotKey, SlotNumber};
+use entries::Entry;
 use schema::Conf;
 use std::alloc::AllocError;
-use entries::Entry;
 
 // one more for a key that is new; more than can be counted have no room in memory
 fn counted(count: usize, new: bool) -> Result<usize, AllocError>

@@ -7,15 +7,14 @@ ghost use Rattle.std.specs.Prelude.{◌≡◌, IfOk};
 
 use anyhow::{Error, Result};
 use device::TrySource;
+use dir_conf::read_conf;
 use directory::{Directory, load};
 use filter::{Prepared, prepare};
 use filter_text::read_filter;
-use dir_conf::read_conf;
 use std::alloc::Global;
-use std::env;
-use std::fs;
 use std::io::Print;
 use std::rt::Clock;
+use std::{env, fs};
 use timing::{Search, best_of};
 
 /// What is printed without words.

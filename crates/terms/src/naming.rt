@@ -64,7 +64,7 @@ pub fn is_oid(text: &[u8]) -> bool
 }
 
 /// Whether a text may name a type, a class or a rule: as a name or as a numeric OID.
-pub(crate) fn is_name_or_oid(text: &[u8]) -> bool
+pub fn is_name_or_oid(text: &[u8]) -> bool
     ensures { result ≡ is_name_or_oid text.now }
 {
     is_name(text) || is_oid(text)

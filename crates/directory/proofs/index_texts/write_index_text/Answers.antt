@@ -44,7 +44,7 @@ returns g c =
     let d : Entries = c.args.tree.now.entries in
     let start : List ℕ = c.in-Ok.text.items in
     let last : c.put_end.new.out.items ≡ c.write_slots.new.text.items ++ ended end_line =
-    where_ok c.put_end.result (c.put_end.new.out.items ≡ c.write_slots.new.text.items ++ ended end_line) c.put_end.ensures (sym c.is_err.ensures.value ∙ c.if-is_err.false) in
+    where_ok c.put_end.result (c.put_end.new.out.items ≡ c.write_slots.new.text.items ++ ended end_line) c.put_end.ensures.put (sym c.is_err.ensures.value ∙ c.if-is_err.false) in
     record {
       writes = ends (g.W.Sink.written c.args.sink.now) (g.W.Sink.written c.write_slots.new.sink) (g.W.Sink.written c.pass_on.new.sink) (index_text conf d) c.put_end.new.out.items
           (subst (SoFar (g.W.Sink.written c.args.sink.now) (g.W.Sink.written c.write_slots.new.sink) (index_text conf d)) (sym last)
