@@ -6,7 +6,7 @@ use Rattle.values.specs.Types.{type_of}
 use Rattle.terms.specs.declared.class_kind.ClassKind.TheVariants.{Structural, Auxiliary}
 use Rattle.definitions.specs.declared.lines.Line.{Line}
 use Rattle.terms.specs.Naming.{are_groups}
-use Rattle.definitions.specs.Words.{word_at, sign_at, quoted_at, plain_or_quoted_at}
+use Rattle.definitions.specs.Words.{word_at, sign_at, quoted_at, plain_or_named_at}
 use Rattle.definitions.specs.Texts.{to_close, quoted_texts_at, names_to_close, names_at}
 use Rattle.definitions.specs.Elements.{element_field, with_element_field, fields_to_end, head_at}
 use Rattle.definitions.specs.ClassDefinitions.{list_of, kind_of, field_at, with_list, with_field, class_definition_of}
@@ -33,7 +33,7 @@ placed text = class_placed known 7 (class_definition_of text)
 
 -- what a definition is read and placed by
 unfoldable reads : ⊤
-unfolding class_definition_of head_at fields_to_end field_at with_field with_list list_of kind_of element_field with_element_field names_at names_to_close quoted_texts_at to_close word_at sign_at quoted_at plain_or_quoted_at are_groups class_placed class_with class_of type_of each
+unfolding class_definition_of head_at fields_to_end field_at with_field with_list list_of kind_of element_field with_element_field names_at names_to_close quoted_texts_at to_close word_at sign_at quoted_at plain_or_named_at are_groups class_placed class_with class_of type_of each
 reads = tt
 
 -- by names in any case and by OIDs, in the order written; structural where no kind is stated
