@@ -51,7 +51,7 @@ impl KeySets {
     pub(crate) fn get(&self, key: &[u8]) -> Option<&KeySet>
         ensures { MatchOption result (members_in self.now key.now ≡ set.empty) (λ s. s.now.members ≡ members_in self.now key.now) }
     {
-        match ShortKey::of(key) {
+        match ShortKey::tiny(key) {
             Some(tiny) => self.tiny.get(&tiny),
             None => match ShortKey::of(key) {
                 Some(short) => self.short.get(&short),
@@ -79,7 +79,7 @@ impl KeySets {
     ) -> Result<bool, AllocError>
         ensures { Puts key.now number (members_in self.old) (members_in self.new) result }
     {
-        match ShortKey::of(key) {
+        match ShortKey::tiny(key) {
             Some(tiny) => self.tiny.insert(alloc, &tiny, number),
             None => match ShortKey::of(key) {
                 Some(short) => self.short.insert(alloc, &short, number),
@@ -92,7 +92,7 @@ impl KeySets {
     pub(crate) fn remove(&mut self, key: &[u8], number: u32) -> bool
         ensures { Takes key.now number (members_in self.old) (members_in self.new) result }
     {
-        match ShortKey::of(key) {
+        match ShortKey::tiny(key) {
             Some(tiny) => self.tiny.remove(&tiny, number),
             None => match ShortKey::of(key) {
                 Some(short) => self.short.remove(&short, number),

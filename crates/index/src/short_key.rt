@@ -33,6 +33,22 @@ impl<const N: usize> ShortKey<N> {
     }
 }
 
+impl ShortKey<4> {
+    /// The same of at most three bytes, without a detour by memory: most keys are windows.
+    pub(crate) fn tiny(key: &[u8]) -> Option<ShortKey<4>>
+        ensures { MatchOption result (fits 4 key.now ≡ false) (λ k. (fits 4 key.now ≡ true) × (key_in 4 k.bytes ≡ key.now)) }
+    {
+        let bytes = match key {
+            [] => [0, 0, 0, 0],
+            [a] => [*a, 0, 0, 1],
+            [a, b] => [*a, *b, 0, 2],
+            [a, b, c] => [*a, *b, *c, 3],
+            _ => return None,
+        };
+        Some(ShortKey { bytes })
+    }
+}
+
 /// Four bytes as one number, the first of them as the highest.
 fn word(bytes: &[u8], at: usize) -> u32
     requires { at + 4 ≤ length bytes.now }
