@@ -21,7 +21,7 @@ use std::marker::Model;
 use std::snapshot::Snapshot;
 
 /// Which entries have which keys, by the numbers of the entries. A contract sees the configuration that it was made with, the
-/// members of each key, and how many edits were made: times that a member came or went.
+/// members of each key, and how many edits were made: times that a member came or went, but for what `forget` takes.
 #[derive(Drop)]
 pub struct Index {
     alloc: Global,
