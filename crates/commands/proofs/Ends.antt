@@ -23,7 +23,7 @@ use Rattle.commands.specs.Failures.{FailsToWrite}
 use Rattle.commands.specs.Folders.{Files}
 use Rattle.commands.specs.Loaded.{IsLoaded}
 use Rattle.commands.specs.IndexFiles.{Said, said_by, found_by}
-use Rattle.commands.specs.Parts.{part_text}
+use Rattle.commands.specs.Excerpts.{excerpt_text}
 use Rattle.commands.specs.Prints.{HasPut, IsFoundText}
 use Rattle.commands.specs.Queries.{Query, Basis, HasBasis, Begins, HasBegun, PrintsPartly}
 use Rattle.commands.specs.Worlds.{World}
@@ -57,16 +57,16 @@ pub text_begun : {A : Type 0} (IsText : List ℕ → Type 0) (file : Option (Lis
 text_begun {A} IsText file text is (Ok x) target a b fails begins = tt
 text_begun {A} IsText file text is (Err f) target a b fails begins = unwritten_prints (HasBegun IsText file) a b target f fails (record { text = text; is = is; begins = begins })
 
--- ---- a part
+-- ---- an excerpt
 
 -- what was found at the base stands there
 pub found_there : {A : Type 0} (d : Tree) (base : Path) (as_content : A → EntryContent) (found : Option A) → option_map as_content found ≡ finite.get d.entries base → is_some found ≡ true → finite.contains_key d.entries base ≡ true
 found_there {A} d base as_content None is some = cc
 found_there {A} d base as_content (Some x) is some = ap is_some (sym is)
 
--- the text of a part of the same entries, by the same base and filter
-pub part_same : (dir dir' : Tree) (base base' : Path) (made made' : Made) → dir' ≡ dir → base' ≡ base → made' ≡ made → part_text dir'.conf dir'.entries base' (view made'.filter) ≡ part_text dir.conf dir.entries base (view made.filter)
-part_same dir dir' base base' made made' same_dir same_base same_made = rw (same_dir, same_base, same_made) refl
+-- the excerpt of the same entries, by the same base and filter
+pub excerpt_same : (dir dir' : Tree) (base base' : Path) (made made' : Made) → dir' ≡ dir → base' ≡ base → made' ≡ made → excerpt_text dir'.conf dir'.entries base' (view made'.filter) ≡ excerpt_text dir.conf dir.entries base (view made.filter)
+excerpt_same dir dir' base base' made made' same_dir same_base same_made = rw (same_dir, same_base, same_made) refl
 
 -- ---- what is found
 

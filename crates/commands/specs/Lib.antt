@@ -2,7 +2,7 @@ pub mod Statuses
 pub mod Messages
 pub mod Failures
 pub mod Asked
-pub mod Parts
+pub mod Excerpts
 pub mod Folders
 pub mod Worlds
 pub mod Endings

@@ -22,7 +22,7 @@ use Rattle.commands.specs.Endings.{StoppedAt, IsFault}
 use Rattle.commands.specs.Messages.{code_text, line_of}
 use Rattle.commands.specs.IndexFiles.{Said, said_by, SaysOf, found_by, index_fault_text, IsWarned}
 use Rattle.commands.specs.Loaded.{IsLoaded}
-use Rattle.commands.specs.Parts.{part_text}
+use Rattle.commands.specs.Excerpts.{excerpt_text}
 use Rattle.commands.specs.Queries.{Query, Basis, HasBasis, QueryStops}
 use Rattle.commands.specs.declared.messages.CommandFault.{CommandFault}
 use Rattle.commands.specs.declared.messages.CommandFault.TheVariants as faults
@@ -49,16 +49,16 @@ abbrev pub is_whole : CatOptions → Bool
 is_whole asked = is_none asked.filter && is_none asked.base
 
 -- the entries at the base that is asked for, which is there, and below it, of which the filter is True
-pub record IsPartText (asked : CatOptions) (basis : Basis) (text : List ℕ) : Type 0 where
+pub record IsExcerpt (asked : CatOptions) (basis : Basis) (text : List ℕ) : Type 0 where
   pub base : Path
   pub base_is : IsBase basis.conf (option_copied asked.base) base
   pub there : is_some asked.base ≡ true → finite.contains_key basis.entries base ≡ true
-  pub text_is : text ≡ part_text basis.conf basis.entries base basis.filter
+  pub text_is : text ≡ excerpt_text basis.conf basis.entries base basis.filter
 
--- the text of a directory, or of the part that is asked for
+-- the text of a directory, or of the excerpt that is asked for
 abbrev pub IsCatText : Bool → CatOptions → Basis → List ℕ → Type 0
 IsCatText true asked basis text = text ≡ dump basis.conf basis.entries
-IsCatText false asked basis text = IsPartText asked basis text
+IsCatText false asked basis text = IsExcerpt asked basis text
 
 -- that of the directory that was loaded
 abbrev pub CatText : CatOptions → Option Files → List ℕ → Type 0

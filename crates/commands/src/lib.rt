@@ -4,11 +4,11 @@
 mod changes;
 mod database;
 mod dispatch;
+mod excerpt;
 mod finding;
 mod folder;
 mod index_file;
 mod messages;
-mod part;
 mod searching;
 mod slapcat;
 mod slapindex;

@@ -1,4 +1,4 @@
-//! slapcat: a directory, or a part of it, is printed as LDIF.
+//! slapcat: a directory, or an excerpt of it, is printed as LDIF.
 ghost use Rattle.std.specs.Prelude.{◌≡◌, ◌<◌, ◌-◌, ◌^◌, true, false, is_some, IfOk, IfErr, OnOk, OnErr, codes};
 ghost use Rattle.std.specs.FinMap as finite;
 ghost use Rattle.std.specs.Option.{option_copied};
@@ -13,10 +13,10 @@ ghost use Rattle.commands.specs.inner.Views.{basis_of};
 ghost use Rattle.commands.specs.inner.Stopped.{HasEnded};
 
 use crate::database::{Database, load_database, store};
+use crate::excerpt::Excerpt;
 use crate::finding::{filter_of, path_of};
 use crate::folder::{FileText, Folder};
 use crate::messages::{CommandFault, Status, Stop};
-use crate::part::Part;
 use command_line::CatOptions;
 use device::Sink;
 use filter::prepare;
@@ -81,7 +81,7 @@ fn base_of(alloc: Global, asked: &CatOptions<'_>, database: &Database) -> Result
     Ok(base)
 }
 
-fn put_part<F: Folder, O: Sink>(
+fn put_excerpt<F: Folder, O: Sink>(
     alloc: Global,
     asked: &CatOptions<'_>,
     filter: &Filter,
@@ -102,8 +102,8 @@ fn put_part<F: Folder, O: Sink>(
 {
     let base = base_of(alloc, asked, database)?;
     let prepared = prepare(alloc, filter, &database.conf)?;
-    let part = Part::new(database, &base, &prepared);
-    put(alloc, &part, asked.file, folder, out)
+    let excerpt = Excerpt::new(database, &base, &prepared);
+    put(alloc, &excerpt, asked.file, folder, out)
 }
 
 fn put_entries<F: Folder, O: Sink>(
@@ -128,7 +128,7 @@ fn put_entries<F: Folder, O: Sink>(
     if asked.filter.is_none() && asked.base.is_none() {
         return put(alloc, database, asked.file, folder, out);
     }
-    put_part(alloc, asked, filter, database, folder, out)
+    put_excerpt(alloc, asked, filter, database, folder, out)
 }
 
 #[tactic(auto, using(crate::proofs::Stopping::filter_stops, crate::proofs::Stopping::load_stops))]

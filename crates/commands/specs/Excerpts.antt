@@ -10,5 +10,5 @@ use Rattle.search.specs.Searches.{scan}
 use Rattle.directory.specs.Found.{found_text}
 
 -- the entries at a base and below it of which a filter is True, whole; nothing where the base isn't there
-abbrev pub part_text : Conf → Entries → Path → Tree → List ℕ
-part_text conf d base f = if finite.contains_key d base then found_text conf d None (scan conf d base Sub f) else []
+abbrev pub excerpt_text : Conf → Entries → Path → Tree → List ℕ
+excerpt_text conf d base f = if finite.contains_key d base then found_text conf d None (scan conf d base Sub f) else []

@@ -1,7 +1,7 @@
-//! A part of a directory, as the text of a file.
+//! An excerpt of a directory, as the text of a file.
 ghost use Rattle.std.specs.Prelude.{◌≡◌, ⊤};
 ghost use Rattle.filter_text.specs.Spells.{view};
-ghost use Rattle.commands.specs.Parts.{part_text};
+ghost use Rattle.commands.specs.Excerpts.{excerpt_text};
 
 use crate::database::Database;
 use crate::folder::FileText;
@@ -14,21 +14,21 @@ use std::alloc::Global;
 
 /// The entries at a base and below it that a filter is True of.
 #[derive(Clone, Copy, Drop)]
-pub struct Part<'a> {
+pub struct Excerpt<'a> {
     database: &'a Database,
     base: &'a Path,
     filter: &'a Prepared,
     ghost same_conf: { filter.now.conf ≡ database.now.tree.conf },
 }
 
-impl<'a> Part<'a> {
-    pub fn new(database: &'a Database, base: &'a Path, filter: &'a Prepared) -> Part<'a>
+impl<'a> Excerpt<'a> {
+    pub fn new(database: &'a Database, base: &'a Path, filter: &'a Prepared) -> Excerpt<'a>
         requires { filter.now.conf ≡ database.now.tree.conf }
         ensures database { result.database.now ≡ database.now }
         ensures base { result.base.now ≡ base.now }
         ensures filter { result.filter.now ≡ filter.now }
     {
-        Part {
+        Excerpt {
             database,
             base,
             filter,
@@ -36,12 +36,12 @@ impl<'a> Part<'a> {
     }
 }
 
-impl<'a> FileText for Part<'a> {
+impl<'a> FileText for Excerpt<'a> {
     type Answer = ();
 
     ghost answers = { λ _ _. ⊤ };
 
-    ghost text = { λ p. part_text p.database.now.tree.conf p.database.now.tree.entries p.base.now (view p.filter.now.filter) };
+    ghost text = { λ p. excerpt_text p.database.now.tree.conf p.database.now.tree.entries p.base.now (view p.filter.now.filter) };
 
     fn write<W: Sink>(&self, alloc: Global, sink: &mut W) -> Result<(), WriteFault> {
         let all = Selection::all();
