@@ -1,40 +1,18 @@
 //! std's readers and writers as sources and sinks.
 
 use device::{Device, OfRead, OfWrite, Sink, Source, push_all};
-use std::alloc::{AllocError, Global};
 use std::io::{self, ErrorKind, Read, Write};
-use std::process::Abort;
-use std::test::Fail;
 
-/// What came until the end or the first failure.
-#[derive(Drop)]
-struct Pulls {
-    bytes: Vec<u8>,
-    failed: bool,
-}
-
-fn drained<S: Source>(rt: &impl Abort, alloc: Global, source: &mut S) -> Result<Pulls, AllocError> {
-    let mut bytes = Vec::new(alloc);
-    let mut buffer = [0; 8];
-    for _ in 0..100 {
-        assert!(rt; source.failures() < u64::MAX);
-        match source.pull(&mut buffer) {
-            Ok(0) => {
-                return Ok(Pulls {
-                    bytes,
-                    failed: false,
-                });
-            }
-            Ok(n) => bytes.extend_from_slice(&buffer[..n])?,
-            Err(Device) => {
-                return Ok(Pulls {
-                    bytes,
-                    failed: true,
-                });
-            }
-        }
+/// Whether a pull gives these bytes, or fails where there are none.
+fn gives<S: Source>(source: &mut S, want: Option<&[u8]>) -> bool {
+    if source.failures() == u64::MAX {
+        return false;
     }
-    panic!(rt; "no end")
+    let mut buffer = [0; 8];
+    match source.pull(&mut buffer) {
+        Ok(n) => want == Some(&buffer[..n]),
+        Err(Device) => want.is_none(),
+    }
 }
 
 /// Gives `ab`, an error, `cd`, an end, and then `ef` again and again.
@@ -61,22 +39,24 @@ impl Read for Troubled {
     }
 }
 
+// what each pull gives, and how often the source failed then
+const PULLS: [(Option<&[u8]>, u64); 7] = [
+    (Some(b"ab"), 0),
+    (None, 1),
+    (Some(b"cd"), 1),
+    (Some(b""), 1),
+    (Some(b""), 1),
+    (Some(b""), 1),
+    (Some(b""), 1),
+];
+
 #[test]
-fn an_error_of_a_reader_is_a_failure(rt: HostRuntime) -> Result<(), Fail> {
+fn an_error_of_a_reader_is_a_failure(rt: HostRuntime) {
     let mut source = OfRead::new(Troubled { calls: 0 });
-    let pulls = drained(&rt, rt.alloc(), &mut source)?;
-    assert_eq!(rt; pulls.bytes.as_slice(), b"ab".as_slice());
-    assert!(rt; pulls.failed);
-    assert_eq!(rt; source.failures(), 1);
-    let pulls = drained(&rt, rt.alloc(), &mut source)?;
-    assert_eq!(rt; pulls.bytes.as_slice(), b"cd".as_slice());
-    assert!(rt; !pulls.failed);
-    for _ in 0..3 {
-        let pulls = drained(&rt, rt.alloc(), &mut source)?;
-        assert!(rt; pulls.bytes.is_empty() && !pulls.failed);
+    for (want, failures) in PULLS {
+        assert!(rt; gives(&mut source, want), "{want:?}");
+        assert_eq!(rt; source.failures(), failures);
     }
-    assert_eq!(rt; source.failures(), 1);
-    Ok(())
 }
 
 /// Takes two bytes, then none, then answers an error, then takes all.
@@ -101,15 +81,30 @@ impl Write for Reluctant {
     }
 }
 
+/// How many bytes a push takes, or none where it fails.
+fn taken<W: Sink>(sink: &mut W, bytes: &[u8]) -> Option<usize> {
+    if sink.failures() == u64::MAX {
+        return None;
+    }
+    match sink.push(bytes) {
+        Ok(n) => Some(n),
+        Err(Device) => None,
+    }
+}
+
+fn takes_all<W: Sink>(sink: &mut W, bytes: &[u8]) -> bool {
+    sink.failures() < u64::MAX && push_all(sink, bytes).is_ok()
+}
+
 #[test]
 fn a_write_that_takes_nothing_is_a_failure(rt: HostRuntime) {
     let mut sink = OfWrite::new(Reluctant { calls: 0 });
-    assert_eq!(rt; sink.push(b"abc"), Ok(2));
-    assert_eq!(rt; sink.push(b"c"), Err(Device));
+    assert!(rt; taken(&mut sink, b"abc") == Some(2));
+    assert!(rt; taken(&mut sink, b"c") == None);
     assert_eq!(rt; sink.failures(), 1);
-    assert_eq!(rt; push_all(&mut sink, b"c"), Err(Device));
+    assert!(rt; !takes_all(&mut sink, b"c"));
     assert_eq!(rt; sink.failures(), 2);
-    assert_eq!(rt; push_all(&mut sink, b"c"), Ok(()));
+    assert!(rt; takes_all(&mut sink, b"c"));
     assert_eq!(rt; sink.failures(), 2);
 }
 
@@ -123,15 +118,9 @@ impl Read for Endless {
     }
 }
 
-fn pull_and_push<S: Source, W: Sink>(
-    rt: &impl Abort,
-    source: &mut S,
-    sink: &mut W,
-    piece: &mut [u8],
-) {
-    assert!(rt; source.failures() < u64::MAX && sink.failures() < u64::MAX);
-    assert_eq!(rt; source.pull(piece), Ok(piece.len()));
-    assert_eq!(rt; push_all(sink, piece), Ok(()));
+/// Whether a source fills a buffer, and a sink takes it all.
+fn moves<S: Source, W: Sink>(source: &mut S, sink: &mut W, piece: &mut [u8]) -> bool {
+    source.failures() < u64::MAX && source.pull(piece) == Ok(piece.len()) && takes_all(sink, piece)
 }
 
 #[test]
@@ -140,6 +129,6 @@ fn more_than_4_gib_come_and_go(rt: HostRuntime) {
     let mut sink = OfWrite::new(Reluctant { calls: 3 });
     let mut piece = [0; 65536];
     for _ in 0..65537 {
-        pull_and_push(&rt, &mut source, &mut sink, &mut piece);
+        assert!(rt; moves(&mut source, &mut sink, &mut piece));
     }
 }

@@ -6,9 +6,7 @@
 #[cfg(test)]
 mod adapters;
 #[cfg(test)]
-mod changes;
-#[cfg(test)]
-mod filters;
+mod deep_filters;
 #[cfg(test)]
 mod filters_in_little_memory;
 #[cfg(test)]
@@ -19,8 +17,6 @@ mod names;
 #[cfg(test)]
 mod names_in_little_memory;
 #[cfg(test)]
-mod pieces;
-#[cfg(test)]
 mod readers;
 #[cfg(test)]
 mod record_text;
@@ -30,6 +26,8 @@ mod records_in_little_memory;
 mod sets;
 #[cfg(test)]
 mod sets_in_little_memory;
+#[cfg(test)]
+mod texts;
 #[cfg(test)]
 mod written_filter;
 

@@ -31,6 +31,10 @@ const ROWS: [(&str, &str); 10] = [
     ("cn=#", "N5 form not supported"),
 ];
 
+fn rows() -> &'static [(&'static str, &'static str)] {
+    &ROWS
+}
+
 /// The name that a text spells, as it is written, or its fault.
 fn written(alloc: Global, text: &str) -> Result<String, AllocError> {
     match read_name(alloc, text) {
@@ -42,8 +46,8 @@ fn written(alloc: Global, text: &str) -> Result<String, AllocError> {
 
 #[test]
 fn names_are_written_and_faults_are_told(rt: HostRuntime) -> Result<(), Fail> {
-    for (text, want) in ROWS {
-        assert_eq!(rt; written(rt.alloc(), text)?.as_str(), want);
+    for (text, want) in rows() {
+        assert_eq!(rt; written(rt.alloc(), text)?.as_str(), *want);
     }
     Ok(())
 }

@@ -14,8 +14,13 @@ const TEXT: &str =
 const WRITTEN: &str =
     "cn=a\\, b+sn=a value of more than a few bytes+ou=c,o=an escaped \\, value of more than a few bytes,c=e+st=f,dc=ex";
 
-fn read_and_write(alloc: Global) -> Result<String, NameFault> {
-    let name = read_name(alloc, TEXT)?;
+/// The text, and how it is written.
+fn texts() -> (&'static str, &'static str) {
+    (TEXT, WRITTEN)
+}
+
+fn read_and_write(alloc: Global, text: &str) -> Result<String, NameFault> {
+    let name = read_name(alloc, text)?;
     Ok(write_name(alloc, &name)?)
 }
 
@@ -27,12 +32,13 @@ fn write_between(
     before: usize,
     behind: usize,
 ) -> Result<(bool, bool), Fail> {
+    let (text, want) = texts();
     let met_before = spend(alloc, before);
-    let outcome = read_and_write(alloc);
+    let outcome = read_and_write(alloc, text);
     let met = spend(alloc, behind) || met_before;
     match outcome {
-        Ok(text) => {
-            assert_eq!(rt; text.as_str(), WRITTEN);
+        Ok(written) => {
+            assert_eq!(rt; written.as_str(), want);
             Ok((true, met))
         }
         Err(NameFault::OutOfMemory) => Ok((false, met)),

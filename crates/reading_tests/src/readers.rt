@@ -1,10 +1,9 @@
 //! Records of sources that give few bytes at a time, and of sources that fail.
 
-ghost use Rattle.std.specs.Prelude.{◌≡◌};
+ghost use Rattle.std.specs.Prelude.{◌≡◌, ◌<◌};
 ghost use Rattle.ldif_lines.specs.Reader.{source_of, loan_of};
 
-use crate::filters::repeated;
-use crate::record_text::push_words;
+use crate::texts::{push_words, repeated};
 use device::{Device, Source, TrySource};
 use ldif::{RawRecord, ReadFault, Reader};
 use std::alloc::{AllocError, Global};
@@ -35,6 +34,32 @@ fn push_record(alloc: Global, out: &mut Vec<u8>, raw: &RawRecord) -> Result<(), 
     out.extend_from_slice(b";")
 }
 
+/// Puts behind what a call answers, and the lines of the record that the reader is in then: whether it is a record.
+fn push_answer(
+    alloc: Global,
+    out: &mut Vec<u8>,
+    answer: &Result<Option<RawRecord>, ReadFault>,
+    begun: &RawRecord,
+) -> Result<bool, AllocError> {
+    match answer {
+        Ok(Some(raw)) => {
+            push_record(alloc, out, raw)?;
+            push_lines(out, begun)?;
+            Ok(true)
+        }
+        Ok(None) => {
+            push_lines(out, begun)?;
+            Ok(false)
+        }
+        Err(ReadFault::OutOfMemory) => Err(AllocError),
+        Err(fault) => {
+            let text = format!(in alloc; "{fault};")?;
+            out.extend_from_slice(text.as_bytes())?;
+            Ok(false)
+        }
+    }
+}
+
 /// What a reader answers, until three calls after its first end or fault: each record, and its faults.
 fn answers<S: Source>(alloc: Global, reader: &mut Reader<'_, S>) -> Result<Vec<u8>, AllocError>
     requires { (S.seen (source_of reader.old)).failed ≡ 0 }
@@ -43,18 +68,11 @@ fn answers<S: Source>(alloc: Global, reader: &mut Reader<'_, S>) -> Result<Vec<u
     let mut out = Vec::new(alloc);
     let mut ended = 0u32;
     'calls: for _call in 0..1000u64 {
-        match reader.next() {
-            Ok(Some(raw)) => {
-                push_record(alloc, &mut out, &raw)?;
-                push_lines(&mut out, reader.begun())?;
-                continue;
-            }
-            Ok(None) => push_lines(&mut out, reader.begun())?,
-            Err(ReadFault::OutOfMemory) => return Err(AllocError),
-            Err(fault) => {
-                let text = format!(in alloc; "{fault};")?;
-                out.extend_from_slice(text.as_bytes())?;
-            }
+        let answer = reader.next();
+        let pushed = push_answer(alloc, &mut out, &answer, reader.begun());
+        drop(answer);
+        if pushed? {
+            continue;
         }
         if ended == 3 {
             break;
@@ -76,6 +94,23 @@ fn answers_over<S: Source>(alloc: Global, source: &mut S) -> Result<Vec<u8>, All
     Ok(out)
 }
 
+/// Has a text read, of which a pull gives at most so many bytes, and which fails behind so many: how often the source failed.
+fn reads(
+    rt: &impl Abort,
+    alloc: Global,
+    text: &[u8],
+    most: usize,
+    fails_after: Option<usize>,
+    want: &[u8],
+) -> Result<u64, AllocError>
+    requires { 0 < most }
+{
+    let mut source = TrySource::new(text, most, fails_after);
+    let found = answers_over(alloc, &mut source)?;
+    assert_eq!(rt; found.as_slice(), want, "{most}");
+    Ok(source.failures())
+}
+
 /// The same text with a carriage return before each line feed.
 fn with_returns(alloc: Global, text: &[u8]) -> Result<Vec<u8>, AllocError> {
     let mut out = Vec::new(alloc);
@@ -92,20 +127,21 @@ fn with_returns(alloc: Global, text: &[u8]) -> Result<Vec<u8>, AllocError> {
 const TEXTS: [(&str, &str); 6] = [
     // a comment that goes on, and a folded line
     (
-        "dn: cn=a,dc=ex\n# note\n more\ncn: a\ndescription: fol\n ded\nobjectClass: person\n",
-        "1! <dn: cn=a,dc=ex> <cn: a> <description: folded> <objectClass: person>;0 held",
+        "dn: cn=a,dc=ex\n# note\n more\ncn: a\nd: fol\n ded\no: p\n",
+        "1! <dn: cn=a,dc=ex> <cn: a> <d: folded> <o: p>;0 held",
+    ),
+    // three records, a last line without its end, and an empty line at the end
+    (
+        "dn: a\no: p\n\ndn: cn=b,c=no\no: p\n\ndn: c\no: p\n",
+        "1! <dn: a> <o: p>;4 <dn: cn=b,c=no> <o: p>;7 <dn: c> <o: p>;0 held",
     ),
     (
-        "dn: cn=x,dc=ex\nobjectClass: person\n\ndn: cn=y,cn=no,dc=ex\nobjectClass: person\n\ndn: cn=z,dc=ex\nobjectClass: person\n",
-        "1! <dn: cn=x,dc=ex> <objectClass: person>;4 <dn: cn=y,cn=no,dc=ex> <objectClass: person>;7 <dn: cn=z,dc=ex> <objectClass: person>;0 held",
+        "dn: a\no: p\n\ndn: b\no: p\nc:: YSA",
+        "1! <dn: a> <o: p>;4 <dn: b> <o: p> <c:: YSA>;0 held",
     ),
     (
-        "dn: cn=x,dc=ex\nobjectClass: person\n\ndn: cn=y,dc=ex\nobjectClass: person\ncn:: YSA",
-        "1! <dn: cn=x,dc=ex> <objectClass: person>;4 <dn: cn=y,dc=ex> <objectClass: person> <cn:: YSA>;0 held",
-    ),
-    (
-        "dn: dc=ex\nobjectClass: domain\ndc: ex\n\ndn: cn=aba,dc=ex\nobjectClass: person\ncn: aba\n\ndn: cn=abba,dc=ex\nobjectClass: person\ncn: abba\n\ndn: cn=abc bcd,dc=ex\nobjectClass: person\ncn: abc bcd\n\ndn: cn=Bob,dc=ex\nobjectClass: person\nuidNumber: 7\ncn: Bob\n\n",
-        "1! <dn: dc=ex> <objectClass: domain> <dc: ex>;5 <dn: cn=aba,dc=ex> <objectClass: person> <cn: aba>;9 <dn: cn=abba,dc=ex> <objectClass: person> <cn: abba>;13 <dn: cn=abc bcd,dc=ex> <objectClass: person> <cn: abc bcd>;17 <dn: cn=Bob,dc=ex> <objectClass: person> <uidNumber: 7> <cn: Bob>;0 held",
+        "dn: a\no: d\nd: e\n\ndn: b\no: p\n\n",
+        "1! <dn: a> <o: d> <d: e>;5 <dn: b> <o: p>;0 held",
     ),
     // a block of comments is no record; a block's first line stays as it is, also one that begins with a space
     ("\n#c\n d\n\n\n x\n y\n", "6! < xy>;0 held"),
@@ -113,21 +149,24 @@ const TEXTS: [(&str, &str); 6] = [
     ("dn: x\n \n#c\n\n", "1! <dn: x>;0 held"),
 ];
 
+fn texts() -> &'static [(&'static str, &'static str)] {
+    &TEXTS
+}
+
 #[test]
 fn records_come_in_pieces(rt: HostRuntime) -> Result<(), Fail> {
-    for (text, want) in TEXTS {
+    for (text, want) in texts() {
         let returned = with_returns(rt.alloc(), text.as_bytes())?;
         for most in PULLS {
-            let mut source = TrySource::new(text.as_bytes(), most, None);
-            let found = answers_over(rt.alloc(), &mut source)?;
-            assert_eq!(rt; found.as_slice(), want.as_bytes(), "{most} of {text}");
-            let mut source = TrySource::new(&returned, most, None);
-            let found = answers_over(rt.alloc(), &mut source)?;
-            assert_eq!(rt;
-                found.as_slice(),
+            reads(
+                &rt,
+                rt.alloc(),
+                text.as_bytes(),
+                most,
+                None,
                 want.as_bytes(),
-                "{most} of {text} with returns"
-            );
+            )?;
+            reads(&rt, rt.alloc(), &returned, most, None, want.as_bytes())?;
         }
     }
     Ok(())
@@ -137,14 +176,9 @@ fn records_come_in_pieces(rt: HostRuntime) -> Result<(), Fail> {
 #[test]
 fn carriage_returns_come_in_pieces(rt: HostRuntime) -> Result<(), Fail> {
     let text = b"a\r\r\n\r\r\nb\rc\r\n\r\nd\r";
+    let want = b"1! <a\r> <\r> <b\rc>;5 <d\r>;0 held";
     for most in PULLS {
-        let mut source = TrySource::new(text, most, None);
-        let found = answers_over(rt.alloc(), &mut source)?;
-        assert_eq!(rt;
-            found.as_slice(),
-            b"1! <a\r> <\r> <b\rc>;5 <d\r>;0 held".as_slice(),
-            "{most}"
-        );
+        reads(&rt, rt.alloc(), text, most, None, want)?;
     }
     Ok(())
 }
@@ -166,9 +200,7 @@ fn line_ends_are_cut_where_the_reader_is_full(rt: HostRuntime) -> Result<(), Fai
             len,
             b">;4 <dn: y>;0 held",
         )?;
-        let mut source = TrySource::new(&text, 8192, None);
-        let found = answers_over(rt.alloc(), &mut source)?;
-        assert!(rt; found == want, "{len}");
+        reads(&rt, rt.alloc(), &text, 8192, None, &want)?;
     }
     Ok(())
 }
@@ -199,28 +231,34 @@ fn held_behind_a_record<S: Source>(alloc: Global, source: &mut S) -> Option<u64>
     }
 }
 
-/// The first record and the empty line behind it take 10,030 bytes. What was pulled is that and what is held.
+/// How many bytes a reader holds when it has given a record, and how many its source still gives.
+fn held_and_left(rt: &impl Abort, alloc: Global, text: &[u8], most: usize) -> (Option<u64>, usize)
+    requires { 0 < most }
+{
+    let mut source = TrySource::new(text, most, None);
+    let held = held_behind_a_record(alloc, &mut source);
+    (held, left_in(rt, &mut source))
+}
+
+/// A record and an empty line of 10,030 bytes, and 8,000 bytes behind them.
+fn long_record_and_more(alloc: Global) -> Result<Vec<u8>, AllocError> {
+    let front = b"dn: cn=a,dc=ex\ndescription: ";
+    let text = repeated(alloc, front, b"x", 10_000, b"\n\n")?;
+    repeated(alloc, &text, b"dn: cn=b,dc=ex\n\n", 500, b"")
+}
+
+/// What was pulled is the first record, the empty line behind it, and what is held.
 #[test]
 fn little_is_held_behind_a_long_record(rt: HostRuntime) -> Result<(), Fail> {
-    let front = b"dn: cn=a,dc=ex\ndescription: ";
-    let text = repeated(rt.alloc(), front, b"x", 10_000, b"\n\n")?;
-    let text = repeated(rt.alloc(), &text, b"dn: cn=b,dc=ex\n\n", 500, b"")?;
-    for (most, want) in [(1, 0), (2, 0), (7, 1), (8192, 6354)] {
-        let mut source = TrySource::new(&text, most, None);
-        assert_eq!(rt;
-            held_behind_a_record(rt.alloc(), &mut source),
-            Some(want),
-            "{most}"
-        );
-        assert_eq!(rt;
-            left_in(&rt, &mut source),
-            8000usize.wrapping_sub(want as usize),
-            "{most}"
-        );
+    let text = long_record_and_more(rt.alloc())?;
+    for (most, held, left) in [(1, 0, 8000), (2, 0, 8000), (7, 1, 7999), (8192, 6354, 1646)] {
+        let found = held_and_left(&rt, rt.alloc(), &text, most);
+        assert_eq!(rt; found, (Some(held), left), "{most}");
     }
     Ok(())
 }
 
+/// A text whose source fails in the middle.
 const BREAKS: &str = "dn: x\n#c\n d\ncn: a\n b\n\n\ndn: y\nsn";
 
 // the records that are whole where the source fails behind so many bytes, and what is held then
@@ -240,26 +278,45 @@ const BROKEN: [(usize, &str, &str); 13] = [
     (31, "1! <dn: x> <cn: ab>;", "7 held <dn: y> <sn>"),
 ];
 
+fn breaks() -> &'static [u8] {
+    BREAKS.as_bytes()
+}
+
+fn broken() -> &'static [(usize, &'static str, &'static str)] {
+    &BROKEN
+}
+
+/// What a reader answers where the source fails behind so many bytes.
+fn broken_answers(alloc: Global, records: &str, held: &str) -> Result<String, AllocError> {
+    let failed =
+        "the source failed;an earlier read failed;an earlier read failed;an earlier read failed;";
+    format!(in alloc; "{records}{failed}{held}")
+}
+
 /// Each record that is whole comes before the failure is told, and none that isn't. The later calls leave the source alone.
 #[test]
 fn a_failed_source_is_no_end(rt: HostRuntime) -> Result<(), Fail> {
-    let failed =
-        "the source failed;an earlier read failed;an earlier read failed;an earlier read failed;";
-    for (limit, records, held) in BROKEN {
-        let want = format!(in rt.alloc(); "{records}{failed}{held}")?;
+    for (limit, records, held) in broken() {
+        let want = broken_answers(rt.alloc(), records, held)?;
         for most in PULLS {
-            let mut source = TrySource::new(BREAKS.as_bytes(), most, Some(limit));
-            let found = answers_over(rt.alloc(), &mut source)?;
-            assert_eq!(rt; found.as_slice(), want.as_bytes(), "{most} behind {limit}");
-            assert_eq!(rt; source.failures(), 1);
+            let failures = reads(
+                &rt,
+                rt.alloc(),
+                breaks(),
+                most,
+                Some(*limit),
+                want.as_bytes(),
+            )?;
+            assert_eq!(rt; failures, 1);
         }
     }
-    let mut source = TrySource::new(BREAKS.as_bytes(), 7, Some(32));
-    let found = answers_over(rt.alloc(), &mut source)?;
-    assert_eq!(rt;
-        found.as_slice(),
-        b"1! <dn: x> <cn: ab>;8 <dn: y> <sn>;0 held".as_slice()
-    );
+    Ok(())
+}
+
+#[test]
+fn a_text_that_ends_before_its_source_fails_is_whole(rt: HostRuntime) -> Result<(), Fail> {
+    let want = b"1! <dn: x> <cn: ab>;8 <dn: y> <sn>;0 held";
+    reads(&rt, rt.alloc(), breaks(), 7, Some(32), want)?;
     Ok(())
 }
 

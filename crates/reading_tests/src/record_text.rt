@@ -1,15 +1,9 @@
 //! Records and faults as short texts.
 
+use crate::texts::push_words;
 use base::Bytes;
 use ldif::{Attr, Control, LdifFault, Mod, Op, Record};
 use std::alloc::{AllocError, Global};
-
-pub fn push_words(out: &mut Vec<u8>, words: &[&[u8]]) -> Result<(), AllocError> {
-    for word in words {
-        out.extend_from_slice(word)?;
-    }
-    Ok(())
-}
 
 /// `{oid}`, where `!` says that it is critical, and `=` stands before its value.
 fn push_controls(out: &mut Vec<u8>, controls: &[Control]) -> Result<(), AllocError> {

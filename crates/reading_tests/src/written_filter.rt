@@ -1,6 +1,6 @@
 //! Filters as texts again.
 
-use crate::record_text::push_words;
+use crate::texts::push_words;
 use base::Bytes;
 use filter_text::{Filter, Item};
 use std::alloc::{AllocError, Global};
