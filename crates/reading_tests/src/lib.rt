@@ -1,5 +1,5 @@
 //! Tests of public calls that read and write records, names and values, or keep sets of entry numbers, on what no command of the program
-//! shows: sources, sinks and memory that fail in the middle of a call, and calls that no command makes yet. They need no configuration,
+//! shows: sources, sinks and memory that fail in the middle of a call, texts that no word of a command can have, and sets in each form. They need no configuration,
 //! and so they are proved while others are.
 #![tactic(auto)]
 
