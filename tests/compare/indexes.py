@@ -67,7 +67,8 @@ class Reader:
     """Reads the lines behind the first one. Each is looked at by its form, then by its order, then by its ranks."""
 
     def __init__(self, conf, entries):
-        self.conf, self.entries = conf, entries
+        self.entries = entries
+        self.numbers = {kind.printed(): number for number, kind in reversed(list(enumerate(conf.types)))}
         self.due, self.rows, self.slot, self.key, self.is_over = sorted(conf.slots), {}, None, None, False
 
     def line(self, line):
@@ -84,10 +85,10 @@ class Reader:
 
     def take_slot(self, line):
         match = SLOT.fullmatch(line)
-        numbers = [number for number, kind in enumerate(self.conf.types) if match and kind.printed() == match[1]]
-        if not numbers:
+        number = self.numbers.get(match[1]) if match else None
+        if number is None:
             raise Fault("I3 form")
-        slot = numbers[0], KINDS.index(match[2])
+        slot = number, KINDS.index(match[2])
         if self.slot is not None and slot <= self.slot:
             raise Fault("I4 order")
         if slot not in self.due[:1]:

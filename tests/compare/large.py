@@ -1,11 +1,12 @@
 #!/usr/bin/env python3
 """Runs what is large through a built program and through a second reading: large.py PROGRAM
 
-Texts over 1 MiB, lines of 100,001 bytes, values over 64 KiB, names of 17 RDNs and more, RDNs of 9 parts and more, long filters and a long
-dir.conf, each whole and with a fault in its last part. Status, output, messages and the stored data.ldif and index.txt must be the
-same, and none may be out of memory. Prints each difference and at the end the number of runs; the exit status is 0 where nothing differs, else 1.
+Texts over 1 MiB, lines of 100,001 bytes, values over 64 KiB, names of 17 RDNs and more, RDNs of 9 parts and more, long filters, a long
+dir.conf and long index texts, each whole and with a fault in its last part. Status, output, messages and the stored data.ldif and index.txt
+must be the same, and none may be out of memory. Prints each difference and at the end the number of runs; the exit status is 0 where nothing differs, else 1.
 """
 import base64
+import hashlib
 import subprocess
 import sys
 import tempfile
@@ -22,6 +23,7 @@ CONF = b'suffix "dc=ex"\n' + b"".join(
     + b"index objectClass,photo eq\nindex cn,l eq,pres,sub\nindex sn sub,eq\n"
 
 SUFFIX = b"dn: dc=ex\nobjectClass: top\ndc: ex\n"
+PRINTED = SUFFIX + b"\n"
 
 
 def entry(name, lines=b""):
@@ -125,6 +127,31 @@ def indexed():
     yield "an index of a text with a fault at its end", texts([SUFFIX] + [entry(b"cn=%d,dc=ex" % number) for number in range(9000)] + [entry(b"cn=7,dc=ex")])
 
 
+def index_texts():
+    """-> (what it is, the files before, a filter for which the index text is looked into)"""
+    types = b"".join(b"attributetype ( 1.4.%d NAME 't%d' SUP cn )\n" % (number, number) for number in range(32700))
+    few = CONF.split(b"index")[0]
+    many = few + types + b"".join(b"index t%d eq,pres\n" % number for number in range(32700))
+    slots = b"".join(b"slot t%d %b\n" % (number, kind) for number in range(32700) for kind in (b"eq", b"pres"))
+    yield "65,408 slots", files_of(many, PRINTED, slots), "(t9=a)"
+    yield "65,408 slots, the last of which is missing", files_of(many, PRINTED, slots[:slots.rindex(b"slot")]), "(t9=a)"
+    key = b"61" * 50_000_000
+    few += b"index l eq\n"
+    yield "a key of 100 MB", files_of(few, PRINTED, b"slot l eq\n" + key + b" 0\n"), "(l=a)"
+    yield "a key of 100 MB and a digit", files_of(few, PRINTED, b"slot l eq\n" + key + b"6 0\n"), "(l=a)"
+    ranks = b"".join(b" %d" % rank for rank in range(3000))
+    data = texts([SUFFIX] + [entry(b"cn=%04d,dc=ex" % number, b"cn: %04d\n" % number) for number in range(2999)]) + b"\n"
+    yield "a key of all ranks", files_of(few, data, b"slot l eq\n61" + ranks + b"\n"), "(l=a)"
+    yield "a key of all ranks and one more", files_of(few, data, b"slot l eq\n61" + ranks + b" 3000\n"), "(!(l=a))"
+
+
+def files_of(conf, dump, slots):
+    """The files of a folder whose index text has these lines of slots."""
+    stamp = hashlib.sha256(dump).hexdigest().encode()
+    head = b"slapindex 1 %d %b\n" % (dump.count(b"dn: "), stamp)
+    return {"dir.conf": conf, "data.ldif": dump, "index.txt": head + slots + b"end\n"}
+
+
 def filters():
     """-> (what it is, a filter)"""
     yield "a value over 64 KiB", "(cn=" + "a" * 70000 + ")"
@@ -147,6 +174,8 @@ def runs():
             yield what, {"dir.conf": conf, "data.ldif": SUFFIX.replace(b"top", name)}, command, []
     for what, text in indexed():
         yield what, {"dir.conf": CONF, "data.ldif": text, "index.txt": b"old"}, "slapindex", []
+    for what, files, text in index_texts():
+        yield what, files, "search", [text, "1.1"]
     data = texts([SUFFIX] + [entry(b"cn=%d,dc=ex" % number) for number in range(50)] + [entry(b"cn=" + b"a" * 70000 + b",dc=ex")])
     for what, text in filters():
         yield what, {"dir.conf": CONF, "data.ldif": data}, "slapcat", ["-a", text]
