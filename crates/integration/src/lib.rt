@@ -16,12 +16,6 @@ mod places;
 #[cfg(test)]
 mod runs;
 #[cfg(test)]
-mod runs_in_little_memory;
-#[cfg(test)]
 mod searches;
 #[cfg(test)]
-mod searches_in_little_memory;
-#[cfg(test)]
 mod texts;
-#[cfg(test)]
-mod values_in_little_memory;

@@ -3,9 +3,8 @@
 ghost use Rattle.std.specs.Prelude.{◌≡◌, IfOk};
 
 use crate::indexes::{TURNED, empty, indexed};
-use crate::searches_in_little_memory::has_rdn;
 use directory::{Directory, search_with};
-use entries::Refusal;
+use entries::{Entry, Refusal};
 use filter::{Prepared, prepare};
 use filter_text::read_filter;
 use id_sets::IdSet;
@@ -52,6 +51,14 @@ const SHOWN_NOTHING: [Row; 4] = [
     ("(name=bob)", &["Bob"], 5),
     ("(cn=*abb*)", &[], 0),
 ];
+
+/// Whether the RDN of an entry has this value, and no other.
+fn has_rdn(entry: &Entry, value: &str) -> bool {
+    match entry.rdn().parts() {
+        [(_, own)] => own.as_slice() == value.as_bytes(),
+        _ => false,
+    }
+}
 
 // whether exactly these are found, by so many tests
 fn are_found<S: IdSet>(hits: Hits<'_, S>, values: &[&str], tested: u64) -> bool {

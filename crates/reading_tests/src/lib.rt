@@ -8,27 +8,10 @@ mod adapters;
 #[cfg(test)]
 mod deep_filters;
 #[cfg(test)]
-mod filters_in_little_memory;
-#[cfg(test)]
-mod lines_in_little_memory;
-mod little_memory;
-#[cfg(test)]
 mod names;
-#[cfg(test)]
-mod names_in_little_memory;
 #[cfg(test)]
 mod readers;
 #[cfg(test)]
-mod record_text;
-#[cfg(test)]
-mod records_in_little_memory;
-#[cfg(test)]
 mod sets;
 #[cfg(test)]
-mod sets_in_little_memory;
-#[cfg(test)]
 mod texts;
-#[cfg(test)]
-mod written_filter;
-
-pub use little_memory::spend;

@@ -1,6 +1,6 @@
 //! Filters as texts again.
 
-use crate::texts::push_words;
+use crate::words::push_words;
 use base::Bytes;
 use filter_text::{Filter, Item};
 use std::alloc::{AllocError, Global};
@@ -76,7 +76,7 @@ fn push_item(out: &mut Vec<u8>, item: &Item) -> Result<(), AllocError> {
 }
 
 /// Puts a filter behind, with no escapes and no spaces.
-pub fn push_filter(out: &mut Vec<u8>, filter: &Filter) -> Result<(), AllocError> {
+pub(crate) fn push_filter(out: &mut Vec<u8>, filter: &Filter) -> Result<(), AllocError> {
     out.extend_from_slice(b"(")?;
     match filter {
         Filter::And(parts) => {
@@ -101,7 +101,7 @@ pub fn push_filter(out: &mut Vec<u8>, filter: &Filter) -> Result<(), AllocError>
 }
 
 /// A filter as its text.
-pub fn written_filter(alloc: Global, filter: &Filter) -> Result<Vec<u8>, AllocError> {
+pub(crate) fn written_filter(alloc: Global, filter: &Filter) -> Result<Vec<u8>, AllocError> {
     let mut out = Vec::new(alloc);
     push_filter(&mut out, filter)?;
     Ok(out)

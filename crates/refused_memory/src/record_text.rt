@@ -1,6 +1,6 @@
 //! Records and faults as short texts.
 
-use crate::texts::push_words;
+use crate::words::push_words;
 use base::Bytes;
 use ldif::{Attr, Control, LdifFault, Mod, Op, Record};
 use std::alloc::{AllocError, Global};
@@ -91,7 +91,10 @@ fn push_record(out: &mut Vec<u8>, record: &Record) -> Result<(), AllocError> {
 }
 
 /// A record, or the number of its fault.
-pub fn record_text(alloc: Global, read: &Result<Record, LdifFault>) -> Result<Vec<u8>, AllocError> {
+pub(crate) fn record_text(
+    alloc: Global,
+    read: &Result<Record, LdifFault>,
+) -> Result<Vec<u8>, AllocError> {
     let mut out = Vec::new(alloc);
     match read {
         Ok(record) => push_record(&mut out, record)?,

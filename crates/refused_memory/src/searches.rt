@@ -1,0 +1,193 @@
+//! Searches by the index of a directory, by an index text and by none: what they find, and how many entries they test.
+
+ghost use Rattle.std.specs.Prelude.{◌≡◌, IfOk, IfSome};
+
+use crate::directories::{PEOPLE, directory};
+use crate::shown::shown_by;
+use anyhow::{Error, Result};
+use directory::{Directory, search_with, stamp_of};
+use entries::{Entry, Refusal};
+use filter::{Prepared, prepare};
+use filter_text::{FilterFault, read_filter};
+use id_sets::IdSet;
+use schema::Path;
+use search::{Hits, Scope, scan};
+use std::alloc::Global;
+use std::io::Print;
+use stored_index::{IndexFault, StoredIndex};
+
+/// Each kind of item, and connectives over them.
+const FILTERS: [&str; 21] = [
+    "(!(uidNumber=abc))",
+    "(|(uidNumber=abc)(cn=*))",
+    "(cn=*abcd*)",
+    "(!(cn=*abcd*))",
+    "(cn=ab*ba)",
+    "(cn=*ob*)",
+    "(cn=BOB)",
+    "(!(uidNumber=7))",
+    "(uidNumber=07)",
+    "(|(cn=aba)(uidNumber=7))",
+    "(&(cn=*)(uidNumber=7))",
+    "(!(cn=*))",
+    "(uidNumber>=5)",
+    "(cn>=a)",
+    "(name=bob)",
+    "(!(&(cn=*ab*)(uidNumber=abc)))",
+    "(&(|(cn=ab*)(cn=*b)(cn=a*b*a))(!(|(cn=abba)(uidNumber<=3))))",
+    "(description=a text of more than a few bytes and more than thirty)",
+    "(member=cn=Some One+sn=One,dc=ex)",
+    "(cn:caseExactMatch:=Bob)",
+    "(cn~=abc bcd)",
+];
+
+/// How entries are found.
+#[derive(Clone, Copy)]
+enum By<'a> {
+    Index,
+    Text(&'a StoredIndex),
+    Scan,
+}
+
+fn print_entry(rt: &impl Print, entry: &Entry) -> Result<()> {
+    for (_, value) in entry.rdn().parts() {
+        match str::from_utf8(value.as_slice()) {
+            Ok(value) => print!(rt; " {value},")?,
+            Err(_) => return Err(Error::msg("no text")),
+        }
+    }
+    Ok(())
+}
+
+fn print_hits<S: IdSet>(rt: &impl Print, hits: Hits<'_, S>) -> Result<()> {
+    let mut hits = hits;
+    while let Some((_, entry)) = hits.next() {
+        print_entry(rt, entry)?;
+    }
+    println!(rt; " tested {}", hits.tested())?;
+    Ok(())
+}
+
+/// Searches and prints; answers false where memory is refused, and nothing is printed then.
+fn print_by(
+    rt: &impl Print,
+    alloc: Global,
+    dir: &Directory,
+    filter: &Prepared,
+    by: By<'_>,
+) -> Result<bool>
+    requires { filter.now.conf ≡ dir.now.conf }
+{
+    let base = Path::root(alloc);
+    match by {
+        By::Index => match dir.search(&base, Scope::Sub, filter) {
+            Ok(hits) => print_hits(rt, hits)?,
+            Err(Refusal::OutOfMemory) => return Ok(false),
+            Err(Refusal::Code(_)) => return Err(Error::msg("no base")),
+        },
+        By::Text(stored) => {
+            match search_with(alloc, dir.tree(), stored, &base, Scope::Sub, filter) {
+                Ok(hits) => print_hits(rt, hits)?,
+                Err(Refusal::OutOfMemory) => return Ok(false),
+                Err(Refusal::Code(_)) => return Err(Error::msg("no base")),
+            }
+        }
+        By::Scan => match scan(alloc, dir.tree(), &base, Scope::Sub, filter) {
+            Some(hits) => print_hits(rt, hits)?,
+            None => return Err(Error::msg("no base")),
+        },
+    }
+    Ok(true)
+}
+
+fn prepared_once(alloc: Global, dir: &Directory, text: &str) -> Result<Option<Prepared>>
+    ensures { IfOk result (λ p. IfSome p (λ p. p.conf ≡ dir.now.conf)) }
+{
+    match read_filter(alloc, text.as_bytes()) {
+        Ok(filter) => Ok(prepare(alloc, &filter, dir.conf()).ok()),
+        Err(FilterFault::OutOfMemory) => Ok(None),
+        Err(_) => Err(Error::msg("no filter")),
+    }
+}
+
+fn print_once(
+    rt: &impl Print,
+    alloc: Global,
+    dir: &Directory,
+    text: &str,
+    by: By<'_>,
+) -> Result<bool> {
+    match prepared_once(alloc, dir, text)? {
+        Some(filter) => print_by(rt, alloc, dir, &filter, by),
+        None => Ok(false),
+    }
+}
+
+/// Prints a filter and what it finds, once more where memory is refused.
+fn print_search(
+    rt: &impl Print,
+    alloc: Global,
+    dir: &Directory,
+    text: &str,
+    by: By<'_>,
+) -> Result<()> {
+    print!(rt; "{text}:")?;
+    if print_once(rt, alloc, dir, text, by)? || print_once(rt, alloc, dir, text, by)? {
+        Ok(())
+    } else {
+        Err(Error::msg("a search is refused memory twice"))
+    }
+}
+
+fn print_searches(rt: &impl Print, alloc: Global, dir: &Directory, by: By<'_>) -> Result<()> {
+    for text in FILTERS {
+        print_search(rt, alloc, dir, text, by)?;
+    }
+    Ok(())
+}
+
+fn stamp(alloc: Global, dir: &Directory) -> Result<[u8; 32]> {
+    match stamp_of(alloc, dir.tree(), dir.conf()) {
+        Ok(stamp) => Ok(stamp),
+        Err(_) => Ok(stamp_of(alloc, dir.tree(), dir.conf())?),
+    }
+}
+
+fn stored_once(
+    alloc: Global,
+    dir: &Directory,
+    text: &[u8],
+    stamp: &[u8; 32],
+) -> Result<Option<StoredIndex>> {
+    match StoredIndex::read(alloc, text, dir.conf(), stamp, dir.tree().len()) {
+        Ok(stored) => Ok(Some(stored)),
+        Err(IndexFault::OutOfMemory) => Ok(None),
+        Err(IndexFault::Fault(_)) => Err(Error::msg("no index text")),
+    }
+}
+
+/// The index that the index text of a directory is read as.
+fn stored(alloc: Global, dir: &Directory) -> Result<StoredIndex> {
+    let shown = shown_by(alloc, dir)?;
+    let stamp = stamp(alloc, dir)?;
+    match stored_once(alloc, dir, shown.index(), &stamp)? {
+        Some(stored) => Ok(stored),
+        None => match stored_once(alloc, dir, shown.index(), &stamp)? {
+            Some(stored) => Ok(stored),
+            None => Err(Error::msg("an index text is refused memory twice")),
+        },
+    }
+}
+
+fn print_by_text(rt: &impl Print, alloc: Global, dir: &Directory) -> Result<()> {
+    let stored = stored(alloc, dir)?;
+    print_searches(rt, alloc, dir, By::Text(&stored))
+}
+
+/// Prints what each filter finds, by the directory's index, by its index text, and by none.
+pub(crate) fn print(rt: &impl Print, alloc: Global) -> Result<()> {
+    let dir = directory(alloc, PEOPLE)?;
+    print_searches(rt, alloc, &dir, By::Index)?;
+    print_by_text(rt, alloc, &dir)?;
+    print_searches(rt, alloc, &dir, By::Scan)
+}
