@@ -1,6 +1,6 @@
 //! Cells that hang together where they are free.
 
-ghost use Rattle.std.specs.Prelude.{◌≡◌, ◌+◌, ◌<◌, [], Some, None, OnOk, option_copied};
+ghost use Rattle.std.specs.Prelude.{◌≡◌, ◌+◌, ◌<◌, [], Some, None, OnErr, OnOk, option_copied};
 ghost use Rattle.cells.specs.Cells.{cell, IsTaken, IsSet, HasRoom, taken, most};
 
 use std::alloc::{AllocError, Global};
@@ -72,9 +72,10 @@ impl<T> Cells<T> {
         self.next
     }
 
-    /// Makes room for one more value, or changes nothing.
+    /// Makes room for one more value, or changes nothing where memory runs out.
     pub fn reserve(&mut self) -> Result<(), AllocError>
         ensures room { OnOk result (HasRoom self.new) }
+        ensures err { OnErr result (self.new ≡ self.old) }
         ensures kept { self.new ≡ record self.old { capacity = self.new.capacity } }
     {
         if self.taken < self.cells.len() {
