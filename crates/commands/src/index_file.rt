@@ -45,8 +45,8 @@ pub fn read_index<F: Folder>(
     ensures is_true { IfOk result (λ file. IsTrue database.now.tree.conf database.now.tree.entries (said file)) }
     ensures err { IfErr result (FailsToRead (index_name db.now)) }
 {
-    database.conf.holds();
-    database.tree.is_directory();
+    database.conf.rules_are_kept();
+    database.tree.entries_are_a_directory();
     index_texts_reflect_dumps();
     kept_index_texts_are_read();
     let name = path(alloc, db, "index.txt")?;

@@ -126,7 +126,7 @@ fn print_by_text<O: Sink>(
         (O.written out.old) (O.written out.new)) }
 {
     let Database { conf, tree } = database;
-    conf.holds();
+    conf.rules_are_kept();
     let wanted = wanted_by(alloc, asked, filter, conf)?;
     match search_with(
         alloc,

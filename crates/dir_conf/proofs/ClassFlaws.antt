@@ -15,10 +15,11 @@ use Rattle.schema.specs.TypeRules.{has_twin}
 use Rattle.schema.specs.Classes.{is_class, class_of}
 use Rattle.dir_conf.specs.NamesInLines.{type_named}
 use Rattle.dir_conf.specs.Configurations.{At, is_built_in, is_type, Defined, shares_class_name, is_class_taken, class_from, class_with, with_class, class_placed}
-use Rattle.dir_conf.specs.FaultyLines.{Not, HasClassFlaw, class_order, IsClassFault}
+use Rattle.schema.specs.FirstFlaws.{Not}
+use Rattle.dir_conf.specs.FaultyLines.{HasClassFlaw, class_order, IsClassFault}
 use Rattle.dir_conf.proofs.Taken.{type_is_there}
 use Rattle.schema.proofs.ClassesFound.{class_is_there}
-use Rattle.dir_conf.proofs.FirstFlaws.{first_of, Tells, is_first_flaw, first_is}
+use Rattle.schema.proofs.FirstFlaws.{first_of, Tells, is_first_flaw, first_is}
 use Rattle.dir_conf.proofs.FirstStops.{same_err}
 use Rattle.dir_conf.proofs.FlawsTold.{failed_at, Told, told_is, is_told, each_there, one_isnt_there}
 

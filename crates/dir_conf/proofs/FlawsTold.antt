@@ -8,7 +8,7 @@ use Rattle.dir_conf.specs.declared.conf_fault.ConfFaultKind.{ConfFaultKind}
 use Rattle.dir_conf.specs.declared.conf_fault.ConfFaultKind.TheVariants.{UnknownName}
 use Rattle.dir_conf.specs.ConfFaults.{At}
 use Rattle.dir_conf.specs.NamesInLines.{or_unknown}
-use Rattle.dir_conf.proofs.FirstFlaws.{some_kind, same_kind}
+use Rattle.schema.proofs.FirstFlaws.{some_flaw, same_flaw}
 use Rattle.dir_conf.proofs.FirstStops.{same_err}
 
 abbrev pub Told : {A : Type 0} → ℕ → Option ConfFaultKind → Result A At → Type 0
@@ -18,14 +18,14 @@ pub told_is : {A : Type 0} (line : ℕ) (o : Option ConfFaultKind) (r : Result A
 told_is line o r at kind (inl (none, fine)) e = absurd (let both = sym fine.1 ∙ e in cc)
 told_is {A} line o r at kind (inr (k, is, failed)) e =
     let same = same_err {A = A} (line, k) (at, kind) (sym failed ∙ e) in
-    (sym (ap (λ (p : At). p.0) same), is ∙ ap (λ (p : At). some_kind p.1) same)
+    (sym (ap (λ (p : At). p.0) same), is ∙ ap (λ (p : At). some_flaw p.1) same)
 
 abbrev pub failed_at : {A : Type 0} → ℕ → ConfFaultKind → Result A At
 failed_at line kind = Err (line, kind)
 
 pub is_told : {A : Type 0} (line : ℕ) (o : Option ConfFaultKind) (r : Result A At) (kind : ConfFaultKind) → Told line o r → o ≡ Some kind → r ≡ Err (line, kind)
 is_told line o r kind (inl (none, fine)) e = absurd (let both = sym none ∙ e in cc)
-is_told {A} line o r kind (inr (k, is, failed)) e = failed ∙ ap (failed_at {A = A} line) (same_kind k kind (sym is ∙ e))
+is_told {A} line o r kind (inr (k, is, failed)) e = failed ∙ ap (failed_at {A = A} line) (same_flaw k kind (sym is ∙ e))
 
 -- ---- names that stand for something, and names that don't
 

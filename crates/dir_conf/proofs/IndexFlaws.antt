@@ -16,9 +16,10 @@ use Rattle.dir_conf.specs.NamesInLines.{type_named}
 use Rattle.dir_conf.specs.IndexLines.{every_kind, is_comma, is_empty, words, two_words, members, kind_named, each_once, slots_with, if_kept, slots_in}
 use Rattle.schema.specs.Slots.{can_be_kept}
 use Rattle.dir_conf.specs.Configurations.{is_type}
-use Rattle.dir_conf.specs.FaultyLines.{AreListed, is_kind_word, is_some_kind, lacks, IsUnkept, HasIndexFlaw, index_order, IsFirstFlaw}
+use Rattle.schema.specs.FirstFlaws.{IsFirstFlaw}
+use Rattle.dir_conf.specs.FaultyLines.{AreListed, is_kind_word, is_some_kind, lacks, IsUnkept, HasIndexFlaw, index_order}
 use Rattle.dir_conf.proofs.Taken.{type_is_there}
-use Rattle.dir_conf.proofs.FirstFlaws.{first_of, Tells, is_first_flaw, first_is}
+use Rattle.schema.proofs.FirstFlaws.{first_of, Tells, is_first_flaw, first_is}
 use Rattle.dir_conf.proofs.FlawsTold.{Told, told_is, is_told, each_there, one_isnt_there}
 use Rattle.dir_conf.proofs.ClassFlaws.{all_same}
 use Rattle.dir_conf.proofs.Unkept.{each_kind, one_is_no_kind, unkept, all_kept}
@@ -210,10 +211,10 @@ module _ (types : List AttributeType) where
     unfolding slots_in
     slots_told text = words_told (words text)
 
-    pub index_faulty : (text : List ℕ) (at : ℕ) (kind : ConfFaultKind) → slots_in types line text ≡ Err (at, kind) → (at ≡ line) × IsFirstFlaw (HasIndexFlaw types text) index_order kind
+    pub index_faulty : (text : List ℕ) (at : ℕ) (kind : ConfFaultKind) → slots_in types line text ≡ Err (at, kind) → (at ≡ line) × IsFirstFlaw ConfFaultKind (HasIndexFlaw types text) index_order kind
     index_faulty text at kind e =
         let told = told_is line (all_tests (listed (words text))) (slots_in types line text) at kind (slots_told text) e in
         (told.0, is_first_flaw (index_test (listed (words text))) (HasIndexFlaw types text) (tells text) index_order kind told.1)
 
-    pub index_fails : (text : List ℕ) (kind : ConfFaultKind) → IsFirstFlaw (HasIndexFlaw types text) index_order kind → slots_in types line text ≡ Err (line, kind)
+    pub index_fails : (text : List ℕ) (kind : ConfFaultKind) → IsFirstFlaw ConfFaultKind (HasIndexFlaw types text) index_order kind → slots_in types line text ≡ Err (line, kind)
     index_fails text kind h = is_told line (all_tests (listed (words text))) (slots_in types line text) kind (slots_told text) (first_is (index_test (listed (words text))) (HasIndexFlaw types text) (tells text) index_order kind h)

@@ -14,7 +14,8 @@ use Rattle.schema.specs.Values.{rdns_in}
 use Rattle.schema.specs.declared.slots.Slot.{Slot}
 use Rattle.dir_conf.specs.IndexLines.{slots_in}
 use Rattle.dir_conf.specs.Configurations.{At, says_nothing, is_first, some_rdns, suffix_at, suffix_text, Found, none_found, with_suffix, with_slots, later_line, found_in}
-use Rattle.dir_conf.specs.FaultyLines.{Not, has_suffix, IsNoSuffix, IsLaterFault, NoneIsAtFault}
+use Rattle.schema.specs.FirstFlaws.{Not}
+use Rattle.dir_conf.specs.FaultyLines.{has_suffix, IsNoSuffix, IsLaterFault, NoneIsAtFault}
 use Rattle.dir_conf.proofs.FirstStops.{same_err, stops, fails, fails_on}
 use Rattle.dir_conf.proofs.LineWords.{suffix_word, index_word, no_other, says_some}
 use Rattle.dir_conf.proofs.IndexFlaws.{index_faulty, index_fails}

@@ -8,7 +8,6 @@ pub mod Twins
 pub mod SlotExamples
 pub mod ClassExamples
 pub mod RulePrefix
-pub mod FirstFlaws
 pub mod FirstStops
 pub mod LineWords
 pub mod TypeFlaws
@@ -19,3 +18,5 @@ pub mod Unkept
 pub mod IndexFlaws
 pub mod LaterFaults
 pub mod ConfFaultsStand
+pub mod Inheriting
+pub mod DefinedTypes

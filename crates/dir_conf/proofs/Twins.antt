@@ -10,17 +10,17 @@ use Rattle.values.specs.Tables.{number_of, or_if}
 use Rattle.schema.specs.TypeRules.{has_twin}
 use Rattle.dir_conf.proofs.Taken.{any_or, any_none, any_same, some_or_if}
 
-abbrev Buckets : Type 0
-Buckets = List (List NameEntry)
+abbrev Names : Type 0
+Names = List NameEntry
 
-abbrev pub knows : Buckets → List ℕ → Bool
+abbrev pub knows : Names → List ℕ → Bool
 knows seen name = is_some (number_of seen name)
 
 -- whether one of these names was seen, or stands twice among them
-abbrev pub twin_left : Buckets → List (List ℕ) → Bool
+abbrev pub twin_left : Names → List (List ℕ) → Bool
 twin_left seen names = list_any (knows seen) names || has_twin names
 
-pub none_seen : (seen : Buckets) (names : List (List ℕ)) → ((name : List ℕ) → number_of seen name ≡ None) → twin_left seen names ≡ has_twin names
+pub none_seen : (seen : Names) (names : List (List ℕ)) → ((name : List ℕ) → number_of seen name ≡ None) → twin_left seen names ≡ has_twin names
 none_seen seen names none =
     ap (λ (b : Bool). b || has_twin names) (any_same (knows seen) (λ n. false) names (λ n. ap (λ (o : Option ℕ). is_some o) (none n)) ∙ any_none names)
 
@@ -37,7 +37,7 @@ apart : (a b c : Bool) → ((a || b) || c) ≡ (a || (b || c))
 apart true b c = refl
 apart false b c = refl
 
-module _ (old new : Buckets) (name : List ℕ) (n : ℕ) (put : (text : List ℕ) → number_of new text ≡ or_if (number_of old text) (str_eq_ignore_ascii_case name text) n) where
+module _ (old new : Names) (name : List ℕ) (n : ℕ) (put : (text : List ℕ) → number_of new text ≡ or_if (number_of old text) (str_eq_ignore_ascii_case name text) n) where
   knows_more : (rest : List (List ℕ)) → list_any (knows new) rest ≡ (list_any (knows old) rest || list_any (λ m. str_eq_ignore_ascii_case m name) rest)
   knows_more rest =
       any_same (knows new) (λ m. knows old m || str_eq_ignore_ascii_case m name) rest
@@ -51,7 +51,7 @@ module _ (old new : Buckets) (name : List ℕ) (n : ℕ) (put : (text : List ℕ
       ∙ ap (λ (b : Bool). (b || list_any (knows old) rest) || has_twin (name ∷ rest)) (sym h)
 
 -- one name of a list, by its place
-pub no_twin : (names : List (List ℕ)) (i : ℕ) (name : List ℕ) (seen new : Buckets) (n : ℕ) → ((text : List ℕ) → number_of new text ≡ or_if (number_of seen text) (str_eq_ignore_ascii_case name text) n)
+pub no_twin : (names : List (List ℕ)) (i : ℕ) (name : List ℕ) (seen new : Names) (n : ℕ) → ((text : List ℕ) → number_of new text ≡ or_if (number_of seen text) (str_eq_ignore_ascii_case name text) n)
     → i < length names → name ≡ get_or names i name → knows seen name ≡ false → twin_left seen (drop i names) ≡ has_twin names → twin_left new (drop (i + 1) names) ≡ has_twin names
 no_twin names i name seen new n put lt at h so_far =
     twin_on seen new name n put (drop (i + 1) names) h

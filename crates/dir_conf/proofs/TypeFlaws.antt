@@ -14,9 +14,10 @@ use Rattle.dir_conf.specs.declared.conf_fault.ConfFaultKind.TheVariants.{Keyword
 use Rattle.schema.specs.TypeRules.{has_twin, up_of, breaks_with, needs_another_syntax}
 use Rattle.dir_conf.specs.Configurations as conf
 use Rattle.dir_conf.specs.Configurations.{At, is_built_in, is_type, names_one, is_taken, superior_of, unless, placed}
-use Rattle.dir_conf.specs.FaultyLines.{Not, type_below, HasTypeFlaw, type_order, IsTypeFault}
+use Rattle.schema.specs.FirstFlaws.{Not}
+use Rattle.dir_conf.specs.FaultyLines.{type_below, HasTypeFlaw, type_order, IsTypeFault}
 use Rattle.dir_conf.proofs.Taken.{type_is_there}
-use Rattle.dir_conf.proofs.FirstFlaws.{first_of, Tells, is_first_flaw, first_is}
+use Rattle.schema.proofs.FirstFlaws.{first_of, Tells, is_first_flaw, first_is}
 use Rattle.dir_conf.proofs.FirstStops.{same_err}
 use Rattle.dir_conf.proofs.FlawsTold.{failed_at, Told, told_is}
 

@@ -87,7 +87,7 @@ abbrev types_err : ℕ → ConfFaultKind → Types
 types_err line kind = Err (line, kind)
 
 -- what stands behind no fault
-unrefused : (line : ℕ) (o : Option ConfFaultKind) (answer : Types) (out : List AttributeType) → unless line o answer ≡ Ok out → (o ≡ None) × (answer ≡ Ok out)
+pub unrefused : (line : ℕ) (o : Option ConfFaultKind) (answer : Types) (out : List AttributeType) → unless line o answer ≡ Ok out → (o ≡ None) × (answer ≡ Ok out)
 unrefused line None answer out e = (refl, e)
 unrefused line (Some kind) answer out e = absurd cc
 
@@ -125,7 +125,7 @@ goes_with_rule (Some f) None h = absurd cc
 goes_with_rule (Some f) (Some rules.Name) h = absurd (let no = sym (no_name_rule f) ∙ h in cc)
 goes_with_rule (Some f) (Some (rules.Plain g)) h = refl
 
-above_is : (types : List AttributeType) (name : Option (List ℕ)) (number : Option ℕ) → superior_of types name ≡ Some number → IsAbove types number
+pub above_is : (types : List AttributeType) (name : Option (List ℕ)) (number : Option ℕ) → superior_of types name ≡ Some number → IsAbove types number
 above_is types None number e = subst (IsAbove types) (same_some None number e) tt
 above_is types (Some name) number e = by (type_of types name) refl e
   where

@@ -1,7 +1,7 @@
 -- Which fault the text of a configuration has, and at which line: what may be wrong with a line behind those before it, and what comes
 -- first where more than that is wrong.
 use Rattle.std.specs.Prelude.{◌≡◌, ℕ, ◌≤◌, Bool, true, false, not, ◌⊎◌, List, [], ◌∷◌, ◌++◌, length, Option, Some, None, Ok, codes}
-use Rattle.std.specs.List.{list_any, list_all, slice_split, AllByRecursion}
+use Rattle.std.specs.List.{list_any, list_all, slice_split}
 use Rattle.std.specs.Str.{bytes_eq}
 use Rattle.definitions.specs.declared.lines.Line.{Line}
 use Rattle.definitions.specs.declared.type_definition.TypeDefinition.{TypeDefinition}
@@ -22,22 +22,9 @@ use Rattle.schema.specs.Classes.{is_class}
 use Rattle.schema.specs.Rdns.{Rdn}
 use Rattle.schema.specs.Values.{rdns_in}
 use Rattle.schema.specs.Slots.{has_rule_for}
+use Rattle.schema.specs.FirstFlaws.{Not, IsFirstFlaw}
 use Rattle.dir_conf.specs.IndexLines.{is_comma, is_empty, words}
 use Rattle.dir_conf.specs.Configurations.{says_nothing, is_first, is_built_in, is_type, names_one, superior_of, shares_class_name, Defined, built_in, defined_by, suffix_text}
-
--- there is no such thing
-abbrev pub Not : Type 0 → Type 0
-Not P = P → ⊥
-
--- ---- which flaw comes first
-
--- one that is there, and none that comes before it in this order
-pub record IsFirstFlaw (Has : ConfFaultKind → Type 0) (order : List ConfFaultKind) (kind : ConfFaultKind) : Type 0 where
-  pub before : List ConfFaultKind
-  pub after : List ConfFaultKind
-  pub order_is : order ≡ before ++ kind ∷ after
-  pub has : Has kind
-  pub none_before : AllByRecursion (λ k. Not (Has k)) before
 
 -- ---- a definition of a type
 
@@ -66,7 +53,7 @@ type_order = TooManyTypes ∷ Twice ∷ Collective ∷ UnknownName ∷ Subtype �
 abbrev pub IsTypeFault : List AttributeType → List ℕ → ConfFaultKind → Type 0
 IsTypeFault types text kind =
     ((kind ≡ Form) × ((d : TypeDefinition) → Not (SpellsType text d)))
-    ⊎ ((d : TypeDefinition) × SpellsType text d × (is_built_in d.element.oid ≡ false) × IsFirstFlaw (HasTypeFlaw types d) type_order kind)
+    ⊎ ((d : TypeDefinition) × SpellsType text d × (is_built_in d.element.oid ≡ false) × IsFirstFlaw ConfFaultKind (HasTypeFlaw types d) type_order kind)
 
 -- ---- a definition of a class
 
@@ -91,7 +78,7 @@ class_order = Twice ∷ UnknownName ∷ []
 abbrev pub IsClassFault : Defined → List ℕ → ConfFaultKind → Type 0
 IsClassFault s text kind =
     ((kind ≡ Form) × ((d : ClassDefinition) → Not (SpellsClass text d)))
-    ⊎ ((d : ClassDefinition) × SpellsClass text d × (is_built_in d.element.oid ≡ false) × IsFirstFlaw (HasClassFlaw s d) class_order kind)
+    ⊎ ((d : ClassDefinition) × SpellsClass text d × (is_built_in d.element.oid ≡ false) × IsFirstFlaw ConfFaultKind (HasClassFlaw s d) class_order kind)
 
 -- ---- a line, beside what is defined above it
 
@@ -179,7 +166,7 @@ IsNoSuffix types text = (r : Rdn) (rs : List Rdn) → Not (rdns_in types text �
 abbrev pub IsLaterFault : List AttributeType → List Line → List ℕ → ConfFaultKind → Type 0
 IsLaterFault types above line kind =
     ((kind ≡ Suffix) × (is_first (codes "suffix") line ≡ true) × ((has_suffix above ≡ true) ⊎ IsNoSuffix types (suffix_text line)))
-    ⊎ ((is_first (codes "index") line ≡ true) × IsFirstFlaw (HasIndexFlaw types (after_word line)) index_order kind)
+    ⊎ ((is_first (codes "index") line ≡ true) × IsFirstFlaw ConfFaultKind (HasIndexFlaw types (after_word line)) index_order kind)
 
 -- no suffix and no index of these lines is at fault
 abbrev pub NoneIsAtFault : List AttributeType → List Line → Type 0

@@ -5,4 +5,5 @@ pub mod NamesInLines
 pub mod IndexLines
 pub mod Configurations
 pub mod FaultyLines
+pub mod Inherited
 pub mod Reads

@@ -1,6 +1,6 @@
 //! Reading `dir.conf`: the configuration that its lines say, or the first of its faults.
 //!
-//! The function of `laws` does nothing: a call of it is made for what it states alone.
+//! The functions of `laws` do nothing: a call of one is made for what it states alone.
 #![tactic(auto)]
 
 mod class_lines;
@@ -19,4 +19,4 @@ mod type_rules;
 
 pub use conf_fault::{ConfFault, ConfFaultKind};
 pub use configuration::read_conf;
-pub use laws::conf_faults_stand_at_lines;
+pub use laws::{conf_faults_stand_at_lines, types_inherit_from_the_nearest};

@@ -138,7 +138,7 @@ impl Printer<'_> {
         ensures names { names.new ≡ self.now.tree.now }
         ensures text { OnOk result (out.new.items ≡ out.old.items ++ entry_text self.now.tree.now.conf self.now.tree.now.entries selection.now (path.now, entry.now)) }
     {
-        self.tree.is_directory();
+        self.tree.entries_are_a_directory();
         let name = names.name_of(self.alloc, path, entry)?;
         put_entry(
             self.alloc,
@@ -191,8 +191,8 @@ pub fn write_dump<W: Sink>(
     ensures writes { Writes result (W.written sink.old) (W.written sink.new) (dump tree.now.conf tree.now.entries) }
     ensures loads { LoadsBack tree.now.conf tree.now.entries }
 {
-    tree.is_directory();
-    conf.holds();
+    tree.entries_are_a_directory();
+    conf.rules_are_kept();
     loading_a_dump();
     schema::order_of_paths();
     let root = Path::root(alloc);

@@ -95,9 +95,9 @@ impl Listing<'_> {
         requires place { slice_get self.now.conf.now.slots place ≡ Some slot.now }
         ensures { WritesOn result (W.written sink.old) (W.written sink.new) (text.old.items ++ slot_lines self.now.conf.now self.now.tree.now.entries slot.now) text.new.items }
     {
-        self.tree.is_directory();
-        self.tree.is_numbered();
-        self.conf.holds();
+        self.tree.entries_are_a_directory();
+        self.tree.entries_are_numbered();
+        self.conf.rules_are_kept();
         if put_slot(text, self.conf, slot).is_err() {
             return Err(WriteFault::OutOfMemory);
         }

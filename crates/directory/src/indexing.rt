@@ -13,8 +13,8 @@ pub(crate) fn index_of(alloc: Global, conf: &Conf, tree: &Tree) -> Result<Index,
     requires { tree.now.conf ≡ conf.now }
     ensures { IfOk result (λ x. IsIndexOf conf.now tree.now.entries tree.now.numbers x) }
 {
-    tree.is_directory();
-    tree.is_numbered();
+    tree.entries_are_a_directory();
+    tree.entries_are_numbered();
     schema::order_of_paths();
     let root = Path::root(alloc);
     let mut index = Index::new(alloc, conf)?;

@@ -24,8 +24,8 @@ fn put_rank(ranks: &mut Vec<u32>, number: u32, rank: u32) -> Result<(), AllocErr
 pub(crate) fn ranks_by_number(alloc: Global, tree: &Tree) -> Result<Vec<u32>, AllocError>
     ensures { IfOk result (λ ranks. AreRanked ranks.items 0 (numbers_in_order tree.now)) }
 {
-    tree.is_directory();
-    tree.is_numbered();
+    tree.entries_are_a_directory();
+    tree.entries_are_numbered();
     let root = Path::root(alloc);
     let mut ranks = Vec::new(alloc);
     let mut rank: u32 = 0;

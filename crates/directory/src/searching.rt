@@ -41,7 +41,7 @@ pub fn search_tree<'a>(
     ensures tested { IfOk result (λ h. h.in_the_end ≡ count_in_scope tree.now.entries base.now scope) }
     ensures entries { IfOk result (λ h. AreThere tree.now.entries (map seen h.to_come)) }
 {
-    tree.is_directory();
+    tree.entries_are_a_directory();
     schema::order_of_paths();
     match scan(alloc, tree, base, scope, filter) {
         Some(hits) => Ok(hits),
@@ -78,7 +78,7 @@ pub fn search_with<'a, P: Postings>(
     brackets_hold();
     candidates_suffice();
     schema::order_of_paths();
-    tree.is_directory();
+    tree.entries_are_a_directory();
     let may = may_match(alloc, filter, postings)?;
     match search_by_ranks(alloc, tree, base, scope, filter, may) {
         Some(hits) => Ok(hits),
@@ -113,9 +113,9 @@ pub(crate) fn search_with_index<'a>(
     indexes_reflect_entries();
     candidates_suffice();
     schema::order_of_paths();
-    conf.holds();
-    tree.is_directory();
-    tree.is_numbered();
+    conf.rules_are_kept();
+    tree.entries_are_a_directory();
+    tree.entries_are_numbered();
     let may = may_match(alloc, filter, index)?;
     match search(tree, base, scope, filter, may) {
         Some(hits) => Ok(hits),

@@ -30,7 +30,7 @@ fn asks_for(conf: &Conf, t: TypeId, word: &str) -> bool
     ensures { result ≡ asks_for conf.now.types t word.now }
 {
     schema::subtypes_are_told();
-    conf.holds();
+    conf.rules_are_kept();
     if word == "*" {
         return !conf.operational(t);
     }

@@ -91,7 +91,7 @@ pub fn write_stamped_dump<W: Sink>(
     ensures writes { Writes (end_of result) (W.written sink.old) (W.written sink.new) (dump tree.now.conf tree.now.entries) }
     ensures stamp { IfOk result (λ s. s ≡ stamp tree.now.conf tree.now.entries) }
 {
-    tree.is_directory();
+    tree.entries_are_a_directory();
     schema::order_of_paths();
     let root = Path::root(alloc);
     let printer = Printer { alloc, tree, conf };

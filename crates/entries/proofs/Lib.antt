@@ -11,3 +11,4 @@ pub mod KeptAttributes
 pub mod ClassLemmas
 pub mod ClassLaw
 pub mod ClassRuleExamples
+pub mod RdnsBegun

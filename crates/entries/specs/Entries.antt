@@ -1,5 +1,5 @@
 -- Entries (RFC 4512, 2.2 and 2.3): how lines add to one, what holds of each, and how one is written as lines.
-use Rattle.std.specs.Prelude.{◌≡◌, ℕ, Bool, true, false, not, ◌||◌, List, [], ◌∷◌, map, length, nat_eq, nat_lt, nat_le, Option, Some, None, Result, Ok, Err, if◌then◌else◌}
+use Rattle.std.specs.Prelude.{◌≡◌, ℕ, Bool, true, false, not, ◌||◌, List, [], ◌∷◌, map, take, length, nat_eq, nat_lt, nat_le, Option, Some, None, Result, Ok, Err, if◌then◌else◌}
 use Rattle.std.specs.List.{list_all, flat_map, AllByRecursion, IsDistinct}
 use Rattle.std.specs.Map.{keys_of}
 use Rattle.ldif.specs.Attrs.{Attr}
@@ -55,6 +55,10 @@ with_part types p attrs = if has_equal types p.0 p.1 (values_of attrs p.0) then 
 unfoldable pub with_rdn : List AttributeType → Rdn → Attributes → Attributes
 with_rdn types [] attrs = attrs
 with_rdn types (p ∷ ps) attrs = with_rdn types ps (with_part types p attrs)
+
+-- those of its first parts, as many as there are by now
+abbrev pub HasBegun : List AttributeType → Rdn → Attributes → Attributes → Type 0
+HasBegun types r before after = (n : ℕ) × (after ≡ with_rdn types (take n r) before)
 
 -- ---- what holds of an entry
 

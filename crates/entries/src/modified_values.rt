@@ -128,7 +128,7 @@ fn has_equality(conf: &Conf, t: TypeId) -> bool
     requires { t < length conf.now.types }
     ensures { result ≡ has_equality conf.now.types t }
 {
-    conf.family(t).is_some()
+    conf.equality_rule(t).is_some()
 }
 
 fn add_fault(conf: &Conf, t: TypeId, there: bool, some: bool) -> Option<Code>

@@ -1,10 +1,10 @@
 //! The values of an RDN among an entry's attributes.
 
-ghost use Rattle.std.specs.Prelude.{◌≡◌, ◌<◌, true, IfOk, OnOk, length};
+ghost use Rattle.std.specs.Prelude.{◌≡◌, ◌<◌, true, IfOk, OnErr, OnOk, length};
 ghost use Rattle.std.specs.List.{AllByRecursion};
 ghost use Rattle.schema.specs.GoodRdns.{IsAva};
 ghost use Rattle.schema.specs.Values.{norm_at, is_valid_at};
-ghost use Rattle.entries.specs.Entries.{values_of, has_equal, with_part, with_rdn};
+ghost use Rattle.entries.specs.Entries.{values_of, has_equal, with_part, with_rdn, HasBegun};
 ghost use Rattle.entries.specs.Modifies.{has_rdn};
 ghost use Rattle.entries.specs.StoredEntries.{attributes_of, IsMade};
 ghost use Rattle.values.specs.Norms.{has_norm};
@@ -42,6 +42,7 @@ fn add_part(
     requires part { IsAva conf.now.types part.now }
     ensures made { OnOk result (IsMade conf.now.types attrs.new.entries) }
     ensures values { OnOk result (attributes_of attrs.new.entries ≡ with_part conf.now.types part.now (attributes_of attrs.old.entries)) }
+    ensures err { OnErr result (attrs.new ≡ attrs.old) }
 {
     let (t, raw) = part;
     let value = valid_value(alloc, conf, *t, raw.as_slice())?;
@@ -49,7 +50,7 @@ fn add_part(
     Ok(())
 }
 
-/// Appends each value of the RDN that has no equal one there.
+/// Appends each value of the RDN that has no equal one there. Where memory runs out, those of its first parts may be there.
 #[tactic(auto, unfolding(crate::specs::Entries::with_rdn))]
 pub fn add_rdn(
     alloc: Global,
@@ -61,6 +62,7 @@ pub fn add_rdn(
     requires parts { AllByRecursion (IsAva conf.now.types) rdn.now }
     ensures made { OnOk result (IsMade conf.now.types attrs.new.entries) }
     ensures values { OnOk result (attributes_of attrs.new.entries ≡ with_rdn conf.now.types rdn.now (attributes_of attrs.old.entries)) }
+    ensures begun { OnErr result (HasBegun conf.now.types rdn.now (attributes_of attrs.old.entries) (attributes_of attrs.new.entries)) }
 {
     for part in rdn.parts() {
         add_part(alloc, conf, attrs, part)?;

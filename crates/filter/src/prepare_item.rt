@@ -44,7 +44,7 @@ fn equality(
     requires { t < length conf.now.types }
     ensures { IfOk result (λ a. a ≡ only_if (has_equality conf.now.types t && is_valid_at conf.now.types t value.now) (Equality (norm_at conf.now.types t value.now))) }
 {
-    if conf.family(t).is_none() {
+    if conf.equality_rule(t).is_none() {
         return Ok(None);
     }
     match normal_value(alloc, conf, t, value)? {
@@ -78,7 +78,7 @@ fn order_of(conf: &Conf, t: TypeId) -> Family
     requires { t < length conf.now.types }
     ensures { result ≡ order_of conf.now.types t }
 {
-    match conf.family(t) {
+    match conf.equality_rule(t) {
         Some(EqualityRule::Plain(family)) => family,
         Some(EqualityRule::Name) | None => Family::Octet,
     }
@@ -197,7 +197,7 @@ fn subtypes(alloc: Global, conf: &Conf, t: TypeId) -> Result<Sequence<TypeId>, A
     ensures { IfOk result (λ ts. ts ≡ subtypes conf.now.types t) }
 {
     schema::subtypes_are_told();
-    conf.holds();
+    conf.rules_are_kept();
     let mut found = Sequence::new(alloc);
     for number in 0..conf.types().len() {
         let under = TypeId::from_number(number as u16);

@@ -42,7 +42,7 @@ fn prepare_filter(alloc: Global, conf: &Conf, filter: &Filter) -> Result<Prepare
 pub fn prepare(alloc: Global, filter: &Filter, conf: &Conf) -> Result<Prepared, AllocError>
     ensures { IfOk result (λ p. p ≡ record { conf = conf.now; filter = filter.now }) }
 {
-    conf.holds();
+    conf.rules_are_kept();
     let root = prepare_filter(alloc, conf, filter)?;
     Ok(Prepared::of(filter, conf, root))
 }

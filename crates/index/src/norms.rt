@@ -41,7 +41,7 @@ fn is_under(conf: &Conf, t: TypeId, above: TypeId) -> bool
     requires { t < length conf.now.types }
     ensures { result ≡ is_subtype conf.now.types t above }
 {
-    conf.holds();
+    conf.rules_are_kept();
     schema::subtypes_are_told();
     conf.is_subtype(t, above)
 }

@@ -38,9 +38,9 @@ found_is_known classes name (Some c) e = (position-Some (is_class_named name) cl
 found_is_known classes name None e = tt
 
 -- nothing is found where there is no class
-pub no_class_found : (buckets : List (List NameEntry)) → ((name : List ℕ) → number_of buckets name ≡ None) → FindsClasses buckets []
+pub no_class_found : (entries : List NameEntry) → entries ≡ [] → FindsClasses entries []
 unfolding class_of
-no_class_found buckets none = none
+no_class_found entries none name = ap (λ (es : List NameEntry). number_of es name) none
 
 pub class_is_there : (classes : List ObjectClass) (name : List ℕ) → is_some (class_of classes name) ≡ is_class classes name
 unfolding class_of

@@ -21,6 +21,7 @@ use Rattle.schema.specs.declared.fault.PathFault.{PathFault}
 use Rattle.schema.specs.Gives.{Gives}
 use Rattle.schema.specs.GoodRdns.{IsAva, IsRdn, type_in}
 use Rattle.schema.specs.Names.{or_invalid, name_in}
+use Rattle.schema.specs.inner.Keys.{AreKnown}
 use Rattle.schema.specs.TypeRules.{has_name_syntax}
 use Rattle.schema.specs.Conf.{Conf, same_rdn_key, below, place_of, located}
 use Rattle.paths.proofs.Unpacked.{all_append}
@@ -50,6 +51,17 @@ name_some : (text : List ℕ) (n : names.Name) → Spells text n → AllByRecurs
 name_some text [] h = tt
 name_some text (r ∷ rs) h = joined_some text r rs h
 
+not_true : (b : Bool) → not b ≡ true → b ≡ false
+not_true true h = sym h
+not_true false h = refl
+
+-- a name has them
+pub rdns_have_parts : (n : names.Name) → names.is_name n ≡ true → AllByRecursion HasParts n
+rdns_have_parts [] h = tt
+rdns_have_parts (r ∷ rs) h =
+    let k = and_parts (names.is_rdn r) (list_all names.is_rdn rs) h in
+    (not_true (length r == 0) (and_parts (not (length r == 0)) (list_all names.is_ava r) k.0).0, rdns_have_parts rs k.1)
+
 pub name_has_parts : SpellsRead → (text : List ℕ) (n : names.Name) → name_in text ≡ Ok n → AllByRecursion HasParts n
 unfolding name_in
 name_has_parts read text n e =
@@ -71,10 +83,6 @@ found_is_known types text t e = lt-ltb t (length types) (position-Some (is_named
 record IsNext (types : List AttributeType) (earlier : Rdn) (p : Ava) : Type 0 where
   good : IsAva types p
   apart : has_type p.0 earlier ≡ false
-
-not_true : (b : Bool) → not b ≡ true → b ≡ false
-not_true true h = sym h
-not_true false h = refl
 
 is_not : (b : Bool) → not b ≡ false → b ≡ true
 is_not true h = refl
@@ -150,7 +158,7 @@ rdns_are_from types done (r ∷ more) rs h some e =
 pub rdns_are : (types : List AttributeType) (n : names.Name) (rs : List Rdn) → AllByRecursion HasParts n → typed types n ≡ Ok rs → AllByRecursion (IsRdn types) rs
 rdns_are types n rs = rdns_are_from types [] n rs tt
 
-below_are : (types : List AttributeType) (P : Rdn → Type 0) (ss rs out : List Rdn) → AllByRecursion P rs → below types ss rs ≡ Ok out → AllByRecursion P out
+pub below_are : (types : List AttributeType) (P : Rdn → Type 0) (ss rs out : List Rdn) → AllByRecursion P rs → below types ss rs ≡ Ok out → AllByRecursion P out
 unfolding below
 below_are types P [] rs out h e = subst (AllByRecursion P) (same_ok rs out e) h
 below_are types P (s ∷ ss) [] out h e = absurd cc
@@ -172,3 +180,7 @@ located_are read conf text rs e =
 pub types_known : (types : List AttributeType) (r : Rdn) → AllByRecursion (IsAva types) r → AllByRecursion (λ p. p.0 < length types) r
 types_known types [] h = tt
 types_known types (p ∷ ps) h = (ltb-true p.0 (length types) h.0.known, types_known types ps h.1)
+
+pub all_known : (types : List AttributeType) (rs : List Rdn) → AllByRecursion (IsRdn types) rs → AllByRecursion (AreKnown types) rs
+all_known types [] h = tt
+all_known types (r ∷ rs) h = (types_known types r h.0.parts, all_known types rs h.1)

@@ -12,3 +12,5 @@ pub mod Examples
 pub mod ValueExamples
 pub mod KeyOrder
 pub mod Lineages
+pub mod FirstFlaws
+pub mod PartFaults

@@ -1,10 +1,8 @@
 //! Object classes that are found by their names.
 
-ghost use Rattle.std.specs.Prelude.{◌≡◌, ◌<◌, ◌++◌, ◌∷◌, [], ℕ, List, IfOk, IfSome, OnOk, length};
-ghost use Rattle.std.specs.List.{list_any};
-ghost use Rattle.std.specs.Str.{str_eq_ignore_ascii_case};
-ghost use Rattle.values.specs.Tables.{number_of, or_if};
-ghost use Rattle.schema.specs.Classes.{is_class_named, class_of};
+ghost use Rattle.std.specs.Prelude.{◌≡◌, ◌<◌, ◌++◌, ◌∷◌, [], IfOk, IfSome, OnOk, length, map};
+ghost use Rattle.values.specs.Tables.{named};
+ghost use Rattle.schema.specs.Classes.{class_names, class_of};
 
 use crate::object_class::ObjectClass;
 use base::{Bytes, Sequence};
@@ -38,7 +36,7 @@ fn add_names(
     names: &[Bytes],
     number: usize,
 ) -> Result<(), AllocError>
-    ensures { OnOk result ((text : List ℕ) → number_of numbers.new text ≡ or_if (number_of numbers.old text) (list_any (λ n. str_eq_ignore_ascii_case n text) names.now) number) }
+    ensures { OnOk result (numbers.new ≡ numbers.old ++ map (named number) names.now) }
 {
     for name in names {
         numbers.add(alloc, name.as_slice(), number)?;
@@ -46,14 +44,14 @@ fn add_names(
     Ok(())
 }
 
-// puts a class's number at its OID and names, where none is there
+// puts a class's number at its OID and its names
 fn add_class(
     alloc: Global,
     numbers: &mut NameIndex,
     class: &ObjectClass,
     number: usize,
 ) -> Result<(), AllocError>
-    ensures { OnOk result ((text : List ℕ) → number_of numbers.new text ≡ or_if (number_of numbers.old text) (is_class_named text class.now) number) }
+    ensures { OnOk result (numbers.new ≡ numbers.old ++ map (named number) (class_names class.now)) }
 {
     numbers.add(alloc, class.oid.as_slice(), number)?;
     add_names(alloc, numbers, class.names.as_slice(), number)

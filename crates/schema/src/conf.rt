@@ -69,8 +69,8 @@ impl Conf {
         })
     }
 
-    /// What holds of every configuration.
-    pub fn holds(&self)
+    /// Every configuration keeps the rules of one. It does nothing: a call of it is made for what it states.
+    pub fn rules_are_kept(&self)
         ensures { IsConf self.now }
     {
         let _ = &self.types;

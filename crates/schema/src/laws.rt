@@ -1,15 +1,17 @@
 //! Laws of names and configurations, for the crates above.
 
-ghost use Rattle.std.specs.Prelude.{◌≡◌, ◌<◌, ◌↔◌, ℕ, true, false, length, Ok, Some, nat_lt, List, map};
+ghost use Rattle.std.specs.Prelude.{◌≡◌, ◌<◌, ◌↔◌, ℕ, true, false, length, Err, Ok, Some, nat_lt, List, map};
 ghost use Rattle.std.specs.List.{list_all, AllByRecursion};
 ghost use Rattle.std.specs.List.Sorted.{IsNonDecreasingBy, IsPermutation};
 ghost use Rattle.values.specs.Types.{type_of, name_of, is_known};
 ghost use Rattle.terms.specs.Naming.{is_reserved};
 ghost use Rattle.values.specs.declared.types.AttributeType.{AttributeType};
-ghost use Rattle.schema.specs.Rdns.{Rdn, type_of_pair, pair_of, rdn_key_of};
+ghost use Rattle.schema.specs.declared.code.Code.{Code};
+ghost use Rattle.schema.specs.Rdns.{Rdn, type_of_pair, pair_of, rdn_key_of, typed};
+ghost use Rattle.schema.specs.FaultyNames.{IsPartFault};
 ghost use Rattle.schema.specs.GoodRdns.{IsRdn};
 ghost use Rattle.schema.specs.Values.{is_valid_at};
-ghost use Rattle.dn.specs.Names.{is_type};
+ghost use Rattle.dn.specs.Names.{Name, is_type};
 ghost use Rattle.schema.specs.Conf.{Conf, IsConf, located, name_text, located_at};
 ghost use Rattle.schema.specs.Superclasses.{has_number, with_superclasses, IsAtOrAboveOne};
 ghost use Rattle.schema.specs.Subtypes.{IsSubtype, is_subtype};
@@ -57,6 +59,13 @@ pub fn located_rdns_are_good()
 {
     spelled_names_are_read();
 }
+
+/// Which code a name has whose types aren't found: that of the first part that has a flaw, its own RDN first, and of its flaws the first
+/// in a stated order. It has one such code at most.
+pub fn name_codes_stand_at_parts()
+    ensures fault { (types : List AttributeType) (n : Name) (code : Code) → (typed types n ≡ Err code) ↔ IsPartFault types n code }
+    ensures one { (types : List AttributeType) (n : Name) (c d : Code) → IsPartFault types n c → IsPartFault types n d → c ≡ d }
+{}
 
 /// Which classes stand in the list of some classes with their superclasses: those that one of them is derived from (RFC 4512, 2.4).
 pub fn superclasses_are_listed()

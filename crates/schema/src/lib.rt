@@ -1,6 +1,6 @@
 //! The configuration of a directory: its attribute types, object classes, suffix and indexes, and where names stand.
 //!
-//! The functions of `laws` do nothing, and neither does `Conf::holds`: a call of one is made for what it states alone.
+//! The functions of `laws` do nothing, and neither does `Conf::rules_are_kept`: a call of one is made for what it states alone.
 #![tactic(auto)]
 
 mod class_readers;
@@ -28,8 +28,9 @@ pub use dn::Name;
 pub use dn_values::rdns_in;
 pub use fault::PathFault;
 pub use laws::{
-    keys_are_sorted, located_rdns_are_good, printed_names_name_their_types, subtypes_are_told,
-    superclasses_are_listed, valid_values_are_bytes, written_names_are_located,
+    keys_are_sorted, located_rdns_are_good, name_codes_stand_at_parts,
+    printed_names_name_their_types, subtypes_are_told, superclasses_are_listed,
+    valid_values_are_bytes, written_names_are_located,
 };
 pub use locate::Located;
 pub use matching::{Family, Pieces, Syntax, contains_pieces, is_less};

@@ -49,6 +49,7 @@ pub(crate) fn path_of(alloc: Global, types: &TypeTable, rdns: &[Rdn]) -> Result<
 fn typed(alloc: Global, types: &TypeTable, name: &Name) -> Result<TypedName, PathFault>
     ensures rdns { Gives (λ x. x.rdns.items) result (typed types.now name.now) }
     ensures keys { IfOk result (KeysFit types.now) }
+    ensures good { IfOk result (λ x. AllByRecursion (IsRdn types.now) x.rdns.items) }
 {
     let rdns = typed_rdns(alloc, types, name)?;
     let path = path_of(alloc, types, &rdns)?;
@@ -60,9 +61,11 @@ impl Conf {
 
     // the RDNs below the suffix, from the suffix down
     fn below_suffix(&self, alloc: Global, typed: TypedName) -> Result<Located, PathFault>
-        requires { KeysFit self.now.types typed }
+        requires keys { KeysFit self.now.types typed }
+        requires good { AllByRecursion (IsRdn self.now.types) typed.rdns.items }
         ensures rdns { Gives (λ l. l.rdns) result (below self.now.types (reverse self.now.suffix) (reverse typed.rdns.items)) }
         ensures path { IfOk result (λ l. l.path ≡ path_of self.now l.rdns) }
+        ensures good { IfOk result (λ l. AllByRecursion (IsRdn self.now.types) l.rdns) }
     {
         let TypedName { mut rdns, path } = typed;
         if !self.root().begins(&path) {
@@ -83,6 +86,7 @@ impl Conf {
     pub fn place_of(&self, alloc: Global, name: &Name) -> Result<Located, PathFault>
         ensures rdns { Gives (λ l. l.rdns) result (place_of self.now name.now) }
         ensures path { IfOk result (λ l. l.path ≡ path_of self.now l.rdns) }
+        ensures good { IfOk result (λ l. AllByRecursion (IsRdn self.now.types) l.rdns) }
     {
         let typed = typed(alloc, self.table(), name)?;
         self.below_suffix(alloc, typed)
@@ -93,6 +97,7 @@ impl Conf {
     pub fn locate(&self, alloc: Global, text: &[u8]) -> Result<Located, PathFault>
         ensures rdns { Gives (λ l. l.rdns) result (located self.now text.now) }
         ensures path { IfOk result (λ l. l.path ≡ path_of self.now l.rdns) }
+        ensures good { IfOk result (λ l. AllByRecursion (IsRdn self.now.types) l.rdns) }
     {
         let name = read_dn(alloc, text)?;
         self.place_of(alloc, &name)

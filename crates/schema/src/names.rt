@@ -1,7 +1,8 @@
 //! Names as bytes, and RDNs as they are written (RFC 4514).
 
-ghost use Rattle.std.specs.Prelude.{◌≡◌, ◌<◌, ◌∷◌, ◌++◌, OnOk, length};
+ghost use Rattle.std.specs.Prelude.{◌≡◌, ◌<◌, ◌∷◌, ◌++◌, OnErr, OnOk, length};
 ghost use Rattle.std.specs.List.{flat_map, AllByRecursion};
+ghost use Rattle.base.specs.Extends.{Extends};
 ghost use Rattle.dn.specs.Reading.{name_of};
 ghost use Rattle.dn.specs.Writing.{part_text, rdn_text};
 ghost use Rattle.schema.specs.GoodRdns.{IsRdn};
@@ -42,7 +43,8 @@ pub fn read_dn(alloc: Global, text: &[u8]) -> Result<Name, PathFault>
 impl Conf {
     fn put_part(&self, out: &mut Vec<u8>, part: &(TypeId, Bytes)) -> Result<(), AllocError>
         requires { part.now.0 < length self.now.types }
-        ensures { OnOk result (out.new.items ≡ out.old.items ++ part_text (written_part self.now.types part.now)) }
+        ensures put { OnOk result (out.new.items ≡ out.old.items ++ part_text (written_part self.now.types part.now)) }
+        ensures kept { OnErr result (Extends out.old.items out.new.items) }
     {
         let (t, value) = part;
         out.extend_from_slice(self.name(*t))?;
@@ -53,7 +55,8 @@ impl Conf {
     // each part with a plus sign before it
     fn put_more_parts(&self, out: &mut Vec<u8>, parts: &[(TypeId, Bytes)]) -> Result<(), AllocError>
         requires { AreKnown self.now.types parts.now }
-        ensures { OnOk result (out.new.items ≡ out.old.items ++ flat_map (λ p. 43 ∷ part_text (written_part self.now.types p)) parts.now) }
+        ensures put { OnOk result (out.new.items ≡ out.old.items ++ flat_map (λ p. 43 ∷ part_text (written_part self.now.types p)) parts.now) }
+        ensures kept { OnErr result (Extends out.old.items out.new.items) }
     {
         for part in parts {
             out.extend_from_slice(b"+")?;
@@ -64,7 +67,8 @@ impl Conf {
 
     fn put_parts(&self, out: &mut Vec<u8>, parts: &[(TypeId, Bytes)]) -> Result<(), AllocError>
         requires { AreKnown self.now.types parts.now }
-        ensures { OnOk result (out.new.items ≡ out.old.items ++ rdn_text (written_rdn self.now.types parts.now)) }
+        ensures put { OnOk result (out.new.items ≡ out.old.items ++ rdn_text (written_rdn self.now.types parts.now)) }
+        ensures kept { OnErr result (Extends out.old.items out.new.items) }
     {
         match parts {
             [] => Ok(()),
@@ -76,10 +80,12 @@ impl Conf {
         }
     }
 
-    /// Writes an RDN as it stands in a name, behind what `out` has: its types by the names that they are printed by.
+    /// Writes an RDN as it stands in a name, behind what `out` has: its types by the names that they are printed by. Where memory runs
+    /// out, a beginning of it may stand there.
     pub fn put_rdn(&self, out: &mut Vec<u8>, rdn: &Rdn) -> Result<(), AllocError>
         requires { IsRdn self.now.types rdn.now }
-        ensures { OnOk result (out.new.items ≡ out.old.items ++ rdn_text (written_rdn self.now.types rdn.now)) }
+        ensures put { OnOk result (out.new.items ≡ out.old.items ++ rdn_text (written_rdn self.now.types rdn.now)) }
+        ensures kept { OnErr result (Extends out.old.items out.new.items) }
     {
         self.put_parts(out, rdn.parts())
     }

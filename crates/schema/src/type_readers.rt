@@ -17,7 +17,7 @@ impl Conf {
     }
 
     /// How two values of a type are equal (RFC 4517, 4.2); without a rule, where their bytes are.
-    pub fn family(&self, t: TypeId) -> Option<EqualityRule>
+    pub fn equality_rule(&self, t: TypeId) -> Option<EqualityRule>
         requires { t < length self.now.types }
         ensures { result ≡ (type_at self.now.types t).equality }
     {
@@ -69,7 +69,7 @@ impl Conf {
         requires { t < length self.now.types }
         ensures { IsTrue result ↔ IsSubtype self.now.types t above }
     {
-        self.holds();
+        self.rules_are_kept();
         let mut at = t;
         while at != above {
             match self.at(at).superior {

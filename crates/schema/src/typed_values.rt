@@ -87,7 +87,7 @@ impl Conf {
         requires rule { (type_at self.now.types t).has_substrings ≡ true }
         ensures { Makes result (list_all (is_valid_at self.now.types t) (map (λ text. text.now) texts.now)) (λ p. p ≡ pieces_of self.now.types t front back (map (λ text. text.now) texts.now)) }
     {
-        self.holds();
+        self.rules_are_kept();
         let kind = self.at(t);
         if !are_valid_by(alloc, self.table(), kind.syntax, texts)? {
             return Err(ValueFault::Invalid);

@@ -12,7 +12,7 @@ use tree::Tree;
 pub(crate) fn rank_of(alloc: Global, tree: &Tree, path: &Path) -> u32
     ensures { result ≡ rank_in tree.now.entries path.now }
 {
-    tree.is_directory();
+    tree.entries_are_a_directory();
     let root = Path::root(alloc);
     let mut rank: u32 = 0;
     for found in tree.numbered(&root) {

@@ -43,7 +43,7 @@ fn search_from<'a, S: IdSet>(
     ensures tested { IfSome result (λ h. h.in_the_end ≡ count_among tree.now.entries
         (λ p. ids_contain S.members candidates (number_by numbering (number_at tree.now p) (rank_in tree.now.entries p))) base.now scope) }
 {
-    tree.is_directory();
+    tree.entries_are_a_directory();
     tree.get(base)?;
     let rest = MarkedEntries::new(tree.numbered(base), rank, numbering, candidates);
     Some(Hits::new(rest, scope, base.len(), filter))

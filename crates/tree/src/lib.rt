@@ -1,7 +1,7 @@
 //! The tree of a directory, and what a record does to it.
 //!
-//! The functions of `laws` do nothing, and neither do `Tree::is_directory` and `is_numbered`: a call of one is made for what it
-//! states alone.
+//! The functions of `laws` do nothing, and neither do `Tree::entries_are_a_directory` and `entries_are_numbered`: a call of one is
+//! made for what it states alone.
 #![tactic(auto)]
 
 mod laws;

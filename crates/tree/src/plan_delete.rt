@@ -33,7 +33,7 @@ impl Planner<'_> {
         ensures path { IfOk result (λ c. path_before (seen_change c) ≡ Some path) }
         ensures gives { Gives seen_change result (delete_at self.now.tree.now.entries path) }
     {
-        self.tree.is_directory();
+        self.tree.entries_are_a_directory();
         removing_keeps_a_directory();
         if !self.tree.contains(&path) {
             return Err(Refusal::Code(Code::NoSuchObject));

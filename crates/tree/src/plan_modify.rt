@@ -34,7 +34,7 @@ impl Planner<'_> {
         ensures path { IfOk result (λ c. path_before (seen_change c) ≡ Some path) }
         ensures gives { Gives seen_change result (modify_there self.now.conf.now path mods.now (finite.get self.now.tree.now.entries path)) }
     {
-        self.tree.is_directory();
+        self.tree.entries_are_a_directory();
         let Some(entry) = self.tree.get(&path) else {
             return Err(Refusal::Code(Code::NoSuchObject));
         };

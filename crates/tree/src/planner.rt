@@ -90,7 +90,7 @@ impl Planner<'_> {
         ensures nothing { result ≡ Ok Change.Nothing }
         ensures change { IsChange self.now.tree.now Change.Nothing }
     {
-        self.tree.is_directory();
+        self.tree.entries_are_a_directory();
         Ok(Change::Nothing)
     }
 }

@@ -1,16 +1,19 @@
--- Names with numbers, in buckets.
-use Rattle.std.proofs.Common.{ap, ◌≡◌, ◌≢◌, ℕ, zero, suc, ◌<◌, ◌+◌, ◌-◌, ◌*◌, ◌%◌, bit_and, bit_or, Bool, true, false, cond, List, [], ◌∷◌, ◌++◌, length, get_or, Some, None, refl, sym, ◌∙◌, arith}
+-- Names with numbers, whose places stand in buckets.
+use Rattle.std.proofs.Common.{ap, ◌≡◌, ℕ, zero, suc, ◌<◌, ◌+◌, ◌-◌, ◌*◌, ◌%◌, bit_and, bit_or, Bool, true, false, List, [], ◌∷◌, ◌++◌, length, refl, sym, ◌∙◌, arith}
 use Rattle.std.specs.Prelude.{nat_eq, nat_lt, slice_set, ◌^◌, ◌==◌}
 use Rattle.std.specs.Char.{to_ascii_lowercase}
 use Rattle.std.specs.List.{AllByRecursion, fold}
 use Rattle.std.proofs.lemmas.Bool.{agree_below_at, ltb-true}
 use Rattle.std.specs.Str.{str_eq_ignore_ascii_case, str_to_ascii_lowercase}
 use Rattle.std.proofs.lemmas.Bool.Decides.{nat_tests, Decides-eqb}
-use Rattle.std.proofs.lemmas.List.{length-set, get_or-set_same, get_or-set_other}
+use Rattle.std.proofs.Math.ListN.{get_or-append}
+use Rattle.std.proofs.Math.Seq.{get_or-append_seam}
+use Rattle.std.proofs.lemmas.List.{length-append, length-set, get_or-set_same, get_or-set_other, map-append}
 use Rattle.std.proofs.lemmas.Slice.Eq.{bytes_eq-Decides}
 use Rattle.values.specs.declared.name_index.NameEntry.{NameEntry}
-use Rattle.values.specs.Tables.{case_bit, key_with, key_of, bucket_of, number_in, number_of, or_if}
-use Rattle.values.proofs.Tables.{or_none}
+use Rattle.values.specs.Tables.{number_of, or_if}
+use Rattle.values.specs.inner.Buckets.{case_bit, key_with, key_of, bucket_of, bucket_at, no_entry, entry_at, entries_at, AreFound}
+use Rattle.values.proofs.Tables.{or_none, number_push}
 
 same_bit : (b : ℕ) → bit_or (to_ascii_lowercase b) case_bit ≡ bit_or b case_bit
 same_bit b = by (nat_lt b 91) refl
@@ -30,46 +33,79 @@ same_bucket count a b h =
     let alike : str_to_ascii_lowercase a ≡ str_to_ascii_lowercase b = (bytes_eq-Decides (str_to_ascii_lowercase a) (str_to_ascii_lowercase b)).0 h in
     ap (λ key. bit_and key (count - 1)) (in_lower_case 0 a ∙ ap (fold key_with 0) alike ∙ sym (in_lower_case 0 b))
 
-in_push : (es : List NameEntry) (e : NameEntry) (text : List ℕ) → number_in (es ++ e ∷ []) text ≡ or_if (number_in es text) (str_eq_ignore_ascii_case e.name text) e.number
-in_push [] e text = refl
-in_push (d ∷ es) e text =
-    elim (str_eq_ignore_ascii_case d.name text) as (λ b. cond b (Some d.number) (number_in (es ++ e ∷ []) text) ≡ or_if (cond b (Some d.number) (number_in es text)) (str_eq_ignore_ascii_case e.name text) e.number) [
-      | true ↦ refl
-      | false ↦ in_push es e text
-    ]
+-- ---- one entry more
 
-same_default : {X : Type 0} (xs : List X) (i : ℕ) → (c d : X) → i < length xs → get_or xs i c ≡ get_or xs i d
-same_default [] i c d lt = absurd (omega arith)
-same_default (x ∷ xs) zero c d lt = refl
-same_default (x ∷ xs) (suc i) c d lt = same_default xs i c d (omega arith)
+abbrev Within : List NameEntry → List ℕ → Type 0
+Within entries places = AllByRecursion (λ place. place < length entries) places
 
--- what a name finds once there is an entry at the end of a bucket
-abbrev FindsPut : List (List NameEntry) → ℕ → List NameEntry → NameEntry → List ℕ → ℕ → Type 0
-FindsPut buckets i new e text j = number_in (get_or (slice_set buckets i new) j []) text ≡ or_if (number_in (get_or buckets j []) text) (str_eq_ignore_ascii_case e.name text) e.number
+-- whatever is put behind them, the entries at these places stay
+at_stays : (entries : List NameEntry) (e : NameEntry) (places : List ℕ) → Within entries places → entries_at (entries ++ e ∷ []) places ≡ entries_at entries places
+at_stays entries e [] h = refl
+at_stays entries e (p ∷ ps) h =
+    ap (λ (d : NameEntry). d ∷ entries_at (entries ++ e ∷ []) ps) (get_or-append entries (e ∷ []) no_entry p h.0)
+    ∙ ap (λ (es : List NameEntry). entry_at entries p ∷ es) (at_stays entries e ps h.1)
 
-in_bucket : (buckets : List (List NameEntry)) (i : ℕ) (old new : List NameEntry) (e : NameEntry) (text : List ℕ) (j : ℕ) → i < length buckets → old ≡ get_or buckets i old → new ≡ old ++ e ∷ [] → j ≡ i → FindsPut buckets i new e text j
-in_bucket buckets i old new e text j lt was is here =
-    rw (here, get_or-set_same buckets i new [] lt, same_default buckets i [] old lt, ← was, is) (in_push old e text)
+at_put : (entries : List NameEntry) (e : NameEntry) (places : List ℕ) → Within entries places → entries_at (entries ++ e ∷ []) (places ++ length entries ∷ []) ≡ entries_at entries places ++ e ∷ []
+at_put entries e places h =
+    map-append (entry_at (entries ++ e ∷ [])) places (length entries ∷ [])
+    ∙ ap (λ (d : NameEntry). entries_at (entries ++ e ∷ []) places ++ d ∷ []) (get_or-append_seam entries e [] no_entry)
+    ∙ ap (λ (es : List NameEntry). es ++ e ∷ []) (at_stays entries e places h)
 
-in_other : (buckets : List (List NameEntry)) (i : ℕ) (new : List NameEntry) (e : NameEntry) (text : List ℕ) (j : ℕ) → str_eq_ignore_ascii_case e.name text ≡ false → j ≢ i → FindsPut buckets i new e text j
-in_other buckets i new e text j unlike apart = rw (get_or-set_other buckets i j new [] apart, unlike) (or_none (number_in (get_or buckets j []) text) e.number)
+within_more : (entries : List NameEntry) (e : NameEntry) (places : List ℕ) → Within entries places → Within (entries ++ e ∷ []) places
+within_more entries e [] h = tt
+within_more entries e (p ∷ ps) h = (omega (arith, h.0, length-append entries (e ∷ [])), within_more entries e ps h.1)
 
--- an entry at the end of its bucket counts where there is none yet
-pub put_entry : (buckets : List (List NameEntry)) (i : ℕ) (old new : List NameEntry) (e : NameEntry) (text : List ℕ) → i ≡ bucket_of (length buckets) e.name → i < length buckets → old ≡ get_or buckets i old → new ≡ old ++ e ∷ [] → number_of (slice_set buckets i new) text ≡ or_if (number_of buckets text) (str_eq_ignore_ascii_case e.name text) e.number
-put_entry buckets i old new e text place lt was is =
-    let j : ℕ = bucket_of (length buckets) text in
-    rw (length-set buckets i new) (by (str_eq_ignore_ascii_case e.name text) refl (nat_eq j i) refl)
-  where
-    by : (alike : Bool) → str_eq_ignore_ascii_case e.name text ≡ alike → (here : Bool) → nat_eq (bucket_of (length buckets) text) i ≡ here → FindsPut buckets i new e text (bucket_of (length buckets) text)
-    by true h here k = in_bucket buckets i old new e text (bucket_of (length buckets) text) lt was is (sym (place ∙ same_bucket (length buckets) e.name text h))
-    by false h true k = in_bucket buckets i old new e text (bucket_of (length buckets) text) lt was is (grind (arith, nat_tests))
-    by false h false k = in_other buckets i new e text (bucket_of (length buckets) text) h (λ same. absurd (grind (arith, nat_tests)))
+within_put : (entries : List NameEntry) (e : NameEntry) (places : List ℕ) → Within entries places → Within (entries ++ e ∷ []) (places ++ length entries ∷ [])
+within_put entries e [] h = (omega (arith, length-append entries (e ∷ [])), tt)
+within_put entries e (p ∷ ps) h = (omega (arith, h.0, length-append entries (e ∷ [])), within_put entries e ps h.1)
 
--- where all buckets are empty no name has a number
-pub none_there : (buckets : List (List NameEntry)) → AllByRecursion (λ es. es ≡ []) buckets → (text : List ℕ) → number_of buckets text ≡ None
-none_there buckets h text = by buckets (bucket_of (length buckets) text) h
-  where
-    by : (xs : List (List NameEntry)) (i : ℕ) → AllByRecursion (λ es. es ≡ []) xs → number_in (get_or xs i []) text ≡ None
-    by [] i h = refl
-    by (es ∷ xs) zero h = rw (h.0) refl
-    by (es ∷ xs) (suc i) h = by xs i h.1
+-- an entry at the end, and its place at the end of its bucket
+module _ (entries : List NameEntry) (buckets : List (List ℕ)) (e : NameEntry) (b : ℕ) (found : AreFound entries buckets) (is : b ≡ bucket_of (length buckets) e.name) (lt : b < length buckets) where
+  abbrev more : List NameEntry
+  more = entries ++ e ∷ []
+
+  abbrev put : List (List ℕ)
+  put = slice_set buckets b (bucket_at buckets b ++ length entries ∷ [])
+
+  within_all : (j : ℕ) → Within more (bucket_at put j)
+  within_all j = by (nat_eq j b) refl
+    where
+      by : (here : Bool) → nat_eq j b ≡ here → Within more (bucket_at put j)
+      by true h =
+          let at : j ≡ b = grind (arith, nat_tests) in
+          rw (at, get_or-set_same buckets b (bucket_at buckets b ++ length entries ∷ []) [] lt) (within_put entries e (bucket_at buckets b) (found.within b))
+      by false h = rw (get_or-set_other buckets b j (bucket_at buckets b ++ length entries ∷ []) [] (λ same. absurd (grind (arith, nat_tests)))) (within_more entries e (bucket_at buckets j) (found.within j))
+
+  pub found_put : AreFound (entries ++ e ∷ []) (slice_set buckets b (bucket_at buckets b ++ length entries ∷ []))
+  found_put = record {
+    some = omega (arith, found.some, length-set buckets b (bucket_at buckets b ++ length entries ∷ []));
+    within = within_all;
+    first = λ name. rw (length-set buckets b (bucket_at buckets b ++ length entries ∷ [])) (by name (str_eq_ignore_ascii_case e.name name) refl (nat_eq (bucket_of (length buckets) name) b) refl);
+  }
+    where
+      by : (name : List ℕ) (alike : Bool) → str_eq_ignore_ascii_case e.name name ≡ alike → (here : Bool) → nat_eq (bucket_of (length buckets) name) b ≡ here → number_of (entries_at more (bucket_at put (bucket_of (length buckets) name))) name ≡ number_of more name
+      by name alike h true k =
+          let at : bucket_of (length buckets) name ≡ b = grind (arith, nat_tests) in
+          rw (at, get_or-set_same buckets b (bucket_at buckets b ++ length entries ∷ []) [] lt, at_put entries e (bucket_at buckets b) (found.within b))
+          (number_push (entries_at entries (bucket_at buckets b)) e name
+          ∙ ap (λ o. or_if o (str_eq_ignore_ascii_case e.name name) e.number) ((λ j. number_of (entries_at entries (bucket_at buckets (sym at j))) name) ∙ found.first name)
+          ∙ sym (number_push entries e name))
+      by name true h false k = absurd (grind (arith, nat_tests, k, is, same_bucket (length buckets) e.name name h))
+      by name false h false k =
+          let j : ℕ = bucket_of (length buckets) name in
+          rw (get_or-set_other buckets b j (bucket_at buckets b ++ length entries ∷ []) [] (λ same. absurd (grind (arith, nat_tests))), at_stays entries e (bucket_at buckets j) (found.within j))
+          (found.first name ∙ or_none (number_of entries name) e.number ∙ ap (λ (a : Bool). or_if (number_of entries name) a e.number) (sym h) ∙ sym (number_push entries e name))
+
+-- ---- no entry yet
+
+empty_at : (buckets : List (List ℕ)) (i : ℕ) → AllByRecursion (λ places. places ≡ []) buckets → bucket_at buckets i ≡ []
+empty_at [] i h = refl
+empty_at (ps ∷ buckets) zero h = h.0
+empty_at (ps ∷ buckets) (suc i) h = empty_at buckets i h.1
+
+pub none_there : (entries : List NameEntry) (buckets : List (List ℕ)) → entries ≡ [] → 0 < length buckets → AllByRecursion (λ places. places ≡ []) buckets → AreFound entries buckets
+none_there entries buckets is some h = record {
+  some = some;
+  within = λ b. rw (empty_at buckets b h) tt;
+  first = λ name. rw (empty_at buckets (bucket_of (length buckets) name) h, is) refl;
+}

@@ -123,7 +123,7 @@ impl Values {
         false
     }
 
-    /// Puts a value last, or changes nothing where memory chunks out.
+    /// Puts a value last, or changes nothing where memory runs out.
     pub fn push(&mut self, alloc: Global, value: Value) -> Result<(), AllocError>
         ensures ok { OnOk result (self.new ≡ self.old ++ value ∷ []) }
         ensures err { OnErr result (self.new ≡ self.old) }
@@ -141,7 +141,7 @@ impl Values {
         }
     }
 
-    /// Takes away each value with this normal form, or changes nothing where memory chunks out.
+    /// Takes away each value with this normal form, or changes nothing where memory runs out.
     pub fn remove_norm(&mut self, alloc: Global, norm: &[u8]) -> Result<(), AllocError>
         ensures ok { OnOk result (self.new ≡ but_norm norm.now self.old) }
         ensures err { OnErr result (self.new ≡ self.old) }

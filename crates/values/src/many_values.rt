@@ -116,7 +116,7 @@ impl ManyValues {
         }
     }
 
-    /// Puts a value last, or changes nothing where memory chunks out.
+    /// Puts a value last, or changes nothing where memory runs out.
     pub(crate) fn push(&mut self, alloc: Global, value: Value) -> Result<(), AllocError>
         ensures ok { OnOk result (self.new ≡ self.old ++ value ∷ []) }
         ensures err { OnErr result (self.new ≡ self.old) }
@@ -128,7 +128,7 @@ impl ManyValues {
         Ok(())
     }
 
-    /// Takes away each value with this normal form, or changes nothing where memory chunks out.
+    /// Takes away each value with this normal form, or changes nothing where memory runs out.
     pub(crate) fn remove_norm(&mut self, alloc: Global, norm: &[u8]) -> Result<(), AllocError>
         ensures ok { OnOk result (self.new ≡ but_norm norm.now self.old) }
         ensures err { OnErr result (self.new ≡ self.old) }

@@ -1,11 +1,12 @@
 //! Numbers that are found by a name.
 
-ghost use Rattle.std.specs.Prelude.{◌≡◌, ℕ, ◌<◌, None, IfOk, OnOk, OnErr, List, length};
+ghost use Rattle.std.specs.Prelude.{◌≡◌, ℕ, ◌<◌, ◌++◌, ◌∷◌, [], IfOk, OnOk, OnErr, length, slice_set};
+ghost use Rattle.std.specs.List.{AllByRecursion};
 ghost use Rattle.std.specs.Str.{str_eq_ignore_ascii_case};
-ghost use Rattle.values.specs.Tables.{bucket_of, key_of, number_in, number_of, or_if};
+ghost use Rattle.values.specs.Tables.{named, number_of};
+ghost use Rattle.values.specs.inner.Buckets.{bucket_of, key_of, bucket_at, entries_at};
 
 use base::{Bytes, Sequence};
-use paths::TypeId;
 use std::alloc::{AllocError, Global};
 use std::marker::Model;
 
@@ -22,25 +23,27 @@ pub(crate) struct NameEntry {
     number: usize,
 }
 
-/// Names with numbers, in buckets by a key that doesn't see ASCII case. A contract sees the buckets.
+/// Names with numbers. A contract sees the list of them, in the order in which they were added.
 #[derive(Debug, Drop)]
 pub struct NameIndex {
-    // in each bucket an earlier entry counts before a later one
-    buckets: Vec<Sequence<NameEntry>>,
+    entries: Vec<NameEntry>,
+    // the places of entries; which bucket a name's is in, its key says, which doesn't see ASCII case
+    buckets: Vec<Sequence<usize>>,
 }
 
 impl Model for NameIndex {
-    ghost use Rattle.std.specs.Prelude.{◌<◌, List, length};
+    ghost use Rattle.std.specs.Prelude.{List};
     ghost use Rattle.values.specs.declared.name_index.NameEntry.{NameEntry};
+    ghost use Rattle.values.specs.inner.Buckets.{AreFound};
 
-    ghost Value = { List (List NameEntry) };
+    ghost Value = { List NameEntry };
 
-    ghost view = { λ x. x.buckets.items };
+    ghost view = { λ x. x.entries.items };
 
-    ghost invariant = { λ x. 0 < length x.buckets.items };
+    ghost invariant = { λ x. AreFound x.entries.items x.buckets.items };
 }
 
-#[tactic(auto, unfolding(crate::specs::Tables::key_of))]
+#[tactic(auto, unfolding(crate::specs::inner::Buckets::key_of))]
 fn key_of(name: &[u8]) -> u64
     ensures { result ≡ key_of name.now }
 {
@@ -66,10 +69,13 @@ fn are_alike(a: &[u8], b: &[u8]) -> bool
     a == b || a.eq_ignore_ascii_case(b)
 }
 
-fn number_in(entries: &[NameEntry], name: &[u8]) -> Option<usize>
-    ensures { result ≡ number_in entries.now name.now }
+// the number of the first of these places at which this name stands
+fn number_at(entries: &[NameEntry], places: &[usize], name: &[u8]) -> Option<usize>
+    requires { AllByRecursion (λ place. place < length entries.now) places.now }
+    ensures { result ≡ number_of (entries_at entries.now places.now) name.now }
 {
-    for entry in entries {
+    for place in places {
+        let entry = &entries[*place];
         if are_alike(entry.name.as_slice(), name) {
             return Some(entry.number);
         }
@@ -77,9 +83,9 @@ fn number_in(entries: &[NameEntry], name: &[u8]) -> Option<usize>
     None
 }
 
-fn empty_buckets(alloc: Global, count: usize) -> Result<Vec<Sequence<NameEntry>>, AllocError>
+fn empty_buckets(alloc: Global, count: usize) -> Result<Vec<Sequence<usize>>, AllocError>
     ensures count { IfOk result (λ v. length v.items ≡ count) }
-    ensures none { IfOk result (λ v. (name : List ℕ) → number_of v.items name ≡ None) }
+    ensures none { IfOk result (λ v. AllByRecursion (λ places. places ≡ []) v.items) }
 {
     let mut buckets = Vec::with_capacity(alloc, count)?;
     while buckets.len() < count {
@@ -88,32 +94,53 @@ fn empty_buckets(alloc: Global, count: usize) -> Result<Vec<Sequence<NameEntry>>
     Ok(buckets)
 }
 
+// one place more, at the end of a bucket
+fn put_place(
+    buckets: &mut Vec<Sequence<usize>>,
+    bucket: usize,
+    place: usize,
+) -> Result<(), AllocError>
+    requires { bucket < length buckets.old.items }
+    ensures ok { OnOk result (buckets.new.items ≡ slice_set buckets.old.items bucket (bucket_at buckets.old.items bucket ++ place ∷ [])) }
+    ensures err { OnErr result (buckets.new.items ≡ buckets.old.items) }
+{
+    buckets[bucket].push(place)
+}
+
 impl NameIndex {
     /// No names. As many as there is `room` for are found quickly, more than them less so.
     pub fn with_room(alloc: Global, room: usize) -> Result<NameIndex, AllocError>
-        ensures { IfOk result (λ x. (name : List ℕ) → number_of x name ≡ None) }
+        ensures { IfOk result (λ x. x ≡ []) }
     {
         let count = room.min(MOST_BUCKETS).next_power_of_two();
         Ok(NameIndex {
+            entries: Vec::new(alloc),
             buckets: empty_buckets(alloc, count)?,
         })
     }
 
-    /// Puts a number at a name, where none is there; or changes nothing where memory chunks out.
+    /// Puts a name with a number at the end, or changes nothing where memory runs out.
     pub fn add(&mut self, alloc: Global, name: &[u8], number: usize) -> Result<(), AllocError>
+        ensures ok { OnOk result (self.new ≡ self.old ++ named number name.now ∷ []) }
         ensures err { OnErr result (self.new ≡ self.old) }
-        ensures ok { OnOk result ((text : List ℕ) → number_of self.new text ≡ or_if (number_of self.old text) (str_eq_ignore_ascii_case name.now text) number) }
     {
         let bucket = bucket_of(self.buckets.len(), name);
         let name = Bytes::from_slice(alloc, name)?;
-        self.buckets[bucket].push(NameEntry { name, number })
+        self.entries.reserve(1)?;
+        put_place(&mut self.buckets, bucket, self.entries.len())?;
+        self.entries.push_reserved(NameEntry { name, number });
+        Ok(())
     }
 
-    /// The number at a name, without ASCII case.
+    /// The number of the first entry with this name, without ASCII case.
     pub fn get(&self, name: &[u8]) -> Option<usize>
         ensures { result ≡ number_of self.now name.now }
     {
         let bucket = bucket_of(self.buckets.len(), name);
-        number_in(self.buckets[bucket].as_slice(), name)
+        number_at(
+            self.entries.as_slice(),
+            self.buckets[bucket].as_slice(),
+            name,
+        )
     }
 }

@@ -1,4 +1,4 @@
-//! Runs of values that copies of an attribute share.
+//! Chunks of values that copies of an attribute share.
 
 ghost use Rattle.std.specs.Prelude.{◌≡◌, ◌++◌, [], OnOk, OnErr, IfOk, IfErr};
 ghost use Rattle.std.specs.List.{flat_map};
@@ -14,7 +14,7 @@ use std::slice::Iter;
 /// Values next to each other.
 pub(crate) type Chunk = Vec<Value>;
 
-/// Runs of values, in order. A copy shares them, and takes no more time for a longer one. A contract sees the list of all values.
+/// Chunks of values, in order. A copy shares them, and takes no more time for a longer one. A contract sees the list of all values.
 pub(crate) struct SharedChunks {
     chunks: Vec<Rc<Chunk>>,
 }
@@ -104,7 +104,7 @@ impl SharedChunks {
         }
     }
 
-    /// Puts a chunk last, or changes nothing where memory chunks out, and gives it back.
+    /// Puts a chunk last, or changes nothing where memory runs out, and gives it back.
     pub(crate) fn push(&mut self, alloc: Global, chunk: Chunk) -> Result<(), AllocFailed<Chunk>>
         ensures ok { OnOk result (self.new ≡ self.old ++ chunk.items) }
         ensures err { OnErr result (self.new ≡ self.old) }

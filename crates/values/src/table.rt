@@ -1,10 +1,8 @@
 //! Attribute types that are found by their names.
 
-ghost use Rattle.std.specs.Prelude.{◌≡◌, ◌<◌, ◌≤◌, ◌++◌, ◌∷◌, [], IfOk, IfSome, OnOk, ℕ, List, length};
-ghost use Rattle.std.specs.List.{list_any};
-ghost use Rattle.std.specs.Str.{str_eq_ignore_ascii_case};
-ghost use Rattle.values.specs.Tables.{FindsTypes, number_of, or_if};
-ghost use Rattle.values.specs.Types.{is_named, name_of, type_of, type_at};
+ghost use Rattle.std.specs.Prelude.{◌≡◌, ◌<◌, ◌≤◌, ◌++◌, ◌∷◌, [], IfOk, IfSome, OnOk, length, map};
+ghost use Rattle.values.specs.Tables.{FindsTypes, named};
+ghost use Rattle.values.specs.Types.{names_of, name_of, type_of, type_at};
 
 use crate::name_index::NameIndex;
 use crate::types::{AttributeType, type_at};
@@ -39,7 +37,7 @@ fn add_names(
     names: &[Bytes],
     t: usize,
 ) -> Result<(), AllocError>
-    ensures { OnOk result ((text : List ℕ) → number_of numbers.new text ≡ or_if (number_of numbers.old text) (list_any (λ n. str_eq_ignore_ascii_case n text) names.now) t) }
+    ensures { OnOk result (numbers.new ≡ numbers.old ++ map (named t) names.now) }
 {
     for name in names {
         numbers.add(alloc, name.as_slice(), t)?;
@@ -47,14 +45,14 @@ fn add_names(
     Ok(())
 }
 
-// puts a type's number at its OID and names, where none is there
+// puts a type's number at its OID and its names
 fn add_type(
     alloc: Global,
     numbers: &mut NameIndex,
     new: &AttributeType,
     t: usize,
 ) -> Result<(), AllocError>
-    ensures { OnOk result ((text : List ℕ) → number_of numbers.new text ≡ or_if (number_of numbers.old text) (is_named text new.now) t) }
+    ensures { OnOk result (numbers.new ≡ numbers.old ++ map (named t) (names_of new.now)) }
 {
     numbers.add(alloc, new.oid.as_slice(), t)?;
     add_names(alloc, numbers, new.names.as_slice(), t)

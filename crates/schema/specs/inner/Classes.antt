@@ -6,5 +6,5 @@ use Rattle.schema.specs.declared.object_class.ObjectClass.{ObjectClass}
 use Rattle.schema.specs.Classes.{class_of}
 
 -- the number of a name is that of the first class with this name or OID
-abbrev pub FindsClasses : List (List NameEntry) → List ObjectClass → Type 0
-FindsClasses buckets classes = (name : List ℕ) → number_of buckets name ≡ class_of classes name
+abbrev pub FindsClasses : List NameEntry → List ObjectClass → Type 0
+FindsClasses entries classes = (name : List ℕ) → number_of entries name ≡ class_of classes name

@@ -31,6 +31,6 @@ returns-in-Ok-clause-is_true g c =
     let long : length c.in_ok-stamp.stamp ≡ 32 = search rules in
     let bytes : AllByRecursion IsByte c.in_ok-stamp.stamp = c.are_bytes.ensures in
     true_so d.conf d.entries c.in-Ok.stored
-    (c.kept_index_texts_are_read.ensures.read d.conf d.entries (subst IsConf (sym c.args.database.now.same_conf) c.holds.ensures) c.is_directory.ensures (ap (λ (s : List ℕ). length s) (sym c.in_ok-stamp.ensures) ∙ long) (subst (AllByRecursion IsByte) c.in_ok-stamp.ensures bytes))
+    (c.kept_index_texts_are_read.ensures.read d.conf d.entries (subst IsConf (sym c.args.database.now.same_conf) c.rules_are_kept.ensures) c.entries_are_a_directory.ensures (ap (λ (s : List ℕ). length s) (sym c.in_ok-stamp.ensures) ∙ long) (subst (AllByRecursion IsByte) c.in_ok-stamp.ensures bytes))
     (c.kept_index_texts_are_read.ensures.shows d.conf d.entries)
     (λ shown. c.index_texts_reflect_dumps.ensures d.conf d.entries shown)

@@ -25,7 +25,7 @@ returns-in-Ok-clause-found g c =
     (selection_so d.conf c.args.database.now.conf asked.attributes.items asked.attributes.items c.in_ok-wanted.wanted.selection (sym c.args.database.now.same_conf) refl c.in_ok-wanted.ensures.selection)
     c.in-Ok.ensures.there
     (c.in-Ok.ensures.found ∙ found)
-    (λ own. sym found ∙ sym c.in-Ok.ensures.found ∙ c.in-Ok.ensures.whole (subst IsConf (sym c.args.database.now.same_conf) c.holds.ensures) (c.requires.is_true c.args.stored.now refl own) ∙ ap (λ (m : Made). scan d.conf d.entries c.in_ok-wanted.wanted.base asked.scope (view m.filter)) c.in_ok-wanted.ensures.filter))
+    (λ own. sym found ∙ sym c.in-Ok.ensures.found ∙ c.in-Ok.ensures.whole (subst IsConf (sym c.args.database.now.same_conf) c.rules_are_kept.ensures) (c.requires.is_true c.args.stored.now refl own) ∙ ap (λ (m : Made). scan d.conf d.entries c.in_ok-wanted.wanted.base asked.scope (view m.filter)) c.in_ok-wanted.ensures.filter))
     c.print_hits.result _ _ c.print_hits.ensures.past c.print_hits.ensures.printed
 
 pub returns-in-Ok-clause-partly : goal.returns-in-Ok-clause-partly
@@ -42,7 +42,7 @@ returns-in-Ok-clause-partly g c =
           (selection_so d.conf c.args.database.now.conf asked.attributes.items asked.attributes.items c.in_ok-wanted.wanted.selection (sym c.args.database.now.same_conf) refl c.in_ok-wanted.ensures.selection)
           c.in-Ok.ensures.there
           (c.in-Ok.ensures.found ∙ found)
-          (λ own. sym found ∙ sym c.in-Ok.ensures.found ∙ c.in-Ok.ensures.whole (subst IsConf (sym c.args.database.now.same_conf) c.holds.ensures) (c.requires.is_true c.args.stored.now refl own) ∙ ap (λ (m : Made). scan d.conf d.entries c.in_ok-wanted.wanted.base asked.scope (view m.filter)) c.in_ok-wanted.ensures.filter)
+          (λ own. sym found ∙ sym c.in-Ok.ensures.found ∙ c.in-Ok.ensures.whole (subst IsConf (sym c.args.database.now.same_conf) c.rules_are_kept.ensures) (c.requires.is_true c.args.stored.now refl own) ∙ ap (λ (m : Made). scan d.conf d.entries c.in_ok-wanted.wanted.base asked.scope (view m.filter)) c.in_ok-wanted.ensures.filter)
           past refl,
     )
     c.print_hits.result (codes "output") _ _ c.print_hits.ensures.fault c.print_hits.ensures.begun

@@ -21,7 +21,7 @@ loop-found-init g c =
     let items : List (Path × Entry) = c.range-found-items.result in
     let root : Path = c.root-root.result in
     let seen : seen_entries items ≡ filter (λ e. begins root e.0) (finite.entries d.entries) = c.range-found-items.ensures.entries in
-    let is : IsDirectory d.conf d.entries = c.is_directory.ensures in
+    let is : IsDirectory d.conf d.entries = c.entries_are_a_directory.ensures in
     record {
       failures = refl;
       names = c.new-names.ensures;

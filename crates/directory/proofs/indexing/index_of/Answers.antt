@@ -33,4 +33,4 @@ loop-found-preserved c =
     }
 
 pub returns : goal.returns
-returns c = whole c.args.conf.now c.args.tree.now c.is_numbered.ensures c.order_of_paths.ensures.total c.is_directory.ensures c.loop-found.index c.loop-found.found-iterator c.loop-found.invariant.same_conf c.in-None.ensures.steps.0 c.loop-found.invariant.so_far
+returns c = whole c.args.conf.now c.args.tree.now c.entries_are_numbered.ensures c.order_of_paths.ensures.total c.entries_are_a_directory.ensures c.loop-found.index c.loop-found.found-iterator c.loop-found.invariant.same_conf c.in-None.ensures.steps.0 c.loop-found.invariant.so_far

@@ -13,10 +13,10 @@ loop-number-init c =
 
 pub overflow_add-rank : goal.overflow_add-rank
 overflow_add-rank c =
-    let few = few_ranks c.args.tree.now c.loop-number.ranks.items c.loop-number.rank c.loop-number.number-iterator c.next.new.self _ c.is_directory.ensures c.in-Some.ensures.steps c.loop-number.invariant in
+    let few = few_ranks c.args.tree.now c.loop-number.ranks.items c.loop-number.rank c.loop-number.number-iterator c.next.new.self _ c.entries_are_a_directory.ensures c.in-Some.ensures.steps c.loop-number.invariant in
     omega (arith, few)
 
 pub loop-number-preserved : goal.loop-number-preserved
 loop-number-preserved c =
     let t : Tree = c.args.tree.now in
-    one_rank_more t c.loop-number.ranks.items c.put_rank.new.ranks.items c.loop-number.rank c.loop-number.number-iterator c.next.new.self _ (numbers_differ t path_total c.is_numbered.ensures c.is_directory.ensures) c.in-Some.ensures.steps c.in_ok-put_rank.ensures c.loop-number.invariant
+    one_rank_more t c.loop-number.ranks.items c.put_rank.new.ranks.items c.loop-number.rank c.loop-number.number-iterator c.next.new.self _ (numbers_differ t path_total c.entries_are_numbered.ensures c.entries_are_a_directory.ensures) c.in-Some.ensures.steps c.in_ok-put_rank.ensures c.loop-number.invariant

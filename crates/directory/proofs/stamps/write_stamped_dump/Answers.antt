@@ -34,7 +34,7 @@ loop-found-init g c =
     let items : List (Path × Entry) = c.range-found-items.result in
     let root : Path = c.root-root.result in
     let seen : seen_entries items ≡ filter (λ e. begins root e.0) (finite.entries d.entries) = c.range-found-items.ensures.entries in
-    let is : IsDirectory d.conf d.entries = c.is_directory.ensures in
+    let is : IsDirectory d.conf d.entries = c.entries_are_a_directory.ensures in
     let whole : c.new-text.result.items ++ entries_text d.conf d.entries None c.into_iter-found-iterator.result ≡ dump d.conf d.entries =
     ap (λ (bs : List ℕ). bs ++ entries_text d.conf d.entries None c.into_iter-found-iterator.result) c.new-text.ensures.items
     ∙ sym (dump_is d.conf d.entries items root c.root-root.ensures seen ∙ ap (entries_text d.conf d.entries None) (sym c.into_iter-found-iterator.ensures.into_iter_gives)) in

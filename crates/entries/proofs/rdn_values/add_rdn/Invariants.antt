@@ -1,4 +1,4 @@
-use Rattle.std.proofs.Common.{◌≡◌, drop}
+use Rattle.std.proofs.Common.{◌≡◌, drop, take}
 use Rattle.std.specs.List.{AllByRecursion}
 use Rattle.schema.specs.GoodRdns.{IsAva}
 use Rattle.entries.specs.Entries.{with_rdn}
@@ -10,4 +10,5 @@ invariant-loop-part l = record {
   made : IsMade l.conf.types l.attrs.entries;
   left : AllByRecursion (IsAva l.conf.types) (drop l.part-index l.part-items);
   rest : with_rdn l.conf.types (drop l.part-index l.part-items) (attributes_of l.attrs.entries) ≡ with_rdn l.conf.types l.rdn (attributes_of l.fn.attrs.entries);
+  begun : attributes_of l.attrs.entries ≡ with_rdn l.conf.types (take l.part-index l.part-items) (attributes_of l.fn.attrs.entries);
 }

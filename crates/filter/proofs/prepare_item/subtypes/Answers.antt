@@ -10,7 +10,7 @@ loop-number-preserved c =
     let types = c.args.conf.now.types in
     let n = c.loop-number.number in
     let below = subst (λ (ts : List AttributeType). n < length ts) c.types-number-end.ensures.types c.loop-number-test.true in
-    let told = c.subtypes_are_told.ensures c.args.conf.now n c.args.t c.holds.ensures below in
+    let told = c.subtypes_are_told.ensures c.args.conf.now n c.args.t c.rules_are_kept.ensures below in
     let under = c.from_number-under.result in
     let before = c.loop-number.invariant in
     elim c.if-is_subtype.branch [

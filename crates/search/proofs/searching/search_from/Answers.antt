@@ -17,7 +17,7 @@ use Rattle.search.proofs.searching.search_from.Given.{Over}
 use Rattle.search.proofs.searching.search_from.Goals as goal
 
 pub new-rest-requires : goal.new-rest-requires
-new-rest-requires g c = room_for_ranks c.args.tree.now.entries c.args.numbering c.args.base.now c.args.rank c.numbered.result c.requires.rank c.numbered.ensures.entries c.is_directory.ensures.few
+new-rest-requires g c = room_for_ranks c.args.tree.now.entries c.args.numbering c.args.base.now c.args.rank c.numbered.result c.requires.rank c.numbered.ensures.entries c.entries_are_a_directory.ensures.few
 
 pub new-requires-clause-made : goal.new-requires-clause-made
 new-requires-clause-made g c =
@@ -30,7 +30,7 @@ pub new-requires-clause-room : goal.new-requires-clause-room
 new-requires-clause-room g c =
     let test = ids_contain g.S.IdSet.members c.args.candidates in
     let long : length c.new-rest.result ≡ length c.numbered.result = ap length c.new-rest.ensures ∙ marked_length test c.args.numbering c.args.rank c.numbered.result in
-    let room = room_for_ranks c.args.tree.now.entries c.args.numbering c.args.base.now c.args.rank c.numbered.result c.requires.rank c.numbered.ensures.entries c.is_directory.ensures.few in
+    let room = room_for_ranks c.args.tree.now.entries c.args.numbering c.args.base.now c.args.rank c.numbered.result c.requires.rank c.numbered.ensures.entries c.entries_are_a_directory.ensures.few in
     omega (arith, long, room)
 
 -- each is marked by its path

@@ -16,6 +16,6 @@ loop-rdn-init c =
     let rest : List Rdn = take (length rdns - 1) (drop 1 rdns) in
     let is = parted rdns first (omega (arith, c.in-len1-up.len_at_least)) c.first-item.is in
     record {
-      put = first_done (written_rdn c.args.conf.now.types) rdns first rest c.args.text.now.items c.put_rdn.new.out.items is c.in_ok-put_rdn.ensures;
+      put = first_done (written_rdn c.args.conf.now.types) rdns first rest c.args.text.now.items c.put_rdn.new.out.items is c.in_ok-put_rdn.ensures.put;
       rdns = (subst (AllByRecursion (IsRdn c.args.conf.now.types)) is c.requires).1;
     }

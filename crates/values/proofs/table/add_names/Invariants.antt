@@ -1,8 +1,6 @@
-use Rattle.std.proofs.Common.{◌≡◌, ℕ, List, take}
-use Rattle.std.specs.List.{list_any}
-use Rattle.std.specs.Str.{str_eq_ignore_ascii_case}
-use Rattle.values.specs.Tables.{number_of, or_if}
+use Rattle.std.proofs.Common.{◌≡◌, ◌++◌, map, take}
+use Rattle.values.specs.Tables.{named}
 use Rattle.values.proofs.table.add_names.Given as goal
 
 abbrev pub invariant-loop-name : goal.invariant-loop-name
-invariant-loop-name l = (text : List ℕ) → number_of l.numbers text ≡ or_if (number_of l.initial.numbers text) (list_any (λ n. str_eq_ignore_ascii_case n text) (take l.name-index l.names)) l.t
+invariant-loop-name l = l.numbers ≡ l.initial.numbers ++ map (named l.t) (take l.name-index l.names)

@@ -12,7 +12,7 @@ use Rattle.directory.proofs.dump.Printer.put_record.Goals as goal
 pub put_entry-requires : goal.put_entry-requires
 put_entry-requires c =
     let d : Tree = c.args.self.now.tree.now in
-    let is : IsDirectory d.conf d.entries = c.is_directory.ensures in
+    let is : IsDirectory d.conf d.entries = c.entries_are_a_directory.ensures in
     let attrs = c.args.entry.now.attrs in
     subst (λ (conf : Conf). AreKnown conf.types attrs) c.args.self.now.same_conf (all_known d.conf.types attrs (is.good c.args.path.now (content_of c.args.entry.now) c.requires.there).attrs)
 

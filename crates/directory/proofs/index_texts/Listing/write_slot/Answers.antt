@@ -30,7 +30,7 @@ returns g c =
     let put : c.put_slot.new.out.items ≡ text ++ line = where_ok c.put_slot.result (c.put_slot.new.out.items ≡ text ++ line) c.put_slot.ensures.put (sym c.is_err.ensures.value ∙ c.if-is_err.false) in
     let rows : List ℕ = rows_text c.args.self.now.ranks.now c.keys-keys.result in
     let is : rows ≡ flat_map (λ row. ended (key_line row)) (slot_rows conf.types (contents t.entries) c.args.slot.now) =
-    lines_are conf t c.args.self.now.index.now c.args.self.now.ranks.now c.requires.listing.indexed path_total c.is_numbered.ensures c.is_directory.ensures c.requires.listing.ranked c.args.place c.args.slot.now c.requires.place c.keys-keys.result c.keys-keys.ensures in
+    lines_are conf t c.args.self.now.index.now c.args.self.now.ranks.now c.requires.listing.indexed path_total c.entries_are_numbered.ensures c.entries_are_a_directory.ensures c.requires.listing.ranked c.args.place c.args.slot.now c.requires.place c.keys-keys.result c.keys-keys.ensures in
     subst (λ (bs : List ℕ). WritesOn c.write_rows.result (g.W.Sink.written c.args.sink.now) (g.W.Sink.written c.write_rows.new.sink) bs c.write_rows.new.text.items)
     (ap (λ (bs : List ℕ). bs ++ rows) put ∙ append_assoc text line rows ∙ ap (λ (bs : List ℕ). text ++ (line ++ bs)) is)
     c.write_rows.ensures

@@ -4,6 +4,9 @@ use Rattle.schema.specs.declared.code.Code.{Code}
 use Rattle.paths.specs.Paths.{Path, begins}
 use Rattle.schema.specs.Rdns.{Rdn, rdn_key_of}
 use Rattle.schema.proofs.Below.{isnt_below, is_below, reversed_front, begins_long}
+use Rattle.schema.specs.GoodRdns.{IsRdn}
+use Rattle.schema.proofs.Found.{below_are}
+use Rattle.schema.proofs.Locating.{all_reverse}
 use Rattle.schema.proofs.conf.Conf.below_suffix.Goals as goal
 use Rattle.schema.proofs.conf.Conf.below_suffix.Goals.{After-suffix, After-reverse}
 
@@ -12,7 +15,7 @@ ok rs = Ok rs
 
 pub returns-then-not-begins-clause-rdns : goal.returns-then-not-begins-clause-rdns
 returns-then-not-begins-clause-rdns c =
-    isnt_below c.args.self.now.types (reverse c.args.self.now.suffix) (reverse c.args.typed.rdns.items) c.args.typed.path c.begins.result c.requires
+    isnt_below c.args.self.now.types (reverse c.args.self.now.suffix) (reverse c.args.typed.rdns.items) c.args.typed.path c.begins.result c.requires.keys
     (c.begins.ensures ∙ ap (λ (k : Path). begins k c.args.typed.path) c.root.ensures) c.if-not-begins.true
 
 -- the name has as many RDNs as the suffix, or more
@@ -22,7 +25,7 @@ long c =
     let upper : length c.root.result.now ≡ length c.args.self.now.suffix =
     ap (λ (p : Path). length p) c.root.ensures ∙ length-map (reverse c.args.self.now.suffix) (rdn_key_of c.args.self.now.types) ∙ length-reverse c.args.self.now.suffix in
     let whole : length c.args.typed.path ≡ length c.args.typed.rdns.items =
-    ap (λ (p : Path). length p) c.requires ∙ length-map (reverse c.args.typed.rdns.items) (rdn_key_of c.args.self.now.types) ∙ length-reverse c.args.typed.rdns.items in
+    ap (λ (p : Path). length p) c.requires.keys ∙ length-map (reverse c.args.typed.rdns.items) (rdn_key_of c.args.self.now.types) ∙ length-reverse c.args.typed.rdns.items in
     omega (arith, le)
 
 pub overflow_sub-len : goal.overflow_sub-len
@@ -42,7 +45,7 @@ rest_is c le =
 
 pub returns-clause-rdns : goal.returns-clause-rdns
 returns-clause-rdns c =
-    is_below c.args.self.now.types (reverse c.args.self.now.suffix) (reverse c.args.typed.rdns.items) c.args.typed.path c.begins.result c.requires
+    is_below c.args.self.now.types (reverse c.args.self.now.suffix) (reverse c.args.typed.rdns.items) c.args.typed.path c.begins.result c.requires.keys
     (c.begins.ensures ∙ ap (λ (k : Path). begins k c.args.typed.path) c.root.ensures) c.if-not-begins.false
     ∙ ap ok (sym (rest_is (goal.at.returns-clause-rdns c).After-reverse (long (goal.at.returns-clause-rdns c).After-suffix)) ∙ sym c.from_vec.ensures)
 
@@ -50,6 +53,11 @@ pub returns-clause-path : goal.returns-clause-path
 returns-clause-path c =
     let types = c.args.self.now.types in
     let upper : length c.root-2.result.now ≡ length (reverse c.args.self.now.suffix) = ap (λ (p : Path). length p) c.root-2.ensures ∙ length-map (reverse c.args.self.now.suffix) (rdn_key_of types) in
-    c.in_ok-behind.ensures ∙ ap (λ n. drop n c.args.typed.path) upper ∙ ap (λ (p : Path). drop (length (reverse c.args.self.now.suffix)) p) c.requires
+    c.in_ok-behind.ensures ∙ ap (λ n. drop n c.args.typed.path) upper ∙ ap (λ (p : Path). drop (length (reverse c.args.self.now.suffix)) p) c.requires.keys
     ∙ drop-map (rdn_key_of types) (length (reverse c.args.self.now.suffix)) (reverse c.args.typed.rdns.items)
     ∙ ap (map (rdn_key_of types)) (sym (rest_is (goal.at.returns-clause-path c).After-reverse (long (goal.at.returns-clause-path c).After-suffix)) ∙ sym c.from_vec.ensures)
+
+pub returns-clause-good : goal.returns-clause-good
+returns-clause-good c =
+    below_are c.args.self.now.types (IsRdn c.args.self.now.types) (reverse c.args.self.now.suffix) (reverse c.args.typed.rdns.items) c.from_vec.result
+    (all_reverse (IsRdn c.args.self.now.types) c.args.typed.rdns.items c.requires.good) (returns-clause-rdns c)

@@ -9,7 +9,7 @@ loop-above-preserved c =
     let apart : c.loop-above.at ≢ c.args.above = λ e. absurd (let t = c.loop-above-test.true in let n = c.ne.ensures in grind (arith, nat_tests)) in
     let up = ap (λ (x : AttributeType). x.superior) (sym c.at.ensures) ∙ c.in-Some.is in
     let step = one_up c.args.self.now.types c.loop-above.at c.in-Some.superior c.args.above apart up in
-    let lower = above_lower c.args.self.now.types c.loop-above.at c.in-Some.superior (c.holds.ensures.fits c.loop-above.at c.loop-above.invariant.1) up in
+    let lower = above_lower c.args.self.now.types c.loop-above.at c.in-Some.superior (c.rules_are_kept.ensures.fits c.loop-above.at c.loop-above.invariant.1) up in
     let known = c.loop-above.invariant.1 in
     ((λ h. step.0 (c.loop-above.invariant.0.0 h), λ h. c.loop-above.invariant.0.1 (step.1 h)), omega (arith, lower, known))
 

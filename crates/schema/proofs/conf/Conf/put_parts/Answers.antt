@@ -6,7 +6,7 @@ use Rattle.dn.proofs.Writing.{joined_rest}
 use Rattle.schema.specs.Names.{written_part}
 use Rattle.schema.proofs.conf.Conf.put_parts.Goals as goal
 
-pub returns-in_ok-put_more_parts-in-len1-up : goal.returns-in_ok-put_more_parts-in-len1-up
-returns-in_ok-put_more_parts-in-len1-up c =
-    joined_rest 43 (λ p. part_text (written_part c.args.self.now.types p)) c.args.parts.now c.first-item.result c.args.out.now.items c.put_part.new.out.items c.put_more_parts.new.out.items (omega arith) c.first-item.is c.in_ok-put_part-in-len1-up.ensures c.in_ok-put_more_parts-in-len1-up.ensures
+pub returns-in_ok-put_more_parts-in-len1-up-clause-put : goal.returns-in_ok-put_more_parts-in-len1-up-clause-put
+returns-in_ok-put_more_parts-in-len1-up-clause-put c =
+    joined_rest 43 (λ p. part_text (written_part c.args.self.now.types p)) c.args.parts.now c.first-item.result c.args.out.now.items c.put_part.new.out.items c.put_more_parts.new.out.items (omega arith) c.first-item.is c.in_ok-put_part-in-len1-up.ensures.put c.in_ok-put_more_parts-in-len1-up.ensures.put
     ∙ ap (λ ts. c.args.out.now.items ++ join_with_byte 43 ts) (sym (map-map part_text (written_part c.args.self.now.types) c.args.parts.now))

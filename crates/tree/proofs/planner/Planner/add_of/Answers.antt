@@ -9,6 +9,6 @@ use Rattle.tree.proofs.planner.Planner.add_of.Goals as goal
 pub returns-clause-change : goal.returns-clause-change
 returns-clause-change c =
     change_is c.args.self.now.tree.now c.add_at.result (add_at c.args.self.now.conf.now c.args.self.now.mode c.args.self.now.tree.now.entries c.in_ok-place.place.path (own_rdn c.args.self.now.conf.now c.in_ok-place.place.rdns) c.args.lines.now) c.add_at.ensures.fit c.add_at.ensures.gives
-    (λ out said. subst (λ (r : Conf). IsDirectory r (changed c.args.self.now.tree.now.entries out)) (sym c.args.self.now.same_conf) (c.adding_keeps_a_directory.ensures c.args.self.now.conf.now c.args.self.now.mode c.args.self.now.tree.now.entries c.args.dn.now c.args.lines.now out c.holds.ensures
-    (subst (λ (r : Conf). IsDirectory r c.args.self.now.tree.now.entries) c.args.self.now.same_conf c.is_directory.ensures)
+    (λ out said. subst (λ (r : Conf). IsDirectory r (changed c.args.self.now.tree.now.entries out)) (sym c.args.self.now.same_conf) (c.adding_keeps_a_directory.ensures c.args.self.now.conf.now c.args.self.now.mode c.args.self.now.tree.now.entries c.args.dn.now c.args.lines.now out c.rules_are_kept.ensures
+    (subst (λ (r : Conf). IsDirectory r c.args.self.now.tree.now.entries) c.args.self.now.same_conf c.entries_are_a_directory.ensures)
     (add_found c.args.self.now.conf.now c.args.self.now.mode c.args.self.now.tree.now.entries c.args.dn.now c.args.lines.now c.in_ok-place.place.rdns c.in_ok-place.place.path c.in_ok-place.ensures.rdns c.in_ok-place.ensures.path ∙ said)))

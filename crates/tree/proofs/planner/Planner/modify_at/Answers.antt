@@ -6,9 +6,9 @@ use Rattle.tree.proofs.planner.Planner.modify_at.Goals as goal
 pub modified-requires-clause-rdn : goal.modified-requires-clause-rdn
 modified-requires-clause-rdn c =
     (good_under c.args.self.now.tree.now.conf c.args.self.now.conf.now c.args.self.now.tree.now.entries c.args.path (content_of c.in-Some.entry.now)
-    c.args.self.now.same_conf c.is_directory.ensures (sym c.in-Some.ensures.entry)).rdn
+    c.args.self.now.same_conf c.entries_are_a_directory.ensures (sym c.in-Some.ensures.entry)).rdn
 
 pub returns-clause-change : goal.returns-clause-change
 returns-clause-change c =
     modified_change c.args.self.now.tree.now c.args.self.now.conf.now c.args.path (content_of c.in-Some.entry.now) c.args.mods.now c.in_ok-entry.entry
-    c.args.self.now.same_conf c.is_directory.ensures (sym c.in-Some.ensures.entry) c.in_ok-entry.ensures.made c.in_ok-entry.ensures.gives
+    c.args.self.now.same_conf c.entries_are_a_directory.ensures (sym c.in-Some.ensures.entry) c.in_ok-entry.ensures.made c.in_ok-entry.ensures.gives

@@ -8,16 +8,16 @@ use Rattle.tree.proofs.planner.Planner.rename_to.Goals as goal
 pub renamed-requires-clause-old : goal.renamed-requires-clause-old
 renamed-requires-clause-old c =
     (good_under c.args.self.now.tree.now.conf c.args.self.now.conf.now c.args.self.now.tree.now.entries c.args.path (content_of c.args.entry.now)
-    c.args.self.now.same_conf c.is_directory.ensures c.requires.there).rdn
+    c.args.self.now.same_conf c.entries_are_a_directory.ensures c.requires.there).rdn
 
 pub returns-then-eq-clause-change : goal.returns-then-eq-clause-change
 returns-then-eq-clause-change c =
     respelled_change c.args.self.now.tree.now c.args.self.now.conf.now c.args.path c.in_ok-to.to c.args.upper.now (content_of c.args.entry.now) c.args.new c.args.delete_old c.in_ok-entry.entry
-    c.args.self.now.same_conf c.is_directory.ensures c.requires.there c.requires.good c.in_ok-to.ensures c.in_ok-entry.ensures.made c.in_ok-entry.ensures.gives (sym c.eq.ensures ∙ c.if-eq.true)
+    c.args.self.now.same_conf c.entries_are_a_directory.ensures c.requires.there c.requires.good c.in_ok-to.ensures c.in_ok-entry.ensures.made c.in_ok-entry.ensures.gives (sym c.eq.ensures ∙ c.if-eq.true)
 
 pub returns-else-eq-clause-change : goal.returns-else-eq-clause-change
 returns-else-eq-clause-change c =
     moved_change c.args.self.now.tree.now c.args.self.now.conf.now c.args.path c.in_ok-to.to c.args.upper.now (content_of c.args.entry.now) c.args.new c.args.delete_old c.in_ok-entry.entry
-    c.args.self.now.same_conf c.is_directory.ensures c.requires.there c.requires.good c.in_ok-to.ensures c.in_ok-entry.ensures.made c.in_ok-entry.ensures.gives
+    c.args.self.now.same_conf c.entries_are_a_directory.ensures c.requires.there c.requires.good c.in_ok-to.ensures c.in_ok-entry.ensures.made c.in_ok-entry.ensures.gives
     c.requires.apart c.requires.upper
     (ap (λ (b : Bool). not b && finite.contains_key c.args.self.now.tree.now.entries c.in_ok-to.to) (sym (sym c.eq.ensures ∙ c.if-eq.false)) ∙ sym c.is_taken.ensures ∙ c.if-is_taken.false)

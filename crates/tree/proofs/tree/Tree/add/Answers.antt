@@ -22,7 +22,7 @@ carried c =
     (subst (λ (s : Cells). IsSet s c.insert_reserved.new.self.cells c.next_number-number.result (Some c.args.entry)) same (subst (λ n. IsSet c.reserve.new.self.cells c.insert_reserved.new.self.cells n (Some c.args.entry)) number c.insert_reserved.ensures.set))
     (c.insert_reserved.ensures.taken ∙ ap (λ (s : Cells). taken s + 1) same)
     _ c.in_ok-insert.ensures.entries
-    c.args.self.now c.self.view_is (no_number c.args.self.now c.is_numbered.ensures c.args.path c.requires.new) c.requires.made c.requires.directory
+    c.args.self.now c.self.view_is (no_number c.args.self.now c.entries_are_numbered.ensures c.args.path c.requires.new) c.requires.made c.requires.directory
 
 pub invariant_of-self-2 : goal.invariant_of-self-2
 invariant_of-self-2 c = (carried c).kept
@@ -31,4 +31,4 @@ pub returns-clause-entries : goal.returns-clause-entries
 returns-clause-entries c = (carried c).entries
 
 pub returns-clause-numbers : goal.returns-clause-numbers
-returns-clause-numbers c = (carried c).numbers ∙ ap (finite.insert c.args.self.now.numbers c.args.path) (c.next_number-number.ensures.number ∙ sym (number_new c.args.self.now c.is_numbered.ensures c.args.path c.requires.new))
+returns-clause-numbers c = (carried c).numbers ∙ ap (finite.insert c.args.self.now.numbers c.args.path) (c.next_number-number.ensures.number ∙ sym (number_new c.args.self.now c.entries_are_numbered.ensures c.args.path c.requires.new))

@@ -13,17 +13,17 @@ use Rattle.tree.proofs.tree.Tree.rename.Goals.{Else-has_child}
 entries_alone : (c : Else-has_child) → finite.insert (moved c.args.from.now c.args.to c.args.self.now.entries) c.args.to (content_of c.args.entry) ≡ finite.insert (finite.remove c.args.self.now.entries c.args.from.now) c.args.to (content_of c.args.entry)
 entries_alone c =
     alone_moved c.args.from.now c.args.to c.args.self.now.entries
-    (spare_of c.args.self.now.conf c.args.self.now.entries c.is_directory.ensures c.args.to c.requires.new)
-    (alone_of c.args.self.now.conf c.args.self.now.entries c.is_directory.ensures c.args.from.now (sym c.has_child.ensures ∙ c.if-has_child.false))
+    (spare_of c.args.self.now.conf c.args.self.now.entries c.entries_are_a_directory.ensures c.args.to c.requires.new)
+    (alone_of c.args.self.now.conf c.args.self.now.entries c.entries_are_a_directory.ensures c.args.from.now (sym c.has_child.ensures ∙ c.if-has_child.false))
     (content_of c.args.entry)
 
 numbers_alone : (c : Else-has_child) → finite.insert (moved c.args.from.now c.args.to c.args.self.now.numbers) c.args.to (number_at c.args.self.now c.args.from.now) ≡ finite.insert (finite.remove c.args.self.now.numbers c.args.from.now) c.args.to (number_at c.args.self.now c.args.from.now)
 numbers_alone c =
     alone_moved c.args.from.now c.args.to c.args.self.now.numbers
-    (of_numbers c.args.self.now.entries c.args.self.now.numbers c.is_numbered.ensures (λ p. begins c.args.to p ≡ false)
-    (spare_of c.args.self.now.conf c.args.self.now.entries c.is_directory.ensures c.args.to c.requires.new))
-    (of_numbers c.args.self.now.entries c.args.self.now.numbers c.is_numbered.ensures (λ p. begins c.args.from.now p ≡ true → p ≡ c.args.from.now)
-    (alone_of c.args.self.now.conf c.args.self.now.entries c.is_directory.ensures c.args.from.now (sym c.has_child.ensures ∙ c.if-has_child.false)))
+    (of_numbers c.args.self.now.entries c.args.self.now.numbers c.entries_are_numbered.ensures (λ p. begins c.args.to p ≡ false)
+    (spare_of c.args.self.now.conf c.args.self.now.entries c.entries_are_a_directory.ensures c.args.to c.requires.new))
+    (of_numbers c.args.self.now.entries c.args.self.now.numbers c.entries_are_numbered.ensures (λ p. begins c.args.from.now p ≡ true → p ≡ c.args.from.now)
+    (alone_of c.args.self.now.conf c.args.self.now.entries c.entries_are_a_directory.ensures c.args.from.now (sym c.has_child.ensures ∙ c.if-has_child.false)))
     (number_at c.args.self.now c.args.from.now)
 
 pub rename_alone-requires-clause-directory : goal.rename_alone-requires-clause-directory

@@ -8,17 +8,17 @@ use Rattle.tree.proofs.Carried.{IsCarried, cell_there, number_is}
 use Rattle.tree.proofs.Moved.{spare_of, of_numbers}
 use Rattle.tree.proofs.Rekeyed.{exchange_done}
 use Rattle.tree.proofs.tree.Tree.rename_all.Goals as goal
-use Rattle.tree.proofs.tree.Tree.rename_all.Goals.{After-is_numbered}
+use Rattle.tree.proofs.tree.Tree.rename_all.Goals.{After-entries_are_numbered}
 
 -- nothing stands where the entry moves to, nor below
-spare : (c : After-is_numbered) → (q : Path) (n : ℕ) → finite.get c.args.self.now.numbers q ≡ Some n → begins c.args.to.now q ≡ false
-spare c = of_numbers c.args.self.now.entries c.args.self.now.numbers c.is_numbered.ensures (λ p. begins c.args.to.now p ≡ false) (spare_of c.args.self.now.conf c.args.self.now.entries c.is_directory.ensures c.args.to.now c.requires.new)
+spare : (c : After-entries_are_numbered) → (q : Path) (n : ℕ) → finite.get c.args.self.now.numbers q ≡ Some n → begins c.args.to.now q ≡ false
+spare c = of_numbers c.args.self.now.entries c.args.self.now.numbers c.entries_are_numbered.ensures (λ p. begins c.args.to.now p ≡ false) (spare_of c.args.self.now.conf c.args.self.now.entries c.entries_are_a_directory.ensures c.args.to.now c.requires.new)
 
 pub move_numbers-requires-clause-sorted : goal.move_numbers-requires-clause-sorted
 move_numbers-requires-clause-sorted c = c.self.invariant.sorted
 
 pub move_numbers-requires-clause-spare : goal.move_numbers-requires-clause-spare
-move_numbers-requires-clause-spare c = λ q n at. spare (goal.at.move_numbers-requires-clause-spare c).After-is_numbered q n (sym (ap (λ (d : Tree). finite.get d.numbers q) c.self.view_is) ∙ at)
+move_numbers-requires-clause-spare c = λ q n at. spare (goal.at.move_numbers-requires-clause-spare c).After-entries_are_numbered q n (sym (ap (λ (d : Tree). finite.get d.numbers q) c.self.view_is) ∙ at)
 
 pub replace-requires : goal.replace-requires
 replace-requires c = cell_there c.self.inside.made.value c.self.inside.cells.cells c.self.inside.cells.next c.self.inside.numbers.entries c.self.invariant c.args.self.now c.self.view_is c.args.from.now c.number_there-number.result c.number_there-number.ensures
@@ -28,7 +28,7 @@ carried c =
     exchange_done c.self.inside.made.value c.self.inside.cells.cells c.self.inside.cells.next c.self.inside.numbers.entries c.self.invariant c.replace.new.self.cells c.args.from.now c.args.to.now c.number_there-number.result c.args.entry
     c.replace.ensures.set c.replace.ensures.taken c.move_numbers.new.numbers.entries c.move_numbers.ensures.sorted c.in_ok-move_numbers.ensures.moved
     c.args.self.now c.self.view_is c.number_there-number.ensures
-    (of_numbers c.args.self.now.entries c.args.self.now.numbers c.is_numbered.ensures (λ p. begins c.args.to.now p ≡ false) (spare_of c.args.self.now.conf c.args.self.now.entries c.is_directory.ensures c.args.to.now c.requires.new))
+    (of_numbers c.args.self.now.entries c.args.self.now.numbers c.entries_are_numbered.ensures (λ p. begins c.args.to.now p ≡ false) (spare_of c.args.self.now.conf c.args.self.now.entries c.entries_are_a_directory.ensures c.args.to.now c.requires.new))
     c.requires.made c.requires.directory
 
 pub invariant_of-self-2 : goal.invariant_of-self-2

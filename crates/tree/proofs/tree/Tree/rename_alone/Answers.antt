@@ -11,7 +11,7 @@ carried : (c : goal.After-drop-2) → IsCarried c.self.inside.made.value c.repla
 carried c =
     move_done c.self.inside.made.value c.self.inside.cells.cells c.self.inside.cells.next c.self.inside.numbers.entries c.self.invariant c.replace.new.self.cells c.args.from.now c.args.to c.number_there-number.result c.args.entry
     c.replace.ensures.set c.replace.ensures.taken _ _ c.in_ok-insert.ensures.entries c.remove.ensures.entries
-    c.args.self.now c.self.view_is c.number_there-number.ensures (no_number c.args.self.now c.is_numbered.ensures c.args.to c.requires.new) c.requires.made c.requires.directory
+    c.args.self.now c.self.view_is c.number_there-number.ensures (no_number c.args.self.now c.entries_are_numbered.ensures c.args.to c.requires.new) c.requires.made c.requires.directory
 
 pub invariant_of-self-2 : goal.invariant_of-self-2
 invariant_of-self-2 c = (carried c).kept
