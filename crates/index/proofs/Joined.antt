@@ -13,11 +13,11 @@ use Rattle.index.specs.inner.JoinedSets.{joined, AreApart}
 use Rattle.std.proofs.lemmas.Result.{on_ok_weaker, on_err_weaker}
 use Rattle.index.proofs.Keyed.{at, find_is, same_bytes, none_in, remove_none, puts_alike, takes_alike}
 
-abbrev either : Option Members → Option Members → Option Members
+abbrev pub either : Option Members → Option Members → Option Members
 either None p = p
 either (Some s) p = Some s
 
-at-append : (xs ys : List Row) (q : List ℕ) → at (xs ++ ys) q ≡ either (at xs q) (at ys q)
+pub at-append : (xs ys : List Row) (q : List ℕ) → at (xs ++ ys) q ≡ either (at xs q) (at ys q)
 at-append [] ys q = refl
 at-append (x ∷ xs) ys q = ap (cond (bytes_eq q x.0) (Some x.1)) (at-append xs ys q) ∙ by (bytes_eq q x.0) (at xs q)
   where
@@ -25,7 +25,7 @@ at-append (x ∷ xs) ys q = ap (cond (bytes_eq q x.0) (Some x.1)) (at-append xs 
     by true o = refl
     by false o = refl
 
-at_entries : (m : SetsByKey) (q : List ℕ) → at (finite.entries m) q ≡ finite.get m q
+pub at_entries : (m : SetsByKey) (q : List ℕ) → at (finite.entries m) q ≡ finite.get m q
 at_entries m q = sym (finite.get-entries m q ∙ find_is (finite.entries m) q)
 
 kept : (m : SetsByKey) (p : List ℕ → Bool) (q : List ℕ) → at (finite.entries (finite.retain_keys m p)) q ≡ cond (p q) (finite.get m q) None

@@ -3,6 +3,7 @@ pub mod Changed
 pub mod Counted
 pub mod Distinct
 pub mod Fronts
+pub mod Gathered
 pub mod KeyTests
 pub mod Joined
 pub mod KeyForms

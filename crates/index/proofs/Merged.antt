@@ -27,17 +27,17 @@ taken rows (Some e) left h = h
 
 -- ---- rows in order
 
-abbrev key_cmp : List ℕ → List ℕ → Ordering
+abbrev pub key_cmp : List ℕ → List ℕ → Ordering
 key_cmp = slice_cmp nat_cmp
 
-abbrev AllBehind : List ℕ → List Row → Type 0
+abbrev pub AllBehind : List ℕ → List Row → Type 0
 AllBehind k rows = AllByRecursion (λ row. key_cmp k row.0 ≡ Less) rows
 
-abbrev Rises : List Row → Type 0
+abbrev pub Rises : List Row → Type 0
 Rises [] = Unit {0}
 Rises (row ∷ rows) = AllBehind row.0 rows × Rises rows
 
-from_keys : (rows : List Row) → IsStrictlySortedBy key_cmp (keys_of rows) → Rises rows
+pub from_keys : (rows : List Row) → IsStrictlySortedBy key_cmp (keys_of rows) → Rises rows
 unfolding IsStrictlySortedBy
 from_keys [] h = tt
 from_keys (row ∷ rows) h = (behind rows h.0, from_keys rows h.1)
@@ -46,7 +46,7 @@ from_keys (row ∷ rows) h = (behind rows h.0, from_keys rows h.1)
     behind [] h = tt
     behind (r ∷ rs) h = (h.0, behind rs h.1)
 
-to_keys : (rows : List Row) → Rises rows → IsStrictlySortedBy key_cmp (keys_of rows)
+pub to_keys : (rows : List Row) → Rises rows → IsStrictlySortedBy key_cmp (keys_of rows)
 unfolding IsStrictlySortedBy
 to_keys [] h = tt
 to_keys (row ∷ rows) h = (behind rows h.0, to_keys rows h.1)
@@ -139,7 +139,7 @@ module _ (test : List ℕ → Bool) where
   -- ---- rows of the two kinds
 
   -- each row is what is found under its key
-  found_each : (rows : List Row) → Rises rows → AllByRecursion (λ row. at rows row.0 ≡ Some row.1) rows
+  pub found_each : (rows : List Row) → Rises rows → AllByRecursion (λ row. at rows row.0 ≡ Some row.1) rows
   found_each [] h = tt
   found_each (row ∷ rows) h = (ap (λ b. cond b (Some row.1) (at rows row.0)) (nat_list_eq_equiv.refl row.0), later rows h.0 (found_each rows h.1))
     where

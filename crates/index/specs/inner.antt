@@ -1,3 +1,5 @@
+pub mod BucketRows
+pub mod Buckets
 pub mod Counts
 pub mod EditCounts
 pub mod JoinedSets

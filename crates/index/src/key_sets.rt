@@ -5,6 +5,7 @@ ghost use Rattle.std.specs.FinMap as finite;
 ghost use Rattle.std.specs.FinSet as set;
 ghost use Rattle.index.specs.KeySets.{members_in, AreRowsOf, Puts, Takes};
 
+use crate::buckets::{BucketRows, Buckets};
 use crate::keyed_sets::KeyedSets;
 use crate::rows::{Merge, Rows};
 use crate::short_key::ShortKey;
@@ -14,10 +15,11 @@ use std::collections::btree_map::Iter;
 use std::marker::Model;
 
 /// The keys of a slot, each with its members, of which there is one at least. Those of few bytes lie in their map
-/// itself, so that a look-up goes to no other place: most are windows, of three bytes. A contract sees a finite map from keys to members.
+/// itself, so that a look-up goes to no other place. Most are windows, of three bytes, and lie in buckets. A contract sees a finite map from
+/// keys to members.
 #[derive(Drop)]
 pub(crate) struct KeySets {
-    tiny: KeyedSets<ShortKey<4>>,
+    tiny: Buckets,
     short: KeyedSets<ShortKey<32>>,
     long: KeyedSets<Vec<u8>>,
 }
@@ -41,7 +43,7 @@ impl KeySets {
         ensures { result ≡ finite.empty }
     {
         KeySets {
-            tiny: KeyedSets::new(alloc),
+            tiny: Buckets::new(alloc),
             short: KeyedSets::new(alloc),
             long: KeyedSets::new(alloc),
         }
@@ -115,10 +117,8 @@ impl KeySets {
 /// that are still to come.
 #[derive(Drop)]
 pub struct Keys<'a> {
-    rows: Merge<'a, Tiny<'a>, Merge<'a, Short<'a>, Long<'a>>>,
+    rows: Merge<'a, BucketRows<'a>, Merge<'a, Short<'a>, Long<'a>>>,
 }
-
-type Tiny<'a> = Iter<'a, ShortKey<4>, KeySet>;
 
 type Short<'a> = Iter<'a, ShortKey<32>, KeySet>;
 
@@ -129,12 +129,13 @@ impl<'a> Model for Keys<'a> {
     ghost use Rattle.index.specs.KeySets.{Row, rows_code};
     ghost use Rattle.index.specs.inner.MergedRows.{ahead, merged};
     ghost use Rattle.index.specs.inner.StoredSets.{short_rows, long_rows};
+    ghost use Rattle.index.specs.inner.BucketRows.{rows_left};
 
     ghost Value = { List Row };
 
     ghost coded = { rows_code };
 
-    ghost view = { λ k. merged (ahead k.rows.row (short_rows 4 k.rows.rows)) (ahead k.rows.other (merged (ahead k.rows.others.row (short_rows 32 k.rows.others.rows)) (ahead k.rows.others.other (long_rows k.rows.others.others)))) };
+    ghost view = { λ k. merged (ahead k.rows.row (rows_left k.rows.rows)) (ahead k.rows.other (merged (ahead k.rows.others.row (short_rows 32 k.rows.others.rows)) (ahead k.rows.others.other (long_rows k.rows.others.others)))) };
 }
 
 impl<'a> Iterator for Keys<'a> {

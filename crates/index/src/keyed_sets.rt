@@ -4,6 +4,7 @@ ghost use Rattle.std.specs.Prelude.{◌≡◌, ℕ, nat_lt, List, MatchOption};
 ghost use Rattle.std.specs.FinMap as finite;
 ghost use Rattle.std.specs.FinSet as set;
 ghost use Rattle.index.specs.KeySets.{members_in, members_at, AreRowsOf, Puts, Takes};
+ghost use Rattle.index.specs.inner.Buckets.{IsFull};
 ghost use Rattle.index.specs.inner.StoredSets.{rows_by, HaveMembers};
 
 use crate::stored_key::{StoredKey, Wanted};
@@ -93,6 +94,13 @@ impl<K: StoredKey> KeyedSets<K> {
         }
     }
 
+    /// Each key that is there has a member.
+    pub(crate) fn is_full(&self)
+        ensures { IsFull self.now }
+    {
+        let _ = &self.sets;
+    }
+
     /// The members of a key, or none where it has no member.
     pub(crate) fn get<Q: Wanted<K>>(&self, key: Q) -> Option<&KeySet>
         ensures { MatchOption result (members_in self.now (Q.wanted key) ≡ set.empty) (λ s. s.now.members ≡ members_in self.now (Q.wanted key)) }
@@ -102,7 +110,8 @@ impl<K: StoredKey> KeyedSets<K> {
 
     /// The keys, by their bytes, each with its members.
     pub(crate) fn rows(&self) -> Iter<'_, K, KeySet>
-        ensures { AreRowsOf self.now (rows_by K.bytes result) }
+        ensures rows { AreRowsOf self.now (rows_by K.bytes result) }
+        ensures entries { rows_by K.bytes result ≡ finite.entries self.now }
     {
         self.sets.iter()
     }

@@ -4,6 +4,7 @@
 #![tactic(auto)]
 
 mod batches;
+mod buckets;
 mod changes;
 mod distinct_keys;
 mod edit_count;
