@@ -2,6 +2,7 @@ pub mod Ends
 pub mod Indexing
 pub mod Known
 pub mod Loading
+pub mod Locked
 pub mod Running
 pub mod Stopping
 pub mod StoredFiles

@@ -48,10 +48,11 @@ of_memory P p (faults.Configuration line kind) h = absurd h
 of_memory P p (faults.Data line why) h = absurd h
 of_memory P p (faults.CannotRead n) h = absurd h
 of_memory P p (faults.CannotWrite n) h = absurd h
+of_memory P p (faults.InUse n) h = absurd h
 of_memory P p faults.OutOfMemory h = p
 
 -- what has this name can't be read, or memory ran out
-of_unread : (P : CommandFault → Type 0) (name : List ℕ) → ((n : _) → string_bytes n ≡ name → P (faults.CannotRead n)) → P faults.OutOfMemory → (f : CommandFault) → FailsToRead name f → P f
+pub of_unread : (P : CommandFault → Type 0) (name : List ℕ) → ((n : _) → string_bytes n ≡ name → P (faults.CannotRead n)) → P faults.OutOfMemory → (f : CommandFault) → FailsToRead name f → P f
 of_unread P name unread p faults.Words h = absurd h
 of_unread P name unread p (faults.Filter fault) h = absurd h
 of_unread P name unread p (faults.Code by code) h = absurd h
@@ -59,6 +60,7 @@ of_unread P name unread p (faults.Configuration line kind) h = absurd h
 of_unread P name unread p (faults.Data line why) h = absurd h
 of_unread P name unread p (faults.CannotRead n) h = unread n h
 of_unread P name unread p (faults.CannotWrite n) h = absurd h
+of_unread P name unread p (faults.InUse n) h = absurd h
 of_unread P name unread p faults.OutOfMemory h = p
 
 -- what has this name can't be written, or memory ran out
@@ -70,6 +72,7 @@ of_unwritten P name unwritten p (faults.Configuration line kind) h = absurd h
 of_unwritten P name unwritten p (faults.Data line why) h = absurd h
 of_unwritten P name unwritten p (faults.CannotRead n) h = absurd h
 of_unwritten P name unwritten p (faults.CannotWrite n) h = unwritten n h
+of_unwritten P name unwritten p (faults.InUse n) h = absurd h
 of_unwritten P name unwritten p faults.OutOfMemory h = p
 
 -- ---- what is said of a stop
@@ -141,6 +144,7 @@ module _ (q : Query) (files : Option Files) where
   filter_stops (faults.Data line why) h = absurd h
   filter_stops (faults.CannotRead name) h = absurd h
   filter_stops (faults.CannotWrite name) h = absurd h
+  filter_stops (faults.InUse name) h = absurd h
   filter_stops faults.OutOfMemory h = h
 
   unwritten_stops : (f : CommandFault) → FailsToWrite (target_of q.file) f → StopsWith q files f
@@ -159,6 +163,7 @@ module _ (q : Query) (files : Option Files) where
     load_stops (faults.Data line why) h = (has, h)
     load_stops (faults.CannotRead name) h = (has, inl h)
     load_stops (faults.CannotWrite name) h = absurd h
+    load_stops (faults.InUse name) h = absurd h
     load_stops faults.OutOfMemory h = tt
 
     pub index_stops : (conf : Conf) (d : Entries) → q.needs_index ≡ true → IsLoaded files q.db conf d → (f : CommandFault) → FailsToRead (index_name q.db) f → StopsWith q files f
@@ -172,6 +177,7 @@ module _ (q : Query) (files : Option Files) where
     refused_so conf d loaded (faults.Data line why) h = absurd h
     refused_so conf d loaded (faults.CannotRead name) h = absurd h
     refused_so conf d loaded (faults.CannotWrite name) h = absurd h
+    refused_so conf d loaded (faults.InUse name) h = absurd h
     refused_so conf d loaded faults.OutOfMemory h = tt
 
     pub refused_stops : (conf : Conf) (d : Entries) → IsLoaded files q.db conf d → (f : CommandFault) → RefusesOrBreaks q conf d f → StopsWith q files f
@@ -193,6 +199,7 @@ first_of P none unwritten (faults.Configuration line kind) h = tt
 first_of P none unwritten (faults.Data line why) h = tt
 first_of P none unwritten (faults.CannotRead name) h = tt
 first_of P none unwritten (faults.CannotWrite name) h = unwritten name h
+first_of P none unwritten (faults.InUse name) h = tt
 first_of P none unwritten faults.OutOfMemory h = tt
 
 module _ (Partly : CommandFault → Written → Written → Type 0) (a b : Written) (same : b ≡ a) where
@@ -205,6 +212,7 @@ module _ (Partly : CommandFault → Written → Written → Type 0) (a b : Writt
   nothing_prints P none (faults.Data line why) h = same
   nothing_prints P none (faults.CannotRead name) h = same
   nothing_prints P none (faults.CannotWrite name) h = absurd (none name h)
+  nothing_prints P none (faults.InUse name) h = same
   nothing_prints P none faults.OutOfMemory h = inl same
 
   pub filter_prints : (text : Option (List ℕ)) (f : CommandFault) → FilterFails text f → PrintsPartly Partly a b f
@@ -245,6 +253,7 @@ prints_more Less More a b goes (faults.Configuration line kind) same = same
 prints_more Less More a b goes (faults.Data line why) same = same
 prints_more Less More a b goes (faults.CannotRead name) same = same
 prints_more Less More a b goes (faults.CannotWrite name) partly = goes (faults.CannotWrite name) partly
+prints_more Less More a b goes (faults.InUse name) same = same
 prints_more Less More a b goes faults.OutOfMemory (inl same) = inl same
 prints_more Less More a b goes faults.OutOfMemory (inr partly) = inr (goes faults.OutOfMemory partly)
 

@@ -35,6 +35,10 @@ add_task asked = record { db = asked.db; file = asked.file; mode = modes.Content
 abbrev pub modify_task : ModifyOptions → Task
 modify_task asked = record { db = asked.db; file = asked.file; mode = modes.Changes asked.add; go_on = asked.go_on; dry_run = asked.dry_run }
 
+-- the folder whose directory they write; in a dry run they write none
+abbrev pub written_by : Task → Option (List ℕ)
+written_by task = if task.dry_run then None else Some task.db.now
+
 -- ---- a run
 
 -- a run of records: the configuration, the entries before and after, and what it answers

@@ -1,5 +1,5 @@
 -- What a command comes to, by what its words ask for.
-use Rattle.std.specs.Prelude.{◌≡◌, ℕ, ◌≤◌, List, length, Result, Ok, Err, IfOk, IfErr, string_bytes, codes}
+use Rattle.std.specs.Prelude.{◌≡◌, ℕ, ◌≤◌, List, length, Option, None, Some, Result, Ok, Err, IfOk, IfErr, string_bytes, codes}
 use Rattle.device.specs.Device.{Broke}
 use Rattle.command_line.specs.Requests.{AsksForHelp, AskFor, IsFaultOf}
 use Rattle.command_line.specs.declared.request.Request.{Request}
@@ -7,9 +7,10 @@ use Rattle.command_line.specs.declared.request.Request.TheVariants.{Help, Add, M
 use Rattle.command_line.specs.declared.request.UsageFault.{UsageFault}
 use Rattle.command_line.specs.declared.request.UsageFault.TheVariants.{Words, OutOfMemory}
 use Rattle.commands.specs.Worlds.{World, IsPrinted}
-use Rattle.commands.specs.Endings.{StoppedAt, IsAtOnce, HasOnlyPrinted, IsFault, Ends}
+use Rattle.commands.specs.Endings.{StoppedAt, IsAtOnce, HasOnlyPrinted, IsFault}
+use Rattle.commands.specs.Locked.{EndsUnder}
 use Rattle.commands.specs.Failures.{IsMemory, FailsToWrite}
-use Rattle.commands.specs.Changes.{add_task, modify_task, ChangeGoesThrough, ChangeStops}
+use Rattle.commands.specs.Changes.{add_task, modify_task, written_by, ChangeGoesThrough, ChangeStops}
 use Rattle.commands.specs.Indexing.{IndexGoesThrough, IndexStops}
 use Rattle.commands.specs.Prints.{CatGoesThrough, CatStops, SearchGoesThrough, SearchStops}
 use Rattle.commands.specs.Statuses.{status_number}
@@ -54,13 +55,23 @@ RequestStops (Ok (Search asked)) = SearchStops asked
 RequestStops (Ok (Cat asked)) = CatStops asked
 RequestStops (Err fault) = WordsStop fault
 
--- The words, the first of which is the program's name, asked for this, or this is wrong with them: it was done, or the command stopped, and
--- this is the number of its status.
+-- the folder whose directory is to be written, if one is
+abbrev pub writes_in : Result Request UsageFault → Option (List ℕ)
+writes_in (Ok (Help text)) = None
+writes_in (Ok (Add asked)) = written_by (add_task asked)
+writes_in (Ok (Modify asked)) = written_by (modify_task asked)
+writes_in (Ok (Index asked)) = Some asked.db.now
+writes_in (Ok (Search asked)) = None
+writes_in (Ok (Cat asked)) = None
+writes_in (Err fault) = None
+
+-- The words, the first of which is the program's name, asked for this, or this is wrong with them: it was done, under a lock where a directory
+-- is written, or the command stopped, and this is the number of its status.
 pub record CommandEnds (words : List (List ℕ)) (w w' : World) (number : ℕ) : Type 0 where
   pub asked : Result Request UsageFault
   pub asks : IfOk asked (AskFor words)
   pub faulty : IfErr asked (IsFaultOf words)
   pub help : length words ≤ 1 → AsksForHelp asked
   pub status : Status
-  pub ends : Ends (RequestGoesThrough asked) (RequestStops asked) w w' status
+  pub ends : EndsUnder (writes_in asked) (RequestGoesThrough asked) (RequestStops asked) w w' status
   pub number_is : number ≡ status_number status

@@ -17,3 +17,8 @@ FailsToRead name fault = IsMemory fault
 abbrev pub FailsToWrite : List ℕ → CommandFault → Type 0
 FailsToWrite name (faults.CannotWrite n) = string_bytes n ≡ name
 FailsToWrite name fault = IsMemory fault
+
+-- the directory in the folder of this name is in use, or memory ran out
+abbrev pub TellsInUse : List ℕ → CommandFault → Type 0
+TellsInUse name (faults.InUse n) = string_bytes n ≡ name
+TellsInUse name fault = IsMemory fault

@@ -4,8 +4,10 @@ pub mod Failures
 pub mod Asked
 pub mod Excerpts
 pub mod Folders
+pub mod Locks
 pub mod Worlds
 pub mod Endings
+pub mod Locked
 pub mod Loaded
 pub mod Stored
 pub mod Queries

@@ -30,6 +30,7 @@ fault_text (faults.Configuration line kind) = codes "dir.conf line " ++ (decimal
 fault_text (faults.Data line reason) = codes "data.ldif line " ++ (decimal line ++ (codes ": " ++ reason_report reason))
 fault_text (faults.CannotRead name) = string_bytes name ++ codes ": cannot read"
 fault_text (faults.CannotWrite name) = string_bytes name ++ codes ": cannot write"
+fault_text (faults.InUse name) = string_bytes name ++ codes ": in use"
 fault_text faults.OutOfMemory = codes "out of memory"
 
 abbrev pub line_of : List ℕ → List ℕ

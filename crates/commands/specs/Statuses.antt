@@ -30,4 +30,5 @@ status_of_fault (faults.Configuration line kind) = statuses.Usage
 status_of_fault (faults.Data line reason) = statuses.Failed
 status_of_fault (faults.CannotRead name) = statuses.Failed
 status_of_fault (faults.CannotWrite name) = statuses.Failed
+status_of_fault (faults.InUse name) = statuses.Failed
 status_of_fault faults.OutOfMemory = statuses.Failed

@@ -2,12 +2,15 @@
 use Rattle.std.specs.Prelude.{◌≡◌, ℕ, List, Option}
 use Rattle.device.specs.Device.{Seen, Written, Took}
 use Rattle.commands.specs.Folders.{Files}
+use Rattle.commands.specs.Locks.{Locking}
 use Rattle.commands.specs.Messages.{IsTold}
 use Rattle.commands.specs.declared.messages.Status.{Status}
 
--- The files, where the folder tells them; what is seen of the input; what the output holds, and what the messages do, on standard error.
+-- The files, where the folder tells them; what is seen of locks and of the input; what the output holds, and what the messages do, on standard
+-- error.
 pub record World : Type 0 where
   pub files : Option Files
+  pub lock : Locking
   pub input : Seen
   pub output : Written
   pub messages : Written

@@ -3,11 +3,11 @@ ghost use Rattle.std.specs.Prelude.{◌≡◌, ◌<◌, ◌-◌, ◌^◌, Ok, Er
 ghost use Rattle.directory.specs.declared.runs.RunFault.{RunFault};
 ghost use Rattle.commands.specs.Worlds.{World};
 ghost use Rattle.commands.specs.Loaded.{IsLoaded};
-ghost use Rattle.commands.specs.Changes.{Breaks, RunsInput, RunsSource, RunsAndStores, ChangeGoesThrough, ChangeStops};
+ghost use Rattle.commands.specs.Changes.{written_by, Breaks, RunsInput, RunsSource, RunsAndStores, ChangeGoesThrough, ChangeStops};
 ghost use Rattle.commands.specs.inner.Views.{run_of};
-ghost use Rattle.commands.specs.inner.Stopped.{CanTell, HasStopped, HasEnded};
+ghost use Rattle.commands.specs.inner.Stopped.{CanTell, HasStopped, HasEnded, HasEndedUnder};
 
-use crate::database::{load_directory, open_present};
+use crate::database::{load_directory, lock, open_present};
 use crate::folder::Folder;
 use crate::messages::{CommandFault, Status, Stop};
 use crate::storing::store_directory;
@@ -147,6 +147,7 @@ fn run_and_store<F: Folder, S: Source, E: Sink>(
     ensures ends { (w : World) → HasEnded (RunsAndStores task.now) (ChangeStops task.now)
         (record w { files = F.files folder.old; input = S.seen input.old; messages = E.written err.old })
         (record w { files = F.files folder.new; input = S.seen input.new; messages = E.written err.new }) result }
+    ensures locking { F.locking folder.new ≡ F.locking folder.old }
     ensures can_tell { IfErr result (λ why. CanTell why (E.written err.new).failed) }
 {
     let tally = run_records(alloc, task, &mut dir, folder, input, err)?;
@@ -160,10 +161,8 @@ fn run_and_store<F: Folder, S: Source, E: Sink>(
     Ok(Status::of_tally(tally))
 }
 
-/// Carries out the records of the file, or of the input, on the directory in a folder, with a line on `err` for each that is refused, and
-/// stores the directory. It ends as `Refused` where a record was refused, and else as `Done`. It stops where the directory can't be loaded,
-/// a device or memory fails, or a file can't be stored.
-pub fn change<F: Folder, S: Source, E: Sink>(
+/// Loads the directory, runs the records, and stores what they leave.
+fn load_and_run<F: Folder, S: Source, E: Sink>(
     alloc: Global,
     task: &Task<'_>,
     folder: &mut F,
@@ -175,8 +174,34 @@ pub fn change<F: Folder, S: Source, E: Sink>(
     ensures ends { (w : World) → HasEnded (ChangeGoesThrough task.now) (ChangeStops task.now)
         (record w { files = F.files folder.old; input = S.seen input.old; messages = E.written err.old })
         (record w { files = F.files folder.new; input = S.seen input.new; messages = E.written err.new }) result }
+    ensures locking { F.locking folder.new ≡ F.locking folder.old }
     ensures can_tell { IfErr result (λ why. CanTell why (E.written err.new).failed) }
 {
     let dir = load_directory(alloc, folder, task.db)?;
     run_and_store(alloc, task, dir, folder, input, err)
+}
+
+/// Carries out the records of the file, or of the input, on the directory in a folder, with a line on `err` for each that is refused, and
+/// stores the directory. All of this is done under the directory's lock, but in a dry run, which stores nothing and takes no lock. It ends as
+/// `Refused` where a record was refused, and else as `Done`. It stops where the lock can't be taken, the directory can't be loaded, a device
+/// or memory fails, or a file can't be stored.
+pub fn change<F: Folder, S: Source, E: Sink>(
+    alloc: Global,
+    task: &Task<'_>,
+    folder: &mut F,
+    input: &mut S,
+    err: &mut E,
+) -> Result<Status, Stop>
+    requires input { (S.seen input.old).failed < 2 ^ 64 - 1 }
+    requires err { (E.written err.old).failed < 2 ^ 64 - 1 }
+    ensures ends { (w : World) → HasEndedUnder (written_by task.now) (ChangeGoesThrough task.now) (ChangeStops task.now)
+        (record w { files = F.files folder.old; lock = F.locking folder.old; input = S.seen input.old; messages = E.written err.old })
+        (record w { files = F.files folder.new; lock = F.locking folder.new; input = S.seen input.new; messages = E.written err.new }) result }
+    ensures can_tell { IfErr result (λ why. CanTell why (E.written err.new).failed) }
+{
+    if !task.dry_run {
+        lock(alloc, folder, task.db)?;
+        return load_and_run(alloc, task, folder, input, err);
+    }
+    load_and_run(alloc, task, folder, input, err)
 }

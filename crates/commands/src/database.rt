@@ -3,11 +3,13 @@ ghost use Rattle.std.specs.Prelude.{◌≡◌, ◌<◌, ◌-◌, ◌^◌, ⊤, I
 ghost use Rattle.std.specs.Option.{option_map};
 ghost use Rattle.directory.specs.Runs.{dump};
 ghost use Rattle.commands.specs.Folders.{Finds, with_file, file_in, conf_name};
+ghost use Rattle.commands.specs.Locks.{Takes};
+ghost use Rattle.commands.specs.Locked.{LockFails};
 ghost use Rattle.commands.specs.Loaded.{IsConfigured, IsLoaded, LoadFails};
 ghost use Rattle.commands.specs.Failures.{FailsToRead, FailsToWrite};
 ghost use Rattle.commands.specs.inner.LoadFaults.{TellsLoadFault};
 
-use crate::folder::{FileText, Folder, FolderFault};
+use crate::folder::{FileText, Folder, FolderFault, LockFault};
 use crate::messages::CommandFault;
 use device::{Device, Sink, Source};
 use dir_conf::{ConfFault, read_conf};
@@ -72,6 +74,24 @@ pub fn open_present<F: Folder>(alloc: Global, folder: &F, name: &str) -> Result<
     }
 }
 
+/// Takes the lock of the directory in the folder `db`, which is that of its dir.conf. The fault is `InUse` where another process holds it,
+/// `CannotRead` where dir.conf can't be opened or locked, and else `OutOfMemory`.
+#[tactic(auto, using(crate::proofs::Locked::memory_locks, crate::proofs::Locked::unlocked, crate::proofs::Locked::used))]
+pub fn lock<F: Folder>(alloc: Global, folder: &mut F, db: &str) -> Result<(), CommandFault>
+    ensures ok { OnOk result (Takes (conf_name db.now) (F.files folder.old) (F.files folder.new) (F.locking folder.old) (F.locking folder.new)) }
+    ensures same_files { OnErr result (F.files folder.new ≡ F.files folder.old) }
+    ensures same_locking { OnErr result (F.locking folder.new ≡ F.locking folder.old) }
+    ensures err { IfErr result (LockFails (F.files folder.old) (F.locking folder.old).others db.now) }
+{
+    let name = path(alloc, db, "dir.conf")?;
+    match folder.lock(name.as_str()) {
+        Ok(()) => Ok(()),
+        Err(LockFault::InUse) => Err(CommandFault::in_use(alloc, db)),
+        Err(LockFault::Device) => Err(CommandFault::cannot_read(alloc, name.as_str())),
+        Err(LockFault::OutOfMemory) => Err(CommandFault::OutOfMemory),
+    }
+}
+
 /// Puts a text in place of the file of this name.
 pub fn store<F: Folder, T: FileText>(
     alloc: Global,
@@ -82,6 +102,7 @@ pub fn store<F: Folder, T: FileText>(
     ensures ok { OnOk result (F.files folder.new ≡ with_file (F.files folder.old) name.now (T.text text.now)) }
     ensures answer { IfOk result (T.answers text.now) }
     ensures same { OnErr result (F.files folder.new ≡ F.files folder.old) }
+    ensures locking { F.locking folder.new ≡ F.locking folder.old }
     ensures err { IfErr result (FailsToWrite name.now) }
 {
     match folder.store(name, text) {

@@ -1,8 +1,8 @@
 //! One command, from its words to its status.
 ghost use Rattle.std.specs.Prelude.{◌<◌, ◌≤◌, ◌-◌, ◌^◌, IfErr, map};
 ghost use Rattle.commands.specs.Worlds.{World};
-ghost use Rattle.commands.specs.Commands.{HelpGoesThrough, HelpStops, RequestGoesThrough, RequestStops, CommandEnds};
-ghost use Rattle.commands.specs.inner.Stopped.{CanTell, HasEnded};
+ghost use Rattle.commands.specs.Commands.{HelpGoesThrough, HelpStops, RequestGoesThrough, RequestStops, writes_in, CommandEnds};
+ghost use Rattle.commands.specs.inner.Stopped.{CanTell, HasEnded, HasEndedUnder};
 
 use crate::changes::{Task, change};
 use crate::folder::Folder;
@@ -39,9 +39,9 @@ fn carry_out<F: Folder, S: Source, O: Sink, E: Sink>(
     requires input { (S.seen input.old).failed < 2 ^ 64 - 1 }
     requires out { (O.written out.old).failed < 2 ^ 64 - 1 }
     requires err { (E.written err.old).failed < 2 ^ 64 - 1 }
-    ensures ends { HasEnded (RequestGoesThrough asked.entry) (RequestStops asked.entry)
-        (record { files = F.files folder.old; input = S.seen input.old; output = O.written out.old; messages = E.written err.old })
-        (record { files = F.files folder.new; input = S.seen input.new; output = O.written out.new; messages = E.written err.new })
+    ensures ends { HasEndedUnder (writes_in asked.entry) (RequestGoesThrough asked.entry) (RequestStops asked.entry)
+        (record { files = F.files folder.old; lock = F.locking folder.old; input = S.seen input.old; output = O.written out.old; messages = E.written err.old })
+        (record { files = F.files folder.new; lock = F.locking folder.new; input = S.seen input.new; output = O.written out.new; messages = E.written err.new })
         result }
     ensures can_tell { IfErr result (λ why. CanTell why (E.written err.new).failed) }
 {
@@ -74,8 +74,8 @@ pub fn command<W: AsStr, F: Folder, S: Source, O: Sink, E: Sink>(
     ensures range { result ≤ 3 }
     // What the words ask for is done, or the command stops; and what becomes of the files and the streams.
     ensures ends { CommandEnds (map W.text words.now)
-        (record { files = F.files folder.old; input = S.seen input.old; output = O.written out.old; messages = E.written err.old })
-        (record { files = F.files folder.new; input = S.seen input.new; output = O.written out.new; messages = E.written err.new })
+        (record { files = F.files folder.old; lock = F.locking folder.old; input = S.seen input.old; output = O.written out.old; messages = E.written err.old })
+        (record { files = F.files folder.new; lock = F.locking folder.new; input = S.seen input.new; output = O.written out.new; messages = E.written err.new })
         result }
 {
     let asked = read(alloc, words);

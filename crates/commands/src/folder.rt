@@ -1,8 +1,9 @@
 //! Files by their paths.
-ghost use Rattle.std.specs.Prelude.{◌≡◌, ◌<◌, ◌-◌, ◌^◌, ℕ, List, Option, IfOk, IfSome, OnOk, OnErr};
+ghost use Rattle.std.specs.Prelude.{◌≡◌, ◌<◌, ◌-◌, ◌^◌, ℕ, List, Option, IfOk, IfErr, IfSome, OnOk, OnErr};
 ghost use Rattle.std.specs.Option.{option_map};
 ghost use Rattle.directory.specs.Dumps.{Writes, end_of};
 ghost use Rattle.commands.specs.Folders.{Files, Finds, with_file};
+ghost use Rattle.commands.specs.Locks.{Locking, IsNotTaken, Takes};
 ghost use Rattle.commands.specs.declared.folder.FolderFault.TheVariants.{OutOfMemory};
 
 use device::{Sink, Source};
@@ -56,6 +57,25 @@ impl From<WriteFault> for FolderFault {
     }
 }
 
+/// Why a lock was not taken.
+#[derive(Clone, Copy, Debug, PartialEq, Eq)]
+pub enum LockFault {
+    /// Another process holds it.
+    InUse,
+    /// The file can't be opened, or can't be locked.
+    Device,
+    OutOfMemory,
+}
+
+impl From<io::Error> for LockFault {
+    fn from(error: io::Error) -> LockFault {
+        match error.kind() {
+            ErrorKind::OutOfMemory => LockFault::OutOfMemory,
+            _ => LockFault::Device,
+        }
+    }
+}
+
 /// What can be written to a sink in pieces, so that it need not be in memory whole.
 pub trait FileText {
     /// What is answered of it once it was written.
@@ -81,6 +101,18 @@ pub trait Folder {
     /// The files and their bytes, where the folder tells them: those in memory can, the system's can't.
     ghost files: { Self → Option Files };
 
+    /// Whether it holds a lock, and what other processes do, where it tells that.
+    ghost locking: { Self → Locking };
+
+    /// Takes the lock of the file of this name, which one process at most holds at a time, and holds it for good: no call gives it back. Other
+    /// processes may have written files until then, and where they write under this lock, they write none from then on. On a fault all stays
+    /// as it was.
+    fn lock(&mut self, name: &str) -> Result<(), LockFault>
+        ensures ok { OnOk result (Takes name.now (files self.old) (files self.new) (locking self.old) (locking self.new)) }
+        ensures err { IfErr result (IsNotTaken (files self.old) (locking self.old).others name.now) }
+        ensures same_files { OnErr result (files self.new ≡ files self.old) }
+        ensures same_locking { OnErr result (locking self.new ≡ locking self.old) };
+
     /// The file's bytes from its beginning, or `None` where there is no such file.
     fn open(&self, name: &str) -> Result<Option<Self::In>, FolderFault>
         ensures finds { IfOk result (λ o. Finds (files self.now) name.now (option_map (λ s. (Self.In.seen s).left) o)) }
@@ -90,5 +122,6 @@ pub trait Folder {
     fn store<T: FileText>(&mut self, name: &str, text: &T) -> Result<T::Answer, FolderFault>
         ensures ok { OnOk result (files self.new ≡ with_file (files self.old) name.now (T.text text.now)) }
         ensures answer { IfOk result (T.answers text.now) }
-        ensures err { OnErr result (files self.new ≡ files self.old) };
+        ensures err { OnErr result (files self.new ≡ files self.old) }
+        ensures locking { locking self.new ≡ locking self.old };
 }

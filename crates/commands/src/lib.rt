@@ -15,5 +15,5 @@ mod slapindex;
 mod storing;
 
 pub use dispatch::command;
-pub use folder::{FileText, Folder, FolderFault};
+pub use folder::{FileText, Folder, FolderFault, LockFault};
 pub use messages::{CommandFault, Status, tell};

@@ -4,7 +4,7 @@ ghost use Rattle.commands.specs.declared.messages.CommandFault.TheVariants.{OutO
 ghost use Rattle.commands.specs.declared.messages.Stop.TheVariants.{Fault};
 ghost use Rattle.commands.specs.Messages.{IsSaid, IsTold, fault_text, line_of};
 ghost use Rattle.commands.specs.Endings.{Tells};
-ghost use Rattle.commands.specs.Failures.{FailsToRead, FailsToWrite};
+ghost use Rattle.commands.specs.Failures.{FailsToRead, FailsToWrite, TellsInUse};
 ghost use Rattle.commands.specs.Statuses.{status_number, status_of_fault, status_of_tally};
 ghost use Rattle.commands.specs.inner.Stopped.{CanTell};
 ghost use Rattle.commands.specs.inner.WriteFaults.{TellsWriteFault};
@@ -74,6 +74,8 @@ pub enum CommandFault {
     CannotRead(String),
     /// The file or the stream of this name fails when it is written.
     CannotWrite(String),
+    /// Another process writes the directory in this folder.
+    InUse(String),
     OutOfMemory,
 }
 
@@ -110,6 +112,16 @@ impl CommandFault {
         }
     }
 
+    /// The fault of a change of the directory in this folder, where another process writes it.
+    pub fn in_use(alloc: Global, folder: &str) -> CommandFault
+        ensures { TellsInUse folder.now result }
+    {
+        match String::from_str(alloc, folder) {
+            Ok(folder) => CommandFault::InUse(folder),
+            Err(_) => CommandFault::OutOfMemory,
+        }
+    }
+
     /// The fault of a write to standard output.
     pub fn of_output(alloc: Global, fault: WriteFault) -> CommandFault
         ensures { TellsWriteFault fault result }
@@ -133,6 +145,7 @@ impl fmt::Display for CommandFault {
             CommandFault::Data { line, reason } => write!(f, "data.ldif line {line}: {reason}"),
             CommandFault::CannotRead(name) => write!(f, "{name}: cannot read"),
             CommandFault::CannotWrite(name) => write!(f, "{name}: cannot write"),
+            CommandFault::InUse(folder) => write!(f, "{folder}: in use"),
             CommandFault::OutOfMemory => write!(f, "out of memory"),
         }
     }

@@ -50,6 +50,7 @@ fn put<T: FileText, F: Folder, O: Sink>(
 ) -> Result<(), CommandFault>
     requires { (O.written out.old).failed < 2 ^ 64 - 1 }
     ensures same { OnErr result (F.files folder.new ≡ F.files folder.old) }
+    ensures locking { F.locking folder.new ≡ F.locking folder.old }
     ensures put { (w : World) → OnOk result (Puts (option_copied file.entry) (T.text text.now)
         (record w { files = F.files folder.old; output = O.written out.old })
         (record w { files = F.files folder.new; output = O.written out.new })) }
@@ -91,6 +92,7 @@ fn put_excerpt<F: Folder, O: Sink>(
 ) -> Result<(), CommandFault>
     requires { (O.written out.old).failed < 2 ^ 64 - 1 }
     ensures same { OnErr result (F.files folder.new ≡ F.files folder.old) }
+    ensures locking { F.locking folder.new ≡ F.locking folder.old }
     ensures put { (w : World) → OnOk result (HasPut (IsCatText false asked.now
         (basis_of filter.now database.now.tree)) (option_copied asked.now.file)
         (record w { files = F.files folder.old; output = O.written out.old })
@@ -116,6 +118,7 @@ fn put_entries<F: Folder, O: Sink>(
 ) -> Result<(), CommandFault>
     requires { (O.written out.old).failed < 2 ^ 64 - 1 }
     ensures same { OnErr result (F.files folder.new ≡ F.files folder.old) }
+    ensures locking { F.locking folder.new ≡ F.locking folder.old }
     ensures put { (w : World) → OnOk result (HasPut (IsCatText (is_whole asked.now) asked.now
         (basis_of filter.now database.now.tree)) (option_copied asked.now.file)
         (record w { files = F.files folder.old; output = O.written out.old })
@@ -140,6 +143,7 @@ fn load_and_put<F: Folder, O: Sink>(
 ) -> Result<(), CommandFault>
     requires { (O.written out.old).failed < 2 ^ 64 - 1 }
     ensures same { OnErr result (F.files folder.new ≡ F.files folder.old) }
+    ensures locking { F.locking folder.new ≡ F.locking folder.old }
     ensures put { (w : World) → OnOk result (HasPut (CatText asked.now (F.files folder.old)) (option_copied asked.now.file)
         (record w { files = F.files folder.old; output = O.written out.old })
         (record w { files = F.files folder.new; output = O.written out.new })) }
@@ -165,9 +169,10 @@ pub fn slapcat<F: Folder, O: Sink>(
     out: &mut O,
 ) -> Result<Status, Stop>
     requires { (O.written out.old).failed < 2 ^ 64 - 1 }
-    ensures { (w : World) → HasEnded (CatGoesThrough asked.now) (CatStops asked.now)
+    ensures ends { (w : World) → HasEnded (CatGoesThrough asked.now) (CatStops asked.now)
         (record w { files = F.files folder.old; output = O.written out.old })
         (record w { files = F.files folder.new; output = O.written out.new }) result }
+    ensures locking { F.locking folder.new ≡ F.locking folder.old }
 {
     match load_and_put(alloc, asked, folder, out) {
         Ok(()) => Ok(Status::Done),

@@ -1,9 +1,10 @@
 //! slapindex: the index of a directory is written anew.
+ghost use Rattle.std.specs.Prelude.{◌≡◌, Some};
 ghost use Rattle.commands.specs.Worlds.{World};
 ghost use Rattle.commands.specs.Indexing.{IndexGoesThrough, IndexStops};
-ghost use Rattle.commands.specs.inner.Stopped.{HasEnded};
+ghost use Rattle.commands.specs.inner.Stopped.{HasEnded, HasEndedUnder};
 
-use crate::database::load_directory;
+use crate::database::{load_directory, lock};
 use crate::folder::Folder;
 use crate::messages::{Status, Stop};
 use crate::storing::store_index;
@@ -11,16 +12,15 @@ use command_line::IndexOptions;
 use std::alloc::Global;
 use std::mem;
 
-/// Makes the index of the directory in a folder from its entries alone, and puts its text in place of index.txt. It stops where the
-/// directory can't be loaded, memory runs out, or index.txt can't be written.
-pub fn slapindex<F: Folder>(
+fn make_index<F: Folder>(
     alloc: Global,
     asked: &IndexOptions<'_>,
     folder: &mut F,
 ) -> Result<Status, Stop>
-    ensures { (w : World) → HasEnded (IndexGoesThrough asked.now) (IndexStops asked.now)
+    ensures ends { (w : World) → HasEnded (IndexGoesThrough asked.now) (IndexStops asked.now)
         (record w { files = F.files folder.old })
         (record w { files = F.files folder.new }) result }
+    ensures locking { F.locking folder.new ≡ F.locking folder.old }
 {
     let dir = load_directory(alloc, folder, asked.db)?;
     let stored = store_index(alloc, folder, asked.db, &dir);
@@ -28,4 +28,19 @@ pub fn slapindex<F: Folder>(
     mem::forget(dir);
     stored?;
     Ok(Status::Done)
+}
+
+/// Makes the index of the directory in a folder from its entries alone, and puts its text in place of index.txt, under the directory's lock.
+/// It stops where the lock can't be taken, the directory can't be loaded, memory runs out, or index.txt can't be written.
+pub fn slapindex<F: Folder>(
+    alloc: Global,
+    asked: &IndexOptions<'_>,
+    folder: &mut F,
+) -> Result<Status, Stop>
+    ensures { (w : World) → HasEndedUnder (Some asked.now.db.now) (IndexGoesThrough asked.now) (IndexStops asked.now)
+        (record w { files = F.files folder.old; lock = F.locking folder.old })
+        (record w { files = F.files folder.new; lock = F.locking folder.new }) result }
+{
+    lock(alloc, folder, asked.db)?;
+    make_index(alloc, asked, folder)
 }

@@ -59,6 +59,7 @@ pub fn store_in<F: Folder, T: FileText>(
     ensures ok { OnOk result (F.files folder.new ≡ with_file (F.files folder.old) (file_in db.now name.now) (T.text text.now)) }
     ensures answer { IfOk result (T.answers text.now) }
     ensures same { OnErr result (F.files folder.new ≡ F.files folder.old) }
+    ensures locking { F.locking folder.new ≡ F.locking folder.old }
     ensures err { IfErr result (FailsToWrite (file_in db.now name.now)) }
 {
     let path = path(alloc, db, name)?;
@@ -76,6 +77,7 @@ fn store_index_with<F: Folder>(
     requires { stamp.now ≡ stamp_by dir.now.conf dir.now.entries }
     ensures ok { OnOk result (F.files folder.new ≡ with_files (F.files folder.old) (index_file db.now dir.now.conf dir.now.entries ∷ [])) }
     ensures err { IfErr result (StoresPartly (index_file db.now dir.now.conf dir.now.entries ∷ []) (F.files folder.old) (F.files folder.new)) }
+    ensures locking { F.locking folder.new ≡ F.locking folder.old }
 {
     store_in(alloc, folder, db, "index.txt", &IndexText { dir, stamp })
 }
@@ -90,6 +92,7 @@ pub fn store_index<F: Folder>(
 ) -> Result<(), CommandFault>
     ensures ok { OnOk result (F.files folder.new ≡ with_files (F.files folder.old) (index_file db.now dir.now.conf dir.now.entries ∷ [])) }
     ensures err { IfErr result (StoresPartly (index_file db.now dir.now.conf dir.now.entries ∷ []) (F.files folder.old) (F.files folder.new)) }
+    ensures locking { F.locking folder.new ≡ F.locking folder.old }
 {
     let stamp = stamp_of(alloc, dir.tree(), dir.conf())?;
     store_index_with(alloc, folder, db, dir, &stamp)
@@ -104,6 +107,7 @@ pub fn store_directory<F: Folder>(
 ) -> Result<(), CommandFault>
     ensures ok { OnOk result (F.files folder.new ≡ with_files (F.files folder.old) (kept_files db.now dir.now.conf dir.now.entries)) }
     ensures err { IfErr result (StoresPartly (kept_files db.now dir.now.conf dir.now.entries) (F.files folder.old) (F.files folder.new)) }
+    ensures locking { F.locking folder.new ≡ F.locking folder.old }
 {
     let stamp = store_in(alloc, folder, db, "data.ldif", dir)?;
     store_index_with(alloc, folder, db, dir, &stamp)

@@ -1,5 +1,5 @@
 -- What is seen of files in memory.
-use Rattle.std.specs.Prelude.{ℕ, List, ◌++◌, Option, None, Some, Result, Ok, Err, map, string_bytes, if◌then◌else◌}
+use Rattle.std.specs.Prelude.{ℕ, Bool, true, false, List, ◌++◌, Option, None, Some, Result, Ok, Err, map, string_bytes, if◌then◌else◌}
 use Rattle.std.specs.Str.{bytes_eq}
 use Rattle.std.specs.Option.{option_map_or}
 use Rattle.std.specs.BTreeMap.{BTreeMap}
@@ -11,16 +11,19 @@ use Rattle.device.specs.Memory.{source_seen, sink_written}
 use Rattle.device.specs.declared.memory.TrySource.{TrySource}
 use Rattle.device.specs.declared.memory.TrySink.{TrySink}
 use Rattle.commands.specs.Folders.{Files}
+use Rattle.commands.specs.Locks.{Locking}
 use Rattle.commands.specs.Worlds.{World}
 use Rattle.commands.specs.declared.folder.FolderFault.{FolderFault}
 use Rattle.commands.specs.declared.folder.FolderFault.TheVariants as folder_faults
+use Rattle.commands.specs.declared.folder.LockFault.{LockFault}
+use Rattle.commands.specs.declared.folder.LockFault.TheVariants as lock_faults
 use denote.Ref.{Bor}
 use Rattle.memory_folder.specs.declared.contents.Contents.{Contents}
 use Rattle.memory_folder.specs.declared.files.Change.{Change}
 use Rattle.memory_folder.specs.declared.files.Change.TheVariants.{Put, Append, Remove}
 use Rattle.memory_folder.specs.declared.files.MemoryFiles.{MemoryFiles}
 use Rattle.memory_folder.specs.declared.folder.FileTrouble.{FileTrouble}
-use Rattle.memory_folder.specs.declared.folder.FileTrouble.TheVariants.{Open, OpenMemory, Read, Store, StoreMemory}
+use Rattle.memory_folder.specs.declared.folder.FileTrouble.TheVariants.{Open, OpenMemory, InUse, Lock, LockMemory, Read, Store, StoreMemory}
 use Rattle.memory_folder.specs.declared.folder.MemoryFolder.{MemoryFolder}
 
 -- a file's name and bytes
@@ -35,15 +38,6 @@ files_of m = files_in m.files
 
 abbrev pub folder_files : MemoryFolder → Files
 folder_files f = files_of f.files
-
--- the world of a command over a folder and streams in memory
-abbrev pub world_of : MemoryFolder → TrySource → TrySink → TrySink → World
-world_of folder input output messages = record {
-  files = Some (folder_files folder);
-  input = source_seen input;
-  output = sink_written output;
-  messages = sink_written messages;
-}
 
 -- the bytes of the file that are left, also those behind the place where reading is going to fail
 abbrev pub left_of : Contents → Option (List ℕ)
@@ -79,6 +73,9 @@ abbrev pub reading_limit : Option FileTrouble → Result (Option ℕ) FolderFaul
 reading_limit None = Ok None
 reading_limit (Some Open) = Err folder_faults.Device
 reading_limit (Some OpenMemory) = Err folder_faults.OutOfMemory
+reading_limit (Some InUse) = Ok None
+reading_limit (Some Lock) = Ok None
+reading_limit (Some LockMemory) = Ok None
 reading_limit (Some (Read limit)) = Ok (Some limit)
 reading_limit (Some (Store limit)) = Ok None
 reading_limit (Some StoreMemory) = Ok None
@@ -88,6 +85,43 @@ abbrev pub storing_limit : Option FileTrouble → Result (Option ℕ) FolderFaul
 storing_limit None = Ok None
 storing_limit (Some Open) = Ok None
 storing_limit (Some OpenMemory) = Ok None
+storing_limit (Some InUse) = Ok None
+storing_limit (Some Lock) = Ok None
+storing_limit (Some LockMemory) = Ok None
 storing_limit (Some (Read limit)) = Ok None
 storing_limit (Some (Store limit)) = Ok (Some limit)
 storing_limit (Some StoreMemory) = Err folder_faults.OutOfMemory
+
+-- why it isn't locked, where it isn't
+abbrev pub lock_fault : Option FileTrouble → Option LockFault
+lock_fault None = None
+lock_fault (Some Open) = Some lock_faults.Device
+lock_fault (Some OpenMemory) = Some lock_faults.OutOfMemory
+lock_fault (Some InUse) = Some lock_faults.InUse
+lock_fault (Some Lock) = Some lock_faults.Device
+lock_fault (Some LockMemory) = Some lock_faults.OutOfMemory
+lock_fault (Some (Read limit)) = None
+lock_fault (Some (Store limit)) = None
+lock_fault (Some StoreMemory) = None
+
+-- ---- the world of a command
+
+abbrev pub is_in_use : Option LockFault → Bool
+is_in_use (Some lock_faults.InUse) = true
+is_in_use (Some lock_faults.Device) = false
+is_in_use (Some lock_faults.OutOfMemory) = false
+is_in_use None = false
+
+-- whether it holds a lock; other processes hold that of a file that fails so, and write no file
+abbrev pub folder_locking : MemoryFolder → Locking
+folder_locking f = record { held = f.holds_lock; others = Some (record { hold = λ name. is_in_use (lock_fault (folder_trouble f name)); make = λ m. m }) }
+
+-- over a folder and streams in memory
+abbrev pub world_of : MemoryFolder → TrySource → TrySink → TrySink → World
+world_of folder input output messages = record {
+  files = Some (folder_files folder);
+  lock = folder_locking folder;
+  input = source_seen input;
+  output = sink_written output;
+  messages = sink_written messages;
+}

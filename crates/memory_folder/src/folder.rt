@@ -1,14 +1,17 @@
 //! A folder of files in memory, of which one can fail.
-ghost use Rattle.std.specs.Prelude.{◌≡◌, ℕ, List, Option, None, Some, Err, IfOk, IfSome, OnOk, OnErr};
+ghost use Rattle.std.specs.Prelude.{◌≡◌, ℕ, true, false, List, Option, None, Some, Err, IfOk, IfErr, IfSome, OnOk, OnErr};
 ghost use Rattle.std.specs.Option.{option_map};
+ghost use Rattle.std.specs.FinMap as finite;
 ghost use Rattle.device.specs.Adapters.{read_seen};
 ghost use Rattle.commands.specs.Folders.{Finds, with_file};
+ghost use Rattle.commands.specs.Locks.{IsNotTaken, Takes};
 ghost use Rattle.commands.specs.declared.folder.FolderFault.{FolderFault};
-ghost use Rattle.memory_folder.specs.Memory.{files_of, folder_files, folder_trouble, trouble_at, left_of, reading_limit, storing_limit};
+ghost use Rattle.commands.specs.declared.folder.LockFault.{LockFault};
+ghost use Rattle.memory_folder.specs.Memory.{files_of, folder_files, folder_locking, folder_trouble, trouble_at, left_of, reading_limit, storing_limit, lock_fault};
 
 use crate::contents::Contents;
 use crate::files::MemoryFiles;
-use commands::{FileText, Folder, FolderFault};
+use commands::{FileText, Folder, FolderFault, LockFault};
 use device::{OfRead, TrySink};
 use std::alloc::Global;
 
@@ -22,6 +25,12 @@ pub enum FileTrouble {
     Open,
     /// There is no memory to open it.
     OpenMemory,
+    /// Another process holds its lock.
+    InUse,
+    /// It can't be locked.
+    Lock,
+    /// There is no memory to lock it.
+    LockMemory,
     /// Reading it fails behind so many bytes.
     Read(usize),
     /// Storing it fails behind so many bytes.
@@ -53,12 +62,27 @@ fn storing_limit(trouble: Option<FileTrouble>) -> Result<Option<usize>, FolderFa
     }
 }
 
+/// Why a file isn't locked, where it isn't.
+fn lock_fault(trouble: Option<FileTrouble>) -> Option<LockFault>
+    ensures { result ≡ lock_fault trouble }
+{
+    match trouble {
+        Some(FileTrouble::InUse) => Some(LockFault::InUse),
+        Some(FileTrouble::Open) | Some(FileTrouble::Lock) => Some(LockFault::Device),
+        Some(FileTrouble::OpenMemory) | Some(FileTrouble::LockMemory) => {
+            Some(LockFault::OutOfMemory)
+        }
+        _ => None,
+    }
+}
+
 /// A folder of files in memory, of which one can fail.
 #[derive(Drop)]
 pub struct MemoryFolder<'t> {
     alloc: Global,
     files: MemoryFiles,
     trouble: Option<(&'t str, FileTrouble)>,
+    holds_lock: bool,
 }
 
 impl<'t> MemoryFolder<'t> {
@@ -66,11 +90,13 @@ impl<'t> MemoryFolder<'t> {
     pub fn new(alloc: Global, files: MemoryFiles) -> MemoryFolder<'t>
         ensures files { folder_files result ≡ files_of files }
         ensures trouble { (name : List ℕ) → folder_trouble result name ≡ None }
+        ensures held { (folder_locking result).held ≡ false }
     {
         MemoryFolder {
             alloc,
             files,
             trouble: None,
+            holds_lock: false,
         }
     }
 
@@ -89,6 +115,15 @@ impl<'t> MemoryFolder<'t> {
         self.trouble = trouble;
     }
 
+    /// Gives the lock back that it holds, as the end of a process does. The files stay as they are.
+    pub fn unlock(&mut self)
+        ensures files { folder_files self.new ≡ folder_files self.old }
+        ensures trouble { (name : List ℕ) → folder_trouble self.new name ≡ folder_trouble self.old name }
+        ensures held { (folder_locking self.new).held ≡ false }
+    {
+        self.holds_lock = false;
+    }
+
     fn trouble_of(&self, name: &str) -> Option<FileTrouble>
         ensures { result ≡ folder_trouble self.now name.now }
     {
@@ -102,9 +137,33 @@ impl<'t> MemoryFolder<'t> {
 impl<'t> Folder for MemoryFolder<'t> {
     type In = OfRead<Contents>;
 
-    ghost use Rattle.memory_folder.specs.Memory.{folder_files};
+    ghost use Rattle.memory_folder.specs.Memory.{folder_files, folder_locking};
 
     ghost files = { λ f. Some (folder_files f) };
+
+    ghost locking = { folder_locking };
+
+    fn lock(&mut self, name: &str) -> Result<(), LockFault>
+        ensures ok { OnOk result (Takes name.now (Some (folder_files self.old)) (Some (folder_files self.new)) (folder_locking self.old) (folder_locking self.new)) }
+        ensures err { IfErr result (IsNotTaken (Some (folder_files self.old)) (folder_locking self.old).others name.now) }
+        ensures same_files { OnErr result (Some (folder_files self.new) ≡ Some (folder_files self.old)) }
+        ensures same_locking { OnErr result (folder_locking self.new ≡ folder_locking self.old) }
+
+        // Beside what the trait says: why a file that is there isn't locked.
+        ensures fault { (fault : LockFault) → lock_fault (folder_trouble self.old name.now) ≡ Some fault
+            → finite.contains_key (folder_files self.old) name.now ≡ true → result ≡ Err fault }
+    {
+        if self.files.get(name).is_none() {
+            return Err(LockFault::Device);
+        }
+        match lock_fault(self.trouble_of(name)) {
+            Some(fault) => Err(fault),
+            None => {
+                self.holds_lock = true;
+                Ok(())
+            }
+        }
+    }
 
     fn open(&self, name: &str) -> Result<Option<OfRead<Contents>>, FolderFault>
         ensures finds { IfOk result (λ o. Finds (Some (folder_files self.now)) name.now (option_map (λ s. (read_seen left_of s).left) o)) }
@@ -127,6 +186,7 @@ impl<'t> Folder for MemoryFolder<'t> {
         ensures ok { OnOk result (Some (folder_files self.new) ≡ with_file (Some (folder_files self.old)) name.now (T.text text.now)) }
         ensures answer { IfOk result (T.answers text.now) }
         ensures err { OnErr result (Some (folder_files self.new) ≡ Some (folder_files self.old)) }
+        ensures locking { folder_locking self.new ≡ folder_locking self.old }
 
         // Beside what the trait says: how a file can't be stored, and that it still can't.
         ensures trouble { (q : List ℕ) → folder_trouble self.new q ≡ folder_trouble self.old q }

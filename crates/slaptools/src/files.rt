@@ -1,11 +1,11 @@
 //! The files of the system.
-ghost use Rattle.std.specs.Prelude.{None, IfOk};
+ghost use Rattle.std.specs.Prelude.{None, IfOk, is_some};
 
-use commands::{FileText, Folder, FolderFault};
+use commands::{FileText, Folder, FolderFault, LockFault};
 use device::{OfRead, OfWrite};
 use std::alloc::{AllocError, Global};
-use std::fs::{self, OpenFile, OpenOptions};
-use std::io::ErrorKind;
+use std::fs::{self, File, OpenFile, OpenOptions, TryLockError};
+use std::io::{self, ErrorKind};
 use std::os::unix::fs::{MetadataExt, lchown};
 use std::rt::Files as HostFiles;
 
@@ -13,6 +13,8 @@ use std::rt::Files as HostFiles;
 #[derive(Drop)]
 pub struct Files<'r, R> {
     rt: &'r R,
+    /// An open file whose lock is held for as long as it is open.
+    locked: Option<File>,
 }
 
 /// The name that is reserved beside a file, for its next contents until they are whole.
@@ -28,9 +30,9 @@ fn names_open_file(name: &str) -> bool {
     name == "/dev/stdout" || name == "/dev/stderr" || name.starts_with("/dev/fd/")
 }
 
-impl<'r, R: HostFiles + AllocGlobal> Files<'r, R> {
+impl<'r, R: HostFiles<File = File> + AllocGlobal> Files<'r, R> {
     pub fn new(rt: &'r R) -> Files<'r, R> {
-        Files { rt }
+        Files { rt, locked: None }
     }
 
     /// Whether something has this name, be it a link that leads nowhere.
@@ -46,6 +48,16 @@ impl<'r, R: HostFiles + AllocGlobal> Files<'r, R> {
         }
     }
 
+    /// Opens a file to lock it: also for writing where that is allowed, since a network's file system may lock no other.
+    fn open_to_lock(&self, name: &str) -> io::Result<File> {
+        let mut how = OpenOptions::new();
+        how.read(true).write(true);
+        match how.open(self.rt, name) {
+            Ok(file) => Ok(file),
+            Err(_) => fs::open(self.rt, name),
+        }
+    }
+
     fn write_in_place<T: FileText>(&self, name: &str, text: &T) -> Result<T::Answer, FolderFault>
         ensures { IfOk result (T.answers text.now) }
     {
@@ -55,7 +67,7 @@ impl<'r, R: HostFiles + AllocGlobal> Files<'r, R> {
     }
 
     /// Makes a file that is in nobody else's hands: what stands under this name goes, and a link is not followed.
-    fn make_anew(&self, name: &str) -> Result<R::File, FolderFault> {
+    fn make_anew(&self, name: &str) -> Result<File, FolderFault> {
         let _ = fs::remove_file(self.rt, name);
         let mut how = OpenOptions::new();
         how.write(true).create_new(true);
@@ -66,7 +78,7 @@ impl<'r, R: HostFiles + AllocGlobal> Files<'r, R> {
     /// away keeps it.
     fn fill<T: FileText>(
         &self,
-        mut file: R::File,
+        mut file: File,
         new: &str,
         name: &str,
         text: &T,
@@ -111,13 +123,29 @@ impl<'r, R: HostFiles + AllocGlobal> Files<'r, R> {
     }
 }
 
-impl<'r, R: HostFiles + AllocGlobal> Folder for Files<'r, R> {
-    type In = OfRead<R::File>;
+impl<'r, R: HostFiles<File = File> + AllocGlobal> Folder for Files<'r, R> {
+    type In = OfRead<File>;
 
     // Contracts know no bytes of the system's files.
     ghost files = { λ _. None };
 
-    fn open(&self, name: &str) -> Result<Option<OfRead<R::File>>, FolderFault> {
+    // Nor what other processes do.
+    ghost locking = { λ f. record { held = is_some f.locked; others = None } };
+
+    /// The lock is the system's (flock) on the file as it stands under the name now. The end of the process gives it back, however it ends.
+    fn lock(&mut self, name: &str) -> Result<(), LockFault> {
+        let file = self.open_to_lock(name)?;
+        match file.try_lock() {
+            Ok(()) => {
+                self.locked = Some(file);
+                Ok(())
+            }
+            Err(TryLockError::WouldBlock) => Err(LockFault::InUse),
+            Err(TryLockError::Error(error)) => Err(LockFault::from(error)),
+        }
+    }
+
+    fn open(&self, name: &str) -> Result<Option<OfRead<File>>, FolderFault> {
         match fs::open(self.rt, name) {
             Ok(file) => Ok(Some(OfRead::new(file))),
             Err(error) if error.kind() == ErrorKind::NotFound && !self.is_there(name) => Ok(None),

@@ -1,40 +1,43 @@
 use Rattle.std.proofs.Common.{ℕ, List, subst}
 use Rattle.commands.specs.Worlds.{World}
-use Rattle.commands.specs.Changes.{ChangeGoesThrough, ChangeStops}
+use Rattle.commands.specs.Changes.{written_by, ChangeGoesThrough, ChangeStops}
 use Rattle.commands.specs.Commands.{HelpGoesThrough, HelpStops}
-use Rattle.commands.specs.inner.Stopped.{HasEnded}
+use Rattle.commands.specs.Prints.{CatGoesThrough, CatStops}
+use Rattle.commands.specs.inner.Stopped.{HasEnded, HasEndedUnder}
 use Rattle.commands.specs.declared.changes.Task.{Task}
+use Rattle.commands.proofs.Locked.{so_locked}
 use Rattle.commands.proofs.dispatch.carry_out.Goals as goal
 
 pub returns-in-Ok-Help-clause-ends : goal.returns-in-Ok-Help-clause-ends
 returns-in-Ok-Help-clause-ends g c =
-    let w : World = record { files = g.F.Folder.files c.args.folder.now; input = g.S.Source.seen c.args.input.now; output = g.O.Sink.written c.args.out.now; messages = g.E.Sink.written c.args.err.now } in
+    let w : World = record { files = g.F.Folder.files c.args.folder.now; lock = g.F.Folder.locking c.args.folder.now; input = g.S.Source.seen c.args.input.now; output = g.O.Sink.written c.args.out.now; messages = g.E.Sink.written c.args.err.now } in
     let w' : World = record w { output = g.O.Sink.written c.print.new.out } in
     rw (c.in-Ok-Help.is, c.in-Ok-Help.field-0-is) (subst (λ (text : List ℕ). HasEnded (HelpGoesThrough text) (HelpStops text) w w' c.print.result) c.as_str.ensures.value (c.print.ensures w))
 
 pub returns-in-Ok-Add-clause-ends : goal.returns-in-Ok-Add-clause-ends
 returns-in-Ok-Add-clause-ends g c =
-    let w : World = record { files = g.F.Folder.files c.args.folder.now; input = g.S.Source.seen c.args.input.now; output = g.O.Sink.written c.args.out.now; messages = g.E.Sink.written c.args.err.now } in
-    let w' : World = record w { files = g.F.Folder.files c.change.new.folder; input = g.S.Source.seen c.change.new.input; messages = g.E.Sink.written c.change.new.err } in
-    rw (c.in-Ok-Add.is, c.in-Ok-Add.field-0-is) (subst (λ (t : Task). HasEnded (ChangeGoesThrough t) (ChangeStops t) w w' c.change.result) c.from.ensures (c.change.ensures.ends w))
+    let w : World = record { files = g.F.Folder.files c.args.folder.now; lock = g.F.Folder.locking c.args.folder.now; input = g.S.Source.seen c.args.input.now; output = g.O.Sink.written c.args.out.now; messages = g.E.Sink.written c.args.err.now } in
+    let w' : World = record w { files = g.F.Folder.files c.change.new.folder; lock = g.F.Folder.locking c.change.new.folder; input = g.S.Source.seen c.change.new.input; messages = g.E.Sink.written c.change.new.err } in
+    rw (c.in-Ok-Add.is, c.in-Ok-Add.field-0-is) (subst (λ (t : Task). HasEndedUnder (written_by t) (ChangeGoesThrough t) (ChangeStops t) w w' c.change.result) c.from.ensures (c.change.ensures.ends w))
 
 pub returns-in-Ok-Modify-clause-ends : goal.returns-in-Ok-Modify-clause-ends
 returns-in-Ok-Modify-clause-ends g c =
-    let w : World = record { files = g.F.Folder.files c.args.folder.now; input = g.S.Source.seen c.args.input.now; output = g.O.Sink.written c.args.out.now; messages = g.E.Sink.written c.args.err.now } in
-    let w' : World = record w { files = g.F.Folder.files c.change-in-Ok-Modify.new.folder; input = g.S.Source.seen c.change-in-Ok-Modify.new.input; messages = g.E.Sink.written c.change-in-Ok-Modify.new.err } in
-    rw (c.in-Ok-Modify.is, c.in-Ok-Modify.field-0-is) (subst (λ (t : Task). HasEnded (ChangeGoesThrough t) (ChangeStops t) w w' c.change-in-Ok-Modify.result) c.from-in-Ok-Modify.ensures (c.change-in-Ok-Modify.ensures.ends w))
+    let w : World = record { files = g.F.Folder.files c.args.folder.now; lock = g.F.Folder.locking c.args.folder.now; input = g.S.Source.seen c.args.input.now; output = g.O.Sink.written c.args.out.now; messages = g.E.Sink.written c.args.err.now } in
+    let w' : World = record w { files = g.F.Folder.files c.change-in-Ok-Modify.new.folder; lock = g.F.Folder.locking c.change-in-Ok-Modify.new.folder; input = g.S.Source.seen c.change-in-Ok-Modify.new.input; messages = g.E.Sink.written c.change-in-Ok-Modify.new.err } in
+    rw (c.in-Ok-Modify.is, c.in-Ok-Modify.field-0-is) (subst (λ (t : Task). HasEndedUnder (written_by t) (ChangeGoesThrough t) (ChangeStops t) w w' c.change-in-Ok-Modify.result) c.from-in-Ok-Modify.ensures (c.change-in-Ok-Modify.ensures.ends w))
 
 pub returns-in-Ok-Index-clause-ends : goal.returns-in-Ok-Index-clause-ends
 returns-in-Ok-Index-clause-ends g c =
-    let w : World = record { files = g.F.Folder.files c.args.folder.now; input = g.S.Source.seen c.args.input.now; output = g.O.Sink.written c.args.out.now; messages = g.E.Sink.written c.args.err.now } in
+    let w : World = record { files = g.F.Folder.files c.args.folder.now; lock = g.F.Folder.locking c.args.folder.now; input = g.S.Source.seen c.args.input.now; output = g.O.Sink.written c.args.out.now; messages = g.E.Sink.written c.args.err.now } in
     rw (c.in-Ok-Index.is, c.in-Ok-Index.field-0-is) (c.slapindex.ensures w)
 
 pub returns-in-Ok-Search-clause-ends : goal.returns-in-Ok-Search-clause-ends
 returns-in-Ok-Search-clause-ends g c =
-    let w : World = record { files = g.F.Folder.files c.args.folder.now; input = g.S.Source.seen c.args.input.now; output = g.O.Sink.written c.args.out.now; messages = g.E.Sink.written c.args.err.now } in
+    let w : World = record { files = g.F.Folder.files c.args.folder.now; lock = g.F.Folder.locking c.args.folder.now; input = g.S.Source.seen c.args.input.now; output = g.O.Sink.written c.args.out.now; messages = g.E.Sink.written c.args.err.now } in
     rw (c.in-Ok-Search.is, c.in-Ok-Search.field-0-is) (c.search.ensures.ends w)
 
 pub returns-in-Ok-Cat-clause-ends : goal.returns-in-Ok-Cat-clause-ends
 returns-in-Ok-Cat-clause-ends g c =
-    let w : World = record { files = g.F.Folder.files c.args.folder.now; input = g.S.Source.seen c.args.input.now; output = g.O.Sink.written c.args.out.now; messages = g.E.Sink.written c.args.err.now } in
-    rw (c.in-Ok-Cat.is, c.in-Ok-Cat.field-0-is) (c.slapcat.ensures w)
+    let w : World = record { files = g.F.Folder.files c.args.folder.now; lock = g.F.Folder.locking c.args.folder.now; input = g.S.Source.seen c.args.input.now; output = g.O.Sink.written c.args.out.now; messages = g.E.Sink.written c.args.err.now } in
+    let w' : World = record w { files = g.F.Folder.files c.slapcat.new.folder; output = g.O.Sink.written c.slapcat.new.out } in
+    rw (c.in-Ok-Cat.is, c.in-Ok-Cat.field-0-is) (so_locked (CatGoesThrough c.in-Ok-Cat.asked) (CatStops c.in-Ok-Cat.asked) w w' _ _ c.slapcat.ensures.locking (c.slapcat.ensures.ends w))

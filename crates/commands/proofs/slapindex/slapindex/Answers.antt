@@ -1,16 +1,22 @@
 use Rattle.std.proofs.lemmas.Result.{err_from_is_err_and}
-use Rattle.commands.proofs.Indexing.{not_loaded, indexed, not_indexed}
+use Rattle.commands.specs.Indexing.{IndexGoesThrough, IndexStops}
+use Rattle.commands.specs.Worlds.{World}
+use Rattle.commands.proofs.Locked.{so_locked, no_lock, under}
 use Rattle.commands.proofs.slapindex.slapindex.Goals as goal
 
 pub returns : goal.returns
-returns g c = λ w. indexed c.args.asked.now (record w { files = g.F.Folder.files c.args.folder.now }) _ _ _ c.in_ok-dir.ensures.loaded c.in_ok-stored.ensures.ok
+returns g c = λ w.
+    let asked = c.args.asked.now in
+    let before : World = record w { files = g.F.Folder.files c.args.folder.now; lock = g.F.Folder.locking c.args.folder.now } in
+    let locked : World = record before { files = g.F.Folder.files c.lock.new.folder; lock = g.F.Folder.locking c.lock.new.folder } in
+    let behind : World = record locked { files = g.F.Folder.files c.make_index.new.folder } in
+    under (IndexGoesThrough asked) (IndexStops asked) asked.db.now before _ _ _ _ c.in_ok-lock.ensures.ok
+    (so_locked (IndexGoesThrough asked) (IndexStops asked) locked behind _ _ c.make_index.ensures.locking (c.make_index.ensures.ends locked))
 
-pub returns-in_err-dir : goal.returns-in_err-dir
-returns-in_err-dir g c =
+pub returns-in_err-lock : goal.returns-in_err-lock
+returns-in_err-lock g c =
     let p = err_from_is_err_and c.from_residual.result c.from_residual.ensures.1 in
-    rw (p.1, p.2) (λ w. not_loaded c.args.asked.now (record w { files = g.F.Folder.files c.args.folder.now }) _ c.in_err-dir.ensures.err)
-
-pub returns-in_err-stored : goal.returns-in_err-stored
-returns-in_err-stored g c =
-    let p = err_from_is_err_and c.from_residual-in_err-stored.result c.from_residual-in_err-stored.ensures.1 in
-    rw (p.1, p.2) (λ w. not_indexed c.args.asked.now (record w { files = g.F.Folder.files c.args.folder.now }) _ _ _ _ c.in_ok-dir.ensures.loaded c.in_err-stored.ensures.err)
+    rw (p.1, p.2) (λ w.
+    let asked = c.args.asked.now in
+    let before : World = record w { files = g.F.Folder.files c.args.folder.now; lock = g.F.Folder.locking c.args.folder.now } in
+    no_lock (IndexGoesThrough asked) (IndexStops asked) asked.db.now before _ _ _ c.in_err-lock.ensures.same_files c.in_err-lock.ensures.same_locking c.in_err-lock.ensures.err)
