@@ -1,6 +1,7 @@
 #!/usr/bin/env python3
 """The second reading as a program with the words of slaptools: program.py WORD .. So the case files can be run through it, too."""
 import argparse
+import fcntl
 import sys
 
 import model
@@ -48,6 +49,25 @@ def read(path):
         return None
 
 
+LOCKED = []     # open files, whose locks are held to the end
+
+
+def is_in_use(folder):
+    """Takes the lock of the directory in this folder. -> whether another process holds it"""
+    try:
+        LOCKED.append(open(f"{folder}/dir.conf", "rb"))
+        fcntl.flock(LOCKED[-1], fcntl.LOCK_EX | fcntl.LOCK_NB)
+    except BlockingIOError:
+        return True
+    except OSError:
+        pass        # it can't be read, either
+    return False
+
+
+def in_use(folder):
+    return 3, b"", f"{folder}: in use\n".encode()
+
+
 def write(path, text):
     with open(path, "wb") as file:
         file.write(text)
@@ -55,6 +75,9 @@ def write(path, text):
 
 def change(words):
     """slapadd or ldapmodify"""
+    is_dry = words.u if words.command == "slapadd" else words.n
+    if not is_dry and is_in_use(words.db):
+        return in_use(words.db)
     text, source = (read(words.file), words.file) if words.file is not None else (sys.stdin.buffer.read(), "input")
     files = read(f"{words.db}/dir.conf"), read(f"{words.db}/data.ldif"), text
     if words.command == "slapadd":
@@ -71,6 +94,8 @@ def store(folder, files):
 
 
 def slapindex(words):
+    if is_in_use(words.db):
+        return in_use(words.db)
     status, messages, stored = model.slapindex(read(f"{words.db}/dir.conf"), read(f"{words.db}/data.ldif"), words.db)
     store(words.db, stored)
     return status, b"", messages

@@ -23,7 +23,7 @@ pub enum Mark {
     Message,
     /// `?`: its exit status.
     Status,
-    /// `*`: what fails while it runs.
+    /// `*`: what fails while it runs, or is in use.
     Trouble,
 }
 

@@ -66,6 +66,8 @@ fn run_step(
     folder: &mut MemoryFolder<'_>,
 ) -> Result<String, AllocError> {
     let answer = answer_of(alloc, step, folder);
+    // Each command is a process of its own, which has ended.
+    folder.unlock();
     let mut report = String::new(alloc);
     put_answer(alloc, &answer, step, &mut report)?;
     put_files(
