@@ -3,7 +3,7 @@
 ghost use Rattle.std.specs.Prelude.{◌<◌, ◌-◌, ◌^◌};
 
 use crate::directories::{PEOPLE, directory};
-use crate::shown::{print_directory, shown_by};
+use crate::shown::{Shown, print_directory, shown_by};
 use anyhow::{Error, Result};
 use device::{Source, TrySource};
 use directory::Directory;
@@ -80,19 +80,34 @@ fn change_once(alloc: Global, dir: &mut Directory, text: &str) -> Result<Option<
     }
 }
 
-/// The same, once more where memory is refused: nothing has changed then.
-fn change(alloc: Global, dir: &mut Directory, text: &str) -> Result<Answer> {
-    let before = shown_by(alloc, dir)?;
-    if let Some(answer) = change_once(alloc, dir, text)? {
-        return Ok(answer);
+fn see_unchanged(alloc: Global, dir: &Directory, before: &Shown) -> Result<()> {
+    let now = shown_by(alloc, dir)?;
+    if now.is(before) {
+        Ok(())
+    } else {
+        Err(Error::msg("a record that is refused memory changes something"))
     }
-    if !shown_by(alloc, dir)?.is(&before) {
-        return Err(Error::msg("a record that is refused memory changes something"));
-    }
+}
+
+fn change_again(alloc: Global, dir: &mut Directory, text: &str) -> Result<Answer> {
     match change_once(alloc, dir, text)? {
         Some(answer) => Ok(answer),
         None => Err(Error::msg("a record is refused memory twice")),
     }
+}
+
+fn change_from(alloc: Global, dir: &mut Directory, text: &str, before: &Shown) -> Result<Answer> {
+    if let Some(answer) = change_once(alloc, dir, text)? {
+        return Ok(answer);
+    }
+    see_unchanged(alloc, dir, before)?;
+    change_again(alloc, dir, text)
+}
+
+/// The same, once more where memory is refused: nothing has changed then.
+fn change(alloc: Global, dir: &mut Directory, text: &str) -> Result<Answer> {
+    let before = shown_by(alloc, dir)?;
+    change_from(alloc, dir, text, &before)
 }
 
 fn print_change(rt: &impl Print, alloc: Global, dir: &mut Directory, text: &str) -> Result<()> {
@@ -104,6 +119,7 @@ fn print_change(rt: &impl Print, alloc: Global, dir: &mut Directory, text: &str)
 }
 
 fn print_changes(rt: &impl Print, alloc: Global, dir: &mut Directory) -> Result<()> {
+    print_directory(rt, alloc, dir)?;
     for text in RECORDS {
         print_change(rt, alloc, dir, text)?;
     }
@@ -113,6 +129,5 @@ fn print_changes(rt: &impl Print, alloc: Global, dir: &mut Directory) -> Result<
 /// Prints the answer to each record, and what stands in the end.
 pub(crate) fn print(rt: &impl Print, alloc: Global) -> Result<()> {
     let mut dir = directory(alloc, PEOPLE)?;
-    print_directory(rt, alloc, &dir)?;
     print_changes(rt, alloc, &mut dir)
 }

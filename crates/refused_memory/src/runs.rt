@@ -1,7 +1,7 @@
 //! Runs: one that is refused memory has carried out the records that it counts, and the others can be carried out then.
 
 use crate::directories::{PEOPLE, directory};
-use crate::shown::{print_directory, shown_by};
+use crate::shown::{Shown, print_directory, shown_by};
 use anyhow::{Error, Result};
 use device::{TrySink, TrySource};
 use directory::{Directory, RunFault, Tally, run};
@@ -76,7 +76,10 @@ fn run_once(alloc: Global, dir: &mut Directory, text: &[u8], mode: Mode) -> Resu
 
 fn ran_through(alloc: Global, dir: &mut Directory, records: &[&str], mode: Mode) -> Result<Ran> {
     let text = joined(alloc, records)?;
-    let ran = run_once(alloc, dir, text.as_bytes(), mode)?;
+    whole_of(run_once(alloc, dir, text.as_bytes(), mode)?)
+}
+
+fn whole_of(ran: Ran) -> Result<Ran> {
     if ran.whole {
         Ok(ran)
     } else {
@@ -100,17 +103,50 @@ fn is_reported(broken: &Ran, wanted: &Ran) -> bool {
         && lines_of(broken.report.bytes()) >= broken.tally.refused.saturating_sub(1)
 }
 
-/// Sees that what stands behind a run that was broken off is what the records that it counts make alone, when they are carried out anew.
-fn look(alloc: Global, run: &Run, broken: &Ran, dir: &Directory, counted: &[&str]) -> Result<()> {
-    let mut anew = directory(alloc, run.start)?;
-    let wanted = ran_through(alloc, &mut anew, counted, run.mode)?;
-    if wanted.tally != broken.tally || !is_reported(broken, &wanted) {
-        return Err(Error::msg("a run that is refused memory reports something else"));
+fn see_report(broken: &Ran, wanted: &Ran) -> Result<()> {
+    if wanted.tally == broken.tally && is_reported(broken, wanted) {
+        Ok(())
+    } else {
+        Err(Error::msg("a run that is refused memory reports something else"))
     }
-    if shown_by(alloc, dir)?.is(&shown_by(alloc, &anew)?) {
+}
+
+fn see_that_both_show(one: &Shown, other: &Shown) -> Result<()> {
+    if one.is(other) {
         Ok(())
     } else {
         Err(Error::msg("a run that is refused memory leaves something else"))
+    }
+}
+
+fn see_alike(alloc: Global, one: &Directory, other: &Directory) -> Result<()> {
+    let shown = shown_by(alloc, one)?;
+    see_that_both_show(&shown, &shown_by(alloc, other)?)
+}
+
+/// Carries out the records that a run counts on what it began with, and sees that it reported the same.
+fn count_anew(
+    alloc: Global,
+    run: &Run,
+    broken: &Ran,
+    anew: &mut Directory,
+    counted: &[&str],
+) -> Result<()> {
+    let wanted = ran_through(alloc, anew, counted, run.mode)?;
+    see_report(broken, &wanted)
+}
+
+/// Sees that what stands behind a run that was broken off is what the records that it counts make alone, when they are carried out anew.
+fn look(alloc: Global, run: &Run, broken: &Ran, dir: &Directory, counted: &[&str]) -> Result<()> {
+    let mut anew = directory(alloc, run.start)?;
+    count_anew(alloc, run, broken, &mut anew, counted)?;
+    see_alike(alloc, dir, &anew)
+}
+
+fn sum(one: Tally, other: Tally) -> Tally {
+    Tally {
+        accepted: one.accepted.saturating_add(other.accepted),
+        refused: one.refused.saturating_add(other.refused),
     }
 }
 
@@ -122,27 +158,32 @@ fn carry_on(alloc: Global, run: &Run, broken: &Ran, dir: &mut Directory) -> Resu
     };
     look(alloc, run, broken, dir, front)?;
     let ran = ran_through(alloc, dir, rest, run.mode)?;
-    Ok(Tally {
-        accepted: ran.tally.accepted.saturating_add(broken.tally.accepted),
-        refused: ran.tally.refused.saturating_add(broken.tally.refused),
-    })
+    Ok(sum(ran.tally, broken.tally))
 }
 
 fn counted_by(alloc: Global, run: &Run, dir: &mut Directory) -> Result<Tally> {
     let text = joined(alloc, run.records)?;
     let ran = run_once(alloc, dir, text.as_bytes(), run.mode)?;
+    counted_in_all(alloc, run, &ran, dir)
+}
+
+fn counted_in_all(alloc: Global, run: &Run, ran: &Ran, dir: &mut Directory) -> Result<Tally> {
     if ran.whole {
         Ok(ran.tally)
     } else {
-        carry_on(alloc, run, &ran, dir)
+        carry_on(alloc, run, ran, dir)
     }
+}
+
+fn print_count(rt: &impl Print, alloc: Global, run: &Run, dir: &mut Directory) -> Result<()> {
+    let Tally { accepted, refused } = counted_by(alloc, run, dir)?;
+    println!(rt; "{accepted} accepted, {refused} refused")?;
+    print_directory(rt, alloc, dir)
 }
 
 fn print_run(rt: &impl Print, alloc: Global, run: &Run) -> Result<()> {
     let mut dir = directory(alloc, run.start)?;
-    let Tally { accepted, refused } = counted_by(alloc, run, &mut dir)?;
-    println!(rt; "{accepted} accepted, {refused} refused")?;
-    print_directory(rt, alloc, &dir)
+    print_count(rt, alloc, run, &mut dir)
 }
 
 /// Prints what runs count, and what stands behind them.

@@ -170,9 +170,13 @@ fn stored_once(
 fn stored(alloc: Global, dir: &Directory) -> Result<StoredIndex> {
     let shown = shown_by(alloc, dir)?;
     let stamp = stamp(alloc, dir)?;
-    match stored_once(alloc, dir, shown.index(), &stamp)? {
+    stored_by(alloc, dir, shown.index(), &stamp)
+}
+
+fn stored_by(alloc: Global, dir: &Directory, text: &[u8], stamp: &[u8; 32]) -> Result<StoredIndex> {
+    match stored_once(alloc, dir, text, stamp)? {
         Some(stored) => Ok(stored),
-        None => match stored_once(alloc, dir, shown.index(), &stamp)? {
+        None => match stored_once(alloc, dir, text, stamp)? {
             Some(stored) => Ok(stored),
             None => Err(Error::msg("an index text is refused memory twice")),
         },
@@ -184,10 +188,14 @@ fn print_by_text(rt: &impl Print, alloc: Global, dir: &Directory) -> Result<()> 
     print_searches(rt, alloc, dir, By::Text(&stored))
 }
 
+fn print_in_each_way(rt: &impl Print, alloc: Global, dir: &Directory) -> Result<()> {
+    print_searches(rt, alloc, dir, By::Index)?;
+    print_by_text(rt, alloc, dir)?;
+    print_searches(rt, alloc, dir, By::Scan)
+}
+
 /// Prints what each filter finds, by the directory's index, by its index text, and by none.
 pub(crate) fn print(rt: &impl Print, alloc: Global) -> Result<()> {
     let dir = directory(alloc, PEOPLE)?;
-    print_searches(rt, alloc, &dir, By::Index)?;
-    print_by_text(rt, alloc, &dir)?;
-    print_searches(rt, alloc, &dir, By::Scan)
+    print_in_each_way(rt, alloc, &dir)
 }
