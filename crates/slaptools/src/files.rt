@@ -133,7 +133,11 @@ impl<'r, R: HostFiles<File = File> + AllocGlobal> Folder for Files<'r, R> {
     ghost locking = { λ f. record { held = is_some f.locked; others = None } };
 
     /// The lock is the system's (flock) on the file as it stands under the name now. The end of the process gives it back, however it ends.
+    /// It is not taken of a pipe, which would never end while it is open here.
     fn lock(&mut self, name: &str) -> Result<(), LockFault> {
+        if self.is_special(name) {
+            return Err(LockFault::Device);
+        }
         let file = self.open_to_lock(name)?;
         match file.try_lock() {
             Ok(()) => {
