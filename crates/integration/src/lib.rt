@@ -1,5 +1,5 @@
-//! Tests of public calls under a configuration, on what no command of the program shows: sources, sinks and memory that fail in the
-//! middle of a call, and calls that no command makes yet. They stand in a crate of their own, since a crate with tests is proved
+//! Tests of public calls under a configuration, on what no command of the program shows: sources and sinks that fail in the middle of a
+//! call, how many keys a change edits, and calls that no command makes. They stand in a crate of their own, since a crate with tests is proved
 //! once more for them.
 #![tactic(auto)]
 
