@@ -452,7 +452,7 @@ class Changes(Records):
         return lines + self.stray_lines()
 
     def new_rdn(self, path, moves, bad):
-        """A new RDN, the old one in other words, one with a part more or less, that of another entry, or no good one."""
+        """A new RDN, the old one in other words, one with an AVA more or less, that of another entry, or no good one."""
         rng, config = self.rng, self.config
         if some(rng, bad):
             return config.filled(rng.choice(BAD_RDNS), config.suffix)

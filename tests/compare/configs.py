@@ -217,7 +217,7 @@ class Config:
         return rng.choice(WORDS) if some(rng, .5) else b"n%d" % rng.randrange(200)
 
     def rdn(self, name):
-        """An RDN of the type, and of another one or two where it has more parts."""
+        """An RDN of the type, and of another one or two where it has more AVAs."""
         rng = self.rng
         more = [other for other in self.naming if other != name]
         names = [name] + (rng.sample(more, min(len(more), rng.choice([1, 1, 2]))) if some(rng, .15) else [])
@@ -282,7 +282,7 @@ class Config:
         return rng.choice([other_case(rng, word), spaced])
 
     def near(self, name):
-        """Mostly another name, of the same parts."""
+        """Mostly another name, of the same AVAs."""
         rng, parts = self.rng, [part for rdn in name for part in rdn]
         more = self.rdn(rng.choice(self.naming))
         others = [name[::-1], name[1:], name + self.suffix, name + [more], [[part] for part in parts]]
@@ -345,11 +345,11 @@ class Config:
 
     def name_text(self, name):
         loose = some(self.rng, .2)
-        rdns = [b"+".join(self.part_text(kind, value, loose) for kind, value in rdn) for rdn in name]
+        rdns = [b"+".join(self.ava_text(kind, value, loose) for kind, value in rdn) for rdn in name]
         return b",".join(rdns)
 
-    def part_text(self, kind, value, loose):
-        """A part of a name, with spaces where it is loose."""
+    def ava_text(self, kind, value, loose):
+        """An AVA of a name, with spaces where it is loose."""
         rng = self.rng
         spaces = [rng.choice([b"", b"", b" ", b"  "]) if loose else b"" for _ in range(4)]
         return spaces[0] + self.type_text(kind) + spaces[1] + b"=" + spaces[2] + spelled(rng, value) + spaces[3]

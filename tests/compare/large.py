@@ -1,7 +1,7 @@
 #!/usr/bin/env python3
 """Runs what is large through a built program and through a second reading: large.py PROGRAM
 
-Texts over 1 MiB, lines of 100,001 bytes, values over 64 KiB, names of 17 RDNs and more, RDNs of 9 parts and more, long filters, a long
+Texts over 1 MiB, lines of 100,001 bytes, values over 64 KiB, names of 17 RDNs and more, RDNs of 9 AVAs and more, long filters, a long
 dir.conf and long index texts, each whole and with a fault in its last part. Status, output, messages and the stored data.ldif and index.txt
 must be the same, and none may be out of memory. Prints each difference and at the end the number of runs; the exit status is 0 where nothing differs, else 1.
 """

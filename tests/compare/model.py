@@ -86,7 +86,7 @@ class Directory:
         self.conf, self.entries = conf, {}
 
     def located(self, dn):
-        """-> (the parts of a name, its RDNs as they compare, from the suffix down)"""
+        """-> (the AVAs of a name, its RDNs as they compare, from the suffix down)"""
         name = schema.read_name(dn)
         if name is None:
             raise Refused(34)
@@ -233,7 +233,7 @@ class Directory:
             if not attributes.has(*pair):
                 attributes.add(*pair)
         for pair in old if rename.deletes_old else ():
-            # the last step of a path has the parts of its RDN as they compare
+            # the last step of a path has the AVAs of its RDN as they compare
             if (pair[0], self.conf.normal(*pair)) not in moved[-1]:
                 attributes.remove(*pair)
         attributes.check()
@@ -243,7 +243,7 @@ class Directory:
         self.entries[moved] = new, attributes
 
     def read_rdn(self, text):
-        """-> the parts of a name of one RDN"""
+        """-> the AVAs of a name of one RDN"""
         name = schema.read_name(text)
         if name is None or len(name) != 1:
             raise Refused(34)

@@ -28,8 +28,8 @@ TOKEN = re.compile(rb"[ \t]*(?:([()$])|'([^']*)'|([^ \t()$']+))")
 OID = re.compile(rb"[0-9]+(?:\.[0-9]+)*")
 SYNTAX = re.compile(rb"([0-9]+(?:\.[0-9]+)*)(?:\{[0-9]+\})?")
 NAME = re.compile(rb"[A-Za-z][A-Za-z0-9_-]*")
-# a part of a name: its type, and the bytes and escapes of its value (RFC 4514, 3)
-PART = re.compile(rb" *([A-Za-z0-9_.-]+) *= *")
+# an AVA of a name: its type, and the bytes and escapes of its value (RFC 4514, 3)
+AVA = re.compile(rb" *([A-Za-z0-9_.-]+) *= *")
 UNIT = re.compile(rb"""\\(?:(["+,;<>\\ #=])|([0-9A-Fa-f]{2}))|([^"+,;<>\\\0])""", re.DOTALL)
 
 # a word of an index line
@@ -59,7 +59,7 @@ class Wrong(Exception):
 
 
 class BadName(Exception):
-    """34 or 64 of a part of a name."""
+    """34 or 64 of an AVA of a name."""
 
 
 @dataclass
@@ -223,7 +223,7 @@ def read_value(text, at):
 def read_rdns(text):
     rdns, at = [[]], 0
     while True:
-        found = PART.match(text, at)
+        found = AVA.match(text, at)
         if not found:
             raise ValueError
         value, at = read_value(text, found.end())
@@ -283,16 +283,16 @@ class Conf:
 
     def is_valid(self, number, value):
         if self.types[number].kind == "name":
-            return self.parts_of(value) is not None
+            return self.avas_of(value) is not None
         return values.is_valid(self.types[number].kind, value)
 
     def normal(self, number, value):
         if self.types[number].family == "name":
-            return self.normal_name(self.parts_of(value))
+            return self.normal_name(self.avas_of(value))
         return values.normal(self.types[number].family, value)
 
-    def parts_of(self, value):
-        """The parts of a value that is a name, or None"""
+    def avas_of(self, value):
+        """The AVAs of a value that is a name, or None"""
         name = read_name(value)
         try:
             return None if name is None else self.pairs_of(name)
@@ -411,7 +411,7 @@ class Conf:
         self.slots.update((number, indexes.KINDS.index(kind)) for number in numbers for kind in lists[1])
 
     def pairs_of(self, name):
-        """Looks at each part of a name before the next. -> its RDNs, each [(number, value)]"""
+        """Looks at each AVA of a name before the next. -> its RDNs, each [(number, value)]"""
         return [self.pairs_of_rdn(rdn) for rdn in name]
 
     def pairs_of_rdn(self, rdn):
@@ -430,7 +430,7 @@ class Conf:
         return pairs
 
     def steps(self, name):
-        """The RDNs as they compare: their parts by type."""
+        """The RDNs as they compare: their AVAs by type."""
         return [sorted((number, self.normal(number, value)) for number, value in rdn) for rdn in name]
 
 

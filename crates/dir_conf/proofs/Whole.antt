@@ -44,7 +44,7 @@ use Rattle.dir_conf.specs.IndexLines.{slots_in, in_order}
 use Rattle.dir_conf.specs.Configurations.{At, says_nothing, is_first, is_built_in, names_one, is_taken, superior_of, flaw_of, unless, below, refused, placed, Defined, built_in, class_placed, with_types, definition_line, defined_by, some_rdns, suffix_at, suffix_text, Found, none_found, with_suffix, with_slots, later_line, found_in, rules_of, conf_of}
 use Rattle.dir_conf.proofs.OneMore.{all_put, distinct_put, not_below}
 use Rattle.dir_conf.proofs.ClassesKept.{AreClasses, class_keeps, with_more_types, built_in_are}
-use Rattle.schema.proofs.Found.{found_is_known, SpellsRead, name_has_parts, rdns_are}
+use Rattle.schema.proofs.Found.{found_is_known, SpellsRead, name_has_avas, rdns_are}
 use Rattle.dir_conf.proofs.SlotLines.{slots_are}
 use Rattle.dir_conf.proofs.SlotsInOrder.{in_order_keeps, in_order_rises}
 
@@ -310,7 +310,7 @@ typed_good : SpellsRead → (types : List AttributeType) (text : List ℕ) (rs :
 unfolding rdns_in
 typed_good read types text rs e =
     let k = bind_ok (name_in text) (typed types) rs e in
-    rdns_are types k.0 rs (name_has_parts read text k.0 k.1) k.2
+    rdns_are types k.0 rs (name_has_avas read text k.0 k.1) k.2
 
 -- ---- the suffix and the slots
 

@@ -27,11 +27,11 @@ use Rattle.values.specs.declared.types.AttributeType.{AttributeType}
 use Rattle.schema.specs.TypeRules.{object_class}
 use Rattle.base.specs.Answers.{each, ◌>>=◌}
 use Rattle.dn.specs.Reading as names
-use Rattle.dn.specs.Reading.{octets_from, trimmed, part_at, part_of, cut_raw, rdn_of, name_of}
+use Rattle.dn.specs.Reading.{octets_from, trimmed, ava_at, ava_of, cut_raw, rdn_of, name_of}
 use Rattle.dn.specs.Writing.{written, text_from, text_of}
 use Rattle.schema.specs.Names.{name_in}
 use Rattle.paths.specs.Paths.{Path, path_cmp}
-use Rattle.schema.specs.Rdns.{parts_from, rdns_from, put_pair, key_from, rdn_key_of}
+use Rattle.schema.specs.Rdns.{avas_from, rdns_from, put_pair, key_from, rdn_key_of}
 use Rattle.schema.specs.Values.{is_valid_at, norm_at}
 use Rattle.schema.specs.Conf.{Conf, below, place_of, located, name_text}
 use Rattle.values.specs.Types.{type_of}
@@ -56,7 +56,7 @@ on_texts = tt
 
 -- what a name and attribute lines come to
 unfoldable on_entries : ⊤
-unfolding is_utf8 chars encode each octets_from trimmed names.value_of part_at part_of cut_raw rdn_of name_of name_in parts_from rdns_from put_pair key_from rdn_key_of below place_of located type_of norm is_valid is_valid_at norm_at add push_value add_lines with_rdn
+unfolding is_utf8 chars encode each octets_from trimmed names.value_of ava_at ava_of cut_raw rdn_of name_of name_in avas_from rdns_from put_pair key_from rdn_key_of below place_of located type_of norm is_valid is_valid_at norm_at add push_value add_lines with_rdn
 on_entries = tt
 
 -- what an entry is written by

@@ -27,11 +27,11 @@ use Rattle.values.specs.Values.{norm_by}
 use Rattle.schema.specs.Conf.{Conf, IsConf}
 use Rattle.schema.specs.GoodRdns.{IsAva, IsRdn}
 use Rattle.schema.specs.Rdns.{Ava, Rdn, is_lower, put_pair, pair_of, key_from, rdn_key_of}
-use Rattle.schema.specs.Values.{normal_part, normal_parts, normal_rdn, normal_text, normal_name, normal_of, rdns_in, norm_with, norm_at, is_valid_at}
+use Rattle.schema.specs.Values.{normal_ava, normal_avas, normal_rdn, normal_text, normal_name, normal_of, rdns_in, norm_with, norm_at, is_valid_at}
 use Rattle.schema.specs.declared.code.Code.{Code}
-use Rattle.schema.proofs.Parts.{valid_are_bytes}
+use Rattle.schema.proofs.AvaValues.{valid_are_bytes}
 use Rattle.schema.proofs.Locating.{printed_is_text}
-use Rattle.schema.proofs.Found.{name_has_parts, rdns_are}
+use Rattle.schema.proofs.Found.{name_has_avas, rdns_are}
 use Rattle.schema.specs.Names.{name_in}
 use Rattle.schema.specs.Rdns.{typed}
 use Rattle.entries.specs.Entries.{Attribute, Attributes, IsAttribute}
@@ -148,9 +148,9 @@ all_insert P (y ∷ ys) zero x all own = (own, all)
 all_insert P (y ∷ ys) (suc n) x all own = (all.0, all_insert P ys n x all.1 own)
 
 module _ (conf : Conf) (c : IsConf conf) where
-  -- a part as a normal name has it
+  -- an AVA as a normal name has it
   abbrev IsNormal : Pair → Type 0
-  IsNormal p = is_ava (normal_part conf.types p) ≡ true
+  IsNormal p = is_ava (normal_ava conf.types p) ≡ true
 
   pair_is : (p : Ava) → IsAva conf.types p → IsNormal (pair_of conf.types p)
   pair_is p h = both (is_type (lower (name_of conf.types p.0))) (list_all is_byte (pair_of conf.types p).1)
@@ -185,17 +185,17 @@ module _ (conf : Conf) (c : IsConf conf) where
   first_some [] h = cc
   first_some (p ∷ ps) h = key_some (put_pair (pair_of conf.types p) []) ps (some_insert [] (prefix_len (is_lower p.0) []) (pair_of conf.types p))
 
-  parts_are : (key : RdnKey) → AllByRecursion IsNormal key → list_all is_ava (normal_parts conf.types key) ≡ true
-  parts_are [] h = refl
-  parts_are (p ∷ ps) h = both (is_ava (normal_part conf.types p)) (list_all is_ava (normal_parts conf.types ps)) h.0 (parts_are ps h.1)
+  avas_are : (key : RdnKey) → AllByRecursion IsNormal key → list_all is_ava (normal_avas conf.types key) ≡ true
+  avas_are [] h = refl
+  avas_are (p ∷ ps) h = both (is_ava (normal_ava conf.types p)) (list_all is_ava (normal_avas conf.types ps)) h.0 (avas_are ps h.1)
 
   rdn_is : (r : Rdn) → IsRdn conf.types r → is_rdn (normal_rdn conf.types r) ≡ true
   unfolding rdn_key_of
   rdn_is r h =
       let key = rdn_key_of conf.types r in
-      both (not (length (normal_parts conf.types key) == 0)) (list_all is_ava (normal_parts conf.types key))
-      (ap (λ n. not (n == 0)) (length-map key (normal_part conf.types)) ∙ first_some r h.some)
-      (parts_are key (key_is [] r tt h.parts))
+      both (not (length (normal_avas conf.types key) == 0)) (list_all is_ava (normal_avas conf.types key))
+      (ap (λ n. not (n == 0)) (length-map key (normal_ava conf.types)) ∙ first_some r h.some)
+      (avas_are key (key_is [] r tt h.avas))
 
   name_is : (rs : List Rdn) → AllByRecursion (IsRdn conf.types) rs → names.is_name (map (normal_rdn conf.types) rs) ≡ true
   name_is [] h = refl
@@ -218,7 +218,7 @@ module _ (conf : Conf) (c : IsConf conf) where
   unfolding rdns_in
   spelled_are v rs e =
       let k = bind_ok (name_in v) (typed conf.types) rs e in
-      rdns_are conf.types k.0 rs (name_has_parts name_sound v k.0 k.1) k.2
+      rdns_are conf.types k.0 rs (name_has_avas name_sound v k.0 k.1) k.2
 
   name_bytes : (v : List ℕ) → AreBytes v → AreBytes (unwrap_or (normal_name conf.types v) v)
   unfolding normal_name

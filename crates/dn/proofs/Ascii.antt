@@ -9,7 +9,7 @@ use Rattle.std.proofs.lemmas.List.Sums.{AllPass-from_list_all}
 use Rattle.std.proofs.lemmas.Str.{IsUtf8-from_ascii}
 use Rattle.std.proofs.lemmas.Str.Ascii.{IsAscii-from_all}
 use Rattle.dn.specs.Names.{Ava, Rdn, Name, is_byte, is_ascii, is_type_byte, is_type, is_ava, is_rdn, is_name}
-use Rattle.dn.specs.Writing.{digit, is_nothing, needs_pair, stands, written, text_from, value_text, part_text, rdn_text, text_of}
+use Rattle.dn.specs.Writing.{digit, is_nothing, needs_pair, stands, written, text_from, value_text, ava_text, rdn_text, text_of}
 
 abbrev AreAscii : List ℕ → Type 0
 AreAscii text = list_all is_ascii text ≡ true
@@ -64,13 +64,13 @@ types_ascii (b ∷ bs) h =
     let k = and_parts (is_type_byte b) (list_all is_type_byte bs) h in
     onto b bs (type_low b k.0) (types_ascii bs k.1)
 
-part_ascii : (p : Ava) → is_ava p ≡ true → AreAscii (part_text p)
-part_ascii p h =
+ava_ascii : (p : Ava) → is_ava p ≡ true → AreAscii (ava_text p)
+ava_ascii p h =
     let k = and_parts (is_type p.0) (list_all is_byte p.1) h in
     append p.0 (61 ∷ value_text p.1) (types_ascii p.0 (and_parts (not (eqb (length p.0) 0)) (list_all is_type_byte p.0) k.0).1) (value_ascii true p.1 k.1)
 
 rdn_ascii : (r : Rdn) → is_rdn r ≡ true → AreAscii (rdn_text r)
-rdn_ascii r h = joined 43 refl part_text is_ava part_ascii r (and_parts (not (eqb (length r) 0)) (list_all is_ava r) h).1
+rdn_ascii r h = joined 43 refl ava_text is_ava ava_ascii r (and_parts (not (eqb (length r) 0)) (list_all is_ava r) h).1
 
 pub name_ascii : (n : Name) → is_name n ≡ true → AreAscii (text_of n)
 unfolding text_of

@@ -6,7 +6,7 @@ use Rattle.dn.specs.Spelling.{Octet}
 use Rattle.dn.specs.declared.faults.NameFaultKind.{NameFaultKind}
 use Rattle.dn.specs.declared.faults.NameFaultKind.TheVariants.{EqualsMissing, Escape, NotEscaped, TypeMissing, FormNotSupported}
 use Rattle.base.specs.Ends.{is_space}
-use Rattle.dn.specs.NameFaults.{Stops, is_separator, is_quote_or_sign, IsTyped, IsValued, IsBegun, IsPartFault, IsNameFault}
+use Rattle.dn.specs.NameFaults.{Stops, is_separator, is_quote_or_sign, IsTyped, IsValued, IsBegun, IsAvaFault, IsNameFault}
 
 abbrev raw : ℕ → Octet
 raw b = record { raw = true; byte = b }
@@ -14,14 +14,14 @@ raw b = record { raw = true; byte = b }
 abbrev by_escape : ℕ → Octet
 by_escape b = record { raw = false; byte = b }
 
--- in the first part
-first : (text : List ℕ) (f : NameFaultKind) → list_all is_space text ≡ false → IsPartFault text f → IsNameFault text f
-first text f some h = record { parts = []; front = []; rest = text; text_is = refl; front_is = refl; rest_is = h; some = some }
+-- in the first AVA
+first : (text : List ℕ) (f : NameFaultKind) → list_all is_space text ≡ false → IsAvaFault text f → IsNameFault text f
+first text f some h = record { avas = []; front = []; rest = text; text_is = refl; front_is = refl; rest_is = h; some = some }
 
--- `cn=a`, a separator, and then a part
-second : (s : ℕ) (text : List ℕ) (f : NameFaultKind) → is_separator s ≡ true → IsPartFault text f → IsNameFault (codes "cn=a" ++ s ∷ text) f
+-- `cn=a`, a separator, and then an AVA
+second : (s : ℕ) (text : List ℕ) (f : NameFaultKind) → is_separator s ≡ true → IsAvaFault text f → IsNameFault (codes "cn=a" ++ s ∷ text) f
 second s text f sep h = record {
-  parts = (codes "cn", codes "a") ∷ [];
+  avas = (codes "cn", codes "a") ∷ [];
   front = codes "cn=a" ++ s ∷ [];
   rest = text;
   text_is = refl;
@@ -45,14 +45,14 @@ at_once bad h k = record { value = bad; valued = cn_value bad h; form = k; octet
 after_a : (bad : List ℕ) → IsBegun (codes "cn=a" ++ bad) bad
 after_a bad = record { value = 97 ∷ bad; valued = cn_value (97 ∷ bad) refl; form = refl; octets = raw 97 ∷ []; body = codes "a"; value_is = refl; body_is = (codes "a", [], (refl, refl), refl, refl) }
 
--- an empty part at the end, behind a comma and behind a plus sign
+-- an empty AVA at the end, behind a comma and behind a plus sign
 comma_at_end : IsNameFault (codes "cn=a,") EqualsMissing
 comma_at_end = second 44 [] EqualsMissing refl ([], [], record { before = 0; between = 0; from = []; after = []; text_is = refl; no_space = tt; from_is = refl; type_is = refl; longest = tt; after_is = refl; no_space_more = tt }, tt)
 
 plus_at_end : IsNameFault (codes "cn=a+ ") EqualsMissing
 plus_at_end = second 43 (codes " ") EqualsMissing refl ([], [], record { before = 1; between = 0; from = []; after = []; text_is = refl; no_space = tt; from_is = refl; type_is = refl; longest = tt; after_is = refl; no_space_more = tt }, tt)
 
--- an empty part at the front
+-- an empty AVA at the front
 comma_at_front : IsNameFault (codes ",cn=a") EqualsMissing
 comma_at_front = first (codes ",cn=a") EqualsMissing refl ([], codes ",cn=a", record { before = 0; between = 0; from = codes ",cn=a"; after = codes ",cn=a"; text_is = refl; no_space = refl; from_is = refl; type_is = refl; longest = refl; after_is = refl; no_space_more = refl }, refl)
 

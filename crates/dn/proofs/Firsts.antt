@@ -1,4 +1,4 @@
--- The part, and the RDN, at the front of a text.
+-- The AVA, and the RDN, at the front of a text.
 use Rattle.std.proofs.Common.{◌≡◌, ℕ, Bool, true, false, cond, eqb, List, [], ◌∷◌, ◌++◌, length, Option, Result, Ok, Err, refl, sym, ap, subst, ◌∙◌}
 use Rattle.std.proofs.lemmas.Bool.{eqb-true}
 use Rattle.std.proofs.lemmas.List.{take-append-drop}
@@ -11,13 +11,13 @@ use Rattle.dn.specs.Names.{Ava, is_type_byte}
 use Rattle.base.specs.Answers.{◌>>=◌, Fails}
 use Rattle.base.specs.Ends.{is_space, without_front}
 use Rattle.base.proofs.Front.{front_is}
-use Rattle.dn.specs.Reading.{value_of, type_in, after_type, after_equals, part_at, part_of}
-use Rattle.dn.specs.inner.Cuts.{piece, behind, first_value, first_part, part_from}
+use Rattle.dn.specs.Reading.{value_of, type_in, after_type, after_equals, ava_at, ava_of}
+use Rattle.dn.specs.inner.Cuts.{piece, behind, first_value, first_ava, ava_from}
 use Rattle.dn.specs.NameFaults.{is_separator}
 use Rattle.dn.specs.inner.Texts.{Starts}
 use Rattle.dn.proofs.Pieces.{P, B, space_apart, type_apart, front_of_piece, rest_of_piece, behind_rest}
 use Rattle.dn.proofs.Runs.{skipped}
-use Rattle.dn.proofs.Parts.{equals_found}
+use Rattle.dn.proofs.SpelledAvas.{equals_found}
 
 -- ---- spaces in front of a piece
 
@@ -27,7 +27,7 @@ spaces_of_piece text = front_is (P text) ∙ rest_of_piece is_space space_apart 
 behind_spaces : (text : List ℕ) → B text ≡ B (without_front text)
 behind_spaces text = behind_rest is_space space_apart text ∙ ap B (sym (front_is text))
 
--- ---- a part
+-- ---- an AVA
 
 abbrev Got : Type 0
 Got = Result (Ava × List ℕ) NameFaultKind
@@ -82,8 +82,8 @@ unfolding piece behind from_text
 equals_first ty [] = refl
 equals_first ty (b ∷ bs) = by_byte ty b bs (eqb b 61) refl
 
-type_first : (text : List ℕ) → (part_at (P text) >>= before (B text)) ≡ from_text (type_in text) (without_front (after_type text))
-unfolding part_at
+type_first : (text : List ℕ) → (ava_at (P text) >>= before (B text)) ≡ from_text (type_in text) (without_front (after_type text))
+unfolding ava_at
 type_first text =
     let ty = type_in text in
     let rest = after_type text in
@@ -93,18 +93,18 @@ type_first text =
     ∙ ap (from_piece ty (P (without_front rest))) (behind_rest is_type_byte type_apart text ∙ behind_spaces rest)
     ∙ equals_first ty (without_front rest)
 
-pub part_first : (text : List ℕ) → first_part text ≡ from_text (type_in (without_front text)) (without_front (after_type (without_front text)))
-unfolding part_of
-part_first text =
-    ap (λ (x : List ℕ). part_at x >>= before (B text)) (spaces_of_piece text)
-    ∙ ap (λ (x : List ℕ). part_at (P (without_front text)) >>= before x) (behind_spaces text)
+pub ava_first : (text : List ℕ) → first_ava text ≡ from_text (type_in (without_front text)) (without_front (after_type (without_front text)))
+unfolding ava_of
+ava_first text =
+    ap (λ (x : List ℕ). ava_at x >>= before (B text)) (spaces_of_piece text)
+    ∙ ap (λ (x : List ℕ). ava_at (P (without_front text)) >>= before x) (behind_spaces text)
     ∙ type_first (without_front text)
 
 -- ---- the steps to it
 
-pub part_is : (text t ty after rest : List ℕ) → t ≡ without_front text → ty ≡ type_in t → after ≡ after_type t → rest ≡ without_front after → first_part text ≡ from_text ty rest
-part_is text t ty after rest from is behind rest_is =
-    part_first text
+pub ava_is : (text t ty after rest : List ℕ) → t ≡ without_front text → ty ≡ type_in t → after ≡ after_type t → rest ≡ without_front after → first_ava text ≡ from_text ty rest
+ava_is text t ty after rest from is behind rest_is =
+    ava_first text
     ∙ ap (λ (x : List ℕ). from_text (type_in x) (without_front (after_type x))) (sym from)
     ∙ ap (λ (x : List ℕ). from_text x (without_front (after_type t))) (sym is)
     ∙ ap (λ (x : List ℕ). from_text ty (without_front x)) (sym behind)
@@ -141,11 +141,11 @@ starts t ty after rest v from is behind_is rest_is equals from_is =
 
 -- ---- a value behind a type
 
-pub part_read : (ty from value behind : List ℕ) (p : Ava) → first_value from ≡ before behind value → p ≡ (ty, value) → part_from ty from ≡ before behind p
-part_read ty from value behind p h is = ap (λ (r : Result (List ℕ × List ℕ) NameFaultKind). r >>= with_type ty) h ∙ ap (before behind) (sym is)
+pub ava_read : (ty from value behind : List ℕ) (p : Ava) → first_value from ≡ before behind value → p ≡ (ty, value) → ava_from ty from ≡ before behind p
+ava_read ty from value behind p h is = ap (λ (r : Result (List ℕ × List ℕ) NameFaultKind). r >>= with_type ty) h ∙ ap (before behind) (sym is)
 
-pub value_fails : (ty from : List ℕ) (e : Option NameFaultKind) (p : List ℕ) → p ≡ P from → Fails e (value_of p) → Fails e (part_from ty from)
-value_fails ty from e p is = passed_on e (value_of p) (part_from ty from) λ fault h. ap (λ (r : Result (List ℕ) NameFaultKind). (r >>= before (B from)) >>= with_type ty) (ap value_of (sym is) ∙ h)
+pub value_fails : (ty from : List ℕ) (e : Option NameFaultKind) (p : List ℕ) → p ≡ P from → Fails e (value_of p) → Fails e (ava_from ty from)
+value_fails ty from e p is = passed_on e (value_of p) (ava_from ty from) λ fault h. ap (λ (r : Result (List ℕ) NameFaultKind). (r >>= before (B from)) >>= with_type ty) (ap value_of (sym is) ∙ h)
 
 pub value_of_piece : (from p rest v : List ℕ) → p ≡ P from → rest ≡ B from → value_of p ≡ Ok v → first_value from ≡ before rest v
 value_of_piece from p rest v is behind_is h =

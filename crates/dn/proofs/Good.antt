@@ -5,7 +5,7 @@ use Rattle.std.proofs.lemmas.Bool.{and_parts, lt-ltb}
 use Rattle.std.proofs.lemmas.Bool.Decides.{nat_tests}
 use Rattle.std.proofs.lemmas.List.Folds.{list_all-append}
 use Rattle.dn.specs.Names.{Ava, Rdn, Name, is_byte, is_type, is_ava, is_rdn, is_name}
-use Rattle.dn.specs.Spelling.{Octet, may_follow, is_hex, hex, IsOctet, AreOctets, byte_of, spaces, SpellsPart, AreJoined, SpellsRdn, Spells}
+use Rattle.dn.specs.Spelling.{Octet, may_follow, is_hex, hex, IsOctet, AreOctets, byte_of, spaces, SpellsAva, AreJoined, SpellsRdn, Spells}
 
 abbrev AreBytes : List ℕ → Type 0
 AreBytes text = list_all is_byte text ≡ true
@@ -42,8 +42,8 @@ octets_bytes (o ∷ os) body (front, rest, is, e, are) h =
     let k = cut front rest (subst AreBytes e h) in
     both (is_byte o.byte) (list_all is_byte (map byte_of os)) (octet_byte o front is k.0) (octets_bytes os rest are k.1)
 
-part_good : (text : List ℕ) (p : Ava) → SpellsPart text p → AreBytes text → is_ava p ≡ true
-part_good text p s h =
+ava_good : (text : List ℕ) (p : Ava) → SpellsAva text p → AreBytes text → is_ava p ≡ true
+ava_good text p s h =
     let value = s.body ++ spaces s.behind in
     let equals = 61 ∷ (spaces s.after ++ value) in
     let a = (cut (spaces s.before) (p.0 ++ (spaces s.between ++ equals)) (subst AreBytes s.text_is h)).1 in
@@ -61,7 +61,7 @@ joined_good P sep good is text (x ∷ y ∷ ys) (front, rest, s, e, more) h =
 
 rdn_good : (text : List ℕ) (r : Rdn) → SpellsRdn text r → AreBytes text → is_rdn r ≡ true
 rdn_good text [] s h = absurd s
-rdn_good text (p ∷ ps) s h = both (not (eqb (length (p ∷ ps)) 0)) (list_all is_ava (p ∷ ps)) (some (length ps)) (joined_good SpellsPart 43 is_ava part_good text (p ∷ ps) s h)
+rdn_good text (p ∷ ps) s h = both (not (eqb (length (p ∷ ps)) 0)) (list_all is_ava (p ∷ ps)) (some (length ps)) (joined_good SpellsAva 43 is_ava ava_good text (p ∷ ps) s h)
   where
     some : (n : ℕ) → not (eqb (suc n) 0) ≡ true
     some n = grind (arith, nat_tests)

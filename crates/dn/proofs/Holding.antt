@@ -1,27 +1,27 @@
--- A type, an equals sign and a value hold a part.
+-- A type, an equals sign and a value hold an AVA.
 use Rattle.std.proofs.Common.{◌≡◌, ℕ, Bool, true, false, not, ◌&&◌, eqb, List, ◌∷◌, ◌++◌, drop, length, refl, sym, ap, ◌∙◌}
 use Rattle.std.specs.List.{list_all}
 use Rattle.std.proofs.lemmas.Bool.{and_parts}
 use Rattle.dn.specs.Names.{Ava, is_type_byte, is_type, is_byte, is_ava}
 use Rattle.dn.specs.Reading.{after_type}
-use Rattle.dn.specs.Texts.{part_in}
+use Rattle.dn.specs.Texts.{ava_in}
 use Rattle.dn.proofs.Runs.{run_front, run_rest}
 
-abbrev part : List ℕ → List ℕ → Ava
-part ty value = (ty, value)
+abbrev ava_with : List ℕ → List ℕ → Ava
+ava_with ty value = (ty, value)
 
 module _ (text ty value : List ℕ) (is : is_type ty ≡ true) (text_is : text ≡ ty ++ 61 ∷ value) where
   bytes : list_all is_type_byte ty ≡ true
   bytes = (and_parts (not (eqb (length ty) 0)) (list_all is_type_byte ty) is).1
 
-  pub held : part_in text ≡ part ty value
+  pub held : ava_in text ≡ ava_with ty value
   held =
-      ap part_in text_is
-      ∙ ap (λ (x : List ℕ). part x (drop 1 (after_type (ty ++ 61 ∷ value)))) (run_front is_type_byte ty (61 ∷ value) bytes refl)
-      ∙ ap (λ (x : List ℕ). part ty (drop 1 x)) (run_rest is_type_byte ty (61 ∷ value) bytes refl)
+      ap ava_in text_is
+      ∙ ap (λ (x : List ℕ). ava x (drop 1 (after_type (ty ++ 61 ∷ value)))) (run_front is_type_byte ty (61 ∷ value) bytes refl)
+      ∙ ap (λ (x : List ℕ). ava_with ty (drop 1 x)) (run_rest is_type_byte ty (61 ∷ value) bytes refl)
 
-  pub held_is_part : list_all is_byte value ≡ true → is_ava (part_in text) ≡ true
-  held_is_part in_range = ap is_ava held ∙ ap (λ (t : Bool). t && list_all is_byte value) is ∙ in_range
+  pub held_is_ava : list_all is_byte value ≡ true → is_ava (ava_in text) ≡ true
+  held_is_ava in_range = ap is_ava held ∙ ap (λ (t : Bool). t && list_all is_byte value) is ∙ in_range
 
 and_true : (b : Bool) → (b && true) ≡ b
 and_true true = refl

@@ -8,7 +8,7 @@ pub mod Firsts
 pub mod Steps
 pub mod Loop
 pub mod Runs
-pub mod Parts
+pub mod SpelledAvas
 pub mod Wholes
 pub mod Named
 pub mod Spelled
@@ -16,6 +16,6 @@ pub mod Ascii
 pub mod Good
 pub mod Writing
 pub mod ValueFaults
-pub mod PartFaults
+pub mod AvaFaults
 pub mod TextFaults
 pub mod FaultExamples

@@ -1,4 +1,4 @@
--- The loops that read each part, and each RDN, up to the first fault.
+-- The loops that read each AVA, and each RDN, up to the first fault.
 use Rattle.std.proofs.lemmas.List.{length_push, append-nil}
 use Rattle.std.proofs.lemmas.Bool.Decides.{nat_tests}
 use Rattle.dn.specs.Names.{Ava, Rdn, Name, is_ava, is_rdn}
@@ -10,11 +10,11 @@ use Rattle.base.proofs.Each.{passed_on, with_front, nothing_front, more, onto, o
 use Rattle.base.specs.Ascii.{plus_sign}
 use Rattle.base.specs.Ends.{begins_with}
 use Rattle.base.specs.Answers.{◌>>=◌, Fails}
-use Rattle.dn.specs.inner.Cuts.{piece, behind, first_by, first_part, first_rdn, parts_behind, parts_from, after_first}
+use Rattle.dn.specs.inner.Cuts.{piece, behind, first_by, first_ava, first_rdn, avas_behind, avas_from, after_first}
 use Rattle.base.proofs.Bound.{same_ok}
 use Rattle.dn.proofs.Pieces.{shorter}
 use Rattle.dn.proofs.Firsts.{before}
-use Rattle.dn.proofs.Steps.{Found, with_part, rdn_first, names, names_in, names_behind, names_from, name_first}
+use Rattle.dn.proofs.Steps.{Found, with_ava, rdn_first, names, names_in, names_behind, names_from, name_first}
 
 abbrev ok : {Y : Type 0} → List Y → Result (List Y) NameFaultKind
 ok ys = Ok ys
@@ -24,33 +24,33 @@ ok ys = Ok ys
 abbrev found : Rdn → List ℕ → Found
 found ps rest = Ok (ps, rest)
 
-pub parts_begin : (p : Ava) (rest : List ℕ) (new : Rdn) → new ≡ p ∷ [] → onto new (parts_behind rest) ≡ parts_from (p, rest)
-parts_begin p rest new is = ap (λ (ps : Rdn). onto ps (parts_behind rest)) is ∙ onto_one p (parts_behind rest)
+pub avas_begin : (p : Ava) (rest : List ℕ) (new : Rdn) → new ≡ p ∷ [] → onto new (avas_behind rest) ≡ avas_from (p, rest)
+avas_begin p rest new is = ap (λ (ps : Rdn). onto ps (avas_behind rest)) is ∙ onto_one p (avas_behind rest)
 
-pub first_read : (text : List ℕ) (p : Ava) (rest : List ℕ) → first_part text ≡ before rest p → first_rdn text ≡ parts_from (p, rest)
-first_read text p rest h = rdn_first text ∙ ap (λ (r : Result (Ava × List ℕ) NameFaultKind). r >>= parts_from) h
+pub first_read : (text : List ℕ) (p : Ava) (rest : List ℕ) → first_ava text ≡ before rest p → first_rdn text ≡ avas_from (p, rest)
+first_read text p rest h = rdn_first text ∙ ap (λ (r : Result (Ava × List ℕ) NameFaultKind). r >>= avas_from) h
 
-pub parts_fail : (text : List ℕ) (e : Option NameFaultKind) → Fails e (first_part text) → Fails e (first_rdn text)
-parts_fail text e = passed_on e (first_part text) (first_rdn text) λ fault h. rdn_first text ∙ ap (λ (r : Result (Ava × List ℕ) NameFaultKind). r >>= parts_from) h
+pub avas_fail : (text : List ℕ) (e : Option NameFaultKind) → Fails e (first_ava text) → Fails e (first_rdn text)
+avas_fail text e = passed_on e (first_ava text) (first_rdn text) λ fault h. rdn_first text ∙ ap (λ (r : Result (Ava × List ℕ) NameFaultKind). r >>= avas_from) h
 
-module _ (front : Rdn) (rest : List ℕ) (total : Found) (so_far : onto front (parts_behind rest) ≡ total) where
+module _ (front : Rdn) (rest : List ℕ) (total : Found) (so_far : onto front (avas_behind rest) ≡ total) where
   module _ (more_text : List ℕ) (is : rest ≡ 43 ∷ more_text) where
     at_plus : onto front (first_rdn more_text) ≡ total
-    unfolding parts_behind
-    at_plus = sym (ap (λ (x : List ℕ). onto front (parts_behind x)) is) ∙ so_far
+    unfolding avas_behind
+    at_plus = sym (ap (λ (x : List ℕ). onto front (avas_behind x)) is) ∙ so_far
 
-    pub parts_go_on : (p : Ava) (new_rest : List ℕ) (new : Rdn) → first_part more_text ≡ before new_rest p → new ≡ front ++ p ∷ [] → onto new (parts_behind new_rest) ≡ total
-    parts_go_on p new_rest new h new_is =
-        ap (λ (ps : Rdn). onto ps (parts_behind new_rest)) new_is ∙ onto_more front p (parts_behind new_rest)
-        ∙ sym (ap (onto front) (rdn_first more_text ∙ ap (λ (r : Result (Ava × List ℕ) NameFaultKind). r >>= parts_from) h)) ∙ at_plus
+    pub avas_go_on : (p : Ava) (new_rest : List ℕ) (new : Rdn) → first_ava more_text ≡ before new_rest p → new ≡ front ++ p ∷ [] → onto new (avas_behind new_rest) ≡ total
+    avas_go_on p new_rest new h new_is =
+        ap (λ (ps : Rdn). onto ps (avas_behind new_rest)) new_is ∙ onto_more front p (avas_behind new_rest)
+        ∙ sym (ap (onto front) (rdn_first more_text ∙ ap (λ (r : Result (Ava × List ℕ) NameFaultKind). r >>= avas_from) h)) ∙ at_plus
 
-    pub parts_end_at : (e : Option NameFaultKind) → Fails e (first_part more_text) → Fails e total
+    pub avas_end_at : (e : Option NameFaultKind) → Fails e (first_ava more_text) → Fails e total
     unfolding onto
-    parts_end_at e = passed_on e (first_part more_text) total λ fault h. sym at_plus ∙ ap (onto front) (parts_fail more_text (Some fault) h)
+    avas_end_at e = passed_on e (first_ava more_text) total λ fault h. sym at_plus ∙ ap (onto front) (avas_fail more_text (Some fault) h)
 
-  pub parts_done : (parts_behind rest ≡ Ok ([], rest)) → total ≡ found front rest
+  pub avas_done : (avas_behind rest ≡ Ok ([], rest)) → total ≡ found front rest
   unfolding onto
-  parts_done h = sym so_far ∙ ap (onto front) h ∙ ap (λ (ps : Rdn). found ps rest) (append-nil front)
+  avas_done h = sym so_far ∙ ap (onto front) h ∙ ap (λ (ps : Rdn). found ps rest) (append-nil front)
 
 -- ---- a name
 
@@ -117,18 +117,18 @@ less_is_left_behind ends read text x rest left old h left_is old_is =
     let le = ap length (left_is_end (read (piece ends false text)) x rest (behind ends false text) h) in
     omega (arith, le, shorter ends false text, ap size left_is, ap size old_is, size_behind rest)
 
-pub no_plus : (text : List ℕ) → begins_with plus_sign text ≡ false → parts_behind text ≡ Ok ([], text)
-unfolding parts_behind
+pub no_plus : (text : List ℕ) → begins_with plus_sign text ≡ false → avas_behind text ≡ Ok ([], text)
+unfolding avas_behind
 no_plus [] h = refl
 no_plus (b ∷ bs) h = ap (λ (t : Bool). cond t (first_rdn bs) (found [] (b ∷ bs))) h
 
-pub one_only : (p : Ava) (rest : List ℕ) → begins_with plus_sign rest ≡ false → parts_from (p, rest) ≡ before rest (p ∷ [])
-one_only p rest plain = ap (with_part p) (no_plus rest plain)
+pub one_only : (p : Ava) (rest : List ℕ) → begins_with plus_sign rest ≡ false → avas_from (p, rest) ≡ before rest (p ∷ [])
+one_only p rest plain = ap (with_ava p) (no_plus rest plain)
 
-pub one_plain : (text : List ℕ) (p : Ava) (rest : List ℕ) → first_part text ≡ before rest p → begins_with plus_sign rest ≡ false → first_rdn text ≡ before rest (p ∷ [])
-one_plain text p rest h plain = rdn_first text ∙ ap (λ (r : Result (Ava × List ℕ) NameFaultKind). r >>= parts_from) h ∙ ap (with_part p) (no_plus rest plain)
+pub one_plain : (text : List ℕ) (p : Ava) (rest : List ℕ) → first_ava text ≡ before rest p → begins_with plus_sign rest ≡ false → first_rdn text ≡ before rest (p ∷ [])
+one_plain text p rest h plain = rdn_first text ∙ ap (λ (r : Result (Ava × List ℕ) NameFaultKind). r >>= avas_from) h ∙ ap (with_ava p) (no_plus rest plain)
 
-pub two_plain : (text : List ℕ) (p : Ava) (rest more : List ℕ) (q : Ava) (end : List ℕ) → first_part text ≡ before rest p → rest ≡ 43 ∷ more → first_part more ≡ before end q → begins_with plus_sign end ≡ false → first_rdn text ≡ before end (p ∷ q ∷ [])
-unfolding parts_behind
+pub two_plain : (text : List ℕ) (p : Ava) (rest more : List ℕ) (q : Ava) (end : List ℕ) → first_ava text ≡ before rest p → rest ≡ 43 ∷ more → first_ava more ≡ before end q → begins_with plus_sign end ≡ false → first_rdn text ≡ before end (p ∷ q ∷ [])
+unfolding avas_behind
 two_plain text p rest more q end h is g plain =
-    first_read text p rest h ∙ ap (λ (x : List ℕ). parts_from (p, x)) is ∙ ap (with_part p) (one_plain more q end g plain)
+    first_read text p rest h ∙ ap (λ (x : List ℕ). avas_from (p, x)) is ∙ ap (with_ava p) (one_plain more q end g plain)

@@ -5,18 +5,18 @@ use Rattle.std.proofs.lemmas.List.Folds.{list_all-append}
 use Rattle.dn.specs.declared.faults.NameFaultKind.{NameFaultKind}
 use Rattle.dn.specs.declared.faults.NameFault.{NameFault}
 use Rattle.dn.specs.Names.{Ava, Rdn, Name, is_type}
-use Rattle.dn.specs.Spelling.{spaces, SpellsPart, AreJoined, SpellsRdn, Spells}
+use Rattle.dn.specs.Spelling.{spaces, SpellsAva, AreJoined, SpellsRdn, Spells}
 use Rattle.base.specs.Answers.{◌>>=◌, each}
 use Rattle.base.specs.Ends.{is_space}
-use Rattle.dn.specs.Reading.{part_of, cut_raw, rdn_of, name_of}
+use Rattle.dn.specs.Reading.{ava_of, cut_raw, rdn_of, name_of}
 use Rattle.dn.specs.Gives.{Gives}
 use Rattle.std.specs.Prelude.{IfOk}
 use Rattle.dn.proofs.Octets.{chosen}
 use Rattle.dn.specs.NameFaults.{Stops}
 use Rattle.dn.proofs.Runs.{all_spaces, spaces_are}
 use Rattle.base.proofs.Bound.{bind_ok, same_ok}
-use Rattle.dn.proofs.Parts.{part_sound, part_complete, type_first}
-use Rattle.dn.proofs.Wholes.{IsWhole, IsSome, cut_at, cut_none, cut_some, cut_joins, part_whole, rdn_whole}
+use Rattle.dn.proofs.SpelledAvas.{ava_sound, ava_complete, type_first}
+use Rattle.dn.proofs.Wholes.{IsWhole, IsSome, cut_at, cut_none, cut_some, cut_joins, ava_whole, rdn_whole}
 
 -- ---- what is read of each piece
 
@@ -59,11 +59,11 @@ module _ {X : Type 0} (f : List ℕ → Result X NameFaultKind) (P : List ℕ �
 
 rdn_sound : (text : List ℕ) (r : Rdn) → rdn_of text ≡ Ok r → SpellsRdn text r
 unfolding rdn_of
-rdn_sound text r e = cut_sound part_of SpellsPart 43 part_sound text r e
+rdn_sound text r e = cut_sound ava_of SpellsAva 43 ava_sound text r e
 
 rdn_complete : (text : List ℕ) (r : Rdn) → SpellsRdn text r → rdn_of text ≡ Ok r
 unfolding rdn_of
-rdn_complete text r h = each_complete part_of SpellsPart 43 part_complete (λ t p s. part_whole 43 refl t p s) text r h
+rdn_complete text r h = each_complete ava_of SpellsAva 43 ava_complete (λ t p s. ava_whole 43 refl t p s) text r h
 
 -- ---- a text with RDNs isn't all spaces
 
@@ -74,8 +74,8 @@ type_no_space : (ty rest : List ℕ) → is_type ty ≡ true → list_all is_spa
 type_no_space [] rest h = absurd cc
 type_no_space (b ∷ bs) rest h = first_no_space ((b ∷ bs) ++ rest) b (bs ++ rest) refl (type_first (b ∷ bs) rest h)
 
-part_no_spaces : (text : List ℕ) (p : Ava) → SpellsPart text p → list_all is_space text ≡ false
-part_no_spaces text p s =
+ava_no_spaces : (text : List ℕ) (p : Ava) → SpellsAva text p → list_all is_space text ≡ false
+ava_no_spaces text p s =
     let rest = spaces s.between ++ (61 ∷ (spaces s.after ++ (s.body ++ spaces s.behind))) in
     ap (list_all is_space) s.text_is ∙ list_all-append is_space (spaces s.before) (p.0 ++ rest)
     ∙ ap (λ (t : Bool). t && list_all is_space (p.0 ++ rest)) (all_spaces s.before) ∙ type_no_space p.0 rest s.type_is
@@ -87,7 +87,7 @@ joined_no_spaces P sep never text (x ∷ y ∷ ys) (front, rest, is, e, more) =
     ap (list_all is_space) e ∙ list_all-append is_space front (sep ∷ rest) ∙ ap (λ (t : Bool). t && list_all is_space (sep ∷ rest)) (never front x is)
 
 rdn_no_spaces : (text : List ℕ) (r : Rdn) → SpellsRdn text r → list_all is_space text ≡ false
-rdn_no_spaces text r h = joined_no_spaces SpellsPart 43 part_no_spaces text r h
+rdn_no_spaces text r h = joined_no_spaces SpellsAva 43 ava_no_spaces text r h
 
 -- ---- names
 

@@ -5,8 +5,8 @@ use Rattle.std.proofs.lemmas.List.{append-nil}
 use Rattle.std.proofs.lemmas.Bool.{and_parts, ltb-true}
 use Rattle.std.proofs.lemmas.Bool.Decides.{nat_tests}
 use Rattle.dn.specs.Names.{Ava, Rdn, Name, is_byte, is_type, is_ava, is_rdn, is_name}
-use Rattle.dn.specs.Spelling.{Octet, may_stand, may_follow, is_hex, hex, IsOctet, AreOctets, is_raw_space, begins_well, ends_well, byte_of, SpellsPart, AreJoined, SpellsRdn, Spells}
-use Rattle.dn.specs.Writing.{digit, is_nothing, needs_pair, stands, written, text_from, value_text, part_text, rdn_text, text_of}
+use Rattle.dn.specs.Spelling.{Octet, may_stand, may_follow, is_hex, hex, IsOctet, AreOctets, is_raw_space, begins_well, ends_well, byte_of, SpellsAva, AreJoined, SpellsRdn, Spells}
+use Rattle.dn.specs.Writing.{digit, is_nothing, needs_pair, stands, written, text_from, value_text, ava_text, rdn_text, text_of}
 
 -- ---- a byte
 
@@ -114,10 +114,10 @@ unfolding octets
 octets_begin [] h = refl
 octets_begin (b ∷ bs) h = (octet_at true b bs h).begins refl
 
--- ---- a part, an RDN, a name
+-- ---- an AVA, an RDN, a name
 
-pub part_spelled : (p : Ava) → is_ava p ≡ true → SpellsPart (part_text p) p
-part_spelled p h =
+pub ava_spelled : (p : Ava) → is_ava p ≡ true → SpellsAva (ava_text p) p
+ava_spelled p h =
     let k = and_parts (is_type p.0) (list_all is_byte p.1) h in
     record {
       before = 0;
@@ -143,7 +143,7 @@ joined_spelled P sep text good is x (y ∷ ys) h =
 
 rdn_spelled : (r : Rdn) → is_rdn r ≡ true → SpellsRdn (rdn_text r) r
 rdn_spelled [] h = absurd cc
-rdn_spelled (p ∷ ps) h = joined_spelled SpellsPart 43 part_text is_ava part_spelled p ps (and_parts (not (eqb (length (p ∷ ps)) 0)) (list_all is_ava (p ∷ ps)) h).1
+rdn_spelled (p ∷ ps) h = joined_spelled SpellsAva 43 ava_text is_ava ava_spelled p ps (and_parts (not (eqb (length (p ∷ ps)) 0)) (list_all is_ava (p ∷ ps)) h).1
 
 pub name_spelled : (n : Name) → is_name n ≡ true → Spells (text_of n) n
 unfolding text_of

@@ -1,4 +1,4 @@
--- An RDN, and a name, read part by part.
+-- An RDN, and a name, read AVA by AVA.
 use Rattle.std.proofs.Common.{◌≡◌, ℕ, Bool, true, false, cond, not, ◌&&◌, eqb, List, [], ◌∷◌, ◌++◌, Option, Some, None, Result, Ok, Err, refl, sym, ap, ◌∙◌, arith}
 use Rattle.std.specs.List.{onto_first}
 use Rattle.std.proofs.lemmas.Bool.{and_parts, eqb-true, not-true}
@@ -7,8 +7,8 @@ use Rattle.std.proofs.lemmas.List.{append-nil}
 use Rattle.dn.specs.declared.faults.NameFaultKind.{NameFaultKind}
 use Rattle.dn.specs.Names.{Ava, Rdn, Name}
 use Rattle.base.specs.Answers.{◌>>=◌, each}
-use Rattle.dn.specs.Reading.{part_of, escapes, cut_raw, rdn_of}
-use Rattle.dn.specs.inner.Cuts.{piece, behind, is_comma, after_first, first_part, first_rdn, parts_behind, parts_from}
+use Rattle.dn.specs.Reading.{ava_of, escapes, cut_raw, rdn_of}
+use Rattle.dn.specs.inner.Cuts.{piece, behind, is_comma, after_first, first_ava, first_rdn, avas_behind, avas_from}
 use Rattle.dn.specs.NameFaults.{is_separator}
 use Rattle.dn.proofs.Pieces.{P, B, split, ends_is}
 use Rattle.dn.proofs.Firsts.{before}
@@ -84,28 +84,28 @@ last_comma e (b ∷ bs) h = last_comma_by e (not e && is_separator b) b bs (behi
 abbrev pub Found : Type 0
 Found = Result (Rdn × List ℕ) NameFaultKind
 
-abbrev pub with_part : Ava → Found → Found
-with_part p r = r >>= λ t. Ok (p ∷ t.0, t.1)
+abbrev pub with_ava : Ava → Found → Found
+with_ava p r = r >>= λ t. Ok (p ∷ t.0, t.1)
 
-abbrev onto_part : Ava → Result Rdn NameFaultKind → Result Rdn NameFaultKind
-onto_part p r = r >>= λ ps. Ok (p ∷ ps)
+abbrev onto_ava : Ava → Result Rdn NameFaultKind → Result Rdn NameFaultKind
+onto_ava p r = r >>= λ ps. Ok (p ∷ ps)
 
-no_more : (q : Result Ava NameFaultKind) → ((q >>= λ p. onto_part p (Ok [])) >>= before []) ≡ ((q >>= before []) >>= parts_from)
-unfolding parts_behind
+no_more : (q : Result Ava NameFaultKind) → ((q >>= λ p. onto_ava p (Ok [])) >>= before []) ≡ ((q >>= before []) >>= avas_from)
+unfolding avas_behind
 no_more (Ok p) = refl
 no_more (Err e) = refl
 
-no_plus : (q : Result Ava NameFaultKind) (more : List ℕ) → ((q >>= λ p. onto_part p (Ok [])) >>= before (44 ∷ more)) ≡ ((q >>= before (44 ∷ more)) >>= parts_from)
-unfolding parts_behind
+no_plus : (q : Result Ava NameFaultKind) (more : List ℕ) → ((q >>= λ p. onto_ava p (Ok [])) >>= before (44 ∷ more)) ≡ ((q >>= before (44 ∷ more)) >>= avas_from)
+unfolding avas_behind
 no_plus (Ok p) more = refl
 no_plus (Err e) more = refl
 
-onto_with : (p : Ava) (r : Result Rdn NameFaultKind) (rest : List ℕ) → (onto_part p r >>= before rest) ≡ with_part p (r >>= before rest)
+onto_with : (p : Ava) (r : Result Rdn NameFaultKind) (rest : List ℕ) → (onto_ava p r >>= before rest) ≡ with_ava p (r >>= before rest)
 onto_with p (Ok ps) rest = refl
 onto_with p (Err e) rest = refl
 
-with_plus : (q : Result Ava NameFaultKind) (more : List ℕ) → ((q >>= λ p. onto_part p (rdn_of (piece is_comma false more))) >>= before (behind is_comma false more)) ≡ ((q >>= before (43 ∷ more)) >>= parts_from)
-unfolding parts_behind
+with_plus : (q : Result Ava NameFaultKind) (more : List ℕ) → ((q >>= λ p. onto_ava p (rdn_of (piece is_comma false more))) >>= before (behind is_comma false more)) ≡ ((q >>= before (43 ∷ more)) >>= avas_from)
+unfolding avas_behind
 with_plus (Ok p) more = onto_with p (rdn_of (piece is_comma false more)) (behind is_comma false more)
 with_plus (Err e) more = refl
 
@@ -113,50 +113,50 @@ module _ (text : List ℕ) where
   rdn_is : (piece_is : List ℕ) (rest : List ℕ) → piece is_comma false text ≡ piece_is → behind is_comma false text ≡ rest → first_rdn text ≡ (rdn_of piece_is >>= before rest)
   rdn_is x rest h g = ap (λ (y : List ℕ). rdn_of y >>= before (behind is_comma false text)) h ∙ ap (λ (y : List ℕ). rdn_of x >>= before y) g
 
-  part_is : (rest : List ℕ) → B text ≡ rest → first_part text ≡ (part_of (P text) >>= before rest)
-  part_is rest h = ap (λ (x : List ℕ). part_of (P text) >>= before x) h
+  ava_is : (rest : List ℕ) → B text ≡ rest → first_ava text ≡ (ava_of (P text) >>= before rest)
+  ava_is rest h = ap (λ (x : List ℕ). ava_of (P text) >>= before x) h
 
-  rdn_last : B text ≡ [] → first_rdn text ≡ (first_part text >>= parts_from)
+  rdn_last : B text ≡ [] → first_rdn text ≡ (first_ava text >>= avas_from)
   unfolding each rdn_of
   rdn_last h =
       rdn_is text [] (piece_last is_comma false text (last_comma false text h)) (last_comma false text h)
-      ∙ ap (λ (ps : List (List ℕ)). each part_of ps >>= before []) (cut_last is_separator 43 plus_apart false text h)
-      ∙ ap (λ (x : List ℕ). each part_of (x ∷ []) >>= before []) (sym (piece_last is_separator false text h))
-      ∙ no_more (part_of (P text))
-      ∙ ap (λ (r : Result (Ava × List ℕ) NameFaultKind). r >>= parts_from) (sym (part_is [] h))
+      ∙ ap (λ (ps : List (List ℕ)). each ava_of ps >>= before []) (cut_last is_separator 43 plus_apart false text h)
+      ∙ ap (λ (x : List ℕ). each ava_of (x ∷ []) >>= before []) (sym (piece_last is_separator false text h))
+      ∙ no_more (ava_of (P text))
+      ∙ ap (λ (r : Result (Ava × List ℕ) NameFaultKind). r >>= avas_from) (sym (ava_is [] h))
 
-  rdn_comma : (more : List ℕ) → B text ≡ 44 ∷ more → first_rdn text ≡ (first_part text >>= parts_from)
+  rdn_comma : (more : List ℕ) → B text ≡ 44 ∷ more → first_rdn text ≡ (first_ava text >>= avas_from)
   unfolding piece behind each rdn_of
   rdn_comma more h =
       let s = after_whole false (P text) (44 ∷ more) (piece_whole is_separator 44 comma_apart false text 44 more h) in
       let text_is = split_at is_separator text 44 more h in
       rdn_is (P text) (44 ∷ more) (ap (piece is_comma false) text_is ∙ s.0 ∙ append-nil (P text)) (ap (behind is_comma false) text_is ∙ s.1)
-      ∙ ap (λ (ps : List (List ℕ)). each part_of ps >>= before (44 ∷ more)) (cut_none 43 false (P text) (piece_whole is_separator 43 plus_apart false text 44 more h))
-      ∙ no_plus (part_of (P text)) more
-      ∙ ap (λ (r : Result (Ava × List ℕ) NameFaultKind). r >>= parts_from) (sym (part_is (44 ∷ more) h))
+      ∙ ap (λ (ps : List (List ℕ)). each ava_of ps >>= before (44 ∷ more)) (cut_none 43 false (P text) (piece_whole is_separator 43 plus_apart false text 44 more h))
+      ∙ no_plus (ava_of (P text)) more
+      ∙ ap (λ (r : Result (Ava × List ℕ) NameFaultKind). r >>= avas_from) (sym (ava_is (44 ∷ more) h))
 
-  rdn_plus : (more : List ℕ) → B text ≡ 43 ∷ more → first_rdn text ≡ (first_part text >>= parts_from)
+  rdn_plus : (more : List ℕ) → B text ≡ 43 ∷ more → first_rdn text ≡ (first_ava text >>= avas_from)
   unfolding piece behind each rdn_of
   rdn_plus more h =
       let s = after_whole false (P text) (43 ∷ more) (piece_whole is_separator 44 comma_apart false text 43 more h) in
       let text_is = split_at is_separator text 43 more h in
       rdn_is (P text ++ 43 ∷ piece is_comma false more) (behind is_comma false more) (ap (piece is_comma false) text_is ∙ s.0) (ap (behind is_comma false) text_is ∙ s.1)
-      ∙ ap (λ (ps : List (List ℕ)). each part_of ps >>= before (behind is_comma false more)) (cut_at 43 false (P text) (piece is_comma false more) (piece_whole is_separator 43 plus_apart false text 43 more h))
-      ∙ with_plus (part_of (P text)) more
-      ∙ ap (λ (r : Result (Ava × List ℕ) NameFaultKind). r >>= parts_from) (sym (part_is (43 ∷ more) h))
+      ∙ ap (λ (ps : List (List ℕ)). each ava_of ps >>= before (behind is_comma false more)) (cut_at 43 false (P text) (piece is_comma false more) (piece_whole is_separator 43 plus_apart false text 43 more h))
+      ∙ with_plus (ava_of (P text)) more
+      ∙ ap (λ (r : Result (Ava × List ℕ) NameFaultKind). r >>= avas_from) (sym (ava_is (43 ∷ more) h))
 
   other : (s : ℕ) → is_separator s ≡ true → eqb s 43 ≡ false → s ≡ 44
   other s h g = eqb-true s 44 (grind (arith, nat_tests))
 
-  by_separator : (s : ℕ) (more : List ℕ) (t : Bool) → eqb s 43 ≡ t → B text ≡ s ∷ more → first_rdn text ≡ (first_part text >>= parts_from)
+  by_separator : (s : ℕ) (more : List ℕ) (t : Bool) → eqb s 43 ≡ t → B text ≡ s ∷ more → first_rdn text ≡ (first_ava text >>= avas_from)
   by_separator s more true is h = rdn_plus more (h ∙ ap (λ (x : ℕ). x ∷ more) (eqb-true s 43 is))
   by_separator s more false is h = rdn_comma more (h ∙ ap (λ (x : ℕ). x ∷ more) (other s (ends_is is_separator false text s more h) is))
 
-  by_behind : (rest : List ℕ) → B text ≡ rest → first_rdn text ≡ (first_part text >>= parts_from)
+  by_behind : (rest : List ℕ) → B text ≡ rest → first_rdn text ≡ (first_ava text >>= avas_from)
   by_behind [] h = rdn_last h
   by_behind (s ∷ more) h = by_separator s more (eqb s 43) refl h
 
-  pub rdn_first : first_rdn text ≡ (first_part text >>= parts_from)
+  pub rdn_first : first_rdn text ≡ (first_ava text >>= avas_from)
   rdn_first = by_behind (B text) refl
 
 -- ---- a name

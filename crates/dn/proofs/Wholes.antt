@@ -4,7 +4,7 @@ use Rattle.std.specs.List.{onto_first, list_all, join_with_byte}
 use Rattle.std.proofs.lemmas.Bool.{and_parts, eqb-true}
 use Rattle.std.proofs.lemmas.Bool.Decides.{nat_tests}
 use Rattle.dn.specs.Names.{Ava, Rdn, is_type_byte, is_type}
-use Rattle.dn.specs.Spelling.{Octet, may_stand, is_hex, IsOctet, AreOctets, spaces, SpellsPart, AreJoined, SpellsRdn}
+use Rattle.dn.specs.Spelling.{Octet, may_stand, is_hex, IsOctet, AreOctets, spaces, SpellsAva, AreJoined, SpellsRdn}
 use Rattle.base.specs.Ends.{is_space}
 use Rattle.dn.specs.Reading.{escapes, cut_raw}
 use Rattle.dn.proofs.Runs.{all_spaces}
@@ -82,7 +82,7 @@ cut_joins sep escaped (b ∷ bs) =
     join_by sep b bs (cut_raw sep false bs) (cut_raw sep (escapes escaped b) bs) (not escaped && eqb b sep) (λ h. eqb-true b sep (and_parts (not escaped) (eqb b sep) h).1)
     (cut_some sep false bs) (cut_some sep (escapes escaped b) bs) (cut_joins sep false bs) (cut_joins sep (escapes escaped b) bs)
 
--- ---- parts are whole
+-- ---- AVAs are whole
 
 abbrev Apart : ℕ → ℕ → Type 0
 Apart sep b = (eqb b sep ≡ false) × (eqb b 92 ≡ false)
@@ -137,8 +137,8 @@ module _ (sep : ℕ) (is_sep : IsSeparator sep) where
   type_whole : (ty : List ℕ) → is_type ty ≡ true → IsWhole sep false ty
   type_whole ty h = plain_whole sep is_type_byte (type_apart sep is_sep) ty (and_parts (not (eqb (length ty) 0)) (list_all is_type_byte ty) h).1
 
-  pub part_whole : (text : List ℕ) (p : Ava) → SpellsPart text p → IsWhole sep false text
-  part_whole text p s =
+  pub ava_whole : (text : List ℕ) (p : Ava) → SpellsAva text p → IsWhole sep false text
+  ava_whole text p s =
       let value = whole_append sep false s.body (spaces s.behind) (octets_whole s.octets s.body s.body_is) (spaces_whole s.behind) in
       let behind = whole_append sep false (spaces s.after) (s.body ++ spaces s.behind) (spaces_whole s.after) value in
       let rest = spaces s.after ++ (s.body ++ spaces s.behind) in
@@ -155,4 +155,4 @@ joined_whole P sep other apart plain whole text (x ∷ y ∷ ys) (front, rest, i
     subst (IsWhole other false) (sym e) (whole_append other false front (sep ∷ rest) (whole front x is) (apart, subst (λ (t : Bool). IsWhole other t rest) (sym plain) (joined_whole P sep other apart plain whole rest (y ∷ ys) more)))
 
 pub rdn_whole : (text : List ℕ) (r : Rdn) → SpellsRdn text r → IsWhole 44 false text
-rdn_whole text r h = joined_whole SpellsPart 43 44 refl refl (λ t p s. part_whole 44 refl t p s) text r h
+rdn_whole text r h = joined_whole SpellsAva 43 44 refl refl (λ t p s. ava_whole 44 refl t p s) text r h

@@ -8,7 +8,7 @@ use Rattle.dn.specs.declared.faults.NameFaultKind.TheVariants.{EqualsMissing, Es
 use Rattle.dn.specs.declared.faults.NameFault.{NameFault}
 use Rattle.dn.specs.declared.faults.NameFault.TheVariants as errors
 use Rattle.dn.specs.Names.{Ava, is_type_byte, is_type}
-use Rattle.dn.specs.Spelling.{Octet, may_follow, is_hex, AreOctets, spaces, SpellsPart}
+use Rattle.dn.specs.Spelling.{Octet, may_follow, is_hex, AreOctets, spaces, SpellsAva}
 
 abbrev pub is_equals : ℕ → Bool
 is_equals b = b == equals_sign
@@ -36,7 +36,7 @@ is_escape [] = false
 is_escape (b ∷ []) = may_follow b
 is_escape (b ∷ c ∷ bs) = may_follow b || (is_hex b && is_hex c)
 
--- ---- how far a part is read
+-- ---- how far an AVA is read
 
 -- spaces, the longest run of the bytes of a type, spaces, and then this
 pub record IsTyped (text ty rest : List ℕ) : Type 0 where
@@ -72,32 +72,32 @@ pub record IsBegun (text bad : List ℕ) : Type 0 where
   pub value_is : value ≡ body ++ bad
   pub body_is : AreOctets octets body
 
--- what stands in a part where it is read no further
-abbrev pub IsPartFault : List ℕ → NameFaultKind → Type 0
-IsPartFault text EqualsMissing = (ty : List ℕ) × (rest : List ℕ) × IsTyped text ty rest × Stops is_equals rest
-IsPartFault text TypeMissing = (rest : List ℕ) × IsTyped text [] (equals_sign ∷ rest)
-IsPartFault text Escape = (rest : List ℕ) × IsBegun text (backslash ∷ rest) × (is_escape rest ≡ false)
-IsPartFault text NotEscaped = (b : ℕ) × (rest : List ℕ) × IsBegun text (b ∷ rest) × (is_special b ≡ true)
-IsPartFault text FormNotSupported = ((value : List ℕ) × IsValued text value × Comes is_quote_or_sign value) ⊎ ((rest : List ℕ) × IsBegun text (semicolon ∷ rest))
+-- what stands in an AVA where it is read no further
+abbrev pub IsAvaFault : List ℕ → NameFaultKind → Type 0
+IsAvaFault text EqualsMissing = (ty : List ℕ) × (rest : List ℕ) × IsTyped text ty rest × Stops is_equals rest
+IsAvaFault text TypeMissing = (rest : List ℕ) × IsTyped text [] (equals_sign ∷ rest)
+IsAvaFault text Escape = (rest : List ℕ) × IsBegun text (backslash ∷ rest) × (is_escape rest ≡ false)
+IsAvaFault text NotEscaped = (b : ℕ) × (rest : List ℕ) × IsBegun text (b ∷ rest) × (is_special b ≡ true)
+IsAvaFault text FormNotSupported = ((value : List ℕ) × IsValued text value × Comes is_quote_or_sign value) ⊎ ((rest : List ℕ) × IsBegun text (semicolon ∷ rest))
 
 -- ---- how far a text is read
 
 abbrev pub is_separator : ℕ → Bool
 is_separator b = b == plus_sign || b == comma
 
--- whole parts, with `+` or `,` behind each
-abbrev pub AreParts : List Ava → List ℕ → Type 0
-AreParts [] text = text ≡ []
-AreParts (p ∷ ps) text = (part : List ℕ) × (sep : ℕ) × (rest : List ℕ) × SpellsPart part p × (is_separator sep ≡ true) × (text ≡ part ++ sep ∷ rest) × AreParts ps rest
+-- whole AVAs, with `+` or `,` behind each
+abbrev pub AreAvas : List Ava → List ℕ → Type 0
+AreAvas [] text = text ≡ []
+AreAvas (p ∷ ps) text = (ava : List ℕ) × (sep : ℕ) × (rest : List ℕ) × SpellsAva ava p × (is_separator sep ≡ true) × (text ≡ ava ++ sep ∷ rest) × AreAvas ps rest
 
--- whole parts, and then a part that is read no further; spaces alone are a name
+-- whole AVAs, and then an AVA that is read no further; spaces alone are a name
 pub record IsNameFault (text : List ℕ) (fault : NameFaultKind) : Type 0 where
-  pub parts : List Ava
+  pub avas : List Ava
   pub front : List ℕ
   pub rest : List ℕ
   pub text_is : text ≡ front ++ rest
-  pub front_is : AreParts parts front
-  pub rest_is : IsPartFault rest fault
+  pub front_is : AreAvas avas front
+  pub rest_is : IsAvaFault rest fault
   pub some : list_all is_space text ≡ false
 
 -- why a call read no name of a text

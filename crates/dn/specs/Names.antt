@@ -8,7 +8,7 @@ use Rattle.base.specs.Ascii.{hyphen, full_stop, underscore}
 abbrev pub Ava : Type 0
 Ava = List ℕ × List ℕ
 
--- an RDN: its parts in the order written
+-- an RDN: its AVAs in the order written
 abbrev pub Rdn : Type 0
 Rdn = List Ava
 
@@ -16,7 +16,7 @@ Rdn = List Ava
 abbrev pub Name : Type 0
 Name = List Rdn
 
--- ---- which parts there are
+-- ---- which AVAs there are
 
 abbrev pub is_type_byte : ℕ → Bool
 is_type_byte b = is_ascii_alphanumeric b || b == hyphen || b == underscore || b == full_stop

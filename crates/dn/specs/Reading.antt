@@ -55,7 +55,7 @@ begins_form (b ∷ bs) = b == quotation_mark || b == number_sign
 unfoldable pub value_of : List ℕ → Result (List ℕ) NameFaultKind
 value_of text = if begins_form text then Err FormNotSupported else value_from (octets_from Plain text)
 
--- ---- a part
+-- ---- an AVA
 
 abbrev pub type_in : List ℕ → List ℕ
 type_in text = take (prefix_len is_type_byte text) text
@@ -68,12 +68,12 @@ abbrev pub after_equals : List ℕ → List ℕ → Result (List ℕ) NameFaultK
 after_equals ty [] = Err EqualsMissing
 after_equals ty (b ∷ bs) = if b == equals_sign then (if length ty == 0 then Err TypeMissing else Ok bs) else Err EqualsMissing
 
--- a part from its type on
-unfoldable pub part_at : List ℕ → Result Ava NameFaultKind
-part_at text = after_equals (type_in text) (without_front (after_type text)) >>= λ rest. (value_of (without_front rest) >>= λ value. Ok (type_in text, value))
+-- an AVA from its type on
+unfoldable pub ava_at : List ℕ → Result Ava NameFaultKind
+ava_at text = after_equals (type_in text) (without_front (after_type text)) >>= λ rest. (value_of (without_front rest) >>= λ value. Ok (type_in text, value))
 
-unfoldable pub part_of : List ℕ → Result Ava NameFaultKind
-part_of text = part_at (without_front text)
+unfoldable pub ava_of : List ℕ → Result Ava NameFaultKind
+ava_of text = ava_at (without_front text)
 
 -- ---- an RDN, a name
 
@@ -87,7 +87,7 @@ cut_raw sep escaped [] = [] ∷ []
 cut_raw sep escaped (b ∷ bs) = if not escaped && b == sep then [] ∷ cut_raw sep false bs else onto_first b (cut_raw sep (escapes escaped b) bs)
 
 unfoldable pub rdn_of : List ℕ → Result Rdn NameFaultKind
-rdn_of text = each part_of (cut_raw plus_sign false text)
+rdn_of text = each ava_of (cut_raw plus_sign false text)
 
 unfoldable pub name_of : List ℕ → Result Name NameFaultKind
 name_of text = if list_all is_space text then Ok [] else each rdn_of (cut_raw comma false text)

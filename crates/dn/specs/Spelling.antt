@@ -57,13 +57,13 @@ ends_well (o ∷ p ∷ os) = ends_well (p ∷ os)
 abbrev pub byte_of : Octet → ℕ
 byte_of o = o.byte
 
--- ---- a part, an RDN, a name
+-- ---- an AVA, an RDN, a name
 
 abbrev pub spaces : ℕ → List ℕ
 spaces n = replicate n space
 
 -- spaces, the type, spaces, `=`, spaces, the octets of the value, spaces
-pub record SpellsPart (text : List ℕ) (p : Ava) : Type 0 where
+pub record SpellsAva (text : List ℕ) (p : Ava) : Type 0 where
   pub before : ℕ
   pub between : ℕ
   pub after : ℕ
@@ -83,9 +83,9 @@ AreJoined Spelled sep text [] = ⊥
 AreJoined Spelled sep text (x ∷ []) = Spelled text x
 AreJoined Spelled sep text (x ∷ y ∷ ys) = (front : List ℕ) × (rest : List ℕ) × Spelled front x × (text ≡ front ++ sep ∷ rest) × AreJoined Spelled sep rest (y ∷ ys)
 
--- parts joined by `+`
+-- AVAs joined by `+`
 abbrev pub SpellsRdn : List ℕ → Rdn → Type 0
-SpellsRdn text r = AreJoined SpellsPart plus_sign text r
+SpellsRdn text r = AreJoined SpellsAva plus_sign text r
 
 -- spaces alone, or RDNs joined by `,`
 abbrev pub Spells : List ℕ → Name → Type 0

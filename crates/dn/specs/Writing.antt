@@ -32,11 +32,11 @@ text_from first (b ∷ bs) = written first (is_nothing bs) b ++ text_from false 
 abbrev pub value_text : List ℕ → List ℕ
 value_text value = text_from true value
 
-abbrev pub part_text : Ava → List ℕ
-part_text p = p.0 ++ equals_sign ∷ value_text p.1
+abbrev pub ava_text : Ava → List ℕ
+ava_text p = p.0 ++ equals_sign ∷ value_text p.1
 
 abbrev pub rdn_text : Rdn → List ℕ
-rdn_text r = join_with_byte plus_sign (map part_text r)
+rdn_text r = join_with_byte plus_sign (map ava_text r)
 
 unfoldable pub text_of : Name → List ℕ
 text_of n = join_with_byte comma (map rdn_text n)

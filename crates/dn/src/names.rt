@@ -4,29 +4,29 @@ ghost use Rattle.std.specs.Prelude.{◌≡◌, ◌∷◌, ◌++◌, [], true, So
 ghost use Rattle.std.specs.List.{list_all};
 ghost use Rattle.dn.specs.Names.{is_ava, is_rdn, is_name};
 
-use crate::part::Ava;
+use crate::avas::Ava;
 use smallvec::SmallVec;
 use std::alloc::{AllocError, Global};
 use std::default::MadeWith;
 use std::marker::Model;
 
-fn are_parts(parts: &[Ava]) -> bool
-    ensures { result ≡ list_all is_ava parts.now }
+fn are_avas(avas: &[Ava]) -> bool
+    ensures { result ≡ list_all is_ava avas.now }
 {
-    parts.iter().all(|part| part.is_ava())
+    avas.iter().all(|ava| ava.is_ava())
 }
 
-/// The parts of an RDN, one or more. A contract sees the list of them.
+/// The AVAs of an RDN, one or more. A contract sees the list of them.
 #[derive(Debug)]
 pub struct Rdn {
-    parts: SmallVec<Ava, 2>,
+    avas: SmallVec<Ava, 2>,
 }
 
 // A call of its own, so that a caller's proof need not tell the places apart.
 impl Drop for Rdn {
     fn drop(self) {
-        let Rdn { parts } = self;
-        drop(parts);
+        let Rdn { avas } = self;
+        drop(avas);
     }
 }
 
@@ -36,29 +36,29 @@ impl Model for Rdn {
 
     ghost Value = { List (List ℕ × List ℕ) };
 
-    ghost view = { λ r. r.parts.items };
+    ghost view = { λ r. r.avas.items };
 
-    ghost invariant = { λ r. is_rdn r.parts.items ≡ true };
+    ghost invariant = { λ r. is_rdn r.avas.items ≡ true };
 }
 
 impl Rdn {
-    /// The RDN of these parts; None where there are no parts, or one of them has no type.
-    pub fn new(parts: Vec<Ava>) -> Option<Rdn>
-        ensures { result ≡ (if is_rdn parts.items then Some parts.items else None) }
+    /// The RDN of these AVAs; None where there are no AVAs, or one of them has no type.
+    pub fn new(avas: Vec<Ava>) -> Option<Rdn>
+        ensures { result ≡ (if is_rdn avas.items then Some avas.items else None) }
     {
-        if parts.is_empty() || !are_parts(&parts) {
+        if avas.is_empty() || !are_avas(&avas) {
             return None;
         }
-        Some(Rdn::many(parts))
+        Some(Rdn::many(avas))
     }
 
     #[inline(always)]
-    pub(crate) fn one(alloc: Global, part: Ava) -> Rdn
-        requires { is_ava part ≡ true }
-        ensures { result ≡ part ∷ [] }
+    pub(crate) fn one(alloc: Global, ava: Ava) -> Rdn
+        requires { is_ava ava ≡ true }
+        ensures { result ≡ ava ∷ [] }
     {
         Rdn {
-            parts: SmallVec::from_buf_and_len(alloc, [part, Ava::made_with(alloc)], 1),
+            avas: SmallVec::from_buf_and_len(alloc, [ava, Ava::made_with(alloc)], 1),
         }
     }
 
@@ -69,25 +69,25 @@ impl Rdn {
         ensures { result ≡ first ∷ second ∷ [] }
     {
         Rdn {
-            parts: SmallVec::from_buf(alloc, [first, second]),
+            avas: SmallVec::from_buf(alloc, [first, second]),
         }
     }
 
-    pub(crate) fn many(parts: Vec<Ava>) -> Rdn
-        requires { is_rdn parts.items ≡ true }
-        ensures { result ≡ parts.items }
+    pub(crate) fn many(avas: Vec<Ava>) -> Rdn
+        requires { is_rdn avas.items ≡ true }
+        ensures { result ≡ avas.items }
     {
         Rdn {
-            parts: SmallVec::from_vec(parts),
+            avas: SmallVec::from_vec(avas),
         }
     }
 
-    /// The parts in the order written.
-    pub fn parts(&self) -> &[Ava]
-        ensures parts { result.now ≡ self.now }
+    /// The AVAs in the order written.
+    pub fn avas(&self) -> &[Ava]
+        ensures avas { result.now ≡ self.now }
         ensures good { is_rdn self.now ≡ true }
     {
-        self.parts.as_slice()
+        self.avas.as_slice()
     }
 }
 
@@ -124,7 +124,7 @@ impl Name {
         ensures ok { OnOk result (self.new ≡ self.old ++ rdn ∷ []) }
         ensures err { OnErr result (self.new ≡ self.old) }
     {
-        let _ = &rdn.parts;
+        let _ = &rdn.avas;
         self.rdns.push(rdn)?;
         Ok(())
     }

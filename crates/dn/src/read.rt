@@ -8,13 +8,13 @@ ghost use Rattle.dn.specs.NameFaults.{IsWhy};
 ghost use Rattle.base.specs.Answers.{each, Fails};
 ghost use Rattle.base.specs.Ends.{is_space, without_front};
 ghost use Rattle.dn.specs.Reading.{after_equals, cut_raw, rdn_of, name_of};
-ghost use Rattle.dn.specs.inner.Cuts.{first_value, first_part, first_rdn, part_from, parts_from, Pushes};
+ghost use Rattle.dn.specs.inner.Cuts.{first_value, first_ava, first_rdn, ava_from, avas_from, Pushes};
 ghost use Rattle.dn.specs.inner.Texts.{Starts};
 ghost use Rattle.dn.specs.Gives.{Gives, fault_of};
 
 use crate::faults::{NameFault, NameFaultKind};
 use crate::names::{Name, Rdn};
-use crate::part::{Ava, split_type};
+use crate::avas::{Ava, split_type};
 use crate::split::{after_first, after_plus, begins_with_plus, split_piece};
 use crate::value::{Plain, split_plain, value_of};
 use std::alloc::Global;
@@ -50,7 +50,7 @@ fn after_equals<'a>(ty_text: &[u8], rest: &'a [u8]) -> Result<&'a [u8], NameFaul
     }
 }
 
-/// A part from its type on, and of that the type and what follows the equals sign and spaces.
+/// An AVA from its type on, and of that the type and what follows the equals sign and spaces.
 #[derive(Clone, Copy)]
 struct Start<'a> {
     text: &'a [u8],
@@ -58,11 +58,11 @@ struct Start<'a> {
     rest: &'a [u8],
 }
 
-/// The part at the front of a text as far as its value.
+/// The AVA at the front of a text as far as its value.
 #[inline(always)]
 fn start_in(text: &[u8]) -> Result<Start<'_>, NameFault>
-    ensures exact { IfOk result (λ s. first_part text.now ≡ part_from s.ty_text.now s.rest.now) }
-    ensures err { IfErr result (λ e. Fails (fault_of e) (first_part text.now)) }
+    ensures exact { IfOk result (λ s. first_ava text.now ≡ ava_from s.ty_text.now s.rest.now) }
+    ensures err { IfErr result (λ e. Fails (fault_of e) (first_ava text.now)) }
     ensures ty_text { IfOk result (λ s. is_type s.ty_text.now ≡ true) }
     ensures text { IfOk result (λ s. Starts s.text.now s.ty_text.now s.rest.now) }
 {
@@ -76,38 +76,38 @@ fn start_in(text: &[u8]) -> Result<Start<'_>, NameFault>
     })
 }
 
-/// The part with this value, where it is short.
+/// The AVA with this value, where it is short.
 #[inline(always)]
-fn short_part(start: Start<'_>, plain: Plain<'_>) -> Option<Ava>
+fn short_ava(start: Start<'_>, plain: Plain<'_>) -> Option<Ava>
     requires ty_text { is_type start.ty_text.now ≡ true }
     requires text { Starts start.text.now start.ty_text.now start.rest.now }
     requires value { start.rest.now ≡ plain.value.now ++ plain.after.now }
-    ensures same { IfSome result (λ part. part ≡ (start.entry.ty_text.now, plain.entry.value.now)) }
-    ensures good { IfSome result (λ part. is_ava part ≡ true) }
+    ensures same { IfSome result (λ ava. ava ≡ (start.entry.ty_text.now, plain.entry.value.now)) }
+    ensures good { IfSome result (λ ava. is_ava ava ≡ true) }
 {
     let end = start.text.len() - plain.after.len();
     Ava::short(start.text, end, start.ty_text, plain.value)
 }
 
-/// The part at the front of a text, where it is short and spelled without an escape, and what stands behind it.
+/// The AVA at the front of a text, where it is short and spelled without an escape, and what stands behind it.
 #[inline(always)]
 fn short_in(text: &[u8]) -> Option<(Ava, &[u8])>
-    ensures exact { IfSome result (λ r. first_part text.now ≡ Ok (r.0, r.1.now)) }
+    ensures exact { IfSome result (λ r. first_ava text.now ≡ Ok (r.0, r.1.now)) }
     ensures good { IfSome result (λ r. is_ava r.0 ≡ true) }
 {
     let Ok(start) = start_in(text) else {
         return None;
     };
     let plain = split_plain(start.rest)?;
-    let part = short_part(start, plain)?;
-    Some((part, plain.behind))
+    let ava = short_ava(start, plain)?;
+    Some((ava, plain.behind))
 }
 
-/// A part with a value up to the first separator that is not escaped, and what stands from there on.
+/// An AVA with a value up to the first separator that is not escaped, and what stands from there on.
 #[inline(always)]
-fn escaped_part<'a>(alloc: Global, start: Start<'a>) -> Result<(Ava, &'a [u8]), NameFault>
+fn escaped_ava<'a>(alloc: Global, start: Start<'a>) -> Result<(Ava, &'a [u8]), NameFault>
     requires { is_type start.ty_text.now ≡ true }
-    ensures exact { Gives (λ r. (r.0, r.1.now)) result (part_from start.entry.ty_text.now start.entry.rest.now) }
+    ensures exact { Gives (λ r. (r.0, r.1.now)) result (ava_from start.entry.ty_text.now start.entry.rest.now) }
     ensures good { IfOk result (λ r. is_ava r.0 ≡ true) }
 {
     let (piece, behind) = split_piece(start.rest);
@@ -120,14 +120,14 @@ fn escaped_part<'a>(alloc: Global, start: Start<'a>) -> Result<(Ava, &'a [u8]), 
 
 /// The same, where it is known whether the value is spelled without an escape.
 #[inline(always)]
-fn part_of<'a>(
+fn ava_of<'a>(
     alloc: Global,
     start: Start<'a>,
     plain: Option<Plain<'a>>,
 ) -> Result<(Ava, &'a [u8]), NameFault>
     requires ty_text { is_type start.ty_text.now ≡ true }
     requires plain { IfSome plain (λ p. first_value start.rest.now ≡ Ok (p.value.now, p.behind.now)) }
-    ensures exact { Gives (λ r. (r.0, r.1.now)) result (part_from start.entry.ty_text.now start.entry.rest.now) }
+    ensures exact { Gives (λ r. (r.0, r.1.now)) result (ava_from start.entry.ty_text.now start.entry.rest.now) }
     ensures good { IfOk result (λ r. is_ava r.0 ≡ true) }
 {
     match plain {
@@ -135,39 +135,39 @@ fn part_of<'a>(
             Ava::of_type(alloc, start.ty_text, plain.value)?,
             plain.behind,
         )),
-        None => escaped_part(alloc, start),
+        None => escaped_ava(alloc, start),
     }
 }
 
-/// The part at the front of a text, up to the first separator that is not escaped, and what stands from there on.
-fn part_in(alloc: Global, text: &[u8]) -> Result<(Ava, &[u8]), NameFault>
-    ensures exact { Gives (λ r. (r.0, r.1.now)) result (first_part text.now) }
+/// The AVA at the front of a text, up to the first separator that is not escaped, and what stands from there on.
+fn ava_in(alloc: Global, text: &[u8]) -> Result<(Ava, &[u8]), NameFault>
+    ensures exact { Gives (λ r. (r.0, r.1.now)) result (first_ava text.now) }
     ensures good { IfOk result (λ r. is_ava r.0 ≡ true) }
 {
     let start = start_in(text)?;
-    part_of(alloc, start, split_plain(start.rest))
+    ava_of(alloc, start, split_plain(start.rest))
 }
 
-/// The RDN with this first part, up to the first comma that is not escaped, and what stands from there on.
+/// The RDN with this first AVA, up to the first comma that is not escaped, and what stands from there on.
 #[inline(always)]
-fn rdn_from<'a>(alloc: Global, part: Ava, behind: &'a [u8]) -> Result<(Rdn, &'a [u8]), NameFault>
-    requires { is_ava part ≡ true }
-    ensures { Gives (λ r. (r.0, r.1.now)) result (parts_from (part, behind.now)) }
+fn rdn_from<'a>(alloc: Global, ava: Ava, behind: &'a [u8]) -> Result<(Rdn, &'a [u8]), NameFault>
+    requires { is_ava ava ≡ true }
+    ensures { Gives (λ r. (r.0, r.1.now)) result (avas_from (ava, behind.now)) }
 {
     if !begins_with_plus(behind) {
-        return Ok((Rdn::one(alloc, part), behind));
+        return Ok((Rdn::one(alloc, ava), behind));
     }
-    let mut parts = vec![in alloc; part]?;
+    let mut avas = vec![in alloc; ava]?;
     let mut rest = behind;
     while let Some(more) = after_plus(rest) {
-        let (part, behind) = part_in(alloc, more)?;
-        parts.push(part)?;
+        let (ava, behind) = ava_in(alloc, more)?;
+        avas.push(ava)?;
         rest = behind;
     }
-    Ok((Rdn::many(parts), rest))
+    Ok((Rdn::many(avas), rest))
 }
 
-/// Puts the RDN at the front of a text at the end of a name, and answers what stands behind it. Most RDNs have one short part
+/// Puts the RDN at the front of a text at the end of a name, and answers what stands behind it. Most RDNs have one short AVA
 /// or two: those are made in place.
 #[inline(always)]
 fn push_rdn<'a>(alloc: Global, name: &mut Name, text: &'a [u8]) -> Result<&'a [u8], NameFault>
@@ -177,21 +177,21 @@ fn push_rdn<'a>(alloc: Global, name: &mut Name, text: &'a [u8]) -> Result<&'a [u
     let start = start_in(text)?;
     let plain = split_plain(start.rest);
     if let Some(plain) = plain {
-        if let Some(part) = short_part(start, plain) {
+        if let Some(ava) = short_ava(start, plain) {
             let Some(more) = after_plus(plain.behind) else {
-                name.push(Rdn::one(alloc, part))?;
+                name.push(Rdn::one(alloc, ava))?;
                 return Ok(plain.behind);
             };
             if let Some((second, end)) = short_in(more) {
                 if !begins_with_plus(end) {
-                    name.push(Rdn::two(alloc, part, second))?;
+                    name.push(Rdn::two(alloc, ava, second))?;
                     return Ok(end);
                 }
             }
         }
     }
-    let (part, behind) = part_of(alloc, start, plain)?;
-    let (rdn, behind) = rdn_from(alloc, part, behind)?;
+    let (ava, behind) = ava_of(alloc, start, plain)?;
+    let (rdn, behind) = rdn_from(alloc, ava, behind)?;
     name.push(rdn)?;
     Ok(behind)
 }

@@ -1,4 +1,4 @@
-//! The bytes of a part.
+//! The bytes of an AVA.
 
 ghost use Rattle.std.specs.Prelude.{◌≡◌, ◌≤◌, ◌+◌, [], ◌∷◌, ◌++◌, length, take, IfOk, IfSome};
 ghost use Rattle.dn.specs.inner.Texts.{EndsAt};
@@ -42,7 +42,7 @@ impl Model for AvaText {
 }
 
 impl AvaText {
-    /// The type `x` and an empty value: a part to be put in another's place.
+    /// The type `x` and an empty value: an AVA to be put in another's place.
     pub(crate) fn blank() -> AvaText
         ensures { result ≡ 120 ∷ 61 ∷ [] }
     {
@@ -81,7 +81,7 @@ impl AvaText {
     }
 
     /// A type, an equals sign and a value.
-    pub(crate) fn of_part(
+    pub(crate) fn of_ava(
         alloc: Global,
         ty_text: &[u8],
         value: &[u8],
@@ -113,7 +113,7 @@ impl AvaText {
     }
 }
 
-// Most parts are written without spaces round the equals sign: then a piece of a fixed length is copied.
+// Most AVAs are written without spaces round the equals sign: then a piece of a fixed length is copied.
 #[inline(always)]
 fn few_of(text: &[u8], end: usize, ty_text: &[u8], value: &[u8]) -> [u8; FEW]
     requires few { length ty_text.now + 1 + length value.now ≤ 24 }

@@ -6,10 +6,10 @@ ghost use Rattle.std.specs.String.{string_bytes};
 ghost use Rattle.base.specs.Extends.{Extends};
 ghost use Rattle.dn.specs.Names.{is_name};
 ghost use Rattle.dn.specs.Spelling.{Spells};
-ghost use Rattle.dn.specs.Writing.{digit, needs_pair, stands, written, value_text, part_text, rdn_text, text_of};
+ghost use Rattle.dn.specs.Writing.{digit, needs_pair, stands, written, value_text, ava_text, rdn_text, text_of};
 
 use crate::names::{Name, Rdn};
-use crate::part::Ava;
+use crate::avas::Ava;
 use crate::value::may_stand;
 use std::alloc::{AllocError, Global};
 
@@ -58,33 +58,33 @@ pub fn put_value(out: &mut Vec<u8>, value: &[u8]) -> Result<(), AllocError>
     Ok(())
 }
 
-fn put_part(out: &mut Vec<u8>, part: &Ava) -> Result<(), AllocError>
-    ensures { OnOk result (out.new.items ≡ out.old.items ++ part_text part.now) }
+fn put_ava(out: &mut Vec<u8>, ava: &Ava) -> Result<(), AllocError>
+    ensures { OnOk result (out.new.items ≡ out.old.items ++ ava_text ava.now) }
 {
-    out.extend_from_slice(part.ty_text())?;
+    out.extend_from_slice(ava.ty_text())?;
     out.extend_from_slice(b"=")?;
-    put_value(out, part.value())
+    put_value(out, ava.value())
 }
 
-/// Each part with a plus sign before it.
-fn put_more_parts(out: &mut Vec<u8>, parts: &[Ava]) -> Result<(), AllocError>
-    ensures { OnOk result (out.new.items ≡ out.old.items ++ flat_map (λ p. 43 ∷ part_text p) parts.now) }
+/// Each AVA with a plus sign before it.
+fn put_more_avas(out: &mut Vec<u8>, avas: &[Ava]) -> Result<(), AllocError>
+    ensures { OnOk result (out.new.items ≡ out.old.items ++ flat_map (λ p. 43 ∷ ava_text p) avas.now) }
 {
-    for part in parts {
+    for ava in avas {
         out.extend_from_slice(b"+")?;
-        put_part(out, part)?;
+        put_ava(out, ava)?;
     }
     Ok(())
 }
 
-fn put_parts(out: &mut Vec<u8>, parts: &[Ava]) -> Result<(), AllocError>
-    ensures { OnOk result (out.new.items ≡ out.old.items ++ join_with_byte 43 (map part_text parts.now)) }
+fn put_avas(out: &mut Vec<u8>, avas: &[Ava]) -> Result<(), AllocError>
+    ensures { OnOk result (out.new.items ≡ out.old.items ++ join_with_byte 43 (map ava_text avas.now)) }
 {
-    match parts {
+    match avas {
         [] => Ok(()),
         [first, others @ ..] => {
-            put_part(out, first)?;
-            put_more_parts(out, others)?;
+            put_ava(out, first)?;
+            put_more_avas(out, others)?;
             Ok(())
         }
     }
@@ -93,7 +93,7 @@ fn put_parts(out: &mut Vec<u8>, parts: &[Ava]) -> Result<(), AllocError>
 fn put_rdn(out: &mut Vec<u8>, rdn: &Rdn) -> Result<(), AllocError>
     ensures { OnOk result (out.new.items ≡ out.old.items ++ rdn_text rdn.now) }
 {
-    put_parts(out, rdn.parts())
+    put_avas(out, rdn.avas())
 }
 
 /// Each RDN with a comma before it.

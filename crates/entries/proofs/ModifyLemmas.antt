@@ -133,10 +133,10 @@ module _ (types : List AttributeType) (es : List EntryAttribute) (t : ℕ) (op :
   at_fails None said = tt
   at_fails (Some c) said = at_is ∙ ap set said
 
--- ---- a part of an RDN
+-- ---- an AVA of an RDN
 
-pub part_out : (types : List AttributeType) (es : List EntryAttribute) (t : ℕ) (raw n : List ℕ) → IsMade types es → n ≡ norm_at types t raw → attributes_of (set_values es t (but_norm n (values_of es t))) ≡ set_values (attributes_of es) t (without_value types t (values_of (attributes_of es) t) raw)
-part_out types es t raw n made is =
+pub ava_out : (types : List AttributeType) (es : List EntryAttribute) (t : ℕ) (raw n : List ℕ) → IsMade types es → n ≡ norm_at types t raw → attributes_of (set_values es t (but_norm n (values_of es t))) ≡ set_values (attributes_of es) t (without_value types t (values_of (attributes_of es) t) raw)
+ava_out types es t raw n made is =
     raws_set t es (but_norm n (values_of es t))
     ∙ ap (set_values (attributes_of es) t)
     (sym (kept_raws types t n (values_of es t) (normal_values types t es made.each))

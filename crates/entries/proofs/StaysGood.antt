@@ -21,7 +21,7 @@ use Rattle.schema.specs.Conf.{Conf}
 use Rattle.base.specs.Answers.{through}
 use Rattle.base.proofs.Bound.{bind_ok, same_ok}
 use Rattle.entries.specs.Entries.{Attributes, EntryContent, values_of, has_equal, with_rdn, has_its_classes, are_single, IsGood}
-use Rattle.entries.specs.Modifies.{unless, append_value, without_value, remove_value, has_values, block_fault, block_values, changed_values, set_values, modify_at, named_type, modify_block, entry_fault, has_rdn, modified_fault, modify_entry, has_part, without_part, without_rdn, renamed_attrs, rename_entry}
+use Rattle.entries.specs.Modifies.{unless, append_value, without_value, remove_value, has_values, block_fault, block_values, changed_values, set_values, modify_at, named_type, modify_block, entry_fault, has_rdn, modified_fault, modify_entry, has_ava, without_ava, without_rdn, renamed_attrs, rename_entry}
 use Rattle.entries.proofs.Pushed.{AreGood, all_push, equal_equiv, turned, type_known, rdn_good, all_come, IsThere}
 use Rattle.entries.proofs.SetValues.{AreValues, good_set, values_good, values_set}
 
@@ -167,7 +167,7 @@ module _ (types : List AttributeType) where
   left_there : (t : ℕ) (v w : List ℕ) (vs : List (List ℕ)) → are_equal types t v w ≡ false → has_equal types t v vs ≡ true → has_equal types t v (without_value types t vs w) ≡ true
   left_there t v w vs apart there = any-filter_same (λ k. are_equal types t k v) (λ k. not (are_equal types t k w)) true (λ k same. differs t v w k apart same) vs ∙ there
 
-  stays_there : (attrs : Attributes) (p q : Ava) → IsDistinct nat_eq (keys_of attrs) → (nat_eq p.0 q.0 && are_equal types p.0 q.1 p.1) ≡ false → IsThere types attrs q → IsThere types (without_part types p attrs) q
+  stays_there : (attrs : Attributes) (p q : Ava) → IsDistinct nat_eq (keys_of attrs) → (nat_eq p.0 q.0 && are_equal types p.0 q.1 p.1) ≡ false → IsThere types attrs q → IsThere types (without_ava types p attrs) q
   stays_there attrs p q h other there =
       ap (has_equal types q.0 q.1) (values_set p.0 (without_value types p.0 (values_of attrs p.0) p.1) attrs q.0 h)
       ∙ elim (nat_eq q.0 p.0) as (λ b. nat_eq q.0 p.0 ≡ b → has_equal types q.0 q.1 (cond b (without_value types p.0 (values_of attrs p.0) p.1) (values_of attrs q.0)) ≡ true) [
@@ -179,22 +179,22 @@ module _ (types : List AttributeType) where
             (left_there p.0 q.1 p.1 (values_of attrs p.0) apart (subst (λ k. has_equal types k q.1 (values_of attrs k) ≡ true) same there))
       ] refl
 
-  all_stay : (attrs : Attributes) (p : Ava) (new : Rdn) → IsDistinct nat_eq (keys_of attrs) → has_part types new p ≡ false → AllByRecursion (IsThere types attrs) new → AllByRecursion (IsThere types (without_part types p attrs)) new
+  all_stay : (attrs : Attributes) (p : Ava) (new : Rdn) → IsDistinct nat_eq (keys_of attrs) → has_ava types new p ≡ false → AllByRecursion (IsThere types attrs) new → AllByRecursion (IsThere types (without_ava types p attrs)) new
   all_stay attrs p [] h other there = tt
   all_stay attrs p (q ∷ qs) h other there =
-      let k = or_parts (nat_eq p.0 q.0 && are_equal types p.0 q.1 p.1) (has_part types qs p) other in
+      let k = or_parts (nat_eq p.0 q.0 && are_equal types p.0 q.1 p.1) (has_ava types qs p) other in
       (stays_there attrs p q h k.0 there.0, all_stay attrs p qs h k.1 there.1)
 
-  part_gone : (attrs : Attributes) (p : Ava) → is_known types p.0 ≡ true → AreGood types attrs → AreGood types (without_part types p attrs)
-  part_gone attrs p known h = good_set types p.0 (without_value types p.0 (values_of attrs p.0) p.1) attrs h (without_good types p.0 (values_of attrs p.0) p.1 (values_good types p.0 attrs known h.all))
+  ava_gone : (attrs : Attributes) (p : Ava) → is_known types p.0 ≡ true → AreGood types attrs → AreGood types (without_ava types p attrs)
+  ava_gone attrs p known h = good_set types p.0 (without_value types p.0 (values_of attrs p.0) p.1) attrs h (without_good types p.0 (values_of attrs p.0) p.1 (values_good types p.0 attrs known h.all))
 
   rdn_gone : (new old : Rdn) (attrs : Attributes) → AllByRecursion (IsAva types) old → AreGood types attrs → AllByRecursion (IsThere types attrs) new → AreGood types (without_rdn types new old attrs) × AllByRecursion (IsThere types (without_rdn types new old attrs)) new
   unfolding without_rdn
   rdn_gone new [] attrs is h there = (h, there)
   rdn_gone new (p ∷ ps) attrs is h there =
-      elim (has_part types new p) as (λ b. has_part types new p ≡ b → AreGood types (without_rdn types new ps (cond b attrs (without_part types p attrs))) × AllByRecursion (IsThere types (without_rdn types new ps (cond b attrs (without_part types p attrs)))) new) [
+      elim (has_ava types new p) as (λ b. has_ava types new p ≡ b → AreGood types (without_rdn types new ps (cond b attrs (without_ava types p attrs))) × AllByRecursion (IsThere types (without_rdn types new ps (cond b attrs (without_ava types p attrs)))) new) [
         | true ↦ λ e. rdn_gone new ps attrs is.1 h there
-        | false ↦ λ e. rdn_gone new ps (without_part types p attrs) is.1 (part_gone attrs p is.0.known h) (all_stay attrs p new h.types_apart e there)
+        | false ↦ λ e. rdn_gone new ps (without_ava types p attrs) is.1 (ava_gone attrs p is.0.known h) (all_stay attrs p new h.types_apart e there)
       ] refl
 
   renamed_good : (e : EntryContent) (new : Rdn) (delete_old : Bool) → AllByRecursion (IsAva types) e.rdn → AllByRecursion (IsAva types) new → AreGood types e.attrs → AreGood types (renamed_attrs types e new delete_old) × AllByRecursion (IsThere types (renamed_attrs types e new delete_old)) new
@@ -208,7 +208,7 @@ rename_keeps conf e out new delete_old h good_new said =
     let now : EntryContent = record { rdn = new; attrs = attrs } in
     let n = none_said (entry_fault conf attrs) (Ok now) out said in
     let tests = whole_ok conf attrs n.0 in
-    let good = renamed_good conf.types e new delete_old h.rdn.parts good_new.parts (record { all = h.attrs; types_apart = h.types_apart }) in
+    let good = renamed_good conf.types e new delete_old h.rdn.avas good_new.avas (record { all = h.attrs; types_apart = h.types_apart }) in
     let is : now ≡ out = same_ok now out n.1 in (
       subst (IsGood conf) is (record {
         attrs = good.0.all;

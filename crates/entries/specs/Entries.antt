@@ -48,15 +48,15 @@ add_lines mode types attrs [] = Ok attrs
 add_lines mode types attrs (l ∷ ls) = add_line mode types attrs l >>= λ more. add_lines mode types more ls
 
 -- a value of the RDN, where no equal one is there
-abbrev pub with_part : List AttributeType → Ava → Attributes → Attributes
-with_part types p attrs = if has_equal types p.0 p.1 (values_of attrs p.0) then attrs else push_value attrs p.0 p.1
+abbrev pub with_ava : List AttributeType → Ava → Attributes → Attributes
+with_ava types p attrs = if has_equal types p.0 p.1 (values_of attrs p.0) then attrs else push_value attrs p.0 p.1
 
 -- each value of the RDN that has no equal one there
 unfoldable pub with_rdn : List AttributeType → Rdn → Attributes → Attributes
 with_rdn types [] attrs = attrs
-with_rdn types (p ∷ ps) attrs = with_rdn types ps (with_part types p attrs)
+with_rdn types (p ∷ ps) attrs = with_rdn types ps (with_ava types p attrs)
 
--- those of its first parts, as many as there are by now
+-- those of its first AVAs, as many as there are by now
 abbrev pub HasBegun : List AttributeType → Rdn → Attributes → Attributes → Type 0
 HasBegun types r before after = (n : ℕ) × (after ≡ with_rdn types (take n r) before)
 

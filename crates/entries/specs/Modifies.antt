@@ -121,16 +121,16 @@ modify_entry conf e mods =
 -- ---- another RDN (RFC 4511, 4.9)
 
 -- whether an RDN has this value, in whatever spelling
-abbrev pub has_part : List AttributeType → Rdn → Ava → Bool
-has_part types rdn p = list_any (λ q. nat_eq p.0 q.0 && are_equal types p.0 q.1 p.1) rdn
+abbrev pub has_ava : List AttributeType → Rdn → Ava → Bool
+has_ava types rdn p = list_any (λ q. nat_eq p.0 q.0 && are_equal types p.0 q.1 p.1) rdn
 
-abbrev pub without_part : List AttributeType → Ava → Attributes → Attributes
-without_part types p attrs = set_values attrs p.0 (without_value types p.0 (values_of attrs p.0) p.1)
+abbrev pub without_ava : List AttributeType → Ava → Attributes → Attributes
+without_ava types p attrs = set_values attrs p.0 (without_value types p.0 (values_of attrs p.0) p.1)
 
 -- the old RDN's values go, but for those that the new one has
 unfoldable pub without_rdn : List AttributeType → Rdn → Rdn → Attributes → Attributes
 without_rdn types new [] attrs = attrs
-without_rdn types new (p ∷ ps) attrs = without_rdn types new ps (if has_part types new p then attrs else without_part types p attrs)
+without_rdn types new (p ∷ ps) attrs = without_rdn types new ps (if has_ava types new p then attrs else without_ava types p attrs)
 
 -- the new RDN's values come, and the old one's go where that is asked for
 abbrev pub renamed_attrs : List AttributeType → EntryContent → Rdn → Bool → Attributes

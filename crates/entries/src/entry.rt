@@ -8,7 +8,7 @@ use std::alloc::{AllocError, Global};
 use std::marker::Model;
 
 /// An entry (RFC 4512, 2.2): its RDN as written, and its attributes in order, each with its values in order. A contract sees
-/// the RDN's parts, and the list of the types with their values.
+/// the RDN's AVAs, and the list of the types with their values.
 #[derive(Drop)]
 pub struct Entry {
     rdn: Rdn,

@@ -4,7 +4,7 @@ ghost use Rattle.std.specs.Prelude.{◌≡◌, ◌<◌, true, IfOk, OnErr, OnOk,
 ghost use Rattle.std.specs.List.{AllByRecursion};
 ghost use Rattle.schema.specs.GoodRdns.{IsAva};
 ghost use Rattle.schema.specs.Values.{norm_at, is_valid_at};
-ghost use Rattle.entries.specs.Entries.{values_of, has_equal, with_part, with_rdn, HasBegun};
+ghost use Rattle.entries.specs.Entries.{values_of, has_equal, with_ava, with_rdn, HasBegun};
 ghost use Rattle.entries.specs.Modifies.{has_rdn};
 ghost use Rattle.entries.specs.StoredEntries.{attributes_of, IsMade};
 ghost use Rattle.values.specs.Norms.{has_norm};
@@ -32,25 +32,25 @@ pub(crate) fn valid_value(
     }
 }
 
-fn add_part(
+fn add_ava(
     alloc: Global,
     conf: &Conf,
     attrs: &mut Attributes,
-    part: &(TypeId, Bytes),
+    ava: &(TypeId, Bytes),
 ) -> Result<(), AllocError>
     requires made { IsMade conf.now.types attrs.old.entries }
-    requires part { IsAva conf.now.types part.now }
+    requires ava { IsAva conf.now.types ava.now }
     ensures made { OnOk result (IsMade conf.now.types attrs.new.entries) }
-    ensures values { OnOk result (attributes_of attrs.new.entries ≡ with_part conf.now.types part.now (attributes_of attrs.old.entries)) }
+    ensures values { OnOk result (attributes_of attrs.new.entries ≡ with_ava conf.now.types ava.now (attributes_of attrs.old.entries)) }
     ensures err { OnErr result (attrs.new ≡ attrs.old) }
 {
-    let (t, raw) = part;
+    let (t, raw) = ava;
     let value = valid_value(alloc, conf, *t, raw.as_slice())?;
     attrs.put(alloc, *t, value)?;
     Ok(())
 }
 
-/// Appends each value of the RDN that has no equal one there. Where memory runs out, those of its first parts may be there.
+/// Appends each value of the RDN that has no equal one there. Where memory runs out, those of its first AVAs may be there.
 #[tactic(auto, unfolding(crate::specs::Entries::with_rdn))]
 pub fn add_rdn(
     alloc: Global,
@@ -59,13 +59,13 @@ pub fn add_rdn(
     rdn: &Rdn,
 ) -> Result<(), AllocError>
     requires made { IsMade conf.now.types attrs.old.entries }
-    requires parts { AllByRecursion (IsAva conf.now.types) rdn.now }
+    requires avas { AllByRecursion (IsAva conf.now.types) rdn.now }
     ensures made { OnOk result (IsMade conf.now.types attrs.new.entries) }
     ensures values { OnOk result (attributes_of attrs.new.entries ≡ with_rdn conf.now.types rdn.now (attributes_of attrs.old.entries)) }
     ensures begun { OnErr result (HasBegun conf.now.types rdn.now (attributes_of attrs.old.entries) (attributes_of attrs.new.entries)) }
 {
-    for part in rdn.parts() {
-        add_part(alloc, conf, attrs, part)?;
+    for ava in rdn.avas() {
+        add_ava(alloc, conf, attrs, ava)?;
     }
     Ok(())
 }
@@ -80,18 +80,18 @@ fn has_norm_at(attrs: &Attributes, t: TypeId, norm: &[u8]) -> bool
     }
 }
 
-// whether a value that equals this part's is there
+// whether a value that equals this AVA's is there
 fn has_value(
     alloc: Global,
     conf: &Conf,
     attrs: &Attributes,
-    part: &(TypeId, Bytes),
+    ava: &(TypeId, Bytes),
 ) -> Result<bool, AllocError>
     requires made { IsMade conf.now.types attrs.now.entries }
-    requires part { IsAva conf.now.types part.now }
-    ensures { IfOk result (λ there. there ≡ has_equal conf.now.types part.now.0 part.now.1 (values_of (attributes_of attrs.now.entries) part.now.0)) }
+    requires ava { IsAva conf.now.types ava.now }
+    ensures { IfOk result (λ there. there ≡ has_equal conf.now.types ava.now.0 ava.now.1 (values_of (attributes_of attrs.now.entries) ava.now.0)) }
 {
-    let (t, raw) = part;
+    let (t, raw) = ava;
     let value = valid_value(alloc, conf, *t, raw.as_slice())?;
     Ok(has_norm_at(attrs, *t, value.norm()))
 }
@@ -104,11 +104,11 @@ pub(crate) fn has_rdn(
     rdn: &Rdn,
 ) -> Result<bool, AllocError>
     requires made { IsMade conf.now.types attrs.now.entries }
-    requires parts { AllByRecursion (IsAva conf.now.types) rdn.now }
+    requires avas { AllByRecursion (IsAva conf.now.types) rdn.now }
     ensures { IfOk result (λ there. there ≡ has_rdn conf.now.types rdn.now (attributes_of attrs.now.entries)) }
 {
-    for part in rdn.parts() {
-        if !has_value(alloc, conf, attrs, part)? {
+    for ava in rdn.avas() {
+        if !has_value(alloc, conf, attrs, ava)? {
             return Ok(false);
         }
     }

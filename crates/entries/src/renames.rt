@@ -5,7 +5,7 @@ ghost use Rattle.std.specs.List.{AllByRecursion, list_any};
 ghost use Rattle.std.specs.Str.{bytes_eq};
 ghost use Rattle.schema.specs.GoodRdns.{IsAva, IsRdn};
 ghost use Rattle.schema.specs.Values.{norm_at};
-ghost use Rattle.entries.specs.Modifies.{has_part, without_part, without_rdn, rename_entry};
+ghost use Rattle.entries.specs.Modifies.{has_ava, without_ava, without_rdn, rename_entry};
 ghost use Rattle.entries.specs.StoredEntries.{attributes_of, content_of, IsMade};
 ghost use Rattle.entries.specs.Gives.{Gives};
 
@@ -18,18 +18,18 @@ use base::Bytes;
 use schema::{Conf, Rdn, TypeId};
 use std::alloc::{AllocError, Global};
 
-// whether a part has this type and a value with this normal form
-fn is_part(
+// whether an AVA has this type and a value with this normal form
+fn is_same_ava(
     alloc: Global,
     conf: &Conf,
-    part: &(TypeId, Bytes),
+    ava: &(TypeId, Bytes),
     t: TypeId,
     norm: &[u8],
 ) -> Result<bool, AllocError>
-    requires { IsAva conf.now.types part.now }
-    ensures { IfOk result (λ b. b ≡ (nat_eq t part.now.0 && bytes_eq (norm_at conf.now.types t part.now.1) norm.now)) }
+    requires { IsAva conf.now.types ava.now }
+    ensures { IfOk result (λ b. b ≡ (nat_eq t ava.now.0 && bytes_eq (norm_at conf.now.types t ava.now.1) norm.now)) }
 {
-    let (u, raw) = part;
+    let (u, raw) = ava;
     if t != *u {
         return Ok(false);
     }
@@ -37,8 +37,8 @@ fn is_part(
     Ok(value.norm() == norm)
 }
 
-// whether the RDN has such a part
-fn has_part(
+// whether the RDN has such an AVA
+fn has_ava(
     alloc: Global,
     conf: &Conf,
     rdn: &Rdn,
@@ -48,31 +48,31 @@ fn has_part(
     requires { AllByRecursion (IsAva conf.now.types) rdn.now }
     ensures { IfOk result (λ b. b ≡ list_any (λ q. nat_eq t q.0 && bytes_eq (norm_at conf.now.types t q.1) norm.now) rdn.now) }
 {
-    for part in rdn.parts() {
-        if is_part(alloc, conf, part, t, norm)? {
+    for ava in rdn.avas() {
+        if is_same_ava(alloc, conf, ava, t, norm)? {
             return Ok(true);
         }
     }
     Ok(false)
 }
 
-// Takes away the value of a part, unless the new RDN has an equal one.
-fn remove_part(
+// Takes away the value of an AVA, unless the new RDN has an equal one.
+fn remove_ava(
     alloc: Global,
     conf: &Conf,
     attrs: &mut Attributes,
     new: &Rdn,
-    part: &(TypeId, Bytes),
+    ava: &(TypeId, Bytes),
 ) -> Result<(), AllocError>
     requires made { IsMade conf.now.types attrs.old.entries }
     requires new { AllByRecursion (IsAva conf.now.types) new.now }
-    requires part { IsAva conf.now.types part.now }
+    requires ava { IsAva conf.now.types ava.now }
     ensures made { OnOk result (IsMade conf.now.types attrs.new.entries) }
-    ensures values { OnOk result (attributes_of attrs.new.entries ≡ (if has_part conf.now.types new.now part.now then attributes_of attrs.old.entries else without_part conf.now.types part.now (attributes_of attrs.old.entries))) }
+    ensures values { OnOk result (attributes_of attrs.new.entries ≡ (if has_ava conf.now.types new.now ava.now then attributes_of attrs.old.entries else without_ava conf.now.types ava.now (attributes_of attrs.old.entries))) }
 {
-    let (t, raw) = part;
+    let (t, raw) = ava;
     let value = valid_value(alloc, conf, *t, raw.as_slice())?;
-    if has_part(alloc, conf, new, *t, value.norm())? {
+    if has_ava(alloc, conf, new, *t, value.norm())? {
         return Ok(());
     }
     let mut values = attrs.take(*t);
@@ -92,12 +92,12 @@ fn remove_rdn(
 ) -> Result<(), AllocError>
     requires made { IsMade conf.now.types attrs.old.entries }
     requires new { AllByRecursion (IsAva conf.now.types) new.now }
-    requires parts { AllByRecursion (IsAva conf.now.types) old.now }
+    requires avas { AllByRecursion (IsAva conf.now.types) old.now }
     ensures made { OnOk result (IsMade conf.now.types attrs.new.entries) }
     ensures values { OnOk result (attributes_of attrs.new.entries ≡ without_rdn conf.now.types new.now old.now (attributes_of attrs.old.entries)) }
 {
-    for part in old.parts() {
-        remove_part(alloc, conf, attrs, new, part)?;
+    for ava in old.avas() {
+        remove_ava(alloc, conf, attrs, new, ava)?;
     }
     Ok(())
 }

@@ -7,7 +7,7 @@ use std::test::Fail;
 
 // whether an RDN has these two types, and this value of the first
 fn has_types(rdn: &Rdn) -> bool {
-    match rdn.parts() {
+    match rdn.avas() {
         [(first, value), (second, _)] => {
             first.number() == 2 && value.as_slice() == b"Ab".as_slice() && second.number() == 1
         }

@@ -54,7 +54,7 @@ const SHOWN_NOTHING: [Row; 4] = [
 
 /// Whether the RDN of an entry has this value, and no other.
 fn has_rdn(entry: &Entry, value: &str) -> bool {
-    match entry.rdn().parts() {
+    match entry.rdn().avas() {
         [(_, own)] => own.as_slice() == value.as_bytes(),
         _ => false,
     }

@@ -50,7 +50,7 @@ enum By<'a> {
 }
 
 fn print_entry(rt: &impl Print, entry: &Entry) -> Result<()> {
-    for (_, value) in entry.rdn().parts() {
+    for (_, value) in entry.rdn().avas() {
         match str::from_utf8(value.as_slice()) {
             Ok(value) => print!(rt; " {value},")?,
             Err(_) => return Err(Error::msg("no text")),

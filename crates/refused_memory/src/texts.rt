@@ -39,7 +39,7 @@ const FILTERS: [&str; 3] = [
     "(a=\0)",
 ];
 
-/// RDNs of one part, two and three; values with and without escapes, some of more bytes than lie in place.
+/// RDNs of one AVA, two and three; values with and without escapes, some of more bytes than lie in place.
 const NAME: &str =
     "cn=a\\2C b+sn=a value of more than a few bytes+ou = c,o=an escaped \\2C value of more than a few bytes,c=e+st=f,dc=ex";
 

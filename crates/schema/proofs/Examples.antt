@@ -15,13 +15,13 @@ use Rattle.matching.specs.declared.syntax.Syntax.TheVariants as syntaxes
 use Rattle.matching.specs.Forms.{norm}
 use Rattle.matching.specs.Syntaxes.{is_valid}
 use Rattle.base.specs.Answers.{each}
-use Rattle.dn.specs.Reading.{octets_from, trimmed, value_of, part_at, part_of, cut_raw, rdn_of, name_of}
+use Rattle.dn.specs.Reading.{octets_from, trimmed, value_of, ava_at, ava_of, cut_raw, rdn_of, name_of}
 use Rattle.values.specs.declared.types.AttributeType.{AttributeType}
 use Rattle.values.specs.Types.{type_of}
 use Rattle.schema.specs.TypeRules.{object_class}
 use Rattle.paths.specs.Paths.{RdnKey, path_cmp}
 use Rattle.schema.specs.Names.{name_in}
-use Rattle.schema.specs.Rdns.{Rdn, parts_from, rdns_from, put_pair, key_from, rdn_key_of}
+use Rattle.schema.specs.Rdns.{Rdn, avas_from, rdns_from, put_pair, key_from, rdn_key_of}
 use Rattle.schema.specs.Conf.{Conf, below, place_of, located, located_at, path_of}
 
 abbrev pub step : ℕ → List ℕ → RdnKey
@@ -57,7 +57,7 @@ conf = record {
 
 -- what a name's text is read by
 unfoldable reads : ⊤
-unfolding located place_of name_in parts_from rdns_from below name_of cut_raw each rdn_of part_of part_at value_of octets_from trimmed type_of rdn_key_of key_from put_pair norm is_valid is_utf8 chars encode
+unfolding located place_of name_in avas_from rdns_from below name_of cut_raw each rdn_of ava_of ava_at value_of octets_from trimmed type_of rdn_key_of key_from put_pair norm is_valid is_utf8 chars encode
 reads = tt
 
 abbrev refused : Code → Result (List Rdn) Code
@@ -72,10 +72,10 @@ spaces_and_escapes : located conf (codes " x = a\\2Cb\\  , objectClass = top ") 
 unfolding reads
 spaces_and_escapes = refl
 
--- two parts, in the order written
-two_parts : located conf (codes "y=b+x=a,objectClass=top") ≡ located_at (((2, codes "b") ∷ (1, codes "a") ∷ []) ∷ [])
+-- two AVAs, in the order written
+two_avas : located conf (codes "y=b+x=a,objectClass=top") ≡ located_at (((2, codes "b") ∷ (1, codes "a") ∷ []) ∷ [])
 unfolding reads
-two_parts = refl
+two_avas = refl
 
 -- the suffix's own name
 the_suffix : located conf (codes "objectClass=TOP") ≡ located_at []
@@ -98,7 +98,7 @@ not_utf8 : located conf (120 ∷ 61 ∷ 255 ∷ []) ≡ refused InvalidDnSyntax
 unfolding reads
 not_utf8 = refl
 
--- ---- the checks of a part, in their order
+-- ---- the checks of an AVA, in their order
 
 unknown_type : located conf (codes "z=a,objectClass=top") ≡ refused InvalidDnSyntax
 unfolding reads
@@ -125,9 +125,9 @@ unfolding reads
 type_twice = refl
 
 -- a type that stands twice, before the next RDN's fault and before the suffix
-first_part_first : located conf (codes "x=a+x=b,z=c") ≡ refused NamingViolation
+first_ava_first : located conf (codes "x=a+x=b,z=c") ≡ refused NamingViolation
 unfolding reads
-first_part_first = refl
+first_ava_first = refl
 
 -- ---- paths
 
@@ -135,7 +135,7 @@ path_of_text : path_of conf (step 1 (codes "Big  Bob") ∷ []) ≡ step 1 (codes
 unfolding reads
 path_of_text = refl
 
--- the order of the parts is that of their types
-parts_by_type : path_of conf (((2, codes "B") ∷ (1, codes "A") ∷ []) ∷ []) ≡ ((1, codes "a") ∷ (2, codes "B") ∷ []) ∷ []
+-- the order of the AVAs is that of their types
+avas_by_type : path_of conf (((2, codes "B") ∷ (1, codes "A") ∷ []) ∷ []) ≡ ((1, codes "a") ∷ (2, codes "B") ∷ []) ∷ []
 unfolding reads
-parts_by_type = refl
+avas_by_type = refl

@@ -15,8 +15,8 @@ use Rattle.dn.specs.Reading as reading
 use Rattle.dn.specs.Spelling.{Spells, SpellsRdn, AreJoined}
 use Rattle.dn.specs.declared.faults.NameFaultKind.{NameFaultKind}
 use Rattle.values.specs.Types.{is_named, type_of, no_type, is_known, has_equality}
-use Rattle.schema.proofs.Parts.{plain_is}
-use Rattle.schema.specs.Rdns.{Ava, Rdn, is_valid_part, has_type, part_type, type_among, parts_from, typed_rdn, rdns_from, typed, rdn_key_of}
+use Rattle.schema.proofs.AvaValues.{plain_is}
+use Rattle.schema.specs.Rdns.{Ava, Rdn, is_valid_ava, has_type, ava_type, type_among, avas_from, typed_rdn, rdns_from, typed, rdn_key_of}
 use Rattle.schema.specs.declared.fault.PathFault.{PathFault}
 use Rattle.schema.specs.Gives.{Gives}
 use Rattle.schema.specs.GoodRdns.{IsAva, IsRdn, type_in}
@@ -27,27 +27,27 @@ use Rattle.schema.specs.Conf.{Conf, same_rdn_key, below, place_of, located}
 use Rattle.paths.proofs.Unpacked.{all_append}
 use Rattle.schema.proofs.Locating.{all_reverse}
 
--- ---- a name's RDNs have parts
+-- ---- a name's RDNs have AVAs
 
 -- what a law of names says: what is read was spelled so
 abbrev pub SpellsRead : Type 0
 SpellsRead = (text : List ℕ) (n : names.Name) → reading.name_of text ≡ Ok n → Spells text n
 
-abbrev pub HasParts : names.Rdn → Type 0
-HasParts r = (length r == 0) ≡ false
+abbrev pub HasAvas : names.Rdn → Type 0
+HasAvas r = (length r == 0) ≡ false
 
-some_parts : (p : names.Ava) (ps : names.Rdn) → HasParts (p ∷ ps)
-some_parts p ps = ne_eqb (length (p ∷ ps)) 0 (λ e. omega arith)
+some_avas : (p : names.Ava) (ps : names.Rdn) → HasAvas (p ∷ ps)
+some_avas p ps = ne_eqb (length (p ∷ ps)) 0 (λ e. omega arith)
 
-spelled_some : (text : List ℕ) (r : names.Rdn) → SpellsRdn text r → HasParts r
+spelled_some : (text : List ℕ) (r : names.Rdn) → SpellsRdn text r → HasAvas r
 spelled_some text [] h = absurd h
-spelled_some text (p ∷ ps) h = some_parts p ps
+spelled_some text (p ∷ ps) h = some_avas p ps
 
-joined_some : (text : List ℕ) (r : names.Rdn) (rs : names.Name) → AreJoined SpellsRdn 44 text (r ∷ rs) → AllByRecursion HasParts (r ∷ rs)
+joined_some : (text : List ℕ) (r : names.Rdn) (rs : names.Name) → AreJoined SpellsRdn 44 text (r ∷ rs) → AllByRecursion HasAvas (r ∷ rs)
 joined_some text r [] h = (spelled_some text r h, tt)
 joined_some text r (s ∷ rs) h = (spelled_some h.0 r h.2, joined_some h.1 s rs h.4)
 
-name_some : (text : List ℕ) (n : names.Name) → Spells text n → AllByRecursion HasParts n
+name_some : (text : List ℕ) (n : names.Name) → Spells text n → AllByRecursion HasAvas n
 name_some text [] h = tt
 name_some text (r ∷ rs) h = joined_some text r rs h
 
@@ -56,25 +56,25 @@ not_true true h = sym h
 not_true false h = refl
 
 -- a name has them
-pub rdns_have_parts : (n : names.Name) → names.is_name n ≡ true → AllByRecursion HasParts n
-rdns_have_parts [] h = tt
-rdns_have_parts (r ∷ rs) h =
+pub rdns_have_avas : (n : names.Name) → names.is_name n ≡ true → AllByRecursion HasAvas n
+rdns_have_avas [] h = tt
+rdns_have_avas (r ∷ rs) h =
     let k = and_parts (names.is_rdn r) (list_all names.is_rdn rs) h in
-    (not_true (length r == 0) (and_parts (not (length r == 0)) (list_all names.is_ava r) k.0).0, rdns_have_parts rs k.1)
+    (not_true (length r == 0) (and_parts (not (length r == 0)) (list_all names.is_ava r) k.0).0, rdns_have_avas rs k.1)
 
-pub name_has_parts : SpellsRead → (text : List ℕ) (n : names.Name) → name_in text ≡ Ok n → AllByRecursion HasParts n
+pub name_has_avas : SpellsRead → (text : List ℕ) (n : names.Name) → name_in text ≡ Ok n → AllByRecursion HasAvas n
 unfolding name_in
-name_has_parts read text n e =
-    elim (is_utf8 text) as (λ b. cond b (or_invalid (reading.name_of text)) (Err InvalidDnSyntax) ≡ Ok n → AllByRecursion HasParts n) [
+name_has_avas read text n e =
+    elim (is_utf8 text) as (λ b. cond b (or_invalid (reading.name_of text)) (Err InvalidDnSyntax) ≡ Ok n → AllByRecursion HasAvas n) [
       | true ↦ λ is. by (reading.name_of text) refl is
       | false ↦ λ is. absurd cc
     ] e
   where
-    by : (r : Result names.Name NameFaultKind) → reading.name_of text ≡ r → or_invalid r ≡ Ok n → AllByRecursion HasParts n
-    by (Ok m) is said = subst (AllByRecursion HasParts) (same_ok m n said) (name_some text m (read text m is))
+    by : (r : Result names.Name NameFaultKind) → reading.name_of text ≡ r → or_invalid r ≡ Ok n → AllByRecursion HasAvas n
+    by (Ok m) is said = subst (AllByRecursion HasAvas) (same_ok m n said) (name_some text m (read text m is))
     by (Err fault) is said = absurd cc
 
--- ---- the parts of an RDN
+-- ---- the AVAs of an RDN
 
 pub found_is_known : (types : List AttributeType) (text : List ℕ) (t : ℕ) → type_of types text ≡ Some t → is_known types t ≡ true
 unfolding type_of
@@ -88,10 +88,10 @@ is_not : (b : Bool) → not b ≡ false → b ≡ true
 is_not true h = refl
 is_not false h = sym h
 
-part_is : (types : List AttributeType) (earlier : Rdn) (p : names.Ava) (t : ℕ) → part_type types earlier p ≡ Ok t → IsNext types earlier (t, p.1)
-part_is types earlier p t e = by (type_of types p.0) refl e
+ava_is : (types : List AttributeType) (earlier : Rdn) (p : names.Ava) (t : ℕ) → ava_type types earlier p ≡ Ok t → IsNext types earlier (t, p.1)
+ava_is types earlier p t e = by (type_of types p.0) refl e
   where
-    checked : (s : ℕ) → type_of types p.0 ≡ Some s → (n q v d : Bool) → has_name_syntax types s ≡ n → not (has_equality types s) ≡ q → not (is_valid_part types s p.1) ≡ v → has_type s earlier ≡ d
+    checked : (s : ℕ) → type_of types p.0 ≡ Some s → (n q v d : Bool) → has_name_syntax types s ≡ n → not (has_equality types s) ≡ q → not (is_valid_ava types s p.1) ≡ v → has_type s earlier ≡ d
         → ◌≡◌ {A = Result ℕ Code} (cond n (Err InvalidDnSyntax) (cond q (Err NamingViolation) (cond v (Err InvalidDnSyntax) (cond d (Err NamingViolation) (Ok s))))) (Ok t) → IsNext types earlier (t, p.1)
     checked s is true q v d n-is q-is v-is d-is said = absurd cc
     checked s is false true v d n-is q-is v-is d-is said = absurd cc
@@ -99,13 +99,13 @@ part_is types earlier p t e = by (type_of types p.0) refl e
     checked s is false false false true n-is q-is v-is d-is said = absurd cc
     checked s is false false false false n-is q-is v-is d-is said =
         subst (λ (x : ℕ). IsNext types earlier (x, p.1)) (same_ok s t said) (record {
-          good = record { known = found_is_known types p.0 s is; no_name = n-is; comparable = is_not (has_equality types s) q-is; valid = plain_is types s p.1 n-is ∙ is_not (is_valid_part types s p.1) v-is };
+          good = record { known = found_is_known types p.0 s is; no_name = n-is; comparable = is_not (has_equality types s) q-is; valid = plain_is types s p.1 n-is ∙ is_not (is_valid_ava types s p.1) v-is };
           apart = d-is;
         })
 
     by : (o : Option ℕ) → type_of types p.0 ≡ o → type_among types earlier p.1 o ≡ Ok t → IsNext types earlier (t, p.1)
     by None is said = absurd cc
-    by (Some s) is said = checked s is (has_name_syntax types s) (not (has_equality types s)) (not (is_valid_part types s p.1)) (has_type s earlier) refl refl refl refl said
+    by (Some s) is said = checked s is (has_name_syntax types s) (not (has_equality types s)) (not (is_valid_ava types s p.1)) (has_type s earlier) refl refl refl refl said
 
 -- one more type, which none before it is
 distinct_more : (r : Rdn) (p : Ava) → IsDistinct nat_eq (map type_in r) → has_type p.0 r ≡ false → IsDistinct nat_eq (map type_in (r ++ p ∷ []))
@@ -119,43 +119,43 @@ distinct_more (q ∷ qs) p h none =
     before [] k off = (off, tt)
     before (r ∷ rs) k off = (k.0, before rs k.1 off)
 
-record AreParts (types : List AttributeType) (r : Rdn) : Type 0 where
-  parts : AllByRecursion (IsAva types) r
+record AreAvas (types : List AttributeType) (r : Rdn) : Type 0 where
+  avas : AllByRecursion (IsAva types) r
   apart : IsDistinct nat_eq (map type_in r)
 
-parts_are : (types : List AttributeType) (earlier : Rdn) (ps : names.Rdn) (r : Rdn) → AreParts types earlier → parts_from types earlier ps ≡ Ok r → AreParts types r × (length r ≡ length earlier + length ps)
-unfolding parts_from
-parts_are types earlier [] r h e = subst (λ (x : Rdn). AreParts types x × (length x ≡ length earlier + 0)) (same_ok earlier r e) (h, omega arith)
-parts_are types earlier (p ∷ ps) r h e =
-    let k = bind_ok (part_type types earlier p) (λ t. parts_from types (earlier ++ (t, p.1) ∷ []) ps) r e in
-    let next = part_is types earlier p k.0 k.1 in
-    let more = parts_are types (earlier ++ (k.0, p.1) ∷ []) ps r (record {
-      parts = all_append (IsAva types) earlier ((k.0, p.1) ∷ []) h.parts (next.good, tt);
+avas_are : (types : List AttributeType) (earlier : Rdn) (ps : names.Rdn) (r : Rdn) → AreAvas types earlier → avas_from types earlier ps ≡ Ok r → AreAvas types r × (length r ≡ length earlier + length ps)
+unfolding avas_from
+avas_are types earlier [] r h e = subst (λ (x : Rdn). AreAvas types x × (length x ≡ length earlier + 0)) (same_ok earlier r e) (h, omega arith)
+avas_are types earlier (p ∷ ps) r h e =
+    let k = bind_ok (ava_type types earlier p) (λ t. avas_from types (earlier ++ (t, p.1) ∷ []) ps) r e in
+    let next = ava_is types earlier p k.0 k.1 in
+    let more = avas_are types (earlier ++ (k.0, p.1) ∷ []) ps r (record {
+      avas = all_append (IsAva types) earlier ((k.0, p.1) ∷ []) h.avas (next.good, tt);
       apart = distinct_more earlier (k.0, p.1) h.apart next.apart;
     }) k.2 in
     let long = length-append earlier ((k.0, p.1) ∷ []) in
     (more.0, omega (arith, more.1, long))
 
-rdn_is : (types : List AttributeType) (n : names.Rdn) (r : Rdn) → HasParts n → typed_rdn types n ≡ Ok r → IsRdn types r
+rdn_is : (types : List AttributeType) (n : names.Rdn) (r : Rdn) → HasAvas n → typed_rdn types n ≡ Ok r → IsRdn types r
 unfolding IsDistinct
 rdn_is types n r some e =
-    let k = parts_are types [] n r (record { parts = tt; apart = tt }) e in
+    let k = avas_are types [] n r (record { avas = tt; apart = tt }) e in
     let long : length r ≡ length n = omega (arith, k.1) in
-    record { parts = k.0.parts; types_apart = k.0.apart; some = ap (λ x. x == 0) long ∙ some }
+    record { avas = k.0.avas; types_apart = k.0.apart; some = ap (λ x. x == 0) long ∙ some }
 
 -- the same of what is answered for one
 pub answered_is : (types : List AttributeType) (n : names.Rdn) (result : Result Rdn PathFault) → names.is_rdn n ≡ true → Gives (λ r. r) result (typed_rdn types n) → IfOk result (IsRdn types)
 answered_is types n (Ok r) good gives = rdn_is types n r (not_true (length n == 0) (and_parts (not (length n == 0)) (list_all names.is_ava n) good).0) gives
 answered_is types n (Err fault) good gives = tt
 
-rdns_are_from : (types : List AttributeType) (done : List Rdn) (n : names.Name) (rs : List Rdn) → AllByRecursion (IsRdn types) done → AllByRecursion HasParts n → rdns_from types done n ≡ Ok rs → AllByRecursion (IsRdn types) rs
+rdns_are_from : (types : List AttributeType) (done : List Rdn) (n : names.Name) (rs : List Rdn) → AllByRecursion (IsRdn types) done → AllByRecursion HasAvas n → rdns_from types done n ≡ Ok rs → AllByRecursion (IsRdn types) rs
 unfolding rdns_from
 rdns_are_from types done [] rs h some e = subst (AllByRecursion (IsRdn types)) (same_ok done rs e) h
 rdns_are_from types done (r ∷ more) rs h some e =
     let k = bind_ok (typed_rdn types r) (λ t. rdns_from types (done ++ t ∷ []) more) rs e in
     rdns_are_from types (done ++ k.0 ∷ []) more rs (all_append (IsRdn types) done (k.0 ∷ []) h (rdn_is types r k.0 some.0 k.1, tt)) some.1 k.2
 
-pub rdns_are : (types : List AttributeType) (n : names.Name) (rs : List Rdn) → AllByRecursion HasParts n → typed types n ≡ Ok rs → AllByRecursion (IsRdn types) rs
+pub rdns_are : (types : List AttributeType) (n : names.Name) (rs : List Rdn) → AllByRecursion HasAvas n → typed types n ≡ Ok rs → AllByRecursion (IsRdn types) rs
 rdns_are types n rs = rdns_are_from types [] n rs tt
 
 pub below_are : (types : List AttributeType) (P : Rdn → Type 0) (ss rs out : List Rdn) → AllByRecursion P rs → below types ss rs ≡ Ok out → AllByRecursion P out
@@ -174,7 +174,7 @@ located_are read conf text rs e =
     let k = bind_ok (name_in text) (place_of conf) rs e in
     let l = bind_ok (typed conf.types k.0) (λ ys. below conf.types (reverse conf.suffix) (reverse ys)) rs k.2 in
     below_are conf.types (IsRdn conf.types) (reverse conf.suffix) (reverse l.0) rs
-    (all_reverse (IsRdn conf.types) l.0 (rdns_are conf.types k.0 l.0 (name_has_parts read text k.0 k.1) l.1)) l.2
+    (all_reverse (IsRdn conf.types) l.0 (rdns_are conf.types k.0 l.0 (name_has_avas read text k.0 k.1) l.1)) l.2
 
 -- the types of a good RDN are known
 pub types_known : (types : List AttributeType) (r : Rdn) → AllByRecursion (IsAva types) r → AllByRecursion (λ p. p.0 < length types) r
@@ -183,4 +183,4 @@ types_known types (p ∷ ps) h = (ltb-true p.0 (length types) h.0.known, types_k
 
 pub all_known : (types : List AttributeType) (rs : List Rdn) → AllByRecursion (IsRdn types) rs → AllByRecursion (AreKnown types) rs
 all_known types [] h = tt
-all_known types (r ∷ rs) h = (types_known types r h.0.parts, all_known types rs h.1)
+all_known types (r ∷ rs) h = (types_known types r h.0.avas, all_known types rs h.1)

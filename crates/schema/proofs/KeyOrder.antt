@@ -1,4 +1,4 @@
--- The key of an RDN has the pairs of its parts, by the numbers of their types.
+-- The key of an RDN has the pairs of its AVAs, by the numbers of their types.
 use Rattle.std.proofs.Common.{◌≡◌, ℕ, ◌≤◌, false, List, [], ◌∷◌, ◌++◌, map, subst, arith}
 use Rattle.std.specs.Prelude.{nat_lt}
 use Rattle.std.specs.List.{prefix_len}

@@ -1,5 +1,5 @@
 pub mod Below
-pub mod Parts
+pub mod AvaValues
 pub mod Subtypes
 pub mod SubtypeTests
 pub mod Named
@@ -13,4 +13,4 @@ pub mod ValueExamples
 pub mod KeyOrder
 pub mod Lineages
 pub mod FirstFlaws
-pub mod PartFaults
+pub mod AvaFaults

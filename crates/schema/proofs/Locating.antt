@@ -15,14 +15,14 @@ use Rattle.schema.specs.declared.code.Code.TheVariants.{InvalidDnSyntax, NamingV
 use Rattle.base.specs.Answers.{◌>>=◌}
 use Rattle.values.specs.Types.{printed_name, name_of, type_at, is_known, has_equality, first_or}
 use Rattle.terms.specs.Naming.{is_oid, are_groups, is_name, is_name_byte, is_type_name, is_reserved}
-use Rattle.schema.specs.Rdns.{Ava, Rdn, is_valid_part, has_type, part_type, type_among, parts_from, rdns_from, rdn_key_of}
+use Rattle.schema.specs.Rdns.{Ava, Rdn, is_valid_ava, has_type, ava_type, type_among, avas_from, rdns_from, rdn_key_of}
 use Rattle.schema.specs.GoodRdns.{IsAva, IsRdn, type_in}
 use Rattle.dn.specs.Names as names
 use Rattle.dn.specs.Names.{is_type_byte, is_type, is_byte, is_ava, is_rdn, is_ascii}
 use Rattle.dn.specs.Reading as reading
 use Rattle.dn.specs.Writing.{text_of}
-use Rattle.schema.specs.Names.{or_invalid, name_in, written_part, written_rdn}
-use Rattle.schema.proofs.Parts.{HaveBytes, plain_is, valid_are_bytes}
+use Rattle.schema.specs.Names.{or_invalid, name_in, written_ava, written_rdn}
+use Rattle.schema.proofs.AvaValues.{HaveBytes, plain_is, valid_are_bytes}
 use Rattle.schema.specs.Conf.{Conf, IsConf, IsType, below, place_of, located, name_text}
 use Rattle.schema.proofs.Named.{type_is, is_type_at}
 use Rattle.paths.specs.PathLaws.{rdn_key_total}
@@ -156,7 +156,7 @@ below_is types [] rs = refl
 below_is types (s ∷ ss) rs =
     ap (λ b. cond b (below types ss (ss ++ rs)) (Err NoSuchObject)) (ap is_eq (tied_itself rdn_key_total (rdn_key_of types s))) ∙ below_is types ss rs
 
--- no part before another is of its type
+-- no AVA before another is of its type
 apart_before : (earlier : Rdn) (p : Ava) (ps : Rdn) → IsDistinct nat_eq (map type_in (earlier ++ p ∷ ps)) → has_type p.0 earlier ≡ false
 unfolding IsDistinct
 apart_before [] p ps h = refl
@@ -175,17 +175,17 @@ WritesAscii = (n : names.Name) → names.is_name n ≡ true → list_all is_asci
 
 module _ (bytes : HaveBytes) (conf : Conf) (c : IsConf conf) where
   -- an RDN of the configuration can be written
-  part_is : (p : Ava) → IsAva conf.types p → is_ava (written_part conf.types p) ≡ true
-  part_is p h = both (is_type (name_of conf.types p.0)) (list_all is_byte p.1) (printed_is_text conf p.0 c h.known) (valid_are_bytes bytes conf.types p.0 p.1 h.valid)
+  ava_is : (p : Ava) → IsAva conf.types p → is_ava (written_ava conf.types p) ≡ true
+  ava_is p h = both (is_type (name_of conf.types p.0)) (list_all is_byte p.1) (printed_is_text conf p.0 c h.known) (valid_are_bytes bytes conf.types p.0 p.1 h.valid)
 
-  parts_are : (ps : Rdn) → AllByRecursion (IsAva conf.types) ps → list_all is_ava (written_rdn conf.types ps) ≡ true
-  parts_are [] h = refl
-  parts_are (p ∷ ps) h = both (is_ava (written_part conf.types p)) (list_all is_ava (written_rdn conf.types ps)) (part_is p h.0) (parts_are ps h.1)
+  avas_are : (ps : Rdn) → AllByRecursion (IsAva conf.types) ps → list_all is_ava (written_rdn conf.types ps) ≡ true
+  avas_are [] h = refl
+  avas_are (p ∷ ps) h = both (is_ava (written_ava conf.types p)) (list_all is_ava (written_rdn conf.types ps)) (ava_is p h.0) (avas_are ps h.1)
 
   rdn_is : (r : Rdn) → IsRdn conf.types r → is_rdn (written_rdn conf.types r) ≡ true
   rdn_is r h =
       both (not (length (written_rdn conf.types r) == 0)) (list_all is_ava (written_rdn conf.types r))
-      (ap (λ n. not (n == 0)) (length-map r (written_part conf.types)) ∙ ap not h.some) (parts_are r h.parts)
+      (ap (λ n. not (n == 0)) (length-map r (written_ava conf.types)) ∙ ap not h.some) (avas_are r h.avas)
 
   pub name_is : (rs : List Rdn) → AllByRecursion (IsRdn conf.types) rs → names.is_name (map (written_rdn conf.types) rs) ≡ true
   name_is [] h = refl
@@ -198,27 +198,27 @@ module _ (bytes : HaveBytes) (conf : Conf) (c : IsConf conf) where
   pub all_are : (rs : List Rdn) → AllByRecursion (IsRdn conf.types) rs → AllByRecursion (IsRdn conf.types) (all_of rs)
   all_are rs h = all_append (IsRdn conf.types) (reverse rs) conf.suffix (all_reverse (IsRdn conf.types) rs h) c.suffix
 
-  part_typed : (earlier : Rdn) (p : Ava) → IsAva conf.types p → has_type p.0 earlier ≡ false → part_type conf.types earlier (written_part conf.types p) ≡ Ok p.0
-  part_typed earlier p h apart =
+  ava_typed : (earlier : Rdn) (p : Ava) → IsAva conf.types p → has_type p.0 earlier ≡ false → ava_type conf.types earlier (written_ava conf.types p) ≡ Ok p.0
+  ava_typed earlier p h apart =
       ap (type_among conf.types earlier p.1) (type_is conf p.0 c h.known)
-      ∙ ap (λ b. cond b (Err InvalidDnSyntax) (cond (not (has_equality conf.types p.0)) (Err NamingViolation) (cond (not (is_valid_part conf.types p.0 p.1)) (Err InvalidDnSyntax) (cond (has_type p.0 earlier) (Err NamingViolation) (type_ok p.0))))) h.no_name
-      ∙ ap (λ b. cond (not b) (Err NamingViolation) (cond (not (is_valid_part conf.types p.0 p.1)) (Err InvalidDnSyntax) (cond (has_type p.0 earlier) (Err NamingViolation) (type_ok p.0)))) h.comparable
+      ∙ ap (λ b. cond b (Err InvalidDnSyntax) (cond (not (has_equality conf.types p.0)) (Err NamingViolation) (cond (not (is_valid_ava conf.types p.0 p.1)) (Err InvalidDnSyntax) (cond (has_type p.0 earlier) (Err NamingViolation) (type_ok p.0))))) h.no_name
+      ∙ ap (λ b. cond (not b) (Err NamingViolation) (cond (not (is_valid_ava conf.types p.0 p.1)) (Err InvalidDnSyntax) (cond (has_type p.0 earlier) (Err NamingViolation) (type_ok p.0)))) h.comparable
       ∙ ap (λ b. cond (not b) (Err InvalidDnSyntax) (cond (has_type p.0 earlier) (Err NamingViolation) (type_ok p.0))) (sym (plain_is conf.types p.0 p.1 h.no_name) ∙ h.valid)
       ∙ ap (λ b. cond b (Err NamingViolation) (type_ok p.0)) apart
 
-  parts_typed : (earlier ps : Rdn) → AllByRecursion (IsAva conf.types) ps → IsDistinct nat_eq (map type_in (earlier ++ ps)) → parts_from conf.types earlier (written_rdn conf.types ps) ≡ Ok (earlier ++ ps)
-  unfolding parts_from
-  parts_typed earlier [] h apart = ap rdn_ok (sym (append-nil earlier))
-  parts_typed earlier (p ∷ ps) h apart =
-      ap (λ (x : Result ℕ Code). x >>= λ t. parts_from conf.types (earlier ++ (t, p.1) ∷ []) (written_rdn conf.types ps)) (part_typed earlier p h.0 (apart_before earlier p ps apart))
-      ∙ parts_typed (earlier ++ p ∷ []) ps h.1 (subst (λ (r : Rdn). IsDistinct nat_eq (map type_in r)) (sym (append_assoc earlier (p ∷ []) ps)) apart)
+  avas_typed : (earlier ps : Rdn) → AllByRecursion (IsAva conf.types) ps → IsDistinct nat_eq (map type_in (earlier ++ ps)) → avas_from conf.types earlier (written_rdn conf.types ps) ≡ Ok (earlier ++ ps)
+  unfolding avas_from
+  avas_typed earlier [] h apart = ap rdn_ok (sym (append-nil earlier))
+  avas_typed earlier (p ∷ ps) h apart =
+      ap (λ (x : Result ℕ Code). x >>= λ t. avas_from conf.types (earlier ++ (t, p.1) ∷ []) (written_rdn conf.types ps)) (ava_typed earlier p h.0 (apart_before earlier p ps apart))
+      ∙ avas_typed (earlier ++ p ∷ []) ps h.1 (subst (λ (r : Rdn). IsDistinct nat_eq (map type_in r)) (sym (append_assoc earlier (p ∷ []) ps)) apart)
       ∙ ap rdn_ok (append_assoc earlier (p ∷ []) ps)
 
   rdns_typed : (done rs : List Rdn) → AllByRecursion (IsRdn conf.types) rs → rdns_from conf.types done (map (written_rdn conf.types) rs) ≡ Ok (done ++ rs)
   unfolding rdns_from
   rdns_typed done [] h = ap rdns_ok (sym (append-nil done))
   rdns_typed done (r ∷ rs) h =
-      ap (λ (x : Result Rdn Code). x >>= λ y. rdns_from conf.types (done ++ y ∷ []) (map (written_rdn conf.types) rs)) (parts_typed [] r h.0.parts h.0.types_apart)
+      ap (λ (x : Result Rdn Code). x >>= λ y. rdns_from conf.types (done ++ y ∷ []) (map (written_rdn conf.types) rs)) (avas_typed [] r h.0.avas h.0.types_apart)
       ∙ rdns_typed (done ++ r ∷ []) rs h.1
       ∙ ap rdns_ok (append_assoc done (r ∷ []) rs)
 

@@ -1,4 +1,4 @@
--- Which result code a name has, by what is wrong with one of its parts (RFC 4512, 2.3.1 and 2.3.2; RFC 4511, appendix A.2).
+-- Which result code a name has, by what is wrong with one of its AVAs (RFC 4512, 2.3.1 and 2.3.2; RFC 4511, appendix A.2).
 use Rattle.std.specs.Prelude.{◌≡◌, ℕ, Bool, true, false, nat_eq, List, [], ◌∷◌, ◌++◌, Some}
 use Rattle.std.specs.List.{list_any, AllByRecursion}
 use Rattle.dn.specs.Names as names
@@ -11,18 +11,18 @@ use Rattle.schema.specs.Values.{is_valid_at}
 use Rattle.schema.specs.Subtypes.{passes}
 use Rattle.schema.specs.FirstFlaws.{Not, IsFirstFlaw}
 
--- what may be wrong with a part of a name
-pub data PartFlaw : Type 0 where
+-- what may be wrong with an AVA of a name
+pub data AvaFlaw : Type 0 where
   -- no type has the name that stands there
-  UnknownType : PartFlaw
+  UnknownType : AvaFlaw
   -- values of its type are names themselves
-  NameSyntax : PartFlaw
+  NameSyntax : AvaFlaw
   -- values of its type can't be compared
-  NoEquality : PartFlaw
+  NoEquality : AvaFlaw
   -- its type has no such value
-  BadValue : PartFlaw
-  -- a part before it in its RDN is of its type
-  TypeTwice : PartFlaw
+  BadValue : AvaFlaw
+  -- an AVA before it in its RDN is of its type
+  TypeTwice : AvaFlaw
 
 abbrev pub IsOfType : List AttributeType → names.Ava → ℕ → Type 0
 IsOfType types p t = type_of types p.0 ≡ Some t
@@ -31,44 +31,44 @@ IsOfType types p t = type_of types p.0 ≡ Some t
 abbrev pub is_of_type : List AttributeType → ℕ → names.Ava → Bool
 is_of_type types t p = passes (λ u. nat_eq u t) (type_of types p.0)
 
--- whether a part has a flaw behind the earlier ones of its RDN
-abbrev pub HasPartFlaw : List AttributeType → names.Rdn → names.Ava → PartFlaw → Type 0
-HasPartFlaw types earlier p UnknownType = (t : ℕ) → Not (IsOfType types p t)
-HasPartFlaw types earlier p NameSyntax = (t : ℕ) × IsOfType types p t × (has_name_syntax types t ≡ true)
-HasPartFlaw types earlier p NoEquality = (t : ℕ) × IsOfType types p t × (has_equality types t ≡ false)
-HasPartFlaw types earlier p BadValue = (t : ℕ) × IsOfType types p t × (is_valid_at types t p.1 ≡ false)
-HasPartFlaw types earlier p TypeTwice = (t : ℕ) × IsOfType types p t × (list_any (is_of_type types t) earlier ≡ true)
+-- whether an AVA has a flaw behind the earlier ones of its RDN
+abbrev pub HasAvaFlaw : List AttributeType → names.Rdn → names.Ava → AvaFlaw → Type 0
+HasAvaFlaw types earlier p UnknownType = (t : ℕ) → Not (IsOfType types p t)
+HasAvaFlaw types earlier p NameSyntax = (t : ℕ) × IsOfType types p t × (has_name_syntax types t ≡ true)
+HasAvaFlaw types earlier p NoEquality = (t : ℕ) × IsOfType types p t × (has_equality types t ≡ false)
+HasAvaFlaw types earlier p BadValue = (t : ℕ) × IsOfType types p t × (is_valid_at types t p.1 ≡ false)
+HasAvaFlaw types earlier p TypeTwice = (t : ℕ) × IsOfType types p t × (list_any (is_of_type types t) earlier ≡ true)
 
 -- which of them is told first
-abbrev pub part_order : List PartFlaw
-part_order = UnknownType ∷ NameSyntax ∷ NoEquality ∷ BadValue ∷ TypeTwice ∷ []
+abbrev pub ava_order : List AvaFlaw
+ava_order = UnknownType ∷ NameSyntax ∷ NoEquality ∷ BadValue ∷ TypeTwice ∷ []
 
 -- its code: that no entry can have the name, or that none may
-abbrev pub flaw_code : PartFlaw → Code
+abbrev pub flaw_code : AvaFlaw → Code
 flaw_code UnknownType = InvalidDnSyntax
 flaw_code NameSyntax = InvalidDnSyntax
 flaw_code NoEquality = NamingViolation
 flaw_code BadValue = InvalidDnSyntax
 flaw_code TypeTwice = NamingViolation
 
--- none of these parts has a flaw, behind earlier ones
+-- none of these AVAs has a flaw, behind earlier ones
 abbrev pub AreFlawless : List AttributeType → names.Rdn → names.Rdn → Type 0
 AreFlawless types earlier [] = Unit {0}
-AreFlawless types earlier (p ∷ ps) = ((flaw : PartFlaw) → Not (HasPartFlaw types earlier p flaw)) × AreFlawless types (earlier ++ p ∷ []) ps
+AreFlawless types earlier (p ∷ ps) = ((flaw : AvaFlaw) → Not (HasAvaFlaw types earlier p flaw)) × AreFlawless types (earlier ++ p ∷ []) ps
 
--- the first part of a name that has a flaw, its own RDN first, and this is the code of its first one
-pub record IsPartFault (types : List AttributeType) (n : names.Name) (code : Code) : Type 0 where
+-- the first AVA of a name that has a flaw, its own RDN first, and this is the code of its first one
+pub record IsAvaFault (types : List AttributeType) (n : names.Name) (code : Code) : Type 0 where
   -- RDNs without a flaw
   pub before : List names.Rdn
-  -- the RDN of that part: parts without a flaw, the part, and any others
+  -- the RDN of that AVA: AVAs without a flaw, the AVA, and any others
   pub earlier : names.Rdn
-  pub part : names.Ava
+  pub ava : names.Ava
   pub later : names.Rdn
   -- any other RDNs
   pub after : List names.Rdn
-  pub name_is : n ≡ before ++ (earlier ++ part ∷ later) ∷ after
+  pub name_is : n ≡ before ++ (earlier ++ ava ∷ later) ∷ after
   pub before_are : AllByRecursion (AreFlawless types []) before
   pub earlier_are : AreFlawless types [] earlier
-  pub flaw : PartFlaw
-  pub first : IsFirstFlaw PartFlaw (HasPartFlaw types earlier part) part_order flaw
+  pub flaw : AvaFlaw
+  pub first : IsFirstFlaw AvaFlaw (HasAvaFlaw types earlier ava) ava_order flaw
   pub code_is : code ≡ flaw_code flaw

@@ -16,8 +16,8 @@ pub record IsAva (types : List AttributeType) (p : Ava) : Type 0 where
   pub comparable : has_equality types p.0 ≡ true
   pub valid : is_valid_at types p.0 p.1 ≡ true
 
--- it has parts, each of them is good, and no two are of one type
+-- it has AVAs, each of them is good, and no two are of one type
 pub record IsRdn (types : List AttributeType) (r : Rdn) : Type 0 where
-  pub parts : AllByRecursion (IsAva types) r
+  pub avas : AllByRecursion (IsAva types) r
   pub types_apart : IsDistinct nat_eq (map type_in r)
   pub some : (length r == 0) ≡ false

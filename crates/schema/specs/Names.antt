@@ -19,9 +19,9 @@ or_invalid (Err fault) = Err InvalidDnSyntax
 unfoldable pub name_in : List ℕ → Result names.Name Code
 name_in text = if is_utf8 text then or_invalid (name_of text) else Err InvalidDnSyntax
 
--- a part as it is written: its type by the name that it is printed by, its value as it is
-abbrev pub written_part : List AttributeType → Ava → names.Ava
-written_part types p = (attribute_types.name_of types p.0, p.1)
+-- an AVA as it is written: its type by the name that it is printed by, its value as it is
+abbrev pub written_ava : List AttributeType → Ava → names.Ava
+written_ava types p = (attribute_types.name_of types p.0, p.1)
 
 abbrev pub written_rdn : List AttributeType → Rdn → names.Rdn
-written_rdn types r = map (written_part types) r
+written_rdn types r = map (written_ava types) r

@@ -18,49 +18,49 @@ use Rattle.paths.specs.Paths.{Pair, RdnKey}
 abbrev pub Ava : Type 0
 Ava = ℕ × List ℕ
 
--- an RDN: its parts in the order written
+-- an RDN: its AVAs in the order written
 abbrev pub Rdn : Type 0
 Rdn = List Ava
 
--- ---- the types of a name's parts
+-- ---- the types of a name's AVAs
 
--- whether a part has this value; names don't stand in names
+-- whether an AVA has this value; names don't stand in names
 abbrev pub is_plain : TypeSyntax → List ℕ → Bool
 is_plain type_syntaxes.Name v = false
 is_plain (type_syntaxes.Plain syntax) v = is_valid syntax v
 
-abbrev pub is_valid_part : List AttributeType → ℕ → List ℕ → Bool
-is_valid_part types t v = is_plain (type_at types t).syntax v
+abbrev pub is_valid_ava : List AttributeType → ℕ → List ℕ → Bool
+is_valid_ava types t v = is_plain (type_at types t).syntax v
 
--- the normal form of a part's value
-abbrev pub norm_part : List AttributeType → ℕ → List ℕ → List ℕ
-norm_part types t v = norm_by (plain_family (type_at types t).equality) v
+-- the normal form of an AVA's value
+abbrev pub norm_ava : List AttributeType → ℕ → List ℕ → List ℕ
+norm_ava types t v = norm_by (plain_family (type_at types t).equality) v
 
--- whether one of the parts is of this type
+-- whether one of the AVAs is of this type
 abbrev pub has_type : ℕ → Rdn → Bool
 has_type t r = list_any (λ p. nat_eq p.0 t) r
 
--- the type is known, its values aren't names, they can be compared, this one is valid, and no part before it is of this type:
+-- the type is known, its values aren't names, they can be compared, this one is valid, and no AVA before it is of this type:
 -- the first that fails answers
 abbrev pub type_among : List AttributeType → Rdn → List ℕ → Option ℕ → Result ℕ Code
 type_among types earlier v None = Err InvalidDnSyntax
 type_among types earlier v (Some t) =
     if has_name_syntax types t then Err InvalidDnSyntax
     else (if not (has_equality types t) then Err NamingViolation
-    else (if not (is_valid_part types t v) then Err InvalidDnSyntax
+    else (if not (is_valid_ava types t v) then Err InvalidDnSyntax
     else (if has_type t earlier then Err NamingViolation else Ok t)))
 
--- the type of a part behind others in its RDN
-abbrev pub part_type : List AttributeType → Rdn → names.Ava → Result ℕ Code
-part_type types earlier p = type_among types earlier p.1 (type_of types p.0)
+-- the type of an AVA behind others in its RDN
+abbrev pub ava_type : List AttributeType → Rdn → names.Ava → Result ℕ Code
+ava_type types earlier p = type_among types earlier p.1 (type_of types p.0)
 
--- the parts of an RDN, behind earlier ones
-unfoldable pub parts_from : List AttributeType → Rdn → names.Rdn → Result Rdn Code
-parts_from types earlier [] = Ok earlier
-parts_from types earlier (p ∷ ps) = part_type types earlier p >>= λ t. parts_from types (earlier ++ (t, p.1) ∷ []) ps
+-- the AVAs of an RDN, behind earlier ones
+unfoldable pub avas_from : List AttributeType → Rdn → names.Rdn → Result Rdn Code
+avas_from types earlier [] = Ok earlier
+avas_from types earlier (p ∷ ps) = ava_type types earlier p >>= λ t. avas_from types (earlier ++ (t, p.1) ∷ []) ps
 
 abbrev pub typed_rdn : List AttributeType → names.Rdn → Result Rdn Code
-typed_rdn types r = parts_from types [] r
+typed_rdn types r = avas_from types [] r
 
 -- the RDNs of a name, behind others
 unfoldable pub rdns_from : List AttributeType → List Rdn → names.Name → Result (List Rdn) Code
@@ -86,9 +86,9 @@ abbrev pub type_of_pair : Pair → ℕ
 type_of_pair p = p.0
 
 abbrev pub pair_of : List AttributeType → Ava → Pair
-pair_of types p = (p.0, norm_part types p.0 p.1)
+pair_of types p = (p.0, norm_ava types p.0 p.1)
 
--- the pairs of parts, among others
+-- the pairs of AVAs, among others
 unfoldable pub key_from : List AttributeType → RdnKey → Rdn → RdnKey
 key_from types key [] = key
 key_from types key (p ∷ ps) = key_from types (put_pair (pair_of types p) key) ps

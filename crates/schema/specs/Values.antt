@@ -24,20 +24,20 @@ use Rattle.schema.specs.Rdns.{Rdn, typed, rdn_key_of}
 
 -- ---- names as values (RFC 4517, 3.3.9 and 4.2.15)
 
--- the RDNs of the name that bytes spell; its parts pass the checks that those of an entry's name pass
+-- the RDNs of the name that bytes spell; its AVAs pass the checks that those of an entry's name pass
 unfoldable pub rdns_in : List AttributeType → List ℕ → Result (List Rdn) Code
 rdns_in types text = name_in text >>= typed types
 
--- a part in a normal form: the name that its type is printed by in lower case, and its normal value
-abbrev pub normal_part : List AttributeType → Pair → names.Ava
-normal_part types p = (lower (attribute_types.name_of types p.0), p.1)
+-- an AVA in a normal form: the name that its type is printed by in lower case, and its normal value
+abbrev pub normal_ava : List AttributeType → Pair → names.Ava
+normal_ava types p = (lower (attribute_types.name_of types p.0), p.1)
 
--- an RDN in a normal form: its parts by the numbers of their types
-abbrev pub normal_parts : List AttributeType → RdnKey → names.Rdn
-normal_parts types key = map (normal_part types) key
+-- an RDN in a normal form: its AVAs by the numbers of their types
+abbrev pub normal_avas : List AttributeType → RdnKey → names.Rdn
+normal_avas types key = map (normal_ava types) key
 
 abbrev pub normal_rdn : List AttributeType → Rdn → names.Rdn
-normal_rdn types r = normal_parts types (rdn_key_of types r)
+normal_rdn types r = normal_avas types (rdn_key_of types r)
 
 -- the normal form of a name with these RDNs, in the order written
 unfoldable pub normal_text : List AttributeType → List Rdn → List ℕ
@@ -47,7 +47,7 @@ abbrev pub normal_of : List AttributeType → Result (List Rdn) Code → Option 
 normal_of types (Ok rs) = Some (normal_text types rs)
 normal_of types (Err code) = None
 
--- the normal form of the name that bytes spell; none where they spell no name, or one whose parts don't pass
+-- the normal form of the name that bytes spell; none where they spell no name, or one whose AVAs don't pass
 unfoldable pub normal_name : List AttributeType → List ℕ → Option (List ℕ)
 normal_name types text = normal_of types (rdns_in types text)
 

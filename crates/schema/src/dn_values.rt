@@ -2,11 +2,11 @@
 
 ghost use Rattle.std.specs.Prelude.{◌≡◌, ◌∷◌, ◌++◌, IfOk, OnOk, map};
 ghost use Rattle.std.specs.List.{flat_map, join_with_byte, AllByRecursion};
-ghost use Rattle.dn.specs.Writing.{part_text, rdn_text};
+ghost use Rattle.dn.specs.Writing.{ava_text, rdn_text};
 ghost use Rattle.matching.specs.Forms.{lower};
 ghost use Rattle.schema.specs.inner.Keys.{AreKnown};
 ghost use Rattle.schema.specs.Gives.{Gives};
-ghost use Rattle.schema.specs.Values.{rdns_in, normal_part, normal_parts, normal_rdn, normal_text, normal_name};
+ghost use Rattle.schema.specs.Values.{rdns_in, normal_ava, normal_avas, normal_rdn, normal_text, normal_name};
 
 use crate::fault::PathFault;
 use crate::names::read_dn;
@@ -26,8 +26,8 @@ fn put_lower(out: &mut Vec<u8>, name: &[u8]) -> Result<(), AllocError>
     Ok(())
 }
 
-fn put_part(types: &TypeTable, out: &mut Vec<u8>, t: TypeId, norm: &[u8]) -> Result<(), AllocError>
-    ensures { OnOk result (out.new.items ≡ out.old.items ++ part_text (normal_part types.now (t, norm.now))) }
+fn put_ava(types: &TypeTable, out: &mut Vec<u8>, t: TypeId, norm: &[u8]) -> Result<(), AllocError>
+    ensures { OnOk result (out.new.items ≡ out.old.items ++ ava_text (normal_ava types.now (t, norm.now))) }
 {
     put_lower(out, types.printed_name(t))?;
     out.extend_from_slice(b"=")?;
@@ -35,18 +35,18 @@ fn put_part(types: &TypeTable, out: &mut Vec<u8>, t: TypeId, norm: &[u8]) -> Res
 }
 
 fn put_pair(types: &TypeTable, out: &mut Vec<u8>, pair: &(TypeId, Bytes)) -> Result<(), AllocError>
-    ensures { OnOk result (out.new.items ≡ out.old.items ++ part_text (normal_part types.now pair.now)) }
+    ensures { OnOk result (out.new.items ≡ out.old.items ++ ava_text (normal_ava types.now pair.now)) }
 {
-    put_part(types, out, pair.0, pair.1.as_slice())
+    put_ava(types, out, pair.0, pair.1.as_slice())
 }
 
-// each part with a plus sign before it
-fn put_more_parts(
+// each AVA with a plus sign before it
+fn put_more_avas(
     types: &TypeTable,
     out: &mut Vec<u8>,
     pairs: &[(TypeId, Bytes)],
 ) -> Result<(), AllocError>
-    ensures { OnOk result (out.new.items ≡ out.old.items ++ flat_map (λ p. 43 ∷ part_text (normal_part types.now p)) pairs.now) }
+    ensures { OnOk result (out.new.items ≡ out.old.items ++ flat_map (λ p. 43 ∷ ava_text (normal_ava types.now p)) pairs.now) }
 {
     for pair in pairs {
         out.extend_from_slice(b"+")?;
@@ -55,18 +55,18 @@ fn put_more_parts(
     Ok(())
 }
 
-fn put_parts(
+fn put_avas(
     types: &TypeTable,
     out: &mut Vec<u8>,
     pairs: &[(TypeId, Bytes)],
 ) -> Result<(), AllocError>
-    ensures { OnOk result (out.new.items ≡ out.old.items ++ rdn_text (normal_parts types.now pairs.now)) }
+    ensures { OnOk result (out.new.items ≡ out.old.items ++ rdn_text (normal_avas types.now pairs.now)) }
 {
     match pairs {
         [] => Ok(()),
         [first, others @ ..] => {
             put_pair(types, out, first)?;
-            put_more_parts(types, out, others)?;
+            put_more_avas(types, out, others)?;
             Ok(())
         }
     }
@@ -77,12 +77,12 @@ fn put_rdn(alloc: Global, types: &TypeTable, out: &mut Vec<u8>, rdn: &Rdn) -> Re
     requires { AreKnown types.now rdn.now }
     ensures { OnOk result (out.new.items ≡ out.old.items ++ rdn_text (normal_rdn types.now rdn.now)) }
 {
-    match rdn.parts() {
+    match rdn.avas() {
         [(t, value)] => {
             let norm = norm_by(alloc, types.at(*t).plain_family(), value.as_slice())?;
-            put_part(types, out, *t, norm.as_slice())
+            put_ava(types, out, *t, norm.as_slice())
         }
-        _ => put_parts(types, out, rdn_key_of(alloc, types, rdn)?.pairs()),
+        _ => put_avas(types, out, rdn_key_of(alloc, types, rdn)?.pairs()),
     }
 }
 
@@ -137,7 +137,7 @@ fn normal_text(
     Ok(Bytes::from_vec(out))
 }
 
-/// The RDNs of the name that bytes spell under these types, its own first, or the code of the first part that has a fault.
+/// The RDNs of the name that bytes spell under these types, its own first, or the code of the first AVA that has a fault.
 #[tactic(auto, unfolding(crate::specs::Values::rdns_in))]
 pub fn rdns_in(alloc: Global, types: &TypeTable, text: &[u8]) -> Result<Sequence<Rdn>, PathFault>
     ensures gives { Gives (λ rdns. rdns) result (rdns_in types.now text.now) }

@@ -8,7 +8,7 @@ ghost use Rattle.terms.specs.Naming.{is_reserved};
 ghost use Rattle.values.specs.declared.types.AttributeType.{AttributeType};
 ghost use Rattle.schema.specs.declared.code.Code.{Code};
 ghost use Rattle.schema.specs.Rdns.{Rdn, type_of_pair, pair_of, rdn_key_of, typed};
-ghost use Rattle.schema.specs.FaultyNames.{IsPartFault};
+ghost use Rattle.schema.specs.FaultyNames.{IsAvaFault};
 ghost use Rattle.schema.specs.GoodRdns.{IsRdn};
 ghost use Rattle.schema.specs.Values.{is_valid_at};
 ghost use Rattle.dn.specs.Names.{Name, is_type};
@@ -47,7 +47,7 @@ pub fn written_names_are_located()
     matching::valid_values_are_bytes();
 }
 
-/// The step of a path that an RDN gives has the pair of each of its parts, by the numbers of their types, whatever order they are written in.
+/// The step of a path that an RDN gives has the pair of each of its AVAs, by the numbers of their types, whatever order they are written in.
 pub fn keys_are_sorted()
     ensures same { (types : List AttributeType) (r : Rdn) → IsPermutation (map (pair_of types) r) (rdn_key_of types r) }
     ensures sorted { (types : List AttributeType) (r : Rdn) → IsNonDecreasingBy type_of_pair (rdn_key_of types r) }
@@ -60,11 +60,11 @@ pub fn located_rdns_are_good()
     spelled_names_are_read();
 }
 
-/// Which code a name has whose types aren't found: that of the first part that has a flaw, its own RDN first, and of its flaws the first
+/// Which code a name has whose types aren't found: that of the first AVA that has a flaw, its own RDN first, and of its flaws the first
 /// in a stated order. It has one such code at most.
-pub fn name_codes_stand_at_parts()
-    ensures fault { (types : List AttributeType) (n : Name) (code : Code) → (typed types n ≡ Err code) ↔ IsPartFault types n code }
-    ensures one { (types : List AttributeType) (n : Name) (c d : Code) → IsPartFault types n c → IsPartFault types n d → c ≡ d }
+pub fn name_codes_stand_at_avas()
+    ensures fault { (types : List AttributeType) (n : Name) (code : Code) → (typed types n ≡ Err code) ↔ IsAvaFault types n code }
+    ensures one { (types : List AttributeType) (n : Name) (c d : Code) → IsAvaFault types n c → IsAvaFault types n d → c ≡ d }
 {}
 
 /// Which classes stand in the list of some classes with their superclasses: those that one of them is derived from (RFC 4512, 2.4).

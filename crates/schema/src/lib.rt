@@ -28,7 +28,7 @@ pub use dn::Name;
 pub use dn_values::rdns_in;
 pub use fault::PathFault;
 pub use laws::{
-    keys_are_sorted, located_rdns_are_good, name_codes_stand_at_parts,
+    keys_are_sorted, located_rdns_are_good, name_codes_stand_at_avas,
     printed_names_name_their_types, subtypes_are_told, superclasses_are_listed,
     valid_values_are_bytes, written_names_are_located,
 };

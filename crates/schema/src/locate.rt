@@ -79,9 +79,9 @@ impl Conf {
         })
     }
 
-    /// Where a name stands below the suffix. Each part is checked in turn, the entry's own RDN first: `InvalidDnSyntax` where its type isn't
+    /// Where a name stands below the suffix. Each AVA is checked in turn, the entry's own RDN first: `InvalidDnSyntax` where its type isn't
     /// known or has DN syntax, `NamingViolation` where that has no equality rule, `InvalidDnSyntax` where the value isn't valid,
-    /// `NamingViolation` where its RDN has a part of that type before it. Then `NoSuchObject` where the name doesn't end with the suffix.
+    /// `NamingViolation` where its RDN has an AVA of that type before it. Then `NoSuchObject` where the name doesn't end with the suffix.
     #[tactic(auto, unfolding(crate::specs::Conf::place_of))]
     pub fn place_of(&self, alloc: Global, name: &Name) -> Result<Located, PathFault>
         ensures rdns { Gives (λ l. l.rdns) result (place_of self.now name.now) }
@@ -110,12 +110,12 @@ impl Conf {
         Ok(self.place_of(alloc, name)?.path)
     }
 
-    /// An RDN with its types, or the code of the first part that has a fault, as `place_of` answers it.
+    /// An RDN with its types, or the code of the first AVA that has a fault, as `place_of` answers it.
     pub fn typed_rdn(&self, alloc: Global, rdn: &dn::Rdn) -> Result<Rdn, PathFault>
         ensures gives { Gives (λ r. r) result (typed_rdn self.now.types rdn.now) }
         ensures good { IfOk result (IsRdn self.now.types) }
     {
-        typed_rdn(alloc, self.table(), rdn.parts())
+        typed_rdn(alloc, self.table(), rdn.avas())
     }
 
     /// The path of what stands below a path by an RDN.

@@ -4,9 +4,9 @@ ghost use Rattle.std.specs.Prelude.{◌≡◌, ◌<◌, ◌∷◌, ◌++◌, OnE
 ghost use Rattle.std.specs.List.{flat_map, AllByRecursion};
 ghost use Rattle.base.specs.Extends.{Extends};
 ghost use Rattle.dn.specs.Reading.{name_of};
-ghost use Rattle.dn.specs.Writing.{part_text, rdn_text};
+ghost use Rattle.dn.specs.Writing.{ava_text, rdn_text};
 ghost use Rattle.schema.specs.GoodRdns.{IsRdn};
-ghost use Rattle.schema.specs.Names.{or_invalid, name_in, written_part, written_rdn};
+ghost use Rattle.schema.specs.Names.{or_invalid, name_in, written_ava, written_rdn};
 ghost use Rattle.schema.specs.inner.Keys.{AreKnown};
 ghost use Rattle.schema.specs.Gives.{Gives};
 
@@ -41,40 +41,40 @@ pub fn read_dn(alloc: Global, text: &[u8]) -> Result<Name, PathFault>
 }
 
 impl Conf {
-    fn put_part(&self, out: &mut Vec<u8>, part: &(TypeId, Bytes)) -> Result<(), AllocError>
-        requires { part.now.0 < length self.now.types }
-        ensures put { OnOk result (out.new.items ≡ out.old.items ++ part_text (written_part self.now.types part.now)) }
+    fn put_ava(&self, out: &mut Vec<u8>, ava: &(TypeId, Bytes)) -> Result<(), AllocError>
+        requires { ava.now.0 < length self.now.types }
+        ensures put { OnOk result (out.new.items ≡ out.old.items ++ ava_text (written_ava self.now.types ava.now)) }
         ensures kept { OnErr result (Extends out.old.items out.new.items) }
     {
-        let (t, value) = part;
+        let (t, value) = ava;
         out.extend_from_slice(self.name(*t))?;
         out.extend_from_slice(b"=")?;
         put_value(out, value.as_slice())
     }
 
-    // each part with a plus sign before it
-    fn put_more_parts(&self, out: &mut Vec<u8>, parts: &[(TypeId, Bytes)]) -> Result<(), AllocError>
-        requires { AreKnown self.now.types parts.now }
-        ensures put { OnOk result (out.new.items ≡ out.old.items ++ flat_map (λ p. 43 ∷ part_text (written_part self.now.types p)) parts.now) }
+    // each AVA with a plus sign before it
+    fn put_more_avas(&self, out: &mut Vec<u8>, avas: &[(TypeId, Bytes)]) -> Result<(), AllocError>
+        requires { AreKnown self.now.types avas.now }
+        ensures put { OnOk result (out.new.items ≡ out.old.items ++ flat_map (λ p. 43 ∷ ava_text (written_ava self.now.types p)) avas.now) }
         ensures kept { OnErr result (Extends out.old.items out.new.items) }
     {
-        for part in parts {
+        for ava in avas {
             out.extend_from_slice(b"+")?;
-            self.put_part(out, part)?;
+            self.put_ava(out, ava)?;
         }
         Ok(())
     }
 
-    fn put_parts(&self, out: &mut Vec<u8>, parts: &[(TypeId, Bytes)]) -> Result<(), AllocError>
-        requires { AreKnown self.now.types parts.now }
-        ensures put { OnOk result (out.new.items ≡ out.old.items ++ rdn_text (written_rdn self.now.types parts.now)) }
+    fn put_avas(&self, out: &mut Vec<u8>, avas: &[(TypeId, Bytes)]) -> Result<(), AllocError>
+        requires { AreKnown self.now.types avas.now }
+        ensures put { OnOk result (out.new.items ≡ out.old.items ++ rdn_text (written_rdn self.now.types avas.now)) }
         ensures kept { OnErr result (Extends out.old.items out.new.items) }
     {
-        match parts {
+        match avas {
             [] => Ok(()),
             [first, others @ ..] => {
-                self.put_part(out, first)?;
-                self.put_more_parts(out, others)?;
+                self.put_ava(out, first)?;
+                self.put_more_avas(out, others)?;
                 Ok(())
             }
         }
@@ -87,6 +87,6 @@ impl Conf {
         ensures put { OnOk result (out.new.items ≡ out.old.items ++ rdn_text (written_rdn self.now.types rdn.now)) }
         ensures kept { OnErr result (Extends out.old.items out.new.items) }
     {
-        self.put_parts(out, rdn.parts())
+        self.put_avas(out, rdn.avas())
     }
 }

@@ -3,7 +3,7 @@
 ghost use Rattle.std.specs.Prelude.{◌≡◌, ◌<◌, ◌≤◌, ◌∷◌, ◌++◌, [], true, IfOk, OnOk, length};
 ghost use Rattle.dn.specs.Names.{is_name};
 ghost use Rattle.std.specs.List.{AllByRecursion, prefix_len};
-ghost use Rattle.schema.specs.Rdns.{is_plain, has_type, part_type, typed_rdn, typed, is_lower, put_pair, rdn_key_of};
+ghost use Rattle.schema.specs.Rdns.{is_plain, has_type, ava_type, typed_rdn, typed, is_lower, put_pair, rdn_key_of};
 ghost use Rattle.schema.specs.inner.Keys.{AreKnown};
 ghost use Rattle.schema.specs.Gives.{Gives};
 
@@ -17,7 +17,7 @@ use paths::{PathDraft, Rdn, RdnKey};
 use std::alloc::{AllocError, Global};
 use values::{TypeId, TypeSyntax, TypeTable, norm_by};
 
-// whether a part of this syntax has a value
+// whether an AVA of this syntax has a value
 fn is_plain(syntax: TypeSyntax, value: &[u8]) -> bool
     ensures { result ≡ is_plain syntax value.now }
 {
@@ -27,19 +27,19 @@ fn is_plain(syntax: TypeSyntax, value: &[u8]) -> bool
     }
 }
 
-// whether one of the parts is of this type
-fn has_type(parts: &[(TypeId, Bytes)], t: TypeId) -> bool
-    ensures { result ≡ has_type t parts.now }
+// whether one of the AVAs is of this type
+fn has_type(avas: &[(TypeId, Bytes)], t: TypeId) -> bool
+    ensures { result ≡ has_type t avas.now }
 {
-    parts.iter().any(|part| part.0 == t)
+    avas.iter().any(|ava| ava.0 == t)
 }
 
-// the type of a part behind others in its RDN
-fn part_type(types: &TypeTable, earlier: &[(TypeId, Bytes)], part: &Ava) -> Result<TypeId, Code>
-    ensures gives { result ≡ part_type types.now earlier.now part.now }
+// the type of an AVA behind others in its RDN
+fn ava_type(types: &TypeTable, earlier: &[(TypeId, Bytes)], ava: &Ava) -> Result<TypeId, Code>
+    ensures gives { result ≡ ava_type types.now earlier.now ava.now }
     ensures known { IfOk result (λ t. t < length types.now) }
 {
-    let Some(t) = types.type_of(part.ty_text()) else {
+    let Some(t) = types.type_of(ava.ty_text()) else {
         return Err(Code::InvalidDnSyntax);
     };
     let kind = types.at(t);
@@ -49,7 +49,7 @@ fn part_type(types: &TypeTable, earlier: &[(TypeId, Bytes)], part: &Ava) -> Resu
     if kind.equality.is_none() {
         return Err(Code::NamingViolation);
     }
-    if !is_plain(kind.syntax, part.value()) {
+    if !is_plain(kind.syntax, ava.value()) {
         return Err(Code::InvalidDnSyntax);
     }
     if has_type(earlier, t) {
@@ -59,19 +59,19 @@ fn part_type(types: &TypeTable, earlier: &[(TypeId, Bytes)], part: &Ava) -> Resu
 }
 
 /// An RDN with its types; `InvalidDnSyntax` where a type isn't known or has DN syntax, or a value isn't valid, and `NamingViolation` where a
-/// type has no equality rule or stands twice. The first part that has a fault answers.
-#[tactic(auto, unfolding(crate::specs::Rdns::parts_from))]
-pub(crate) fn typed_rdn(alloc: Global, types: &TypeTable, parts: &[Ava]) -> Result<Rdn, PathFault>
-    ensures gives { Gives (λ r. r) result (typed_rdn types.now parts.now) }
+/// type has no equality rule or stands twice. The first AVA that has a fault answers.
+#[tactic(auto, unfolding(crate::specs::Rdns::avas_from))]
+pub(crate) fn typed_rdn(alloc: Global, types: &TypeTable, avas: &[Ava]) -> Result<Rdn, PathFault>
+    ensures gives { Gives (λ r. r) result (typed_rdn types.now avas.now) }
     ensures known { IfOk result (AreKnown types.now) }
 {
-    let mut typed = Vec::with_capacity(alloc, parts.len())?;
-    for part in parts {
-        let t = match part_type(types, &typed, part) {
+    let mut typed = Vec::with_capacity(alloc, avas.len())?;
+    for ava in avas {
+        let t = match ava_type(types, &typed, ava) {
             Ok(t) => t,
             Err(code) => return Err(PathFault::Code(code)),
         };
-        typed.push((t, Bytes::from_slice(alloc, part.value())?))?;
+        typed.push((t, Bytes::from_slice(alloc, ava.value())?))?;
     }
     Ok(Rdn::new(Sequence::from_vec(typed)))
 }
@@ -89,7 +89,7 @@ pub(crate) fn typed_rdns(
 {
     let mut rdns = Vec::with_capacity(alloc, name.rdns().len())?;
     for rdn in name.rdns() {
-        rdns.push(typed_rdn(alloc, types, rdn.parts())?)?;
+        rdns.push(typed_rdn(alloc, types, rdn.avas())?)?;
     }
     Ok(rdns)
 }
@@ -115,8 +115,8 @@ pub(crate) fn rdn_key_of(alloc: Global, types: &TypeTable, rdn: &Rdn) -> Result<
     requires { AreKnown types.now rdn.now }
     ensures { IfOk result (λ k. k ≡ rdn_key_of types.now rdn.now) }
 {
-    let mut pairs = Vec::with_capacity(alloc, rdn.parts().len())?;
-    for (t, value) in rdn.parts() {
+    let mut pairs = Vec::with_capacity(alloc, rdn.avas().len())?;
+    for (t, value) in rdn.avas() {
         let norm = norm_by(alloc, types.at(*t).plain_family(), value.as_slice())?;
         put_pair(&mut pairs, *t, norm)?;
     }
@@ -134,7 +134,7 @@ pub(crate) fn step_down(
     requires { AreKnown types.now rdn.now }
     ensures { IfOk result (λ d. d ≡ path ++ rdn_key_of types.now rdn.now ∷ []) }
 {
-    match rdn.parts() {
+    match rdn.avas() {
         [(t, value)] => {
             let norm = norm_by(alloc, types.at(*t).plain_family(), value.as_slice())?;
             path.with(*t, norm.as_slice())

@@ -26,11 +26,11 @@ use Rattle.values.specs.declared.types.AttributeType.{AttributeType}
 use Rattle.values.specs.Types.{type_of}
 use Rattle.schema.specs.TypeRules.{object_class}
 use Rattle.schema.specs.Values.{is_valid_at, norm_at}
-use Rattle.schema.specs.Rdns.{Rdn, parts_from, put_pair, key_from, rdn_key_of}
+use Rattle.schema.specs.Rdns.{Rdn, avas_from, put_pair, key_from, rdn_key_of}
 use Rattle.schema.specs.Names.{name_in}
 use Rattle.schema.specs.Conf.{Conf}
 use Rattle.base.specs.Answers.{each, through, ◌>>=◌}
-use Rattle.dn.specs.Reading.{octets_from, trimmed, value_of, part_at, part_of, cut_raw, rdn_of, name_of}
+use Rattle.dn.specs.Reading.{octets_from, trimmed, value_of, ava_at, ava_of, cut_raw, rdn_of, name_of}
 use Rattle.paths.specs.Paths.{RdnKey, Path, path_cmp, begins}
 use Rattle.entries.specs.Entries.{Attribute, Attributes, EntryContent, push_value, with_rdn}
 use Rattle.tree.specs.Directories.{Entries}
@@ -49,7 +49,7 @@ on_entries = tt
 
 -- what a new RDN is read by
 unfoldable on_rdns : ⊤
-unfolding rdn_in name_in name_of cut_raw each rdn_of part_of part_at value_of octets_from trimmed parts_from type_of norm is_valid is_utf8 chars encode
+unfolding rdn_in name_in name_of cut_raw each rdn_of ava_of ava_at value_of octets_from trimmed avas_from type_of norm is_valid is_utf8 chars encode
 on_rdns = tt
 
 -- ---- attribute types, and an entry

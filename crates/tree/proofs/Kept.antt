@@ -136,7 +136,7 @@ keeps reads conf mode d dn lines out ok h said =
     let e : EntryContent = entry_of conf rdn l.0 in
     let tests = put_ok conf d p e out l.2 in
     let is_rdn : IsRdn conf.types rdn = own_good conf ok rs fine in
-    let attrs = rdn_good conf.types rdn l.0 is_rdn.parts (lines_good mode conf.types lines [] l.0 (none_good conf) l.1) in
+    let attrs = rdn_good conf.types rdn l.0 is_rdn.avas (lines_good mode conf.types lines [] l.0 (none_good conf) l.1) in
     subst (λ (c : Change). IsDirectory conf (changed d c)) tests.3 (put_kept conf d p e h (record {
       stands = record {
         good = record { attrs = attrs.all; types_apart = attrs.types_apart; class = tests.0; single = tests.1; rdn = is_rdn; rdn_there = all_come conf.types rdn l.0 };

@@ -6,7 +6,7 @@ use Rattle.dn.specs.Names.{Ava, Rdn, Name}
 use Rattle.base.specs.Answers.{◌>>=◌}
 use Rattle.base.specs.Ends.{is_space}
 use Rattle.dn.specs.NameFaults.{is_separator}
-use Rattle.dn.specs.Reading.{escapes, value_of, part_of, rdn_of}
+use Rattle.dn.specs.Reading.{escapes, value_of, ava_of, rdn_of}
 
 -- the argument says whether the first byte is escaped
 unfoldable pub piece : (ℕ → Bool) → Bool → List ℕ → List ℕ
@@ -28,24 +28,24 @@ first_by ends read text = read (piece ends false text) >>= λ x. Ok (x, behind e
 abbrev pub first_value : List ℕ → Result (List ℕ × List ℕ) NameFaultKind
 first_value = first_by is_separator value_of
 
-abbrev pub first_part : List ℕ → Result (Ava × List ℕ) NameFaultKind
-first_part = first_by is_separator part_of
+abbrev pub first_ava : List ℕ → Result (Ava × List ℕ) NameFaultKind
+first_ava = first_by is_separator ava_of
 
 abbrev pub first_rdn : List ℕ → Result (Rdn × List ℕ) NameFaultKind
 first_rdn = first_by is_comma rdn_of
 
--- a part whose type was read, from its value on
-abbrev pub part_from : List ℕ → List ℕ → Result (Ava × List ℕ) NameFaultKind
-part_from ty text = first_value text >>= λ s. Ok ((ty, s.0), s.1)
+-- an AVA whose type was read, from its value on
+abbrev pub ava_from : List ℕ → List ℕ → Result (Ava × List ℕ) NameFaultKind
+ava_from ty text = first_value text >>= λ s. Ok ((ty, s.0), s.1)
 
--- the parts that follow, where a plus sign comes next
-unfoldable pub parts_behind : List ℕ → Result (Rdn × List ℕ) NameFaultKind
-parts_behind [] = Ok ([], [])
-parts_behind (b ∷ bs) = if b == plus_sign then first_rdn bs else Ok ([], b ∷ bs)
+-- the AVAs that follow, where a plus sign comes next
+unfoldable pub avas_behind : List ℕ → Result (Rdn × List ℕ) NameFaultKind
+avas_behind [] = Ok ([], [])
+avas_behind (b ∷ bs) = if b == plus_sign then first_rdn bs else Ok ([], b ∷ bs)
 
--- an RDN whose first part was read, by what stands behind that
-abbrev pub parts_from : Ava × List ℕ → Result (Rdn × List ℕ) NameFaultKind
-parts_from s = parts_behind s.1 >>= λ t. Ok (s.0 ∷ t.0, t.1)
+-- an RDN whose first AVA was read, by what stands behind that
+abbrev pub avas_from : Ava × List ℕ → Result (Rdn × List ℕ) NameFaultKind
+avas_from s = avas_behind s.1 >>= λ t. Ok (s.0 ∷ t.0, t.1)
 
 abbrev pub ends_piece : List ℕ → Bool
 ends_piece [] = true

@@ -4,7 +4,7 @@ use Rattle.dn.specs.declared.faults.NameFaultKind.{NameFaultKind}
 use Rattle.dn.specs.declared.faults.NameFaultKind.TheVariants.{EqualsMissing, Escape, NotEscaped, TypeMissing, FormNotSupported}
 use Rattle.dn.specs.Names.{Name}
 use Rattle.base.specs.Answers.{each}
-use Rattle.dn.specs.Reading.{octets_from, trimmed, value_of, part_at, part_of, cut_raw, rdn_of, name_of}
+use Rattle.dn.specs.Reading.{octets_from, trimmed, value_of, ava_at, ava_of, cut_raw, rdn_of, name_of}
 use Rattle.dn.specs.Writing.{written, text_from, text_of}
 
 abbrev Read : Type 0
@@ -21,52 +21,52 @@ faults f = Err f
 
 -- spaces alone
 nothing : name_of (codes "  ") ≡ is []
-unfolding name_of cut_raw each rdn_of part_of part_at value_of octets_from trimmed
+unfolding name_of cut_raw each rdn_of ava_of ava_at value_of octets_from trimmed
 nothing = refl
 
 -- two RDNs, and spaces wherever they may stand
 two : name_of (codes " cn = a b , dc=ex ") ≡ is (((codes "cn", codes "a b") ∷ []) ∷ ((codes "dc", codes "ex") ∷ []) ∷ [])
-unfolding name_of cut_raw each rdn_of part_of part_at value_of octets_from trimmed
+unfolding name_of cut_raw each rdn_of ava_of ava_at value_of octets_from trimmed
 two = refl
 
--- two parts
-parts : name_of (codes "cn=a+sn=b") ≡ is (((codes "cn", codes "a") ∷ (codes "sn", codes "b") ∷ []) ∷ [])
-unfolding name_of cut_raw each rdn_of part_of part_at value_of octets_from trimmed
-parts = refl
+-- two AVAs
+avas : name_of (codes "cn=a+sn=b") ≡ is (((codes "cn", codes "a") ∷ (codes "sn", codes "b") ∷ []) ∷ [])
+unfolding name_of cut_raw each rdn_of ava_of ava_at value_of octets_from trimmed
+avas = refl
 
 -- an escaped comma, and a pair of digits
 escaped : name_of (codes "cn=a\\,b\\2B") ≡ is (one (codes "cn") (codes "a,b+"))
-unfolding name_of cut_raw each rdn_of part_of part_at value_of octets_from trimmed
+unfolding name_of cut_raw each rdn_of ava_of ava_at value_of octets_from trimmed
 escaped = refl
 
 -- a value that is one escaped space, and a raw one behind it
 space : name_of (codes "cn=\\  ") ≡ is (one (codes "cn") (codes " "))
-unfolding name_of cut_raw each rdn_of part_of part_at value_of octets_from trimmed
+unfolding name_of cut_raw each rdn_of ava_of ava_at value_of octets_from trimmed
 space = refl
 
 -- each fault
 no_equals : name_of (codes "cn=a,") ≡ faults EqualsMissing
-unfolding name_of cut_raw each rdn_of part_of part_at value_of octets_from trimmed
+unfolding name_of cut_raw each rdn_of ava_of ava_at value_of octets_from trimmed
 no_equals = refl
 
 bad_escape : name_of (codes "cn=\\4,dc") ≡ faults Escape
-unfolding name_of cut_raw each rdn_of part_of part_at value_of octets_from trimmed
+unfolding name_of cut_raw each rdn_of ava_of ava_at value_of octets_from trimmed
 bad_escape = refl
 
 raw : name_of (codes "cn=a<b;c") ≡ faults NotEscaped
-unfolding name_of cut_raw each rdn_of part_of part_at value_of octets_from trimmed
+unfolding name_of cut_raw each rdn_of ava_of ava_at value_of octets_from trimmed
 raw = refl
 
 no_type : name_of (codes " =a") ≡ faults TypeMissing
-unfolding name_of cut_raw each rdn_of part_of part_at value_of octets_from trimmed
+unfolding name_of cut_raw each rdn_of ava_of ava_at value_of octets_from trimmed
 no_type = refl
 
 semicolon : name_of (codes "cn=a;dc=b") ≡ faults FormNotSupported
-unfolding name_of cut_raw each rdn_of part_of part_at value_of octets_from trimmed
+unfolding name_of cut_raw each rdn_of ava_of ava_at value_of octets_from trimmed
 semicolon = refl
 
 hexadecimal : name_of (codes "cn= #04") ≡ faults FormNotSupported
-unfolding name_of cut_raw each rdn_of part_of part_at value_of octets_from trimmed
+unfolding name_of cut_raw each rdn_of ava_of ava_at value_of octets_from trimmed
 hexadecimal = refl
 
 -- writing

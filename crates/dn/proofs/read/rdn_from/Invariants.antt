@@ -1,13 +1,13 @@
 use Rattle.std.proofs.Common.{◌≡◌, true, length}
 use Rattle.dn.specs.Names.{is_rdn}
-use Rattle.dn.specs.inner.Cuts.{parts_behind, parts_from}
+use Rattle.dn.specs.inner.Cuts.{avas_behind, avas_from}
 use Rattle.base.proofs.Each.{onto}
 use Rattle.dn.proofs.read.rdn_from.Given as goal
 
 abbrev pub invariant-loop-more : goal.invariant-loop-more
 invariant-loop-more l = record {
-  same : onto l.parts.items (parts_behind l.rest) ≡ parts_from (l.fn.part, l.behind);
-  good : is_rdn l.parts.items ≡ true;
+  same : onto l.avas.items (avas_behind l.rest) ≡ avas_from (l.fn.ava, l.behind);
+  good : is_rdn l.avas.items ≡ true;
 }
 
 abbrev pub decreases-loop-more : goal.decreases-loop-more

@@ -3,7 +3,7 @@ use Rattle.std.proofs.lemmas.Bool.{not-false, not-true}
 use Rattle.values.specs.Values.{Value}
 use Rattle.schema.specs.Values.{norm_at}
 use Rattle.entries.specs.StoredEntries.{raws, AreNormal}
-use Rattle.entries.proofs.LineLemmas.{part_normal}
+use Rattle.entries.proofs.LineLemmas.{ava_normal}
 use Rattle.entries.proofs.Pushed.{all_push}
 use Rattle.entries.proofs.ModifyLemmas.{append_is}
 use Rattle.entries.proofs.modified_values.append_value.Goals as goal
@@ -19,7 +19,7 @@ returns-clause-normal c =
     let old : List Value = c.args.values.now in
     let v : Value = c.in_ok-value.value in
     subst (AreNormal types c.args.t) (sym (c.in_ok-push.ensures.values ∙ ap (λ (b : Bool). cond b (old ++ v ∷ []) old) c.if-not-branch.false))
-    (all_push (λ (x : Value). x.norm ≡ norm_at types c.args.t x.raw) old v c.requires.normal (part_normal types c.args.t c.args.raw.now v c.in_ok-value.ensures.1))
+    (all_push (λ (x : Value). x.norm ≡ norm_at types c.args.t x.raw) old v c.requires.normal (ava_normal types c.args.t c.args.raw.now v c.in_ok-value.ensures.1))
 
 pub returns-clause-gives : goal.returns-clause-gives
 returns-clause-gives c =

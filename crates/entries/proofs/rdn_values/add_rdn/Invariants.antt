@@ -5,10 +5,10 @@ use Rattle.entries.specs.Entries.{with_rdn}
 use Rattle.entries.specs.StoredEntries.{attributes_of, IsMade}
 use Rattle.entries.proofs.rdn_values.add_rdn.Given as goal
 
-abbrev pub invariant-loop-part : goal.invariant-loop-part
-invariant-loop-part l = record {
+abbrev pub invariant-loop-ava : goal.invariant-loop-ava
+invariant-loop-ava l = record {
   made : IsMade l.conf.types l.attrs.entries;
-  left : AllByRecursion (IsAva l.conf.types) (drop l.part-index l.part-items);
-  rest : with_rdn l.conf.types (drop l.part-index l.part-items) (attributes_of l.attrs.entries) ≡ with_rdn l.conf.types l.rdn (attributes_of l.fn.attrs.entries);
-  begun : attributes_of l.attrs.entries ≡ with_rdn l.conf.types (take l.part-index l.part-items) (attributes_of l.fn.attrs.entries);
+  left : AllByRecursion (IsAva l.conf.types) (drop l.ava-index l.ava-items);
+  rest : with_rdn l.conf.types (drop l.ava-index l.ava-items) (attributes_of l.attrs.entries) ≡ with_rdn l.conf.types l.rdn (attributes_of l.fn.attrs.entries);
+  begun : attributes_of l.attrs.entries ≡ with_rdn l.conf.types (take l.ava-index l.ava-items) (attributes_of l.fn.attrs.entries);
 }

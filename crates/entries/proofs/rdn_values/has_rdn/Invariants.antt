@@ -5,8 +5,8 @@ use Rattle.entries.specs.StoredEntries.{attributes_of}
 use Rattle.entries.specs.Modifies.{has_rdn}
 use Rattle.entries.proofs.rdn_values.has_rdn.Given as goal
 
-abbrev pub invariant-loop-part : goal.invariant-loop-part
-invariant-loop-part l = record {
-  left : AllByRecursion (IsAva l.conf.types) (drop l.part-index l.part-items);
-  rest : has_rdn l.conf.types (drop l.part-index l.part-items) (attributes_of l.attrs.entries) ≡ has_rdn l.conf.types l.rdn (attributes_of l.attrs.entries);
+abbrev pub invariant-loop-ava : goal.invariant-loop-ava
+invariant-loop-ava l = record {
+  left : AllByRecursion (IsAva l.conf.types) (drop l.ava-index l.ava-items);
+  rest : has_rdn l.conf.types (drop l.ava-index l.ava-items) (attributes_of l.attrs.entries) ≡ has_rdn l.conf.types l.rdn (attributes_of l.attrs.entries);
 }

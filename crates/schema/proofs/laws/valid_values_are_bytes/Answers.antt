@@ -1,4 +1,4 @@
-use Rattle.schema.proofs.Parts.{valid_are_bytes}
+use Rattle.schema.proofs.AvaValues.{valid_are_bytes}
 use Rattle.schema.proofs.laws.valid_values_are_bytes.Goals as goal
 
 pub returns : goal.returns

@@ -1,5 +1,5 @@
 use Rattle.std.proofs.Common.{sym, ◌∙◌}
-use Rattle.schema.proofs.Parts.{nothing_from}
+use Rattle.schema.proofs.AvaValues.{nothing_from}
 use Rattle.schema.proofs.typed_values.value_with.Goals as goal
 
 pub joined-requires : goal.joined-requires

@@ -1,8 +1,0 @@
-use Rattle.dn.proofs.Holding.{held, held_is_part}
-use Rattle.dn.proofs.part.Ava.of_text.Goals as goal
-
-pub returns-clause-same : goal.returns-clause-same
-returns-clause-same c = held c.args.text c.args.ty_text.now c.args.value.now c.requires.ty_text c.requires.text
-
-pub returns-clause-good : goal.returns-clause-good
-returns-clause-good c = held_is_part c.args.text c.args.ty_text.now c.args.value.now c.requires.ty_text c.requires.text c.in_range.ensures.in_range
