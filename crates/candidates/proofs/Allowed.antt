@@ -28,7 +28,7 @@ use Rattle.candidates.specs.Sides.{Sides, unknown, exactly, at_most, if_indexed,
 use Rattle.candidates.proofs.Norms.{stored, attributes-stored, are_made, any_norm}
 use Rattle.candidates.proofs.Windows.{in_fitting, of_each}
 
--- ---- parts together
+-- ---- operands together
 
 both : (t u : Truth) (a b c d : Bool) → Allows t (record { may = a; may_not = b }) → Allows u (record { may = c; may_not = d }) → Allows (lesser t u) (record { may = a && c; may_not = b || d })
 both True u a b c d p q = record { if_true = λ x. and_from a c (p.if_true refl) (q.if_true x); if_false = λ x. or_right b d (q.if_false x) }
@@ -114,9 +114,9 @@ module _ (told : (front back : Bool) (pieces : List (List ℕ)) (text : List ℕ
 
       mutual
         of_filter : (f : texts.Tree) → Allows (filter_test (stored types attrs) (prepared_tree types f)) (sides shown n (prepared_tree types f))
-        of_filter (texts.All_of parts) = of_all parts
-        of_filter (texts.Any_of parts) = of_any parts
-        of_filter (texts.Not_of part) = turned (filter_test (stored types attrs) (prepared_tree types part)) (sides shown n (prepared_tree types part)) (of_filter part)
+        of_filter (texts.All_of operands) = of_all operands
+        of_filter (texts.Any_of operands) = of_any operands
+        of_filter (texts.Not_of operand) = turned (filter_test (stored types attrs) (prepared_tree types operand)) (sides shown n (prepared_tree types operand)) (of_filter operand)
         of_filter (texts.Leaf item) = of_item item (item_type types item)
 
         of_all : (fs : texts.Trees) → Allows (and_of (filter_tests (stored types attrs) (prepared_trees types fs))) (all_sides (sides_each shown n (prepared_trees types fs)))

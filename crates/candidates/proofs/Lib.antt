@@ -1,6 +1,6 @@
 pub mod Allowed
 pub mod Examples
 pub mod Norms
-pub mod Parts
+pub mod Operands
 pub mod Sets
 pub mod Windows

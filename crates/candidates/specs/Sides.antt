@@ -1,5 +1,5 @@
 -- The two sides of a bracket: whether a filter may be True of an entry, and whether it may be False, by the keys under which the entry's
--- number stands. What is known of an item follows from what it asks for, and of a filter from its parts, by the truths of RFC 4511, 4.5.1.7.
+-- number stands. What is known of an item follows from what it asks for, and of a filter from its operands, by the truths of RFC 4511, 4.5.1.7.
 use Rattle.std.specs.Prelude.{ℕ, Bool, true, false, not, List, [], ◌∷◌, Option, Some, None}
 use Rattle.std.specs.List.{list_any, list_all, flat_map}
 use Rattle.std.specs.FinSet.{contains}
@@ -64,11 +64,11 @@ module _ (shown : Shown) (n : ℕ) where
 
 -- ---- filters
 
--- an And is True where all parts are, and False where one is
+-- an And is True where all operands are, and False where one is
 abbrev pub all_sides : List Sides → Sides
 all_sides each = record { may = list_all (λ s. s.may) each; may_not = list_any (λ s. s.may_not) each }
 
--- an Or is True where one part is, and False where all are
+-- an Or is True where one operand is, and False where all are
 abbrev pub any_sides : List Sides → Sides
 any_sides each = record { may = list_any (λ s. s.may) each; may_not = list_all (λ s. s.may_not) each }
 
@@ -78,9 +78,9 @@ swapped s = record { may = s.may_not; may_not = s.may }
 -- of a filter whose items are settled
 abbrev mutual
   pub sides : Shown → ℕ → Tree → Sides
-  sides shown n (All_of parts) = all_sides (sides_each shown n parts)
-  sides shown n (Any_of parts) = any_sides (sides_each shown n parts)
-  sides shown n (Not_of part) = swapped (sides shown n part)
+  sides shown n (All_of operands) = all_sides (sides_each shown n operands)
+  sides shown n (Any_of operands) = any_sides (sides_each shown n operands)
+  sides shown n (Not_of operand) = swapped (sides shown n operand)
   sides shown n (Leaf item) = item_sides shown n item
 
   pub sides_each : Shown → ℕ → Trees → List Sides

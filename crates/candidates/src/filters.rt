@@ -24,7 +24,7 @@ pub struct Bracket<S> {
     pub may_not: Ids<S>,
 }
 
-// The numbers of the entries of which a filter may be what the side says. An And may be True where all of its parts may be, and False where
+// The numbers of the entries of which a filter may be what the side says. An And may be True where all of its operands may be, and False where
 // one of them may be; of an Or it is the other way round.
 fn numbers_on<'p, P: Postings>(
     alloc: Global,
@@ -35,25 +35,25 @@ fn numbers_on<'p, P: Postings>(
     ensures { IfOk result (HasExactly (members_of P.Set.members) (λ n. on side (sides (P.shown postings.now) n (tree_of filter.now)))) }
 {
     match filter {
-        PreparedFilter::And(parts) => {
+        PreparedFilter::And(operands) => {
             let all = side.is_may();
             let mut ids = all_or_none(postings, all);
-            for part in parts {
-                let next = numbers_on(alloc, part, postings, side)?;
+            for operand in operands {
+                let next = numbers_on(alloc, operand, postings, side)?;
                 ids = both_or_either(alloc, all, ids, next)?;
             }
             Ok(ids)
         }
-        PreparedFilter::Or(parts) => {
+        PreparedFilter::Or(operands) => {
             let all = !side.is_may();
             let mut ids = all_or_none(postings, all);
-            for part in parts {
-                let next = numbers_on(alloc, part, postings, side)?;
+            for operand in operands {
+                let next = numbers_on(alloc, operand, postings, side)?;
                 ids = both_or_either(alloc, all, ids, next)?;
             }
             Ok(ids)
         }
-        PreparedFilter::Not(part) => numbers_on(alloc, part, postings, side.other()),
+        PreparedFilter::Not(operand) => numbers_on(alloc, operand, postings, side.other()),
         PreparedFilter::Item(item) => item_numbers(alloc, item, postings, side),
     }
 }

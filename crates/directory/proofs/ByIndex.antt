@@ -55,9 +55,9 @@ module _ (a b : Shown) (n : ℕ) (slots : (t : ℕ) (kind : IndexKind) → a.slo
 
   mutual
     pub same_sides : (f : prepared.Tree) → sides a n f ≡ sides b n f
-    same_sides (prepared.All_of parts) = ap all_sides (same_each parts)
-    same_sides (prepared.Any_of parts) = ap any_sides (same_each parts)
-    same_sides (prepared.Not_of part) = ap swapped (same_sides part)
+    same_sides (prepared.All_of operands) = ap all_sides (same_each operands)
+    same_sides (prepared.Any_of operands) = ap any_sides (same_each operands)
+    same_sides (prepared.Not_of operand) = ap swapped (same_sides operand)
     same_sides (prepared.Leaf item) = same_item item
 
     same_each : (fs : prepared.Trees) → sides_each a n fs ≡ sides_each b n fs

@@ -1,4 +1,4 @@
--- Filters of settled items, part by part.
+-- Filters of settled items, operand by operand.
 use Rattle.std.proofs.Common.{◌≡◌, ℕ, ◌+◌, ◌<◌, ◌≤◌, List, [], ◌∷◌, ◌++◌, map, drop, length, get_or, refl, sym, ap, ◌∙◌, add-one, drop-cons}
 use Rattle.std.specs.List.{AllByRecursion}
 use Rattle.std.proofs.lemmas.List.{map-append}
@@ -21,9 +21,9 @@ use Rattle.filter.proofs.Truths.{lesser, greater, and_of_more, or_of_more}
 mutual
   pub filter_law : (types : List AttributeType) → AreTypes types → (attrs : List EntryAttribute) → AllByRecursion (IsMadeAttribute types) attrs
       → (f : texts.Tree) → filter_test attrs (prepared_tree types f) ≡ truth types (attributes_of attrs) f
-  filter_law types each attrs made (texts.All_of parts) = ap and_of (filters_law types each attrs made parts)
-  filter_law types each attrs made (texts.Any_of parts) = ap or_of (filters_law types each attrs made parts)
-  filter_law types each attrs made (texts.Not_of part) = ap opposite (filter_law types each attrs made part)
+  filter_law types each attrs made (texts.All_of operands) = ap and_of (filters_law types each attrs made operands)
+  filter_law types each attrs made (texts.Any_of operands) = ap or_of (filters_law types each attrs made operands)
+  filter_law types each attrs made (texts.Not_of operand) = ap opposite (filter_law types each attrs made operand)
   filter_law types each attrs made (texts.Leaf item) = item_law types each attrs made item
 
   filters_law : (types : List AttributeType) → AreTypes types → (attrs : List EntryAttribute) → AllByRecursion (IsMadeAttribute types) attrs
@@ -33,42 +33,42 @@ mutual
       ap (λ (t : Truth). t ∷ filter_tests attrs (prepared_trees types rest)) (filter_law types each attrs made first)
       ∙ ap (λ (ts : List Truth). truth types (attributes_of attrs) first ∷ ts) (filters_law types each attrs made rest)
 
--- ---- one part after the other
+-- ---- one operand after the other
 
--- the truths of the parts from one on
-abbrev pub from_part : List EntryAttribute → List PreparedFilter → ℕ → List Truth
-from_part attrs fs i = filter_tests attrs (trees_of (drop i fs))
+-- the truths of the operands from one on
+abbrev pub from_operand : List EntryAttribute → List PreparedFilter → ℕ → List Truth
+from_operand attrs fs i = filter_tests attrs (trees_of (drop i fs))
 
-part_more : (attrs : List EntryAttribute) (fs : List PreparedFilter) (i : ℕ) (d : PreparedFilter) → i < length fs
-    → from_part attrs fs i ≡ filter_test attrs (tree_of (get_or fs i d)) ∷ from_part attrs fs (i + 1)
-part_more attrs fs i d lt = rw (add-one, drop-cons fs i d lt) refl
+operand_more : (attrs : List EntryAttribute) (fs : List PreparedFilter) (i : ℕ) (d : PreparedFilter) → i < length fs
+    → from_operand attrs fs i ≡ filter_test attrs (tree_of (get_or fs i d)) ∷ from_operand attrs fs (i + 1)
+operand_more attrs fs i d lt = rw (add-one, drop-cons fs i d lt) refl
 
 pub and_next : (attrs : List EntryAttribute) (fs : List PreparedFilter) (i : ℕ) (d : PreparedFilter) → i < length fs
-    → and_of (from_part attrs fs i) ≡ lesser (filter_test attrs (tree_of (get_or fs i d))) (and_of (from_part attrs fs (i + 1)))
-and_next attrs fs i d lt = ap and_of (part_more attrs fs i d lt) ∙ and_of_more (filter_test attrs (tree_of (get_or fs i d))) (from_part attrs fs (i + 1))
+    → and_of (from_operand attrs fs i) ≡ lesser (filter_test attrs (tree_of (get_or fs i d))) (and_of (from_operand attrs fs (i + 1)))
+and_next attrs fs i d lt = ap and_of (operand_more attrs fs i d lt) ∙ and_of_more (filter_test attrs (tree_of (get_or fs i d))) (from_operand attrs fs (i + 1))
 
 pub or_next : (attrs : List EntryAttribute) (fs : List PreparedFilter) (i : ℕ) (d : PreparedFilter) → i < length fs
-    → or_of (from_part attrs fs i) ≡ greater (filter_test attrs (tree_of (get_or fs i d))) (or_of (from_part attrs fs (i + 1)))
-or_next attrs fs i d lt = ap or_of (part_more attrs fs i d lt) ∙ or_of_more (filter_test attrs (tree_of (get_or fs i d))) (from_part attrs fs (i + 1))
+    → or_of (from_operand attrs fs i) ≡ greater (filter_test attrs (tree_of (get_or fs i d))) (or_of (from_operand attrs fs (i + 1)))
+or_next attrs fs i d lt = ap or_of (operand_more attrs fs i d lt) ∙ or_of_more (filter_test attrs (tree_of (get_or fs i d))) (from_operand attrs fs (i + 1))
 
--- ---- parts prepared
+-- ---- operands prepared
 
--- the parts that are prepared, and those that are left
-abbrev pub prepared_parts : List AttributeType → List PreparedFilter → List Filter → Trees
-prepared_parts types done rest = trees_then (map tree_of done) (prepared_trees types (texts.views rest))
+-- the operands that are prepared, and those that are left
+abbrev pub prepared_operands : List AttributeType → List PreparedFilter → List Filter → Trees
+prepared_operands types done rest = trees_then (map tree_of done) (prepared_trees types (texts.views rest))
 
 then_one : (ts : List Tree) (t : Tree) (us : Trees) → trees_then (ts ++ t ∷ []) us ≡ trees_then ts (And_then t us)
 then_one [] t us = refl
 then_one (x ∷ ts) t us = ap (And_then x) (then_one ts t us)
 
-pub parts_next : (types : List AttributeType) (done : List PreparedFilter) (p : PreparedFilter) (fs : List Filter) (i : ℕ) (d : Filter) → i < length fs
-    → tree_of p ≡ prepared_tree types (texts.view (get_or fs i d)) → prepared_parts types (done ++ p ∷ []) (drop (i + 1) fs) ≡ prepared_parts types done (drop i fs)
-parts_next types done p fs i d lt is =
+pub operands_next : (types : List AttributeType) (done : List PreparedFilter) (p : PreparedFilter) (fs : List Filter) (i : ℕ) (d : Filter) → i < length fs
+    → tree_of p ≡ prepared_tree types (texts.view (get_or fs i d)) → prepared_operands types (done ++ p ∷ []) (drop (i + 1) fs) ≡ prepared_operands types done (drop i fs)
+operands_next types done p fs i d lt is =
     let rest = prepared_trees types (texts.views (drop (i + 1) fs)) in
     ap (λ (ts : List Tree). trees_then ts rest) (map-append tree_of done (p ∷ []))
     ∙ then_one (map tree_of done) (tree_of p) rest
     ∙ ap (λ (t : Tree). trees_then (map tree_of done) (And_then t rest)) is
     ∙ sym (rw (add-one, drop-cons fs i d lt) refl)
 
-pub parts_done : (types : List AttributeType) (done : List PreparedFilter) (fs : List Filter) (i : ℕ) → length fs ≤ i → prepared_parts types done (drop i fs) ≡ trees_of done
-parts_done types done fs i le = ap (λ (rest : List Filter). prepared_parts types done rest) (drop_of_length-le fs le)
+pub operands_done : (types : List AttributeType) (done : List PreparedFilter) (fs : List Filter) (i : ℕ) → length fs ≤ i → prepared_operands types done (drop i fs) ≡ trees_of done
+operands_done types done fs i le = ap (λ (rest : List Filter). prepared_operands types done rest) (drop_of_length-le fs le)

@@ -9,9 +9,9 @@ use Rattle.filter.specs.Items.{item_truth}
 
 abbrev mutual
   pub truth : List AttributeType → Attributes → Tree → Truth
-  truth types attrs (All_of parts) = and_of (truths types attrs parts)
-  truth types attrs (Any_of parts) = or_of (truths types attrs parts)
-  truth types attrs (Not_of part) = opposite (truth types attrs part)
+  truth types attrs (All_of operands) = and_of (truths types attrs operands)
+  truth types attrs (Any_of operands) = or_of (truths types attrs operands)
+  truth types attrs (Not_of operand) = opposite (truth types attrs operand)
   truth types attrs (Leaf item) = item_truth types attrs item
 
   pub truths : List AttributeType → Attributes → Trees → List Truth

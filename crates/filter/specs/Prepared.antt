@@ -75,9 +75,9 @@ item_test attrs (Asserts t types assertion) = true_or_false (has_match types ass
 -- a filter of settled items without where it lies in memory
 mutual
   pub data Tree : Type 0 where
-    All_of : (parts : Trees) → Tree
-    Any_of : (parts : Trees) → Tree
-    Not_of : (part : Tree) → Tree
+    All_of : (operands : Trees) → Tree
+    Any_of : (operands : Trees) → Tree
+    Not_of : (operand : Tree) → Tree
     Leaf : (item : PreparedItem) → Tree
 
   pub data Trees : Type 0 where
@@ -103,9 +103,9 @@ trees_of fs = trees_then (map tree_of fs) No_more
 -- the same filter with each item settled
 abbrev mutual
   pub prepared_tree : List AttributeType → texts.Tree → Tree
-  prepared_tree types (texts.All_of parts) = All_of (prepared_trees types parts)
-  prepared_tree types (texts.Any_of parts) = Any_of (prepared_trees types parts)
-  prepared_tree types (texts.Not_of part) = Not_of (prepared_tree types part)
+  prepared_tree types (texts.All_of operands) = All_of (prepared_trees types operands)
+  prepared_tree types (texts.Any_of operands) = Any_of (prepared_trees types operands)
+  prepared_tree types (texts.Not_of operand) = Not_of (prepared_tree types operand)
   prepared_tree types (texts.Leaf item) = Leaf (prepared_item types item)
 
   pub prepared_trees : List AttributeType → texts.Trees → Trees
@@ -115,9 +115,9 @@ abbrev mutual
 -- what it says of an entry
 abbrev mutual
   pub filter_test : List EntryAttribute → Tree → Truth
-  filter_test attrs (All_of parts) = and_of (filter_tests attrs parts)
-  filter_test attrs (Any_of parts) = or_of (filter_tests attrs parts)
-  filter_test attrs (Not_of part) = opposite (filter_test attrs part)
+  filter_test attrs (All_of operands) = and_of (filter_tests attrs operands)
+  filter_test attrs (Any_of operands) = or_of (filter_tests attrs operands)
+  filter_test attrs (Not_of operand) = opposite (filter_test attrs operand)
   filter_test attrs (Leaf item) = item_test attrs item
 
   pub filter_tests : List EntryAttribute → Trees → List Truth

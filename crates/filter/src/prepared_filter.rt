@@ -32,10 +32,10 @@ impl PreparedFilter {
         ensures { result ≡ filter_test entry.now.attrs (tree_of self.now) }
     {
         match self {
-            PreparedFilter::And(parts) => {
+            PreparedFilter::And(operands) => {
                 let mut least = Truth::True;
-                for part in parts {
-                    match part.truth_of(entry) {
+                for operand in operands {
+                    match operand.truth_of(entry) {
                         Truth::True => {}
                         Truth::Undefined => least = Truth::Undefined,
                         Truth::False => return Truth::False,
@@ -43,10 +43,10 @@ impl PreparedFilter {
                 }
                 least
             }
-            PreparedFilter::Or(parts) => {
+            PreparedFilter::Or(operands) => {
                 let mut greatest = Truth::False;
-                for part in parts {
-                    match part.truth_of(entry) {
+                for operand in operands {
+                    match operand.truth_of(entry) {
                         Truth::True => return Truth::True,
                         Truth::Undefined => greatest = Truth::Undefined,
                         Truth::False => {}
@@ -54,7 +54,7 @@ impl PreparedFilter {
                 }
                 greatest
             }
-            PreparedFilter::Not(part) => opposite(part.truth_of(entry)),
+            PreparedFilter::Not(operand) => opposite(operand.truth_of(entry)),
             PreparedFilter::Item(item) => item.truth_of(entry),
         }
     }

@@ -15,22 +15,22 @@ fn prepare_filter(alloc: Global, conf: &Conf, filter: &Filter) -> Result<Prepare
     ensures { IfOk result (λ p. tree_of p ≡ prepared_tree conf.now.types (view filter.now)) }
 {
     match filter {
-        Filter::And(parts) => {
-            let mut prepared = Vec::with_capacity(alloc, parts.len())?;
-            for part in parts {
-                prepared.push(prepare_filter(alloc, conf, part)?)?;
+        Filter::And(operands) => {
+            let mut prepared = Vec::with_capacity(alloc, operands.len())?;
+            for operand in operands {
+                prepared.push(prepare_filter(alloc, conf, operand)?)?;
             }
             Ok(PreparedFilter::And(prepared))
         }
-        Filter::Or(parts) => {
-            let mut prepared = Vec::with_capacity(alloc, parts.len())?;
-            for part in parts {
-                prepared.push(prepare_filter(alloc, conf, part)?)?;
+        Filter::Or(operands) => {
+            let mut prepared = Vec::with_capacity(alloc, operands.len())?;
+            for operand in operands {
+                prepared.push(prepare_filter(alloc, conf, operand)?)?;
             }
             Ok(PreparedFilter::Or(prepared))
         }
-        Filter::Not(part) => {
-            let prepared = prepare_filter(alloc, conf, part)?;
+        Filter::Not(operand) => {
+            let prepared = prepare_filter(alloc, conf, operand)?;
             Ok(PreparedFilter::Not(Box::new(alloc, prepared)?))
         }
         Filter::Item(item) => Ok(PreparedFilter::Item(prepare_item(alloc, conf, item)?)),

@@ -16,14 +16,14 @@ use Rattle.filter_text.specs.Spells.{Tree, Trees, All_of, Any_of, Not_of, Leaf, 
 use Rattle.filter_text.proofs.Runs.{head_eq, tail_eq, stops_at, both_ways, same_span, closed_space, closed_plain}
 use Rattle.filter_text.proofs.ItemTexts.{item_plain, item_first}
 
-pub view_and : (parts : Vec Filter Global) → view (And parts) ≡ All_of (views parts.items)
-view_and parts = ap view (sym (rolls-And parts)) ∙ fold-roll-Filter Tree view_step (layer.And parts)
+pub view_and : (operands : Vec Filter Global) → view (And operands) ≡ All_of (views operands.items)
+view_and operands = ap view (sym (rolls-And operands)) ∙ fold-roll-Filter Tree view_step (layer.And operands)
 
-pub view_or : (parts : Vec Filter Global) → view (Or parts) ≡ Any_of (views parts.items)
-view_or parts = ap view (sym (rolls-Or parts)) ∙ fold-roll-Filter Tree view_step (layer.Or parts)
+pub view_or : (operands : Vec Filter Global) → view (Or operands) ≡ Any_of (views operands.items)
+view_or operands = ap view (sym (rolls-Or operands)) ∙ fold-roll-Filter Tree view_step (layer.Or operands)
 
-pub view_not : (part : Box Filter Global) → view (Not part) ≡ Not_of (view part.value)
-view_not part = ap view (sym (rolls-Not part)) ∙ fold-roll-Filter Tree view_step (layer.Not part)
+pub view_not : (operand : Box Filter Global) → view (Not operand) ≡ Not_of (view operand.value)
+view_not operand = ap view (sym (rolls-Not operand)) ∙ fold-roll-Filter Tree view_step (layer.Not operand)
 
 pub view_item : (item : Item) → view (block.Item item) ≡ Leaf item
 view_item item = ap view (sym (rolls-Item item)) ∙ fold-roll-Filter Tree view_step (layer.Item item)
@@ -49,22 +49,22 @@ pub differs : (byte b : ℕ) → is_item_first byte ≡ false → is_item_first 
 differs byte b other first = byte_differs byte b (λ e. item_clash byte b other first (sym e))
 
 -- which filter a first byte begins
-pub comp_and : (f : Tree) (text more list : List ℕ) → IsFilterComp f text → 38 ∷ list ≡ text ++ more → (parts : Trees) × (inner : List ℕ) × (f ≡ All_of parts) × IsSpacedList parts inner × (list ≡ inner ++ more)
-comp_and (All_of parts) text more list h e = (parts, h.0, refl, h.2, tail_eq (e ∙ ap (λ xs. xs ++ more) h.1))
-comp_and (Any_of parts) text more list h e = absurd (let clash = head_eq (e ∙ ap (λ xs. xs ++ more) h.1) in omega (arith, clash))
-comp_and (Not_of part) text more list h e = absurd (let clash = head_eq (e ∙ ap (λ xs. xs ++ more) h.3) in omega (arith, clash))
+pub comp_and : (f : Tree) (text more list : List ℕ) → IsFilterComp f text → 38 ∷ list ≡ text ++ more → (operands : Trees) × (inner : List ℕ) × (f ≡ All_of operands) × IsSpacedList operands inner × (list ≡ inner ++ more)
+comp_and (All_of operands) text more list h e = (operands, h.0, refl, h.2, tail_eq (e ∙ ap (λ xs. xs ++ more) h.1))
+comp_and (Any_of operands) text more list h e = absurd (let clash = head_eq (e ∙ ap (λ xs. xs ++ more) h.1) in omega (arith, clash))
+comp_and (Not_of operand) text more list h e = absurd (let clash = head_eq (e ∙ ap (λ xs. xs ++ more) h.3) in omega (arith, clash))
 comp_and (Leaf item) text more list h e = let first = item_first item text h in absurd (item_clash 38 first.0 refl first.3 (head_eq (e ∙ ap (λ xs. xs ++ more) first.2)))
 
-pub comp_or : (f : Tree) (text more list : List ℕ) → IsFilterComp f text → 124 ∷ list ≡ text ++ more → (parts : Trees) × (inner : List ℕ) × (f ≡ Any_of parts) × IsSpacedList parts inner × (list ≡ inner ++ more)
-comp_or (Any_of parts) text more list h e = (parts, h.0, refl, h.2, tail_eq (e ∙ ap (λ xs. xs ++ more) h.1))
-comp_or (All_of parts) text more list h e = absurd (let clash = head_eq (e ∙ ap (λ xs. xs ++ more) h.1) in omega (arith, clash))
-comp_or (Not_of part) text more list h e = absurd (let clash = head_eq (e ∙ ap (λ xs. xs ++ more) h.3) in omega (arith, clash))
+pub comp_or : (f : Tree) (text more list : List ℕ) → IsFilterComp f text → 124 ∷ list ≡ text ++ more → (operands : Trees) × (inner : List ℕ) × (f ≡ Any_of operands) × IsSpacedList operands inner × (list ≡ inner ++ more)
+comp_or (Any_of operands) text more list h e = (operands, h.0, refl, h.2, tail_eq (e ∙ ap (λ xs. xs ++ more) h.1))
+comp_or (All_of operands) text more list h e = absurd (let clash = head_eq (e ∙ ap (λ xs. xs ++ more) h.1) in omega (arith, clash))
+comp_or (Not_of operand) text more list h e = absurd (let clash = head_eq (e ∙ ap (λ xs. xs ++ more) h.3) in omega (arith, clash))
 comp_or (Leaf item) text more list h e = let first = item_first item text h in absurd (item_clash 124 first.0 refl first.3 (head_eq (e ∙ ap (λ xs. xs ++ more) first.2)))
 
 pub comp_not : (f : Tree) (text more list : List ℕ) → IsFilterComp f text → 33 ∷ list ≡ text ++ more
-    → (part : Tree) × (s : List ℕ) × (a : List ℕ) × (z : List ℕ) × (f ≡ Not_of part) × Run is_space s × IsFilter part a × Run is_space z × (list ≡ s ++ (a ++ (z ++ more)))
-comp_not (Not_of part) text more list h e = (
-  part,
+    → (operand : Tree) × (s : List ℕ) × (a : List ℕ) × (z : List ℕ) × (f ≡ Not_of operand) × Run is_space s × IsFilter operand a × Run is_space z × (list ≡ s ++ (a ++ (z ++ more)))
+comp_not (Not_of operand) text more list h e = (
+  operand,
   h.0,
   h.1,
   h.2,
@@ -74,8 +74,8 @@ comp_not (Not_of part) text more list h e = (
   h.6,
   tail_eq (e ∙ ap (λ xs. xs ++ more) h.3) ∙ append_assoc h.0 (h.1 ++ h.2) more ∙ ap (λ xs. h.0 ++ xs) (append_assoc h.1 h.2 more),
 )
-comp_not (All_of parts) text more list h e = absurd (let clash = head_eq (e ∙ ap (λ xs. xs ++ more) h.1) in omega (arith, clash))
-comp_not (Any_of parts) text more list h e = absurd (let clash = head_eq (e ∙ ap (λ xs. xs ++ more) h.1) in omega (arith, clash))
+comp_not (All_of operands) text more list h e = absurd (let clash = head_eq (e ∙ ap (λ xs. xs ++ more) h.1) in omega (arith, clash))
+comp_not (Any_of operands) text more list h e = absurd (let clash = head_eq (e ∙ ap (λ xs. xs ++ more) h.1) in omega (arith, clash))
 comp_not (Leaf item) text more list h e = let first = item_first item text h in absurd (item_clash 33 first.0 refl first.3 (head_eq (e ∙ ap (λ xs. xs ++ more) first.2)))
 
 -- the byte is not that one
@@ -87,9 +87,9 @@ not_first byte bytes rest same s e = both_ways same (stops_at (λ b. b == byte) 
 
 pub comp_item : (f : Tree) (bytes text more : List ℕ) → Not_first 38 bytes → Not_first 124 bytes → Not_first 33 bytes → IsFilterComp f text → bytes ≡ text ++ more
     → (item : Item) × (f ≡ Leaf item) × IsItem item text
-comp_item (All_of parts) bytes text more a o n h e = absurd (not_first 38 bytes (h.0 ++ more) refl a (e ∙ ap (λ xs. xs ++ more) h.1))
-comp_item (Any_of parts) bytes text more a o n h e = absurd (not_first 124 bytes (h.0 ++ more) refl o (e ∙ ap (λ xs. xs ++ more) h.1))
-comp_item (Not_of part) bytes text more a o n h e = absurd (not_first 33 bytes ((h.0 ++ (h.1 ++ h.2)) ++ more) refl n (e ∙ ap (λ xs. xs ++ more) h.3))
+comp_item (All_of operands) bytes text more a o n h e = absurd (not_first 38 bytes (h.0 ++ more) refl a (e ∙ ap (λ xs. xs ++ more) h.1))
+comp_item (Any_of operands) bytes text more a o n h e = absurd (not_first 124 bytes (h.0 ++ more) refl o (e ∙ ap (λ xs. xs ++ more) h.1))
+comp_item (Not_of operand) bytes text more a o n h e = absurd (not_first 33 bytes ((h.0 ++ (h.1 ++ h.2)) ++ more) refl n (e ∙ ap (λ xs. xs ++ more) h.3))
 comp_item (Leaf item) bytes text more a o n h e = (item, refl, h)
 
 -- an item ends at the first parenthesis
@@ -133,9 +133,9 @@ empty_filter = (All_of No_more, (38 ∷ [], refl, ([], refl, ([], [], refl, tt, 
 
 -- what stands between parentheses begins with no space and no parenthesis
 pub comp_first : (f : Tree) (a : List ℕ) → IsFilterComp f a → (b : ℕ) × (rest : List ℕ) × (a ≡ b ∷ rest) × (is_space b ≡ false) × ((b == 40) ≡ false)
-comp_first (All_of parts) a h = (38, h.0, h.1, refl, refl)
-comp_first (Any_of parts) a h = (124, h.0, h.1, refl, refl)
-comp_first (Not_of part) a h = (33, h.0 ++ (h.1 ++ h.2), h.3, refl, refl)
+comp_first (All_of operands) a h = (38, h.0, h.1, refl, refl)
+comp_first (Any_of operands) a h = (124, h.0, h.1, refl, refl)
+comp_first (Not_of operand) a h = (33, h.0 ++ (h.1 ++ h.2), h.3, refl, refl)
 comp_first (Leaf item) a h = let first = item_first item a h in (first.0, first.1, first.2, differs 32 first.0 refl first.3, differs 40 first.0 refl first.3)
 
 pub spells_stops : (f : Tree) (a more : List ℕ) → IsFilter f a → Stops is_space (a ++ more)

@@ -12,9 +12,9 @@ use Rattle.filter_text.specs.Runs.{Run, ampersand, vertical_line, exclamation_ma
 -- a filter without where it lies in memory
 mutual
   pub data Tree : Type 0 where
-    All_of : (parts : Trees) → Tree
-    Any_of : (parts : Trees) → Tree
-    Not_of : (part : Tree) → Tree
+    All_of : (operands : Trees) → Tree
+    Any_of : (operands : Trees) → Tree
+    Not_of : (operand : Tree) → Tree
     Leaf : (item : items.Item) → Tree
 
   pub data Trees : Type 0 where
@@ -49,10 +49,10 @@ Spaced P text = (s : List ℕ) × (rest : List ℕ) × (text ≡ s ++ rest) × R
 abbrev mutual
   -- what stands between the parentheses of a filter (filtercomp)
   pub IsFilterComp : Tree → List ℕ → Type 0
-  IsFilterComp (All_of parts) text = (list : List ℕ) × (text ≡ ampersand ∷ list) × Spaced (IsFilterList parts) list
-  IsFilterComp (Any_of parts) text = (list : List ℕ) × (text ≡ vertical_line ∷ list) × Spaced (IsFilterList parts) list
-  IsFilterComp (Not_of part) text = (s : List ℕ) × (a : List ℕ) × (z : List ℕ) × (text ≡ exclamation_mark ∷ (s ++ (a ++ z))) × Run is_space s
-      × Wrapped (IsFilterComp part) a × Run is_space z
+  IsFilterComp (All_of operands) text = (list : List ℕ) × (text ≡ ampersand ∷ list) × Spaced (IsFilterList operands) list
+  IsFilterComp (Any_of operands) text = (list : List ℕ) × (text ≡ vertical_line ∷ list) × Spaced (IsFilterList operands) list
+  IsFilterComp (Not_of operand) text = (s : List ℕ) × (a : List ℕ) × (z : List ℕ) × (text ≡ exclamation_mark ∷ (s ++ (a ++ z))) × Run is_space s
+      × Wrapped (IsFilterComp operand) a × Run is_space z
   IsFilterComp (Leaf item) text = IsItem item text
 
   -- filters, each with the spaces after it (filterlist)

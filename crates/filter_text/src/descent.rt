@@ -39,17 +39,17 @@ pub fn comp_at(alloc: Global, bytes: &[u8]) -> Result<(Filter, &[u8]), Fault>
     ensures front { IfErr result (Faulty SomeFilterComp bytes.now) }
 {
     if let Some(list) = after(bytes, b'&') {
-        let (parts, end) = list_at(alloc, list)?;
-        return Ok((Filter::And(parts), end));
+        let (operands, end) = list_at(alloc, list)?;
+        return Ok((Filter::And(operands), end));
     }
     if let Some(list) = after(bytes, b'|') {
-        let (parts, end) = list_at(alloc, list)?;
-        return Ok((Filter::Or(parts), end));
+        let (operands, end) = list_at(alloc, list)?;
+        return Ok((Filter::Or(operands), end));
     }
     if let Some(one) = after(bytes, b'!') {
-        let (part, end) = filter_at(alloc, after_spaces(one))?;
-        let part = Box::new(alloc, part)?;
-        return Ok((Filter::Not(part), after_spaces(end)));
+        let (operand, end) = filter_at(alloc, after_spaces(one))?;
+        let operand = Box::new(alloc, operand)?;
+        return Ok((Filter::Not(operand), after_spaces(end)));
     }
     let (text, end) = to_parenthesis(bytes);
     match item_of(alloc, text) {
@@ -68,12 +68,12 @@ fn list_at(alloc: Global, bytes: &[u8]) -> Result<(Vec<Filter>, &[u8]), Fault>
         → MatchResult result (λ x. (views x.0.items ≡ fs) × (x.1.now ≡ more)) IsMemory }
     ensures front { IfErr result (Faulty SomeSpacedList bytes.now) }
 {
-    let mut parts = Vec::new(alloc);
+    let mut operands = Vec::new(alloc);
     let mut rest = after_spaces(bytes);
-    'parts: while opens(rest) {
-        let (part, more) = filter_at(alloc, rest)?;
-        parts.push(part)?;
+    'operands: while opens(rest) {
+        let (operand, more) = filter_at(alloc, rest)?;
+        operands.push(operand)?;
         rest = after_spaces(more);
     }
-    Ok((parts, rest))
+    Ok((operands, rest))
 }

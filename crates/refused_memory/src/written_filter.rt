@@ -79,21 +79,21 @@ fn push_item(out: &mut Vec<u8>, item: &Item) -> Result<(), AllocError> {
 pub(crate) fn push_filter(out: &mut Vec<u8>, filter: &Filter) -> Result<(), AllocError> {
     out.extend_from_slice(b"(")?;
     match filter {
-        Filter::And(parts) => {
+        Filter::And(operands) => {
             out.extend_from_slice(b"&")?;
-            for part in parts {
-                push_filter(out, part)?;
+            for operand in operands {
+                push_filter(out, operand)?;
             }
         }
-        Filter::Or(parts) => {
+        Filter::Or(operands) => {
             out.extend_from_slice(b"|")?;
-            for part in parts {
-                push_filter(out, part)?;
+            for operand in operands {
+                push_filter(out, operand)?;
             }
         }
-        Filter::Not(part) => {
+        Filter::Not(operand) => {
             out.extend_from_slice(b"!")?;
-            push_filter(out, part)?;
+            push_filter(out, operand)?;
         }
         Filter::Item(item) => push_item(out, item)?,
     }

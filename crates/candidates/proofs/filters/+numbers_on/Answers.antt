@@ -8,39 +8,39 @@ use Rattle.candidates.specs.Ids.{ids_contain}
 use Rattle.candidates.specs.Sides.{sides}
 use Rattle.candidates.specs.inner.OneSide.{on}
 use Rattle.candidates.specs.inner.Held.{members_of}
-use Rattle.candidates.proofs.Parts.{with_parts, part_next, all_start, any_start}
+use Rattle.candidates.proofs.Operands.{with_operands, operand_next, all_start, any_start}
 use Rattle.candidates.proofs.filters.+numbers_on.Goals as goal
 
-pub loop-part-init : goal.loop-part-init
-loop-part-init g t c n =
-    all_start (g.P.Postings.shown c.args.postings.now) n c.is_may-all.result c.args.side c.deref-part-items.result.now
-    (ids_contain (members_of g.P.Set.IdSet.members) c.all_or_none-ids.result n) c.in-And.parts.items (tree_of c.args.filter.now) (c.all_or_none-ids.ensures n) c.is_may-all.ensures c.deref-part-items.ensures.value
-    (ap tree_of (c.in-And.is ∙ sym (variants.rolls-And c.in-And.parts)) ∙ fold-roll-PreparedFilter Tree tree_step (layer.And c.in-And.parts))
+pub loop-operand-init : goal.loop-operand-init
+loop-operand-init g t c n =
+    all_start (g.P.Postings.shown c.args.postings.now) n c.is_may-all.result c.args.side c.deref-operand-items.result.now
+    (ids_contain (members_of g.P.Set.IdSet.members) c.all_or_none-ids.result n) c.in-And.operands.items (tree_of c.args.filter.now) (c.all_or_none-ids.ensures n) c.is_may-all.ensures c.deref-operand-items.ensures.value
+    (ap tree_of (c.in-And.is ∙ sym (variants.rolls-And c.in-And.operands)) ∙ fold-roll-PreparedFilter Tree tree_step (layer.And c.in-And.operands))
 
-pub loop-part-preserved : goal.loop-part-preserved
-loop-part-preserved g t c n =
+pub loop-operand-preserved : goal.loop-operand-preserved
+loop-operand-preserved g t c n =
     let shown = g.P.Postings.shown c.args.postings.now in
-    let fs = c.deref-part-items.result.now in
-    let i = c.loop-part.part-index in
-    ap (λ a. with_parts shown n c.is_may-all.result c.args.side fs a (i + 1)) (c.in_ok-ids-in-And.ensures n)
-    ∙ sym (part_next shown n c.is_may-all.result c.args.side fs (ids_contain (members_of g.P.Set.IdSet.members) c.loop-part.ids n) (ids_contain (members_of g.P.Set.IdSet.members) c.in_ok-next-in-And.next n) i
-    c.part-item.result c.loop-part-test.true
-    (sym (c.in_ok-next-in-And.ensures n ∙ ap (λ (f : PreparedFilter). on c.args.side (sides shown n (tree_of f))) c.part-item.is)))
-    ∙ c.loop-part.invariant n
+    let fs = c.deref-operand-items.result.now in
+    let i = c.loop-operand.operand-index in
+    ap (λ a. with_operands shown n c.is_may-all.result c.args.side fs a (i + 1)) (c.in_ok-ids-in-And.ensures n)
+    ∙ sym (operand_next shown n c.is_may-all.result c.args.side fs (ids_contain (members_of g.P.Set.IdSet.members) c.loop-operand.ids n) (ids_contain (members_of g.P.Set.IdSet.members) c.in_ok-next-in-And.next n) i
+    c.operand-item.result c.loop-operand-test.true
+    (sym (c.in_ok-next-in-And.ensures n ∙ ap (λ (f : PreparedFilter). on c.args.side (sides shown n (tree_of f))) c.operand-item.is)))
+    ∙ c.loop-operand.invariant n
 
-pub loop-part-2-init : goal.loop-part-2-init
-loop-part-2-init g t c n =
-    any_start (g.P.Postings.shown c.args.postings.now) n (not c.is_may-all-in-Or.result) c.args.side c.deref-part-items-in-Or.result.now
-    (ids_contain (members_of g.P.Set.IdSet.members) c.all_or_none-ids-in-Or.result n) c.in-Or.parts.items (tree_of c.args.filter.now) (c.all_or_none-ids-in-Or.ensures n) (ap not c.is_may-all-in-Or.ensures) c.deref-part-items-in-Or.ensures.value
-    (ap tree_of (c.in-Or.is ∙ sym (variants.rolls-Or c.in-Or.parts)) ∙ fold-roll-PreparedFilter Tree tree_step (layer.Or c.in-Or.parts))
+pub loop-operand-2-init : goal.loop-operand-2-init
+loop-operand-2-init g t c n =
+    any_start (g.P.Postings.shown c.args.postings.now) n (not c.is_may-all-in-Or.result) c.args.side c.deref-operand-items-in-Or.result.now
+    (ids_contain (members_of g.P.Set.IdSet.members) c.all_or_none-ids-in-Or.result n) c.in-Or.operands.items (tree_of c.args.filter.now) (c.all_or_none-ids-in-Or.ensures n) (ap not c.is_may-all-in-Or.ensures) c.deref-operand-items-in-Or.ensures.value
+    (ap tree_of (c.in-Or.is ∙ sym (variants.rolls-Or c.in-Or.operands)) ∙ fold-roll-PreparedFilter Tree tree_step (layer.Or c.in-Or.operands))
 
-pub loop-part-2-preserved : goal.loop-part-2-preserved
-loop-part-2-preserved g t c n =
+pub loop-operand-2-preserved : goal.loop-operand-2-preserved
+loop-operand-2-preserved g t c n =
     let shown = g.P.Postings.shown c.args.postings.now in
-    let fs = c.deref-part-items-in-Or.result.now in
-    let i = c.loop-part-2.part-index in
-    ap (λ a. with_parts shown n (not c.is_may-all-in-Or.result) c.args.side fs a (i + 1)) (c.in_ok-ids-in-Or.ensures n)
-    ∙ sym (part_next shown n (not c.is_may-all-in-Or.result) c.args.side fs (ids_contain (members_of g.P.Set.IdSet.members) c.loop-part-2.ids n) (ids_contain (members_of g.P.Set.IdSet.members) c.in_ok-next-in-Or.next n) i
-    c.part-item-in-loop-part-2.result c.loop-part-2-test.true
-    (sym (c.in_ok-next-in-Or.ensures n ∙ ap (λ (f : PreparedFilter). on c.args.side (sides shown n (tree_of f))) c.part-item-in-loop-part-2.is)))
-    ∙ c.loop-part-2.invariant n
+    let fs = c.deref-operand-items-in-Or.result.now in
+    let i = c.loop-operand-2.operand-index in
+    ap (λ a. with_operands shown n (not c.is_may-all-in-Or.result) c.args.side fs a (i + 1)) (c.in_ok-ids-in-Or.ensures n)
+    ∙ sym (operand_next shown n (not c.is_may-all-in-Or.result) c.args.side fs (ids_contain (members_of g.P.Set.IdSet.members) c.loop-operand-2.ids n) (ids_contain (members_of g.P.Set.IdSet.members) c.in_ok-next-in-Or.next n) i
+    c.operand-item-in-loop-operand-2.result c.loop-operand-2-test.true
+    (sym (c.in_ok-next-in-Or.ensures n ∙ ap (λ (f : PreparedFilter). on c.args.side (sides shown n (tree_of f))) c.operand-item-in-loop-operand-2.is)))
+    ∙ c.loop-operand-2.invariant n

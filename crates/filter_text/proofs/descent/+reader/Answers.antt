@@ -59,71 +59,71 @@ filter_at-returns-clause-only t c f text more h e =
 
 -- comp_at
 
-pub comp_at-returns-in_err-parts-clause-only : goal.comp_at-returns-in_err-parts-clause-only
-comp_at-returns-in_err-parts-clause-only t c f text more h closed e =
-    let parts = comp_and f text more c.in-Some.list.now h (sym c.in-Some.ensures ∙ e) in
-    exit_only _ c.from_residual.result _ c.from_residual.ensures.1 (c.in_err-parts.ensures.only parts.0 parts.1 more parts.3 closed parts.4)
+pub comp_at-returns-in_err-operands-clause-only : goal.comp_at-returns-in_err-operands-clause-only
+comp_at-returns-in_err-operands-clause-only t c f text more h closed e =
+    let operands = comp_and f text more c.in-Some.list.now h (sym c.in-Some.ensures ∙ e) in
+    exit_only _ c.from_residual.result _ c.from_residual.ensures.1 (c.in_err-operands.ensures.only operands.0 operands.1 more operands.3 closed operands.4)
 
-pub comp_at-returns-in_err-parts-clause-front : goal.comp_at-returns-in_err-parts-clause-front
-comp_at-returns-in_err-parts-clause-front t c =
+pub comp_at-returns-in_err-operands-clause-front : goal.comp_at-returns-in_err-operands-clause-front
+comp_at-returns-in_err-operands-clause-front t c =
     exit_front SomeFilterComp c.args.bytes.now c.from_residual.result _ c.from_residual.ensures.1
-    (faulty_in SomeSpacedList SomeFilterComp (38 ∷ []) c.args.bytes.now c.in-Some.list.now c.in-Some.ensures (λ t h. ([], (All_of h.0, (t ++ [], refl, subst (IsSpacedList h.0) (sym (append-nil t)) h.1)))) _ c.in_err-parts.ensures.front)
+    (faulty_in SomeSpacedList SomeFilterComp (38 ∷ []) c.args.bytes.now c.in-Some.list.now c.in-Some.ensures (λ t h. ([], (All_of h.0, (t ++ [], refl, subst (IsSpacedList h.0) (sym (append-nil t)) h.1)))) _ c.in_err-operands.ensures.front)
 
 pub comp_at-returns-in-Some-clause-found : goal.comp_at-returns-in-Some-clause-found
 comp_at-returns-in-Some-clause-found t c =
-    let found = c.in_ok-parts.ensures.found in
-    (38 ∷ found.0, subst (λ (f : Tree). IsFilterComp f (38 ∷ found.0)) (sym (view_and c.in_ok-parts.parts)) (found.0, refl, found.1), c.in-Some.ensures ∙ ap (λ xs. 38 ∷ xs) found.2)
+    let found = c.in_ok-operands.ensures.found in
+    (38 ∷ found.0, subst (λ (f : Tree). IsFilterComp f (38 ∷ found.0)) (sym (view_and c.in_ok-operands.operands)) (found.0, refl, found.1), c.in-Some.ensures ∙ ap (λ xs. 38 ∷ xs) found.2)
 
 pub comp_at-returns-in-Some-clause-only : goal.comp_at-returns-in-Some-clause-only
 comp_at-returns-in-Some-clause-only t c f text more h closed e =
-    let parts = comp_and f text more c.in-Some.list.now h (sym c.in-Some.ensures ∙ e) in
-    let read = c.in_ok-parts.ensures.only parts.0 parts.1 more parts.3 closed parts.4 in
-    (view_and c.in_ok-parts.parts ∙ ap All_of read.0 ∙ sym parts.2, read.1)
+    let operands = comp_and f text more c.in-Some.list.now h (sym c.in-Some.ensures ∙ e) in
+    let read = c.in_ok-operands.ensures.only operands.0 operands.1 more operands.3 closed operands.4 in
+    (view_and c.in_ok-operands.operands ∙ ap All_of read.0 ∙ sym operands.2, read.1)
 
-pub comp_at-returns-in_err-parts-2-clause-only : goal.comp_at-returns-in_err-parts-2-clause-only
-comp_at-returns-in_err-parts-2-clause-only t c f text more h closed e =
-    let parts = comp_or f text more c.in-Some-after.list.now h (sym c.in-Some-after.ensures ∙ e) in
-    exit_only _ c.from_residual-in_err-parts-2.result _ c.from_residual-in_err-parts-2.ensures.1 (c.in_err-parts-2.ensures.only parts.0 parts.1 more parts.3 closed parts.4)
+pub comp_at-returns-in_err-operands-2-clause-only : goal.comp_at-returns-in_err-operands-2-clause-only
+comp_at-returns-in_err-operands-2-clause-only t c f text more h closed e =
+    let operands = comp_or f text more c.in-Some-after.list.now h (sym c.in-Some-after.ensures ∙ e) in
+    exit_only _ c.from_residual-in_err-operands-2.result _ c.from_residual-in_err-operands-2.ensures.1 (c.in_err-operands-2.ensures.only operands.0 operands.1 more operands.3 closed operands.4)
 
-pub comp_at-returns-in_err-parts-2-clause-front : goal.comp_at-returns-in_err-parts-2-clause-front
-comp_at-returns-in_err-parts-2-clause-front t c =
-    exit_front SomeFilterComp c.args.bytes.now c.from_residual-in_err-parts-2.result _ c.from_residual-in_err-parts-2.ensures.1
-    (faulty_in SomeSpacedList SomeFilterComp (124 ∷ []) c.args.bytes.now c.in-Some-after.list.now c.in-Some-after.ensures (λ t h. ([], (Any_of h.0, (t ++ [], refl, subst (IsSpacedList h.0) (sym (append-nil t)) h.1)))) _ c.in_err-parts-2.ensures.front)
+pub comp_at-returns-in_err-operands-2-clause-front : goal.comp_at-returns-in_err-operands-2-clause-front
+comp_at-returns-in_err-operands-2-clause-front t c =
+    exit_front SomeFilterComp c.args.bytes.now c.from_residual-in_err-operands-2.result _ c.from_residual-in_err-operands-2.ensures.1
+    (faulty_in SomeSpacedList SomeFilterComp (124 ∷ []) c.args.bytes.now c.in-Some-after.list.now c.in-Some-after.ensures (λ t h. ([], (Any_of h.0, (t ++ [], refl, subst (IsSpacedList h.0) (sym (append-nil t)) h.1)))) _ c.in_err-operands-2.ensures.front)
 
 pub comp_at-returns-in-Some-after-clause-found : goal.comp_at-returns-in-Some-after-clause-found
 comp_at-returns-in-Some-after-clause-found t c =
-    let found = c.in_ok-parts-2.ensures.found in
-    (124 ∷ found.0, subst (λ (f : Tree). IsFilterComp f (124 ∷ found.0)) (sym (view_or c.in_ok-parts-2.parts)) (found.0, refl, found.1), c.in-Some-after.ensures ∙ ap (λ xs. 124 ∷ xs) found.2)
+    let found = c.in_ok-operands-2.ensures.found in
+    (124 ∷ found.0, subst (λ (f : Tree). IsFilterComp f (124 ∷ found.0)) (sym (view_or c.in_ok-operands-2.operands)) (found.0, refl, found.1), c.in-Some-after.ensures ∙ ap (λ xs. 124 ∷ xs) found.2)
 
 pub comp_at-returns-in-Some-after-clause-only : goal.comp_at-returns-in-Some-after-clause-only
 comp_at-returns-in-Some-after-clause-only t c f text more h closed e =
-    let parts = comp_or f text more c.in-Some-after.list.now h (sym c.in-Some-after.ensures ∙ e) in
-    let read = c.in_ok-parts-2.ensures.only parts.0 parts.1 more parts.3 closed parts.4 in
-    (view_or c.in_ok-parts-2.parts ∙ ap Any_of read.0 ∙ sym parts.2, read.1)
+    let operands = comp_or f text more c.in-Some-after.list.now h (sym c.in-Some-after.ensures ∙ e) in
+    let read = c.in_ok-operands-2.ensures.only operands.0 operands.1 more operands.3 closed operands.4 in
+    (view_or c.in_ok-operands-2.operands ∙ ap Any_of read.0 ∙ sym operands.2, read.1)
 
-pub comp_at-returns-in_err-part-clause-only : goal.comp_at-returns-in_err-part-clause-only
-comp_at-returns-in_err-part-clause-only t c f text more h closed e =
+pub comp_at-returns-in_err-operand-clause-only : goal.comp_at-returns-in_err-operand-clause-only
+comp_at-returns-in_err-operand-clause-only t c f text more h closed e =
     let run = c.after_spaces.ensures.run in
     let not = comp_not f text more c.in-Some-after-2.one.now h (sym c.in-Some-after-2.ensures ∙ e) in
-    exit_only _ c.from_residual-in_err-part.result _ c.from_residual-in_err-part.ensures.1
-    (c.in_err-part.ensures.only not.0 not.2 (not.3 ++ more) not.6
+    exit_only _ c.from_residual-in_err-operand.result _ c.from_residual-in_err-operand.ensures.1
+    (c.in_err-operand.ensures.only not.0 not.2 (not.3 ++ more) not.6
     (filter_after not.0 c.in-Some-after-2.one.now run.0 c.after_spaces.result.now not.1 not.2 (not.3 ++ more) run.1 run.2 c.after_spaces.ensures.stops not.5 not.6 not.8))
 
-pub comp_at-returns-in_err-part-clause-front : goal.comp_at-returns-in_err-part-clause-front
-comp_at-returns-in_err-part-clause-front t c =
+pub comp_at-returns-in_err-operand-clause-front : goal.comp_at-returns-in_err-operand-clause-front
+comp_at-returns-in_err-operand-clause-front t c =
     let run = c.after_spaces.ensures.run in
-    exit_front SomeFilterComp c.args.bytes.now c.from_residual-in_err-part.result _ c.from_residual-in_err-part.ensures.1
+    exit_front SomeFilterComp c.args.bytes.now c.from_residual-in_err-operand.result _ c.from_residual-in_err-operand.ensures.1
     (faulty_in SomeFilter SomeFilterComp (33 ∷ run.0) c.args.bytes.now c.after_spaces.result.now (c.in-Some-after-2.ensures ∙ ap (λ xs. 33 ∷ xs) run.2)
-    (λ t h. ([], (Not_of h.0, (run.0, t, [], refl, run.1, h.1, tt)))) _ c.in_err-part.ensures.front)
+    (λ t h. ([], (Not_of h.0, (run.0, t, [], refl, run.1, h.1, tt)))) _ c.in_err-operand.ensures.front)
 
 pub comp_at-returns-in-Some-after-2-clause-found : goal.comp_at-returns-in-Some-after-2-clause-found
 comp_at-returns-in-Some-after-2-clause-found t c =
     let before = c.after_spaces.ensures.run in
     let after = c.after_spaces-in-Some-after-2.ensures.run in
-    let found = c.in_ok-part.ensures.found in
+    let found = c.in_ok-operand.ensures.found in
     let text = 33 ∷ (before.0 ++ (found.0 ++ after.0)) in (
       text,
-      subst (λ (f : Tree). IsFilterComp f text) (sym (view_not c.in_ok-part-2.part ∙ ap (λ f. Not_of (view f)) c.in_ok-part-2.ensures.ok)) (before.0, found.0, after.0, refl, before.1, found.1, after.1),
+      subst (λ (f : Tree). IsFilterComp f text) (sym (view_not c.in_ok-operand-2.operand ∙ ap (λ f. Not_of (view f)) c.in_ok-operand-2.ensures.ok)) (before.0, found.0, after.0, refl, before.1, found.1, after.1),
       c.in-Some-after-2.ensures ∙ ap (λ xs. 33 ∷ xs) (before.2 ∙ ap (λ xs. before.0 ++ xs) (found.2 ∙ ap (λ xs. found.0 ++ xs) after.2 ∙ sym (append_assoc found.0 after.0 c.after_spaces-in-Some-after-2.result.now))
           ∙ sym (append_assoc before.0 (found.0 ++ after.0) c.after_spaces-in-Some-after-2.result.now)),
     )
@@ -133,9 +133,9 @@ comp_at-returns-in-Some-after-2-clause-only t c f text more h closed e =
     let run = c.after_spaces.ensures.run in
     let after = c.after_spaces-in-Some-after-2.ensures.run in
     let not = comp_not f text more c.in-Some-after-2.one.now h (sym c.in-Some-after-2.ensures ∙ e) in
-    let read = c.in_ok-part.ensures.only not.0 not.2 (not.3 ++ more) not.6
+    let read = c.in_ok-operand.ensures.only not.0 not.2 (not.3 ++ more) not.6
     (filter_after not.0 c.in-Some-after-2.one.now run.0 c.after_spaces.result.now not.1 not.2 (not.3 ++ more) run.1 run.2 c.after_spaces.ensures.stops not.5 not.6 not.8) in (
-      view_not c.in_ok-part-2.part ∙ ap (λ f. Not_of (view f)) c.in_ok-part-2.ensures.ok ∙ ap Not_of read.0 ∙ sym not.4,
+      view_not c.in_ok-operand-2.operand ∙ ap (λ f. Not_of (view f)) c.in_ok-operand-2.ensures.ok ∙ ap Not_of read.0 ∙ sym not.4,
       (same_span is_space after.0 not.3 c.after_spaces-in-Some-after-2.result.now more after.1 not.7 c.after_spaces-in-Some-after-2.ensures.stops (closed_space more closed) (sym after.2 ∙ read.1)).1,
     )
 
@@ -158,10 +158,10 @@ comp_at-returns-in-Err-Syntax-clause-front t c =
 
 -- list_at
 
-pub list_at-parts-init : goal.list_at-parts-init
-list_at-parts-init t c =
+pub list_at-operands-init : goal.list_at-operands-init
+list_at-operands-init t c =
     let run = c.after_spaces-rest.ensures.run in
-    let none = c.new-parts.ensures.items in
+    let none = c.new-operands.ensures.items in
     record {
       no_longer = c.after_spaces-rest.ensures.no_longer;
       stops = c.after_spaces-rest.ensures.stops;
@@ -171,63 +171,63 @@ list_at-parts-init t c =
           (fs, cut.0, cut.1, cut.2, subst (λ (gs : List Filter). fs ≡ trees_then (map view gs) fs) (sym none) refl);
     }
 
-pub list_at-parts-preserved : goal.list_at-parts-preserved
-list_at-parts-preserved t c =
-    let old = c.parts.invariant.found in
-    let found = c.in_ok-part.ensures.found in
-    let run = c.after_spaces-rest-in-parts.ensures.run in
-    let rest = c.after_spaces-rest-in-parts.result.now in
-    let parts = c.parts.parts.items in
-    let more_parts = c.push.new.self.items in
+pub list_at-operands-preserved : goal.list_at-operands-preserved
+list_at-operands-preserved t c =
+    let old = c.operands.invariant.found in
+    let found = c.in_ok-operand.ensures.found in
+    let run = c.after_spaces-rest-in-operands.ensures.run in
+    let rest = c.after_spaces-rest-in-operands.result.now in
+    let operands = c.operands.operands.items in
+    let more_operands = c.push.new.self.items in
     let pushed = c.in_ok-push.ensures.items in
-    let shorter = c.in_ok-part.ensures.shorter in
+    let shorter = c.in_ok-operand.ensures.shorter in
     record {
-      no_longer = omega (arith, shorter, c.parts.invariant.no_longer, c.after_spaces-rest-in-parts.ensures.no_longer);
-      stops = c.after_spaces-rest-in-parts.ensures.stops;
+      no_longer = omega (arith, shorter, c.operands.invariant.no_longer, c.after_spaces-rest-in-operands.ensures.no_longer);
+      stops = c.after_spaces-rest-in-operands.ensures.stops;
       found = (
         old.0 ++ (found.0 ++ run.0),
         old.1 ∙ ap (λ xs. old.0 ++ xs) (found.2 ∙ ap (λ xs. found.0 ++ xs) run.2 ∙ sym (append_assoc found.0 run.0 rest)) ∙ sym (append_assoc old.0 (found.0 ++ run.0) rest),
-        λ us t h. subst (λ (fs : Trees). IsSpacedList fs ((old.0 ++ (found.0 ++ run.0)) ++ t)) (sym (views_push parts more_parts c.in_ok-part.part us pushed))
-            (subst (IsSpacedList (trees_then (map view parts) (And_then (view c.in_ok-part.part) us)))
+        λ us t h. subst (λ (fs : Trees). IsSpacedList fs ((old.0 ++ (found.0 ++ run.0)) ++ t)) (sym (views_push operands more_operands c.in_ok-operand.operand us pushed))
+            (subst (IsSpacedList (trees_then (map view operands) (And_then (view c.in_ok-operand.operand) us)))
             (ap (λ xs. old.0 ++ xs) (sym (append_assoc found.0 run.0 t)) ∙ sym (append_assoc old.0 (found.0 ++ run.0) t))
-            (old.2 (And_then (view c.in_ok-part.part) us) (found.0 ++ (run.0 ++ t)) (found.0, run.0 ++ t, refl, found.1, (run.0, t, refl, run.1, h)))),
+            (old.2 (And_then (view c.in_ok-operand.operand) us) (found.0 ++ (run.0 ++ t)) (found.0, run.0 ++ t, refl, found.1, (run.0, t, refl, run.1, h)))),
       );
       only = λ fs text more h closed e.
-          let o = c.parts.invariant.only fs text more h closed e in
-          let opening = c.parts-test.ensures.yes refl in
-          let next = list_goes_on o.0 c.parts.rest.now opening.0 o.1 more o.2 closed opening.1 o.3 in
-          let read = c.in_ok-part.ensures.only next.0 next.2 (next.3 ++ more) next.5 next.7 in
-          let cut = list_only next.1 c.in_ok-part.more.now next.3 more run.0 rest next.6 closed read.1 run.1 run.2 c.after_spaces-rest-in-parts.ensures.stops in (
+          let o = c.operands.invariant.only fs text more h closed e in
+          let opening = c.operands-test.ensures.yes refl in
+          let next = list_goes_on o.0 c.operands.rest.now opening.0 o.1 more o.2 closed opening.1 o.3 in
+          let read = c.in_ok-operand.ensures.only next.0 next.2 (next.3 ++ more) next.5 next.7 in
+          let cut = list_only next.1 c.in_ok-operand.more.now next.3 more run.0 rest next.6 closed read.1 run.1 run.2 c.after_spaces-rest-in-operands.ensures.stops in (
             next.1,
             cut.0,
             cut.1,
             cut.2,
-            o.4 ∙ ap (trees_then (map view parts)) (next.4 ∙ ap (λ f. And_then f next.1) (sym read.0)) ∙ sym (views_push parts more_parts c.in_ok-part.part next.1 pushed),
+            o.4 ∙ ap (trees_then (map view operands)) (next.4 ∙ ap (λ f. And_then f next.1) (sym read.0)) ∙ sym (views_push operands more_operands c.in_ok-operand.operand next.1 pushed),
           );
     }
 
 pub list_at-returns-clause-found : goal.list_at-returns-clause-found
 list_at-returns-clause-found t c =
-    let old = c.parts.invariant.found in
-    (old.0 ++ [], old.2 No_more [] refl, old.1 ∙ ap (λ xs. xs ++ c.parts.rest.now) (sym (append-nil old.0)))
+    let old = c.operands.invariant.found in
+    (old.0 ++ [], old.2 No_more [] refl, old.1 ∙ ap (λ xs. xs ++ c.operands.rest.now) (sym (append-nil old.0)))
 
 pub list_at-returns-clause-only : goal.list_at-returns-clause-only
 list_at-returns-clause-only t c fs text more h closed e =
-    let o = c.parts.invariant.only fs text more h closed e in
-    let none = list_ends o.0 c.parts.rest.now o.1 more o.2 (c.parts-test.ensures.no refl) o.3 in
-    (sym (o.4 ∙ ap (trees_then (map view c.parts.parts.items)) none.0), none.1)
+    let o = c.operands.invariant.only fs text more h closed e in
+    let none = list_ends o.0 c.operands.rest.now o.1 more o.2 (c.operands-test.ensures.no refl) o.3 in
+    (sym (o.4 ∙ ap (trees_then (map view c.operands.operands.items)) none.0), none.1)
 
-pub list_at-returns-in_err-part-clause-only : goal.list_at-returns-in_err-part-clause-only
-list_at-returns-in_err-part-clause-only t c fs text more h closed e =
-    let o = c.parts.invariant.only fs text more h closed e in
-    let opening = c.parts-test.ensures.yes refl in
-    let next = list_goes_on o.0 c.parts.rest.now opening.0 o.1 more o.2 closed opening.1 o.3 in
-    exit_only _ c.from_residual.result _ c.from_residual.ensures.1 (c.in_err-part.ensures.only next.0 next.2 (next.3 ++ more) next.5 next.7)
+pub list_at-returns-in_err-operand-clause-only : goal.list_at-returns-in_err-operand-clause-only
+list_at-returns-in_err-operand-clause-only t c fs text more h closed e =
+    let o = c.operands.invariant.only fs text more h closed e in
+    let opening = c.operands-test.ensures.yes refl in
+    let next = list_goes_on o.0 c.operands.rest.now opening.0 o.1 more o.2 closed opening.1 o.3 in
+    exit_only _ c.from_residual.result _ c.from_residual.ensures.1 (c.in_err-operand.ensures.only next.0 next.2 (next.3 ++ more) next.5 next.7)
 
-pub list_at-returns-in_err-part-clause-front : goal.list_at-returns-in_err-part-clause-front
-list_at-returns-in_err-part-clause-front t c =
-    let old = c.parts.invariant.found in
+pub list_at-returns-in_err-operand-clause-front : goal.list_at-returns-in_err-operand-clause-front
+list_at-returns-in_err-operand-clause-front t c =
+    let old = c.operands.invariant.found in
     exit_front SomeSpacedList c.args.bytes.now c.from_residual.result _ c.from_residual.ensures.1
-    (faulty_in SomeFilter SomeSpacedList old.0 c.args.bytes.now c.parts.rest.now old.1
-    (λ t h. ([], (trees_then (map view c.parts.parts.items) (And_then h.0 No_more), old.2 (And_then h.0 No_more) (t ++ []) (t, [], refl, h.1, ([], [], refl, tt, refl)))))
-    _ c.in_err-part.ensures.front)
+    (faulty_in SomeFilter SomeSpacedList old.0 c.args.bytes.now c.operands.rest.now old.1
+    (λ t h. ([], (trees_then (map view c.operands.operands.items) (And_then h.0 No_more), old.2 (And_then h.0 No_more) (t ++ []) (t, [], refl, h.1, ([], [], refl, tt, refl)))))
+    _ c.in_err-operand.ensures.front)

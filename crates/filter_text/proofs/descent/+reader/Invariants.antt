@@ -14,16 +14,16 @@ abbrev pub decreases-list_at : goal.decreases-list_at
 decreases-list_at l = 3 * length l.bytes.now + 1
 
 -- whatever list follows, the filters so far come before it
-abbrev pub invariant-list_at-parts : goal.invariant-list_at-parts
-invariant-list_at-parts l =
+abbrev pub invariant-list_at-operands : goal.invariant-list_at-operands
+invariant-list_at-operands l =
     record {
       no_longer : length l.rest ≤ length l.fn.bytes;
       stops : Stops is_space l.rest;
       found : (text : List ℕ) × (l.fn.bytes ≡ text ++ l.rest)
-          × ((us : Trees) (t : List ℕ) → IsFilterList us t → IsSpacedList (trees_then (map view l.parts.items) us) (text ++ t));
+          × ((us : Trees) (t : List ℕ) → IsFilterList us t → IsSpacedList (trees_then (map view l.operands.items) us) (text ++ t));
       only : (fs : Trees) (text more : List ℕ) → IsSpacedList fs text → Closed more → l.fn.bytes ≡ text ++ more
-          → (us : Trees) × (t : List ℕ) × IsFilterList us t × (l.rest ≡ t ++ more) × (fs ≡ trees_then (map view l.parts.items) us);
+          → (us : Trees) × (t : List ℕ) × IsFilterList us t × (l.rest ≡ t ++ more) × (fs ≡ trees_then (map view l.operands.items) us);
     }
 
-abbrev pub decreases-list_at-parts : goal.decreases-list_at-parts
-decreases-list_at-parts l = length l.rest
+abbrev pub decreases-list_at-operands : goal.decreases-list_at-operands
+decreases-list_at-operands l = length l.rest

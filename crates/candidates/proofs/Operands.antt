@@ -1,4 +1,4 @@
--- One side of a filter, part by part.
+-- One side of a filter, operand by operand.
 use Rattle.std.proofs.Common.{◌≡◌, ℕ, suc, ◌+◌, ◌<◌, Bool, true, false, not, List, ◌∷◌, drop, length, get_or, refl, sym, ap, ◌∙◌, add-one, drop-cons}
 use Rattle.std.specs.List.{list_any, list_all}
 use Rattle.filter.specs.declared.prepared_filter.PreparedFilter.{PreparedFilter}
@@ -34,21 +34,21 @@ one_more false true side s rest = refl
 one_more false false side s rest = refl
 
 module _ (shown : Shown) (n : ℕ) (all : Bool) (side : Side) (fs : List PreparedFilter) where
-  -- with the sides of the parts from one on
-  abbrev pub with_parts : Bool → ℕ → Bool
-  with_parts a i = both_or_either all a (every_or_some all side (sides_each shown n (trees_of (drop i fs))))
+  -- with the sides of the operands from one on
+  abbrev pub with_operands : Bool → ℕ → Bool
+  with_operands a i = both_or_either all a (every_or_some all side (sides_each shown n (trees_of (drop i fs))))
 
-  pub part_next : (a b : Bool) (i : ℕ) (d : PreparedFilter) → i < length fs → on side (sides shown n (tree_of (get_or fs i d))) ≡ b → with_parts a i ≡ with_parts (both_or_either all a b) (i + 1)
-  part_next a b i d lt is =
+  pub operand_next : (a b : Bool) (i : ℕ) (d : PreparedFilter) → i < length fs → on side (sides shown n (tree_of (get_or fs i d))) ≡ b → with_operands a i ≡ with_operands (both_or_either all a b) (i + 1)
+  operand_next a b i d lt is =
       rw (add-one, drop-cons fs i d lt) (one_more all a side (sides shown n (tree_of (get_or fs i d))) (sides_each shown n (trees_of (drop (suc i) fs))))
       ∙ ap (λ x. both_or_either all (both_or_either all a x) (every_or_some all side (sides_each shown n (trees_of (drop (i + 1) fs))))) is
 
-  -- before the first part: all numbers, or none
-  starts : (a : Bool) → a ≡ all → with_parts a 0 ≡ every_or_some all side (sides_each shown n (trees_of fs))
+  -- before the first operand: all numbers, or none
+  starts : (a : Bool) → a ≡ all → with_operands a 0 ≡ every_or_some all side (sides_each shown n (trees_of fs))
   starts a is_a = let each = sides_each shown n (trees_of fs) in ap (λ b. both_or_either all b (every_or_some all side each)) is_a ∙ sym (from_start all (every_or_some all side each))
 
-  pub all_start : (a : Bool) (parts : List PreparedFilter) (tree : Tree) → a ≡ all → all ≡ is_may side → fs ≡ parts → tree ≡ All_of (trees_of parts) → with_parts a 0 ≡ on side (sides shown n tree)
-  all_start a parts tree is_a is_all is_fs is_tree =
+  pub all_start : (a : Bool) (operands : List PreparedFilter) (tree : Tree) → a ≡ all → all ≡ is_may side → fs ≡ operands → tree ≡ All_of (trees_of operands) → with_operands a 0 ≡ on side (sides shown n tree)
+  all_start a operands tree is_a is_all is_fs is_tree =
       let each = sides_each shown n (trees_of fs) in
       starts a is_a
       ∙ ap (λ b. every_or_some b side each) is_all
@@ -56,8 +56,8 @@ module _ (shown : Shown) (n : ℕ) (all : Bool) (side : Side) (fs : List Prepare
       ∙ ap (λ (xs : List PreparedFilter). on side (all_sides (sides_each shown n (trees_of xs)))) is_fs
       ∙ ap (λ (t : Tree). on side (sides shown n t)) (sym is_tree)
 
-  pub any_start : (a : Bool) (parts : List PreparedFilter) (tree : Tree) → a ≡ all → all ≡ not (is_may side) → fs ≡ parts → tree ≡ Any_of (trees_of parts) → with_parts a 0 ≡ on side (sides shown n tree)
-  any_start a parts tree is_a is_all is_fs is_tree =
+  pub any_start : (a : Bool) (operands : List PreparedFilter) (tree : Tree) → a ≡ all → all ≡ not (is_may side) → fs ≡ operands → tree ≡ Any_of (trees_of operands) → with_operands a 0 ≡ on side (sides shown n tree)
+  any_start a operands tree is_a is_all is_fs is_tree =
       let each = sides_each shown n (trees_of fs) in
       starts a is_a
       ∙ ap (λ b. every_or_some b side each) is_all
