@@ -7,7 +7,7 @@ use Rattle.definitions.specs.Lines.{lines_of}
 use Rattle.dir_conf.specs.declared.conf_fault.ConfFaultKind.{ConfFaultKind}
 use Rattle.dir_conf.specs.declared.conf_fault.ConfFaultKind.TheVariants.{Suffix}
 use Rattle.schema.specs.Conf.{Conf}
-use Rattle.schema.specs.Rdns.{Rdn}
+use Rattle.schema.specs.Rdns.{TypedRdn}
 use Rattle.dir_conf.specs.Configurations.{At, Defined, built_in, definition_line, defined_by, Found, none_found, later_line, found_in, rules_of, conf_of}
 use Rattle.dir_conf.specs.FaultyLines.{IsDefinitionFaultAt, IsLaterFaultAt, IsWithoutSuffix, IsConfFault}
 use Rattle.dir_conf.proofs.FirstStops.{same_err, bind_err, stops, fails}
@@ -41,13 +41,13 @@ module _ (types_read : TypesRead) (classes_read : ClassesRead) (lines : List Lin
       let k = later_faulty s.types h.known h.bad h.before (sees s.types h.before h.known h.known_is) line kind h.here in
       record { above = h.before; bad = h.bad; after = h.after; is = h.is; none_above = none_at_fault s.types h.before h.known h.known_is; number_is = k.0; here = k.1 }
 
-  no_suffix : (s : Defined) (f : Found) → found_in s.types none_found lines ≡ Ok f → (line : ℕ) (kind : ConfFaultKind) (o : Option (List Rdn)) → f.suffix ≡ o → rules_of s f.slots o ≡ Err (line, kind) → IsWithoutSuffix s.types lines line kind
+  no_suffix : (s : Defined) (f : Found) → found_in s.types none_found lines ≡ Ok f → (line : ℕ) (kind : ConfFaultKind) (o : Option (List TypedRdn)) → f.suffix ≡ o → rules_of s f.slots o ≡ Err (line, kind) → IsWithoutSuffix s.types lines line kind
   no_suffix s f found line kind (Some suffix) is e = absurd cc
   no_suffix s f found line kind None is e =
       let same = same_err {A = Conf} (0, Suffix) (line, kind) e in
       record {
         none = none_at_fault s.types lines f found;
-        no_suffix = sym (sees s.types lines f found) ∙ ap (λ (o : Option (List Rdn)). is_some o) is;
+        no_suffix = sym (sees s.types lines f found) ∙ ap (λ (o : Option (List TypedRdn)). is_some o) is;
         line_is = sym (ap (λ (p : At). p.0) same);
         kind_is = sym (ap (λ (p : At). p.1) same);
       }
@@ -84,7 +84,7 @@ module _ (types_read : TypesRead) (classes_read : ClassesRead) (lines : List Lin
       failed : ℕ → Result Found At
       failed n = Err (n, kind)
 
-  none_there : (o : Option (List Rdn)) → is_some o ≡ false → o ≡ None
+  none_there : (o : Option (List TypedRdn)) → is_some o ≡ false → o ≡ None
   none_there None e = refl
   none_there (Some suffix) e = absurd cc
 

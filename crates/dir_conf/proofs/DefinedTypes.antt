@@ -12,7 +12,7 @@ use Rattle.values.specs.declared.types.AttributeType.{AttributeType}
 use Rattle.values.specs.Types.{type_of, no_type}
 use Rattle.schema.specs.TypeRules.{object_class, up_of, IsAbove}
 use Rattle.schema.specs.Conf.{Conf}
-use Rattle.schema.specs.Rdns.{Rdn}
+use Rattle.schema.specs.Rdns.{TypedRdn}
 use Rattle.schema.specs.declared.slots.Slot.{Slot}
 use Rattle.definitions.specs.declared.lines.Line.{Line}
 use Rattle.definitions.specs.declared.type_definition.TypeDefinition.{TypeDefinition}
@@ -203,7 +203,7 @@ lines_derive (l ∷ ls) s ds out h e =
 built_in_is : AreDerived (object_class ∷ []) []
 built_in_is = record { first = refl; count = refl; each = λ k lt. absurd (omega (arith, lt)) }
 
-same_types : (s : Defined) (slots : List Slot) (suffix : Option (List Rdn)) (conf : Conf) → rules_of s slots suffix ≡ Ok conf → s.types ≡ conf.types
+same_types : (s : Defined) (slots : List Slot) (suffix : Option (List TypedRdn)) (conf : Conf) → rules_of s slots suffix ≡ Ok conf → s.types ≡ conf.types
 same_types s slots None conf e = absurd cc
 same_types s slots (Some suffix) conf e = ap (λ (c : Conf). c.types) (same_ok _ conf e)
 

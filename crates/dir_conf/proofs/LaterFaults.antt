@@ -9,7 +9,7 @@ use Rattle.values.specs.declared.types.AttributeType.{AttributeType}
 use Rattle.schema.specs.declared.code.Code.{Code}
 use Rattle.dir_conf.specs.declared.conf_fault.ConfFaultKind.{ConfFaultKind}
 use Rattle.dir_conf.specs.declared.conf_fault.ConfFaultKind.TheVariants.{Suffix}
-use Rattle.schema.specs.Rdns.{Rdn}
+use Rattle.schema.specs.Rdns.{TypedRdn}
 use Rattle.schema.specs.Values.{rdns_in}
 use Rattle.schema.specs.declared.slots.Slot.{Slot}
 use Rattle.dir_conf.specs.IndexLines.{slots_in}
@@ -26,27 +26,27 @@ Later = Result Found At
 abbrev slots_failed : At → Result (List Slot) At
 slots_failed e = Err e
 
-abbrev suffix_failed : At → Result (Option (List Rdn)) At
+abbrev suffix_failed : At → Result (Option (List TypedRdn)) At
 suffix_failed e = Err e
 
 with_slots-err : (f : Found) (r : Result (List Slot) At) (e : At) → with_slots f r ≡ Err e → r ≡ Err e
 with_slots-err f (Ok slots) e h = absurd cc
 with_slots-err f (Err g) e h = ap slots_failed (same_err {A = Found} g e h)
 
-with_suffix-err : (f : Found) (r : Result (Option (List Rdn)) At) (e : At) → with_suffix f r ≡ Err e → r ≡ Err e
+with_suffix-err : (f : Found) (r : Result (Option (List TypedRdn)) At) (e : At) → with_suffix f r ≡ Err e → r ≡ Err e
 with_suffix-err f (Ok suffix) e h = absurd cc
 with_suffix-err f (Err g) e h = ap suffix_failed (same_err {A = Found} g e h)
 
 -- ---- a name
 
 abbrev Rdns : Type 0
-Rdns = Result (List Rdn) Code
+Rdns = Result (List TypedRdn) Code
 
 abbrev IsNone : Rdns → Type 0
-IsNone r = (x : Rdn) (xs : List Rdn) → Not (r ≡ Ok (x ∷ xs))
+IsNone r = (x : TypedRdn) (xs : List TypedRdn) → Not (r ≡ Ok (x ∷ xs))
 
-at_line : (line at : ℕ) (kind : ConfFaultKind) → ◌≡◌ {A = Result (Option (List Rdn)) At} (Err (line, Suffix)) (Err (at, kind)) → (at ≡ line) × (kind ≡ Suffix)
-at_line line at kind e = let same = same_err {A = Option (List Rdn)} (line, Suffix) (at, kind) e in (sym (ap (λ (p : At). p.0) same), sym (ap (λ (p : At). p.1) same))
+at_line : (line at : ℕ) (kind : ConfFaultKind) → ◌≡◌ {A = Result (Option (List TypedRdn)) At} (Err (line, Suffix)) (Err (at, kind)) → (at ≡ line) × (kind ≡ Suffix)
+at_line line at kind e = let same = same_err {A = Option (List TypedRdn)} (line, Suffix) (at, kind) e in (sym (ap (λ (p : At). p.0) same), sym (ap (λ (p : At). p.1) same))
 
 no_name : (line : ℕ) (r : Rdns) (at : ℕ) (kind : ConfFaultKind) → some_rdns line r ≡ Err (at, kind) → (at ≡ line) × (kind ≡ Suffix) × IsNone r
 no_name line (Ok []) at kind e = let k = at_line line at kind e in (k.0, k.1, λ x xs h. absurd (let same = same_ok {F = Code} [] (x ∷ xs) h in cc))
@@ -58,9 +58,9 @@ name_fails line (Ok []) none = refl
 name_fails line (Ok (x ∷ xs)) none = absurd (none x xs refl)
 name_fails line (Err code) none = refl
 
-some_name : (line : ℕ) (r : Rdns) (o : Option (List Rdn)) → some_rdns line r ≡ Ok o → is_some o ≡ true
+some_name : (line : ℕ) (r : Rdns) (o : Option (List TypedRdn)) → some_rdns line r ≡ Ok o → is_some o ≡ true
 some_name line (Ok []) o e = absurd cc
-some_name line (Ok (x ∷ xs)) o e = ap (λ (p : Option (List Rdn)). is_some p) (sym (same_ok {F = At} (Some (x ∷ xs)) o e))
+some_name line (Ok (x ∷ xs)) o e = ap (λ (p : Option (List TypedRdn)). is_some p) (sym (same_ok {F = At} (Some (x ∷ xs)) o e))
 some_name line (Err code) o e = absurd cc
 
 -- ---- a line
@@ -73,7 +73,7 @@ module _ (types : List AttributeType) (f : Found) (l : Line) where
   abbrev of_slots : Later
   of_slots = with_slots f (slots_in types l.number (after_word l.text))
 
-  abbrev named : Result (Option (List Rdn)) At
+  abbrev named : Result (Option (List TypedRdn)) At
   named = suffix_at types l.number (suffix_text l.text)
 
   abbrev failed : ConfFaultKind → Later

@@ -28,7 +28,7 @@ use Rattle.definitions.specs.declared.class_definition.ClassDefinition.{ClassDef
 use Rattle.definitions.specs.ClassDefinitions.{class_definition_of}
 use Rattle.dir_conf.specs.DerivedTypes.{type_with, goes_with}
 use Rattle.schema.specs.TypeRules.{object_class, has_twin, up_of, is_equality, breaks_with, needs_another_syntax, IsAbove, FitsBehind}
-use Rattle.schema.specs.Rdns.{Rdn, typed}
+use Rattle.schema.specs.Rdns.{TypedRdn, typed}
 use Rattle.schema.specs.GoodRdns.{IsRdn}
 use Rattle.schema.specs.Names.{name_in}
 use Rattle.schema.specs.Values.{rdns_in}
@@ -297,16 +297,16 @@ all_hold law ls out e = through_keeps Holds definition_line (line_keeps law) ls 
 
 -- ---- the suffix
 
-abbrev pub IsSuffix : List AttributeType → Option (List Rdn) → Type 0
+abbrev pub IsSuffix : List AttributeType → Option (List TypedRdn) → Type 0
 IsSuffix types None = Unit {0}
 IsSuffix types (Some rs) = AllByRecursion (IsRdn types) rs × (nat_lt 0 (length rs) ≡ true)
 
-some_is : (types : List AttributeType) (line : ℕ) (r : Result (List Rdn) Code) (out : Option (List Rdn)) → ((rs : List Rdn) → r ≡ Ok rs → AllByRecursion (IsRdn types) rs) → some_rdns line r ≡ Ok out → IsSuffix types out
+some_is : (types : List AttributeType) (line : ℕ) (r : Result (List TypedRdn) Code) (out : Option (List TypedRdn)) → ((rs : List TypedRdn) → r ≡ Ok rs → AllByRecursion (IsRdn types) rs) → some_rdns line r ≡ Ok out → IsSuffix types out
 some_is types line (Ok []) out good e = absurd cc
 some_is types line (Ok (r ∷ rs)) out good e = subst (IsSuffix types) (same_ok (Some (r ∷ rs)) out e) (good (r ∷ rs) refl, lt-ltb 0 (length (r ∷ rs)) (omega arith))
 some_is types line (Err c) out good e = absurd cc
 
-typed_good : SpellsRead → (types : List AttributeType) (text : List ℕ) (rs : List Rdn) → rdns_in types text ≡ Ok rs → AllByRecursion (IsRdn types) rs
+typed_good : SpellsRead → (types : List AttributeType) (text : List ℕ) (rs : List TypedRdn) → rdns_in types text ≡ Ok rs → AllByRecursion (IsRdn types) rs
 unfolding rdns_in
 typed_good read types text rs e =
     let k = bind_ok (name_in text) (typed types) rs e in
@@ -327,7 +327,7 @@ found_ok f = Ok f
 abbrev found_err : ℕ → ConfFaultKind → Later
 found_err line kind = Err (line, kind)
 
-suffix_put : (types : List AttributeType) (f : Found) (r : Result (Option (List Rdn)) At) (out : Found) → IsFound types f → ((o : Option (List Rdn)) → r ≡ Ok o → IsSuffix types o) → with_suffix f r ≡ Ok out → IsFound types out
+suffix_put : (types : List AttributeType) (f : Found) (r : Result (Option (List TypedRdn)) At) (out : Found) → IsFound types f → ((o : Option (List TypedRdn)) → r ≡ Ok o → IsSuffix types o) → with_suffix f r ≡ Ok out → IsFound types out
 suffix_put types f r out h good e =
     let k = bind_ok r (λ o. found_ok (record f { suffix = o })) out e in
     subst (IsFound types) (same_ok (record f { suffix = k.0 }) out k.2) (record { suffix = good k.0 k.1; slots = h.slots })
@@ -362,7 +362,7 @@ found_is read types ls out e = through_keeps (IsFound types) (later_line types) 
 classes_some : (classes rest : List ObjectClass) → classes ≡ top ∷ extensible_object ∷ rest → nat_lt 1 (length classes) ≡ true
 classes_some classes rest e = ap (λ (cs : List ObjectClass). nat_lt 1 (length cs)) e ∙ lt-ltb 1 (length (top ∷ extensible_object ∷ rest)) (omega arith)
 
-pub rules_are : (s : Defined) (suffix : List Rdn) (said : List Slot) → Holds s → IsSuffix s.types (Some suffix) → AllByRecursion (IsSlot s.types) said → IsConf (record { types = s.types; suffix = suffix; slots = in_order (length s.types) said; classes = s.classes })
+pub rules_are : (s : Defined) (suffix : List TypedRdn) (said : List Slot) → Holds s → IsSuffix s.types (Some suffix) → AllByRecursion (IsSlot s.types) said → IsConf (record { types = s.types; suffix = suffix; slots = in_order (length s.types) said; classes = s.classes })
 rules_are s suffix said h k slots = record {
   types = h.types.good;
   first = ap (λ (ts : List AttributeType). type_at ts 0) h.types.first.1;
@@ -380,10 +380,10 @@ rules_are s suffix said h k slots = record {
   classes_apart = h.classes.apart;
 }
 
-pub conf_is : (text : List ℕ) (first second : List Line) (s : Defined) (f : Found) (suffix : List Rdn) → first ≡ lines_of text → second ≡ lines_of text → defined_by built_in first ≡ Ok s → found_in s.types none_found second ≡ Ok f
+pub conf_is : (text : List ℕ) (first second : List Line) (s : Defined) (f : Found) (suffix : List TypedRdn) → first ≡ lines_of text → second ≡ lines_of text → defined_by built_in first ≡ Ok s → found_in s.types none_found second ≡ Ok f
     → f.suffix ≡ Some suffix → conf_of text ≡ Ok (record { types = s.types; suffix = suffix; slots = in_order (length s.types) f.slots; classes = s.classes })
 unfolding conf_of
 conf_is text first second s f suffix one two defined found some =
     ap (λ (r : Outcome). r >>= λ d. (found_in d.types none_found (lines_of text) >>= λ g. rules_of d g.slots g.suffix)) (ap (λ (ls : List Line). defined_by built_in ls) (sym one) ∙ defined)
     ∙ ap (λ (r : Later). r >>= λ g. rules_of s g.slots g.suffix) (ap (λ (ls : List Line). found_in s.types none_found ls) (sym two) ∙ found)
-    ∙ ap (λ (o : Option (List Rdn)). rules_of s f.slots o) some
+    ∙ ap (λ (o : Option (List TypedRdn)). rules_of s f.slots o) some

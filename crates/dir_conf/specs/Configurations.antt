@@ -25,7 +25,7 @@ use Rattle.dir_conf.specs.DerivedTypes.{type_with}
 use Rattle.schema.specs.TypeRules.{object_class, has_twin, up_of, breaks_with, needs_another_syntax}
 use Rattle.schema.specs.declared.object_class.ObjectClass.{ObjectClass}
 use Rattle.schema.specs.Classes.{is_class_named, class_of, top, extensible_object}
-use Rattle.schema.specs.Rdns.{Rdn}
+use Rattle.schema.specs.Rdns.{TypedRdn}
 use Rattle.schema.specs.Values.{rdns_in}
 use Rattle.schema.specs.Conf.{Conf}
 use Rattle.schema.specs.declared.slots.Slot.{Slot}
@@ -168,25 +168,25 @@ abbrev pub suffix_text : List ℕ → List ℕ
 suffix_text line = unquoted (without_end (skip (after_word line)))
 
 -- a suffix has at least one RDN
-abbrev pub some_rdns : ℕ → Result (List Rdn) Code → Result (Option (List Rdn)) At
+abbrev pub some_rdns : ℕ → Result (List TypedRdn) Code → Result (Option (List TypedRdn)) At
 some_rdns line (Ok []) = Err (line, Suffix)
 some_rdns line (Ok (r ∷ rs)) = Ok (Some (r ∷ rs))
 some_rdns line (Err code) = Err (line, Suffix)
 
-abbrev pub suffix_at : List AttributeType → ℕ → List ℕ → Result (Option (List Rdn)) At
+abbrev pub suffix_at : List AttributeType → ℕ → List ℕ → Result (Option (List TypedRdn)) At
 suffix_at types line text = some_rdns line (rdns_in types text)
 
 -- ---- the lines that are looked at after all others
 
 -- the suffix that was found, and the slots that were said so far
 pub record Found : Type 0 where
-  pub suffix : Option (List Rdn)
+  pub suffix : Option (List TypedRdn)
   pub slots : List Slot
 
 abbrev pub none_found : Found
 none_found = record { suffix = None; slots = [] }
 
-abbrev pub with_suffix : Found → Result (Option (List Rdn)) At → Result Found At
+abbrev pub with_suffix : Found → Result (Option (List TypedRdn)) At → Result Found At
 with_suffix f r = r >>= λ suffix. Ok (record f { suffix = suffix })
 
 abbrev pub with_slots : Found → Result (List Slot) At → Result Found At
@@ -205,7 +205,7 @@ found_in types f ls = through (later_line types) f ls
 
 -- ---- the whole text
 
-abbrev pub rules_of : Defined → List Slot → Option (List Rdn) → Result Conf At
+abbrev pub rules_of : Defined → List Slot → Option (List TypedRdn) → Result Conf At
 rules_of s slots None = Err (0, Suffix)
 rules_of s slots (Some suffix) = Ok (record { types = s.types; suffix = suffix; slots = in_order (length s.types) slots; classes = s.classes })
 

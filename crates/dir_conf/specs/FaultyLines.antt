@@ -19,7 +19,7 @@ use Rattle.schema.specs.declared.slots.IndexKind.TheVariants.{Equality, Presence
 use Rattle.dir_conf.specs.DerivedTypes.{type_with}
 use Rattle.schema.specs.TypeRules.{has_twin, up_of, breaks_with, needs_another_syntax}
 use Rattle.schema.specs.Classes.{is_class}
-use Rattle.schema.specs.Rdns.{Rdn}
+use Rattle.schema.specs.Rdns.{TypedRdn}
 use Rattle.schema.specs.Values.{rdns_in}
 use Rattle.schema.specs.Slots.{has_rule_for}
 use Rattle.schema.specs.FirstFlaws.{Not, IsFirstFlaw}
@@ -160,7 +160,7 @@ has_suffix lines = list_any (λ l. is_first (codes "suffix") l.text) lines
 
 -- the text is no name with an RDN or more
 abbrev pub IsNoSuffix : List AttributeType → List ℕ → Type 0
-IsNoSuffix types text = (r : Rdn) (rs : List Rdn) → Not (rdns_in types text ≡ Ok (r ∷ rs))
+IsNoSuffix types text = (r : TypedRdn) (rs : List TypedRdn) → Not (rdns_in types text ≡ Ok (r ∷ rs))
 
 -- a suffix where one stands above, or that is none; an index at fault
 abbrev pub IsLaterFault : List AttributeType → List Line → List ℕ → ConfFaultKind → Type 0

@@ -9,7 +9,7 @@ use crate::index_lines::slots_in;
 use crate::suffix_lines::{suffix_at, suffix_text};
 use base::Sequence;
 use definitions::{Line, split_first_word};
-use paths::Rdn;
+use paths::TypedRdn;
 use schema::Slot;
 use std::alloc::Global;
 use values::TypeTable;
@@ -17,7 +17,7 @@ use values::TypeTable;
 /// What the lines say: a suffix, and slots as often as they are said.
 #[derive(Drop)]
 pub(crate) struct Found {
-    pub(crate) suffix: Option<Sequence<Rdn>>,
+    pub(crate) suffix: Option<Sequence<TypedRdn>>,
     pub(crate) slots: Vec<Slot>,
 }
 

@@ -8,7 +8,7 @@ use crate::conf_fault::{ConfFault, ConfFaultKind};
 use crate::conf_lines::fault;
 use base::{Sequence, begins_with, without_end};
 use definitions::{skip, split_first_word};
-use paths::Rdn;
+use paths::TypedRdn;
 use schema::{PathFault, rdns_in};
 use std::alloc::Global;
 use values::TypeTable;
@@ -45,7 +45,7 @@ pub(crate) fn suffix_at(
     types: &TypeTable,
     line: u64,
     text: &[u8],
-) -> Result<Sequence<Rdn>, ConfFault>
+) -> Result<Sequence<TypedRdn>, ConfFault>
     ensures { Reads (λ rdns. Some rdns) result (suffix_at types.now line text.now) }
 {
     match rdns_in(alloc, types, text) {

@@ -26,7 +26,7 @@ use Rattle.values.specs.declared.types.AttributeType.{AttributeType}
 use Rattle.values.specs.Values.{norm_by}
 use Rattle.schema.specs.Conf.{Conf, IsConf}
 use Rattle.schema.specs.GoodRdns.{IsAva, IsRdn}
-use Rattle.schema.specs.Rdns.{Ava, Rdn, is_lower, put_pair, pair_of, key_from, rdn_key_of}
+use Rattle.schema.specs.Rdns.{Ava, TypedRdn, is_lower, put_pair, pair_of, key_from, rdn_key_of}
 use Rattle.schema.specs.Values.{normal_ava, normal_avas, normal_rdn, normal_text, normal_name, normal_of, rdns_in, norm_with, norm_at, is_valid_at}
 use Rattle.schema.specs.declared.code.Code.{Code}
 use Rattle.schema.proofs.AvaValues.{valid_are_bytes}
@@ -157,7 +157,7 @@ module _ (conf : Conf) (c : IsConf conf) where
       (small_type (name_of conf.types p.0) (printed_is_text conf p.0 c h.known))
       (norm_by_bytes (plain_family (type_at conf.types p.0).equality) p.1 (valid_are_bytes valid_bytes conf.types p.0 p.1 h.valid))
 
-  key_is : (key : RdnKey) (r : Rdn) → AllByRecursion IsNormal key → AllByRecursion (IsAva conf.types) r → AllByRecursion IsNormal (key_from conf.types key r)
+  key_is : (key : RdnKey) (r : TypedRdn) → AllByRecursion IsNormal key → AllByRecursion (IsAva conf.types) r → AllByRecursion IsNormal (key_from conf.types key r)
   unfolding key_from put_pair
   key_is key [] all good = all
   key_is key (p ∷ ps) all good = key_is (put_pair (pair_of conf.types p) key) ps (all_insert IsNormal key (prefix_len (is_lower p.0) key) (pair_of conf.types p) all (pair_is p good.0)) good.1
@@ -175,12 +175,12 @@ module _ (conf : Conf) (c : IsConf conf) where
   some_insert (q ∷ qs) zero p = one_more p (q ∷ qs)
   some_insert (q ∷ qs) (suc n) p = one_more q (insert qs n p)
 
-  key_some : (key : RdnKey) (r : Rdn) → IsSome key → IsSome (key_from conf.types key r)
+  key_some : (key : RdnKey) (r : TypedRdn) → IsSome key → IsSome (key_from conf.types key r)
   unfolding key_from put_pair
   key_some key [] some = some
   key_some key (p ∷ ps) some = key_some (put_pair (pair_of conf.types p) key) ps (some_insert key (prefix_len (is_lower p.0) key) (pair_of conf.types p))
 
-  first_some : (r : Rdn) → (length r == 0) ≡ false → IsSome (rdn_key_of conf.types r)
+  first_some : (r : TypedRdn) → (length r == 0) ≡ false → IsSome (rdn_key_of conf.types r)
   unfolding rdn_key_of key_from put_pair
   first_some [] h = cc
   first_some (p ∷ ps) h = key_some (put_pair (pair_of conf.types p) []) ps (some_insert [] (prefix_len (is_lower p.0) []) (pair_of conf.types p))
@@ -189,7 +189,7 @@ module _ (conf : Conf) (c : IsConf conf) where
   avas_are [] h = refl
   avas_are (p ∷ ps) h = both (is_ava (normal_ava conf.types p)) (list_all is_ava (normal_avas conf.types ps)) h.0 (avas_are ps h.1)
 
-  rdn_is : (r : Rdn) → IsRdn conf.types r → is_rdn (normal_rdn conf.types r) ≡ true
+  rdn_is : (r : TypedRdn) → IsRdn conf.types r → is_rdn (normal_rdn conf.types r) ≡ true
   unfolding rdn_key_of
   rdn_is r h =
       let key = rdn_key_of conf.types r in
@@ -197,7 +197,7 @@ module _ (conf : Conf) (c : IsConf conf) where
       (ap (λ n. not (n == 0)) (length-map key (normal_ava conf.types)) ∙ first_some r h.some)
       (avas_are key (key_is [] r tt h.avas))
 
-  name_is : (rs : List Rdn) → AllByRecursion (IsRdn conf.types) rs → names.is_name (map (normal_rdn conf.types) rs) ≡ true
+  name_is : (rs : List TypedRdn) → AllByRecursion (IsRdn conf.types) rs → names.is_name (map (normal_rdn conf.types) rs) ≡ true
   name_is [] h = refl
   name_is (r ∷ rs) h = both (is_rdn (normal_rdn conf.types r)) (names.is_name (map (normal_rdn conf.types) rs)) (rdn_is r h.0) (name_is rs h.1)
 
@@ -209,12 +209,12 @@ module _ (conf : Conf) (c : IsConf conf) where
       let low = ltb-true b 128 k.0 in
       onto b bs (lt-ltb b 256 (omega (arith, low))) (ascii_bytes bs k.1)
 
-  text_bytes : (rs : List Rdn) → AllByRecursion (IsRdn conf.types) rs → AreBytes (normal_text conf.types rs)
+  text_bytes : (rs : List TypedRdn) → AllByRecursion (IsRdn conf.types) rs → AreBytes (normal_text conf.types rs)
   unfolding normal_text
   text_bytes rs h = ascii_bytes (text_of (map (normal_rdn conf.types) rs)) (name_ascii (map (normal_rdn conf.types) rs) (name_is rs h))
 
   -- the RDNs that a value spells are good
-  spelled_are : (v : List ℕ) (rs : List Rdn) → rdns_in conf.types v ≡ Ok rs → AllByRecursion (IsRdn conf.types) rs
+  spelled_are : (v : List ℕ) (rs : List TypedRdn) → rdns_in conf.types v ≡ Ok rs → AllByRecursion (IsRdn conf.types) rs
   unfolding rdns_in
   spelled_are v rs e =
       let k = bind_ok (name_in v) (typed conf.types) rs e in
@@ -224,7 +224,7 @@ module _ (conf : Conf) (c : IsConf conf) where
   unfolding normal_name
   name_bytes v h = by (rdns_in conf.types v) refl
     where
-      by : (r : Result (List Rdn) Code) → rdns_in conf.types v ≡ r → AreBytes (unwrap_or (normal_of conf.types r) v)
+      by : (r : Result (List TypedRdn) Code) → rdns_in conf.types v ≡ r → AreBytes (unwrap_or (normal_of conf.types r) v)
       by (Ok rs) said = text_bytes rs (spelled_are v rs said)
       by (Err code) said = h
 

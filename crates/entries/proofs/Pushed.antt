@@ -14,7 +14,7 @@ use Rattle.schema.specs.declared.code.Code.TheVariants.{ConstraintViolation, Inv
 use Rattle.values.specs.declared.types.AttributeType.{AttributeType}
 use Rattle.values.specs.Types.{type_of, is_known, is_named, no_type}
 use Rattle.schema.specs.Values.{norm_at, is_valid_at, are_equal}
-use Rattle.schema.specs.Rdns.{Ava, Rdn}
+use Rattle.schema.specs.Rdns.{Ava, TypedRdn}
 use Rattle.schema.specs.GoodRdns.{IsAva}
 use Rattle.base.proofs.Bound.{bind_ok, same_ok}
 use Rattle.ldif.specs.declared.record.Mode.{Mode}
@@ -121,7 +121,7 @@ lines_good mode types (l ∷ ls) attrs out h e =
 
 -- ---- the RDN's values
 
-pub rdn_good : (types : List AttributeType) (rdn : Rdn) (attrs : Attributes) → AllByRecursion (IsAva types) rdn → AreGood types attrs → AreGood types (with_rdn types rdn attrs)
+pub rdn_good : (types : List AttributeType) (rdn : TypedRdn) (attrs : Attributes) → AllByRecursion (IsAva types) rdn → AreGood types attrs → AreGood types (with_rdn types rdn attrs)
 unfolding with_rdn
 rdn_good types [] attrs is h = h
 rdn_good types (p ∷ ps) attrs is h =
@@ -179,7 +179,7 @@ comes types attrs t v =
     ap (has_equal types t v) (values_pushed attrs t v t ∙ ap (λ b. cond b (values_of attrs t ++ v ∷ []) (values_of attrs t)) (nat_eq_equiv.refl t))
     ∙ any_last (λ w. are_equal types t w v) (values_of attrs t) v ((equal_equiv types t).refl v)
 
-kept : (types : List AttributeType) (rdn : Rdn) (attrs : Attributes) (p : Ava) → IsThere types attrs p → IsThere types (with_rdn types rdn attrs) p
+kept : (types : List AttributeType) (rdn : TypedRdn) (attrs : Attributes) (p : Ava) → IsThere types attrs p → IsThere types (with_rdn types rdn attrs) p
 unfolding with_rdn
 kept types [] attrs p h = h
 kept types (q ∷ qs) attrs p h =
@@ -188,7 +188,7 @@ kept types (q ∷ qs) attrs p h =
       | false ↦ kept types qs (push_value attrs q.0 q.1) p (stays types attrs q.0 q.1 p h)
     ]
 
-pub all_come : (types : List AttributeType) (rdn : Rdn) (attrs : Attributes) → AllByRecursion (IsThere types (with_rdn types rdn attrs)) rdn
+pub all_come : (types : List AttributeType) (rdn : TypedRdn) (attrs : Attributes) → AllByRecursion (IsThere types (with_rdn types rdn attrs)) rdn
 unfolding with_rdn
 all_come types [] attrs = tt
 all_come types (p ∷ ps) attrs =

@@ -13,7 +13,7 @@ use Rattle.schema.specs.declared.code.Code.TheVariants.{InvalidAttributeSyntax, 
 use Rattle.values.specs.declared.types.AttributeType.{AttributeType}
 use Rattle.values.specs.Types.{type_of, name_of, is_known}
 use Rattle.schema.specs.Values.{is_valid_at, are_equal}
-use Rattle.schema.specs.Rdns.{Ava, Rdn}
+use Rattle.schema.specs.Rdns.{Ava, TypedRdn}
 use Rattle.base.specs.Answers.{◌>>=◌}
 use Rattle.ldif.specs.declared.record.Mode.TheVariants.{Content}
 use Rattle.entries.specs.Entries.{Attribute, Attributes, values_of, has_equal, push_value, typed_value, put_value, add_lines, with_rdn, IsAttribute, attribute_lines, lines_of}
@@ -134,7 +134,7 @@ module _ (types : List AttributeType) where
     own_lines attrs is apart = all_attributes attrs [] is (none_types attrs) apart
 
   -- and its RDN's values are there
-  pub rdn_there : (attrs : Attributes) (rdn : Rdn) → AllByRecursion (λ p. has_equal types p.0 p.1 (values_of attrs p.0) ≡ true) rdn → with_rdn types rdn attrs ≡ attrs
+  pub rdn_there : (attrs : Attributes) (rdn : TypedRdn) → AllByRecursion (λ p. has_equal types p.0 p.1 (values_of attrs p.0) ≡ true) rdn → with_rdn types rdn attrs ≡ attrs
   unfolding with_rdn
   rdn_there attrs [] h = refl
   rdn_there attrs (p ∷ ps) h = ap (λ b. with_rdn types ps (cond b attrs (push_value attrs p.0 p.1))) h.0 ∙ rdn_there attrs ps h.1

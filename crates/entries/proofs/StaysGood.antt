@@ -15,7 +15,7 @@ use Rattle.schema.specs.declared.code.Code.TheVariants.{NoSuchAttribute, Constra
 use Rattle.values.specs.declared.types.AttributeType.{AttributeType}
 use Rattle.values.specs.Types.{type_of, is_known}
 use Rattle.schema.specs.Values.{is_valid_at, are_equal}
-use Rattle.schema.specs.Rdns.{Ava, Rdn}
+use Rattle.schema.specs.Rdns.{Ava, TypedRdn}
 use Rattle.schema.specs.GoodRdns.{IsAva, IsRdn}
 use Rattle.schema.specs.Conf.{Conf}
 use Rattle.base.specs.Answers.{through}
@@ -112,7 +112,7 @@ module _ (types : List AttributeType) where
       let k = bind_ok (named_type (type_of types m.attr)) (λ t. modify_at types attrs t m.op m.values) out e in
       at_good attrs out k.0 m.op m.values (type_known types m.attr k.0 (typed (type_of types m.attr) k.0 k.1)) h k.2
 
-  rdn_there : (attrs : Attributes) (rdn : Rdn) → has_rdn types rdn attrs ≡ true → AllByRecursion (IsThere types attrs) rdn
+  rdn_there : (attrs : Attributes) (rdn : TypedRdn) → has_rdn types rdn attrs ≡ true → AllByRecursion (IsThere types attrs) rdn
   rdn_there attrs [] h = tt
   rdn_there attrs (p ∷ ps) h =
       let k = and_parts (has_equal types p.0 p.1 (values_of attrs p.0)) (has_rdn types ps attrs) h in
@@ -128,7 +128,7 @@ module _ (conf : Conf) where
       by true false said = absurd cc
       by true true said = (refl, refl)
 
-  modified_ok : (rdn : Rdn) (attrs : Attributes) → modified_fault conf rdn attrs ≡ None → (has_rdn conf.types rdn attrs ≡ true) × (entry_fault conf attrs ≡ None)
+  modified_ok : (rdn : TypedRdn) (attrs : Attributes) → modified_fault conf rdn attrs ≡ None → (has_rdn conf.types rdn attrs ≡ true) × (entry_fault conf attrs ≡ None)
   modified_ok rdn attrs e = by (has_rdn conf.types rdn attrs) e
     where
       by : (a : Bool) → cond (not a) (Some NotAllowedOnRdn) (entry_fault conf attrs) ≡ None → (a ≡ true) × (entry_fault conf attrs ≡ None)
@@ -179,7 +179,7 @@ module _ (types : List AttributeType) where
             (left_there p.0 q.1 p.1 (values_of attrs p.0) apart (subst (λ k. has_equal types k q.1 (values_of attrs k) ≡ true) same there))
       ] refl
 
-  all_stay : (attrs : Attributes) (p : Ava) (new : Rdn) → IsDistinct nat_eq (keys_of attrs) → has_ava types new p ≡ false → AllByRecursion (IsThere types attrs) new → AllByRecursion (IsThere types (without_ava types p attrs)) new
+  all_stay : (attrs : Attributes) (p : Ava) (new : TypedRdn) → IsDistinct nat_eq (keys_of attrs) → has_ava types new p ≡ false → AllByRecursion (IsThere types attrs) new → AllByRecursion (IsThere types (without_ava types p attrs)) new
   all_stay attrs p [] h other there = tt
   all_stay attrs p (q ∷ qs) h other there =
       let k = or_parts (nat_eq p.0 q.0 && are_equal types p.0 q.1 p.1) (has_ava types qs p) other in
@@ -188,7 +188,7 @@ module _ (types : List AttributeType) where
   ava_gone : (attrs : Attributes) (p : Ava) → is_known types p.0 ≡ true → AreGood types attrs → AreGood types (without_ava types p attrs)
   ava_gone attrs p known h = good_set types p.0 (without_value types p.0 (values_of attrs p.0) p.1) attrs h (without_good types p.0 (values_of attrs p.0) p.1 (values_good types p.0 attrs known h.all))
 
-  rdn_gone : (new old : Rdn) (attrs : Attributes) → AllByRecursion (IsAva types) old → AreGood types attrs → AllByRecursion (IsThere types attrs) new → AreGood types (without_rdn types new old attrs) × AllByRecursion (IsThere types (without_rdn types new old attrs)) new
+  rdn_gone : (new old : TypedRdn) (attrs : Attributes) → AllByRecursion (IsAva types) old → AreGood types attrs → AllByRecursion (IsThere types attrs) new → AreGood types (without_rdn types new old attrs) × AllByRecursion (IsThere types (without_rdn types new old attrs)) new
   unfolding without_rdn
   rdn_gone new [] attrs is h there = (h, there)
   rdn_gone new (p ∷ ps) attrs is h there =
@@ -197,11 +197,11 @@ module _ (types : List AttributeType) where
         | false ↦ λ e. rdn_gone new ps (without_ava types p attrs) is.1 (ava_gone attrs p is.0.known h) (all_stay attrs p new h.types_apart e there)
       ] refl
 
-  renamed_good : (e : EntryContent) (new : Rdn) (delete_old : Bool) → AllByRecursion (IsAva types) e.rdn → AllByRecursion (IsAva types) new → AreGood types e.attrs → AreGood types (renamed_attrs types e new delete_old) × AllByRecursion (IsThere types (renamed_attrs types e new delete_old)) new
+  renamed_good : (e : EntryContent) (new : TypedRdn) (delete_old : Bool) → AllByRecursion (IsAva types) e.rdn → AllByRecursion (IsAva types) new → AreGood types e.attrs → AreGood types (renamed_attrs types e new delete_old) × AllByRecursion (IsThere types (renamed_attrs types e new delete_old)) new
   renamed_good e new false old is h = (rdn_good types new e.attrs is h, all_come types new e.attrs)
   renamed_good e new true old is h = rdn_gone new e.rdn (with_rdn types new e.attrs) old (rdn_good types new e.attrs is h) (all_come types new e.attrs)
 
-pub rename_keeps : (conf : Conf) (e out : EntryContent) (new : Rdn) (delete_old : Bool) → IsGood conf e → IsRdn conf.types new → rename_entry conf e new delete_old ≡ Ok out → (IsGood conf out) × (out.rdn ≡ new)
+pub rename_keeps : (conf : Conf) (e out : EntryContent) (new : TypedRdn) (delete_old : Bool) → IsGood conf e → IsRdn conf.types new → rename_entry conf e new delete_old ≡ Ok out → (IsGood conf out) × (out.rdn ≡ new)
 unfolding rename_entry
 rename_keeps conf e out new delete_old h good_new said =
     let attrs : Attributes = renamed_attrs conf.types e new delete_old in

@@ -4,7 +4,7 @@ use Rattle.std.specs.List.{list_any}
 use Rattle.std.specs.Map.{lookup}
 use Rattle.values.specs.declared.types.AttributeType.{AttributeType}
 use Rattle.schema.specs.Values.{are_equal}
-use Rattle.schema.specs.Rdns.{Rdn}
+use Rattle.schema.specs.Rdns.{TypedRdn}
 
 -- a type's number, and its values as written
 abbrev pub Attribute : Type 0
@@ -15,7 +15,7 @@ Attributes = List Attribute
 
 -- an entry, without where it stands
 pub record EntryContent : Type 0 where
-  pub rdn : Rdn
+  pub rdn : TypedRdn
   pub attrs : Attributes
 
 -- the values of a type

@@ -10,7 +10,7 @@ use Rattle.schema.specs.declared.code.Code.TheVariants.{UndefinedAttributeType, 
 use Rattle.values.specs.declared.types.AttributeType.{AttributeType}
 use Rattle.values.specs.Types.{type_of, type_at, name_of, is_known}
 use Rattle.schema.specs.Values.{is_valid_at, are_equal}
-use Rattle.schema.specs.Rdns.{Ava, Rdn}
+use Rattle.schema.specs.Rdns.{Ava, TypedRdn}
 use Rattle.schema.specs.GoodRdns.{IsRdn}
 use Rattle.schema.specs.Conf.{Conf}
 use Rattle.base.specs.Answers.{◌>>=◌}
@@ -52,12 +52,12 @@ abbrev pub with_ava : List AttributeType → Ava → Attributes → Attributes
 with_ava types p attrs = if has_equal types p.0 p.1 (values_of attrs p.0) then attrs else push_value attrs p.0 p.1
 
 -- each value of the RDN that has no equal one there
-unfoldable pub with_rdn : List AttributeType → Rdn → Attributes → Attributes
+unfoldable pub with_rdn : List AttributeType → TypedRdn → Attributes → Attributes
 with_rdn types [] attrs = attrs
 with_rdn types (p ∷ ps) attrs = with_rdn types ps (with_ava types p attrs)
 
 -- those of its first AVAs, as many as there are by now
-abbrev pub HasBegun : List AttributeType → Rdn → Attributes → Attributes → Type 0
+abbrev pub HasBegun : List AttributeType → TypedRdn → Attributes → Attributes → Type 0
 HasBegun types r before after = (n : ℕ) × (after ≡ with_rdn types (take n r) before)
 
 -- ---- what holds of an entry

@@ -9,7 +9,7 @@ use Rattle.schema.specs.declared.code.Code.TheVariants.{ProtocolError, NoSuchAtt
 use Rattle.values.specs.declared.types.AttributeType.{AttributeType}
 use Rattle.values.specs.Types.{type_of, type_at, has_equality}
 use Rattle.schema.specs.Values.{is_valid_at, are_equal}
-use Rattle.schema.specs.Rdns.{Ava, Rdn}
+use Rattle.schema.specs.Rdns.{Ava, TypedRdn}
 use Rattle.schema.specs.Conf.{Conf}
 use Rattle.base.specs.Answers.{◌>>=◌, through}
 use Rattle.entries.specs.Entries.{Attributes, EntryContent, values_of, has_equal, with_rdn, has_its_classes, are_single}
@@ -107,10 +107,10 @@ entry_fault conf attrs =
     else (if not (are_single conf.types attrs) then Some ConstraintViolation else None)
 
 -- whether each value of the RDN is there, in whatever spelling
-abbrev pub has_rdn : List AttributeType → Rdn → Attributes → Bool
+abbrev pub has_rdn : List AttributeType → TypedRdn → Attributes → Bool
 has_rdn types rdn attrs = list_all (λ p. has_equal types p.0 p.1 (values_of attrs p.0)) rdn
 
-abbrev pub modified_fault : Conf → Rdn → Attributes → Option Code
+abbrev pub modified_fault : Conf → TypedRdn → Attributes → Option Code
 modified_fault conf rdn attrs = if not (has_rdn conf.types rdn attrs) then Some NotAllowedOnRdn else entry_fault conf attrs
 
 -- the blocks in order, and then a look at the whole
@@ -121,23 +121,23 @@ modify_entry conf e mods =
 -- ---- another RDN (RFC 4511, 4.9)
 
 -- whether an RDN has this value, in whatever spelling
-abbrev pub has_ava : List AttributeType → Rdn → Ava → Bool
+abbrev pub has_ava : List AttributeType → TypedRdn → Ava → Bool
 has_ava types rdn p = list_any (λ q. nat_eq p.0 q.0 && are_equal types p.0 q.1 p.1) rdn
 
 abbrev pub without_ava : List AttributeType → Ava → Attributes → Attributes
 without_ava types p attrs = set_values attrs p.0 (without_value types p.0 (values_of attrs p.0) p.1)
 
 -- the old RDN's values go, but for those that the new one has
-unfoldable pub without_rdn : List AttributeType → Rdn → Rdn → Attributes → Attributes
+unfoldable pub without_rdn : List AttributeType → TypedRdn → TypedRdn → Attributes → Attributes
 without_rdn types new [] attrs = attrs
 without_rdn types new (p ∷ ps) attrs = without_rdn types new ps (if has_ava types new p then attrs else without_ava types p attrs)
 
 -- the new RDN's values come, and the old one's go where that is asked for
-abbrev pub renamed_attrs : List AttributeType → EntryContent → Rdn → Bool → Attributes
+abbrev pub renamed_attrs : List AttributeType → EntryContent → TypedRdn → Bool → Attributes
 renamed_attrs types e new delete_old =
     if delete_old then without_rdn types new e.rdn (with_rdn types new e.attrs) else with_rdn types new e.attrs
 
-unfoldable pub rename_entry : Conf → EntryContent → Rdn → Bool → Result EntryContent Code
+unfoldable pub rename_entry : Conf → EntryContent → TypedRdn → Bool → Result EntryContent Code
 rename_entry conf e new delete_old =
     unless (entry_fault conf (renamed_attrs conf.types e new delete_old)) (Ok (record { rdn = new; attrs = renamed_attrs conf.types e new delete_old }))
 

@@ -5,7 +5,7 @@ use Rattle.std.specs.List.{AllByRecursion}
 use Rattle.values.specs.declared.types.AttributeType.{AttributeType}
 use Rattle.values.specs.Values.{Value, value_code}
 use Rattle.schema.specs.Values.{norm_at}
-use Rattle.schema.specs.Rdns.{Rdn}
+use Rattle.schema.specs.Rdns.{TypedRdn}
 use Rattle.entries.specs.Entries.{Attributes, EntryContent}
 
 -- a type's number, and its values
@@ -20,7 +20,7 @@ abbrev pub attributes_code : Coded StoredAttributes
 attributes_code = code_by (List EntryAttribute) (coded_list (coded× coded_ℕ (coded_list value_code))) (λ a. a.entries) (λ es. record { entries = es }) (λ _. refl)
 
 pub record Entry : Type 0 where
-  pub rdn : Rdn
+  pub rdn : TypedRdn
   pub attrs : List EntryAttribute
 
 abbrev pub raws : List Value → List (List ℕ)
@@ -45,11 +45,11 @@ pub record IsMadeAttribute (types : List AttributeType) (a : EntryAttribute) : T
 pub record IsMade (types : List AttributeType) (attrs : List EntryAttribute) : Type 0 where
   pub each : AllByRecursion (IsMadeAttribute types) attrs
 
-abbrev rdn_code : Coded Rdn
+abbrev rdn_code : Coded TypedRdn
 rdn_code = coded_list (coded× coded_ℕ (coded_list coded_ℕ))
 
 abbrev pub entry_code : Coded Entry
-entry_code = code_by (Rdn × List EntryAttribute) (coded× rdn_code (coded_list (coded× coded_ℕ (coded_list value_code)))) (λ e. (e.rdn, e.attrs)) (λ p. record { rdn = p.0; attrs = p.1 }) (λ _. refl)
+entry_code = code_by (TypedRdn × List EntryAttribute) (coded× rdn_code (coded_list (coded× coded_ℕ (coded_list value_code)))) (λ e. (e.rdn, e.attrs)) (λ p. record { rdn = p.0; attrs = p.1 }) (λ _. refl)
 
 abbrev pub content_code : Coded EntryContent
-content_code = code_by (Rdn × Attributes) (coded× rdn_code (coded_list (coded× coded_ℕ (coded_list (coded_list coded_ℕ))))) (λ f. (f.rdn, f.attrs)) (λ p. record { rdn = p.0; attrs = p.1 }) (λ _. refl)
+content_code = code_by (TypedRdn × Attributes) (coded× rdn_code (coded_list (coded× coded_ℕ (coded_list (coded_list coded_ℕ))))) (λ f. (f.rdn, f.attrs)) (λ p. record { rdn = p.0; attrs = p.1 }) (λ _. refl)

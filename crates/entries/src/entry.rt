@@ -3,7 +3,7 @@
 ghost use Rattle.std.specs.Prelude.{◌≡◌, IfOk};
 
 use crate::kept_attributes::{Attributes, AttributesIter};
-use schema::Rdn;
+use schema::TypedRdn;
 use std::alloc::{AllocError, Global};
 use std::marker::Model;
 
@@ -11,7 +11,7 @@ use std::marker::Model;
 /// the RDN's AVAs, and the list of the types with their values.
 #[derive(Drop)]
 pub struct Entry {
-    rdn: Rdn,
+    rdn: TypedRdn,
     attrs: Attributes,
 }
 
@@ -27,14 +27,14 @@ impl Model for Entry {
 
 impl Entry {
     /// The entry with this RDN and these attributes.
-    pub fn new(rdn: Rdn, attrs: Attributes) -> Entry
+    pub fn new(rdn: TypedRdn, attrs: Attributes) -> Entry
         ensures { result ≡ record { rdn = rdn; attrs = attrs.entries } }
     {
         Entry { rdn, attrs }
     }
 
     /// Its RDN as written. That of the suffix's entry is as the configuration has it.
-    pub fn rdn(&self) -> &Rdn
+    pub fn rdn(&self) -> &TypedRdn
         ensures { result.now ≡ self.now.rdn }
     {
         &self.rdn

@@ -3,7 +3,7 @@
 ghost use Rattle.std.specs.Prelude.{◌≡◌, ◌↔◌, Bool, true, List};
 ghost use Rattle.ldif.specs.declared.record.Mod.{Mod};
 ghost use Rattle.schema.specs.Conf.{Conf, IsConf};
-ghost use Rattle.schema.specs.Rdns.{Rdn};
+ghost use Rattle.schema.specs.Rdns.{TypedRdn};
 ghost use Rattle.schema.specs.GoodRdns.{IsRdn};
 ghost use Rattle.entries.specs.Entries.{Attributes, EntryContent, IsGood};
 ghost use Rattle.entries.specs.EntryClasses.{fits_classes, FitsClasses};
@@ -23,5 +23,5 @@ pub fn modifying_keeps_an_entry()
 
 /// Another RDN leaves an entry that a directory can have.
 pub fn renaming_keeps_an_entry()
-    ensures { (conf : Conf) (e out : EntryContent) (new : Rdn) (delete_old : Bool) → IsGood conf e → IsRdn conf.types new → rename_entry conf e new delete_old ≡ changed_to out → IsGood conf out × (out.rdn ≡ new) }
+    ensures { (conf : Conf) (e out : EntryContent) (new : TypedRdn) (delete_old : Bool) → IsGood conf e → IsRdn conf.types new → rename_entry conf e new delete_old ≡ changed_to out → IsGood conf out × (out.rdn ≡ new) }
 {}

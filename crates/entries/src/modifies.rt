@@ -14,7 +14,7 @@ use crate::kept_attributes::Attributes;
 use crate::rdn_values::has_rdn;
 use crate::refusal::Refusal;
 use ldif::Mod;
-use schema::{Code, Conf, Rdn};
+use schema::{Code, Conf, TypedRdn};
 use std::alloc::{AllocError, Global};
 
 fn modify_block(
@@ -55,7 +55,7 @@ fn modify(
 fn modified_fault(
     alloc: Global,
     conf: &Conf,
-    rdn: &Rdn,
+    rdn: &TypedRdn,
     attrs: &Attributes,
 ) -> Result<Option<Code>, AllocError>
     requires made { IsMade conf.now.types attrs.now.entries }

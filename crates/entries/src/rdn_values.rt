@@ -11,7 +11,7 @@ ghost use Rattle.values.specs.Norms.{has_norm};
 
 use crate::kept_attributes::Attributes;
 use base::Bytes;
-use schema::{Conf, Rdn, TypeId, Value, ValueFault};
+use schema::{Conf, TypeId, TypedRdn, Value, ValueFault};
 use std::alloc::{AllocError, Global};
 
 /// A value that is valid.
@@ -56,7 +56,7 @@ pub fn add_rdn(
     alloc: Global,
     conf: &Conf,
     attrs: &mut Attributes,
-    rdn: &Rdn,
+    rdn: &TypedRdn,
 ) -> Result<(), AllocError>
     requires made { IsMade conf.now.types attrs.old.entries }
     requires avas { AllByRecursion (IsAva conf.now.types) rdn.now }
@@ -101,7 +101,7 @@ pub(crate) fn has_rdn(
     alloc: Global,
     conf: &Conf,
     attrs: &Attributes,
-    rdn: &Rdn,
+    rdn: &TypedRdn,
 ) -> Result<bool, AllocError>
     requires made { IsMade conf.now.types attrs.now.entries }
     requires avas { AllByRecursion (IsAva conf.now.types) rdn.now }

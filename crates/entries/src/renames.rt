@@ -15,7 +15,7 @@ use crate::kept_attributes::Attributes;
 use crate::rdn_values::{add_rdn, valid_value};
 use crate::refusal::Refusal;
 use base::Bytes;
-use schema::{Conf, Rdn, TypeId};
+use schema::{Conf, TypeId, TypedRdn};
 use std::alloc::{AllocError, Global};
 
 // whether an AVA has this type and a value with this normal form
@@ -41,7 +41,7 @@ fn is_same_ava(
 fn has_ava(
     alloc: Global,
     conf: &Conf,
-    rdn: &Rdn,
+    rdn: &TypedRdn,
     t: TypeId,
     norm: &[u8],
 ) -> Result<bool, AllocError>
@@ -61,7 +61,7 @@ fn remove_ava(
     alloc: Global,
     conf: &Conf,
     attrs: &mut Attributes,
-    new: &Rdn,
+    new: &TypedRdn,
     ava: &(TypeId, Bytes),
 ) -> Result<(), AllocError>
     requires made { IsMade conf.now.types attrs.old.entries }
@@ -87,8 +87,8 @@ fn remove_rdn(
     alloc: Global,
     conf: &Conf,
     attrs: &mut Attributes,
-    new: &Rdn,
-    old: &Rdn,
+    new: &TypedRdn,
+    old: &TypedRdn,
 ) -> Result<(), AllocError>
     requires made { IsMade conf.now.types attrs.old.entries }
     requires new { AllByRecursion (IsAva conf.now.types) new.now }
@@ -108,7 +108,7 @@ pub fn renamed(
     alloc: Global,
     conf: &Conf,
     entry: &Entry,
-    new: Rdn,
+    new: TypedRdn,
     delete_old: bool,
 ) -> Result<Entry, Refusal>
     requires made { IsMade conf.now.types entry.now.attrs }

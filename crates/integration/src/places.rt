@@ -1,12 +1,12 @@
 //! Where names stand, by calls that no command makes.
 
 use crate::directories::conf;
-use schema::{Conf, Name, Rdn, read_dn};
+use schema::{Conf, Name, TypedRdn, read_dn};
 use std::alloc::Global;
 use std::test::Fail;
 
 // whether an RDN has these two types, and this value of the first
-fn has_types(rdn: &Rdn) -> bool {
+fn has_types(rdn: &TypedRdn) -> bool {
     match rdn.avas() {
         [(first, value), (second, _)] => {
             first.number() == 2 && value.as_slice() == b"Ab".as_slice() && second.number() == 1

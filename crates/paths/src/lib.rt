@@ -11,5 +11,5 @@ mod type_id;
 
 pub use draft::PathDraft;
 pub use laws::order_of_paths;
-pub use path::{Path, Rdn, RdnKey};
+pub use path::{Path, RdnKey, TypedRdn};
 pub use type_id::TypeId;

@@ -12,7 +12,7 @@ use Rattle.schema.specs.declared.code.Code.{Code}
 use Rattle.schema.specs.declared.code.Code.TheVariants.{InvalidDnSyntax, NamingViolation}
 use Rattle.schema.specs.TypeRules.{has_name_syntax}
 use Rattle.schema.specs.Values.{is_valid_at}
-use Rattle.schema.specs.Rdns.{Rdn, is_valid_ava, has_type, ava_type, type_among, avas_from, typed_rdn, rdns_from, typed}
+use Rattle.schema.specs.Rdns.{TypedRdn, is_valid_ava, has_type, ava_type, type_among, avas_from, typed_rdn, rdns_from, typed}
 use Rattle.schema.specs.Subtypes.{passes}
 use Rattle.schema.specs.FirstFlaws.{Not, IsFirstFlaw}
 use Rattle.schema.specs.FaultyNames.{AvaFlaw, UnknownType, NameSyntax, NoEquality, BadValue, TypeTwice, is_of_type, HasAvaFlaw, ava_order, flaw_code, AreFlawless, IsAvaFault}
@@ -93,10 +93,10 @@ module _ (types : List AttributeType) where
   -- ---- an AVA
 
   -- typed AVAs, and the AVAs as they stand in the name
-  abbrev AreTyped : Rdn → names.Rdn → Type 0
+  abbrev AreTyped : TypedRdn → names.Rdn → Type 0
   AreTyped done earlier = (t : ℕ) → has_type t done ≡ list_any (is_of_type types t) earlier
 
-  ava_told : (done : Rdn) (earlier : names.Rdn) (p : names.Ava) → AreTyped done earlier → ava_type types done p ≡ coded (found earlier p) (type_of types p.0)
+  ava_told : (done : TypedRdn) (earlier : names.Rdn) (p : names.Ava) → AreTyped done earlier → ava_type types done p ≡ coded (found earlier p) (type_of types p.0)
   ava_told done earlier p same = by (type_of types p.0)
     where
       with_type : (t : ℕ) (n : Bool) → has_name_syntax types t ≡ n
@@ -113,7 +113,7 @@ module _ (types : List AttributeType) where
       by (Some t) = with_type t (has_name_syntax types t) refl
 
   -- an AVA without a flaw has a type
-  fine : (done : Rdn) (earlier : names.Rdn) (p : names.Ava) → AreTyped done earlier → found earlier p ≡ None → (t : ℕ) × (type_of types p.0 ≡ Some t) × (ava_type types done p ≡ Ok t)
+  fine : (done : TypedRdn) (earlier : names.Rdn) (p : names.Ava) → AreTyped done earlier → found earlier p ≡ None → (t : ℕ) × (type_of types p.0 ≡ Some t) × (ava_type types done p ≡ Ok t)
   fine done earlier p same none = by (type_of types p.0) refl (ava_told done earlier p same ∙ ap (λ (f : Option AvaFlaw). coded f (type_of types p.0)) none)
     where
       by : (o : Option ℕ) → type_of types p.0 ≡ o → ava_type types done p ≡ coded None o → (t : ℕ) × (type_of types p.0 ≡ Some t) × (ava_type types done p ≡ Ok t)
@@ -121,7 +121,7 @@ module _ (types : List AttributeType) where
       by (Some t) is said = (t, is, said)
 
   -- one with a flaw is refused
-  refused : (done : Rdn) (earlier : names.Rdn) (p : names.Ava) (flaw : AvaFlaw) → AreTyped done earlier → found earlier p ≡ Some flaw → ava_type types done p ≡ Err (flaw_code flaw)
+  refused : (done : TypedRdn) (earlier : names.Rdn) (p : names.Ava) (flaw : AvaFlaw) → AreTyped done earlier → found earlier p ≡ Some flaw → ava_type types done p ≡ Err (flaw_code flaw)
   refused done earlier p flaw same is = ava_told done earlier p same ∙ ap (λ (f : Option AvaFlaw). coded f (type_of types p.0)) is
 
   no_flaw : (earlier : names.Rdn) (p : names.Ava) → found earlier p ≡ None → (flaw : AvaFlaw) → Not (HasAvaFlaw types earlier p flaw)
@@ -134,7 +134,7 @@ module _ (types : List AttributeType) where
       by BadValue h = h.1.1.1.0
       by TypeTwice h = h.1.1.1.1.0
 
-  typed_more : (done : Rdn) (earlier : names.Rdn) (p : names.Ava) (t : ℕ) → AreTyped done earlier → type_of types p.0 ≡ Some t → AreTyped (done ++ (t, p.1) ∷ []) (earlier ++ p ∷ [])
+  typed_more : (done : TypedRdn) (earlier : names.Rdn) (p : names.Ava) (t : ℕ) → AreTyped done earlier → type_of types p.0 ≡ Some t → AreTyped (done ++ (t, p.1) ∷ []) (earlier ++ p ∷ [])
   typed_more done earlier p t same is u =
       list_any-append (λ q. nat_eq q.0 u) done ((t, p.1) ∷ [])
       ∙ ap (λ (b : Bool). b || (nat_eq t u || false)) (same u)
@@ -178,22 +178,22 @@ module _ (types : List AttributeType) where
     code_is = k.code_is;
   }
 
-  abbrev rest_of : Rdn → names.Ava → names.Rdn → Result ℕ Code → Result Rdn Code
+  abbrev rest_of : TypedRdn → names.Ava → names.Rdn → Result ℕ Code → Result TypedRdn Code
   rest_of done p ps r = r >>= λ t. avas_from types (done ++ (t, p.1) ∷ []) ps
 
-  rdn_faulty : (done : Rdn) (earlier ps : names.Rdn) (code : Code) → AreTyped done earlier → avas_from types done ps ≡ Err code → IsFaulty earlier ps code
+  rdn_faulty : (done : TypedRdn) (earlier ps : names.Rdn) (code : Code) → AreTyped done earlier → avas_from types done ps ≡ Err code → IsFaulty earlier ps code
   unfolding avas_from
   rdn_faulty done earlier [] code same e = absurd cc
   rdn_faulty done earlier (p ∷ ps) code same e = by (found earlier p) refl (λ t. rdn_faulty (done ++ (t, p.1) ∷ []) (earlier ++ p ∷ []) ps code)
     where
       by : (f : Option AvaFlaw) → found earlier p ≡ f → ((t : ℕ) → AreTyped (done ++ (t, p.1) ∷ []) (earlier ++ p ∷ []) → avas_from types (done ++ (t, p.1) ∷ []) ps ≡ Err code → IsFaulty (earlier ++ p ∷ []) ps code) → IsFaulty earlier (p ∷ ps) code
       by (Some flaw) is rest =
-          subst (IsFaulty earlier (p ∷ ps)) (same_err {A = Rdn} (flaw_code flaw) code (sym (ap (rest_of done p ps) (refused done earlier p flaw same is)) ∙ e)) (faulty_here earlier p ps flaw is)
+          subst (IsFaulty earlier (p ∷ ps)) (same_err {A = TypedRdn} (flaw_code flaw) code (sym (ap (rest_of done p ps) (refused done earlier p flaw same is)) ∙ e)) (faulty_here earlier p ps flaw is)
       by None is rest =
           let t = fine done earlier p same is in
           faulty_behind earlier p ps code is (rest t.0 (typed_more done earlier p t.0 same t.1) (sym (ap (rest_of done p ps) t.2) ∙ e))
 
-  rdn_flawless : (done : Rdn) (earlier ps : names.Rdn) (r : Rdn) → AreTyped done earlier → avas_from types done ps ≡ Ok r → AreFlawless types earlier ps
+  rdn_flawless : (done : TypedRdn) (earlier ps : names.Rdn) (r : TypedRdn) → AreTyped done earlier → avas_from types done ps ≡ Ok r → AreFlawless types earlier ps
   unfolding avas_from
   rdn_flawless done earlier [] r same e = tt
   rdn_flawless done earlier (p ∷ ps) r same e = by (found earlier p) refl (λ t. rdn_flawless (done ++ (t, p.1) ∷ []) (earlier ++ p ∷ []) ps r)
@@ -207,7 +207,7 @@ module _ (types : List AttributeType) where
   none_found : (earlier : names.Rdn) (p : names.Ava) → ((flaw : AvaFlaw) → Not (HasAvaFlaw types earlier p flaw)) → found earlier p ≡ None
   none_found earlier p none = none_is (test earlier p) (HasAvaFlaw types earlier p) (tells earlier p) ava_order none
 
-  rdn_typed : (done : Rdn) (earlier ps : names.Rdn) → AreTyped done earlier → AreFlawless types earlier ps → (r : Rdn) × (avas_from types done ps ≡ Ok r)
+  rdn_typed : (done : TypedRdn) (earlier ps : names.Rdn) → AreTyped done earlier → AreFlawless types earlier ps → (r : TypedRdn) × (avas_from types done ps ≡ Ok r)
   unfolding avas_from
   rdn_typed done earlier [] same h = (done, refl)
   rdn_typed done earlier (p ∷ ps) same h =
@@ -215,7 +215,7 @@ module _ (types : List AttributeType) where
       let k = rdn_typed (done ++ (t.0, p.1) ∷ []) (earlier ++ p ∷ []) ps (typed_more done earlier p t.0 same t.1) h.1 in
       (k.0, ap (rest_of done p ps) t.2 ∙ k.1)
 
-  rdn_fails : (front : names.Rdn) (done : Rdn) (earlier : names.Rdn) (ava : names.Ava) (later : names.Rdn) (flaw : AvaFlaw) → AreTyped done earlier → AreFlawless types earlier front
+  rdn_fails : (front : names.Rdn) (done : TypedRdn) (earlier : names.Rdn) (ava : names.Ava) (later : names.Rdn) (flaw : AvaFlaw) → AreTyped done earlier → AreFlawless types earlier front
       → IsFirstFlaw AvaFlaw (HasAvaFlaw types (earlier ++ front) ava) ava_order flaw → avas_from types done (front ++ ava ∷ later) ≡ Err (flaw_code flaw)
   unfolding avas_from
   rdn_fails [] done earlier ava later flaw same h first =
@@ -231,7 +231,7 @@ module _ (types : List AttributeType) where
   none_typed : AreTyped [] []
   none_typed t = refl
 
-  abbrev others_of : List Rdn → names.Name → Result Rdn Code → Result (List Rdn) Code
+  abbrev others_of : List TypedRdn → names.Name → Result TypedRdn Code → Result (List TypedRdn) Code
   others_of done rs r = r >>= λ t. rdns_from types (done ++ t ∷ []) rs
 
   fault_here : (r : names.Rdn) (rs : names.Name) (code : Code) → IsFaulty [] r code → IsAvaFault types (r ∷ rs) code
@@ -264,19 +264,19 @@ module _ (types : List AttributeType) where
     code_is = k.code_is;
   }
 
-  abbrev failed_rdn : Code → Result Rdn Code
+  abbrev failed_rdn : Code → Result TypedRdn Code
   failed_rdn code = Err code
 
-  from_faulty : (done : List Rdn) (n : names.Name) (code : Code) → rdns_from types done n ≡ Err code → IsAvaFault types n code
+  from_faulty : (done : List TypedRdn) (n : names.Name) (code : Code) → rdns_from types done n ≡ Err code → IsAvaFault types n code
   unfolding rdns_from
   from_faulty done [] code e = absurd cc
   from_faulty done (r ∷ rs) code e = by (typed_rdn types r) refl (λ t. from_faulty (done ++ t ∷ []) rs code)
     where
-      by : (x : Result Rdn Code) → typed_rdn types r ≡ x → ((t : Rdn) → rdns_from types (done ++ t ∷ []) rs ≡ Err code → IsAvaFault types rs code) → IsAvaFault types (r ∷ rs) code
-      by (Err c) is rest = fault_here r rs code (rdn_faulty [] [] r code none_typed (is ∙ ap failed_rdn (same_err {A = List Rdn} c code (sym (ap (others_of done rs) is) ∙ e))))
+      by : (x : Result TypedRdn Code) → typed_rdn types r ≡ x → ((t : TypedRdn) → rdns_from types (done ++ t ∷ []) rs ≡ Err code → IsAvaFault types rs code) → IsAvaFault types (r ∷ rs) code
+      by (Err c) is rest = fault_here r rs code (rdn_faulty [] [] r code none_typed (is ∙ ap failed_rdn (same_err {A = List TypedRdn} c code (sym (ap (others_of done rs) is) ∙ e))))
       by (Ok t) is rest = fault_behind r rs code (rdn_flawless [] [] r t none_typed is) (rest t (sym (ap (others_of done rs) is) ∙ e))
 
-  from_fails : (before : names.Name) (done : List Rdn) (earlier : names.Rdn) (ava : names.Ava) (later : names.Rdn) (after : names.Name) (flaw : AvaFlaw) → AllByRecursion (AreFlawless types []) before → AreFlawless types [] earlier
+  from_fails : (before : names.Name) (done : List TypedRdn) (earlier : names.Rdn) (ava : names.Ava) (later : names.Rdn) (after : names.Name) (flaw : AvaFlaw) → AllByRecursion (AreFlawless types []) before → AreFlawless types [] earlier
       → IsFirstFlaw AvaFlaw (HasAvaFlaw types earlier ava) ava_order flaw → rdns_from types done (before ++ (earlier ++ ava ∷ later) ∷ after) ≡ Err (flaw_code flaw)
   unfolding rdns_from
   from_fails [] done earlier ava later after flaw h fine first = ap (others_of done after) (rdn_fails earlier [] [] ava later flaw none_typed fine first)
@@ -284,7 +284,7 @@ module _ (types : List AttributeType) where
       let t = rdn_typed [] [] r none_typed h.0 in
       ap (others_of done (rs ++ (earlier ++ ava ∷ later) ∷ after)) t.1 ∙ from_fails rs (done ++ t.0 ∷ []) earlier ava later after flaw h.1 fine first
 
-  abbrev failed_name : Code → Result (List Rdn) Code
+  abbrev failed_name : Code → Result (List TypedRdn) Code
   failed_name code = Err code
 
   pub faulty : (n : names.Name) (code : Code) → typed types n ≡ Err code → IsAvaFault types n code
@@ -295,4 +295,4 @@ module _ (types : List AttributeType) where
       ap (typed types) k.name_is ∙ from_fails k.before [] k.earlier k.ava k.later k.after k.flaw k.before_are k.earlier_are k.first ∙ ap failed_name (sym k.code_is)
 
   pub one_fault : (n : names.Name) (c d : Code) → IsAvaFault types n c → IsAvaFault types n d → c ≡ d
-  one_fault n c d k l = same_err {A = List Rdn} c d (sym (fails n c k) ∙ fails n d l)
+  one_fault n c d k l = same_err {A = List TypedRdn} c d (sym (fails n c k) ∙ fails n d l)

@@ -8,25 +8,25 @@ use Rattle.values.specs.declared.types.AttributeType.{AttributeType}
 use Rattle.schema.specs.declared.code.Code.{Code}
 use Rattle.schema.specs.declared.code.Code.TheVariants.{NoSuchObject}
 use Rattle.paths.specs.Paths.{Path, rdn_key_cmp, begins}
-use Rattle.schema.specs.Rdns.{Rdn, rdn_key_of}
+use Rattle.schema.specs.Rdns.{TypedRdn, rdn_key_of}
 use Rattle.schema.specs.Conf.{below}
 
-abbrev answer : Bool → List Rdn → Result (List Rdn) Code
+abbrev answer : Bool → List TypedRdn → Result (List TypedRdn) Code
 answer b rs = if b then Ok rs else Err NoSuchObject
 
-chosen : (a b : Bool) (rs : List Rdn) → cond a (answer b rs) (Err NoSuchObject) ≡ answer (a && b) rs
+chosen : (a b : Bool) (rs : List TypedRdn) → cond a (answer b rs) (Err NoSuchObject) ≡ answer (a && b) rs
 chosen true b rs = refl
 chosen false b rs = refl
 
-pub below_begins : (types : List AttributeType) (ss rs : List Rdn) → below types ss rs ≡ (if begins (map (rdn_key_of types) ss) (map (rdn_key_of types) rs) then Ok (drop (length ss) rs) else Err NoSuchObject)
+pub below_begins : (types : List AttributeType) (ss rs : List TypedRdn) → below types ss rs ≡ (if begins (map (rdn_key_of types) ss) (map (rdn_key_of types) rs) then Ok (drop (length ss) rs) else Err NoSuchObject)
 unfolding below
 below_begins types [] rs = refl
 below_begins types (s ∷ ss) [] = refl
 below_begins types (s ∷ ss) (r ∷ rs) =
-    ap (λ (x : Result (List Rdn) Code). cond (is_eq (rdn_key_cmp (rdn_key_of types s) (rdn_key_of types r))) x (Err NoSuchObject)) (below_begins types ss rs)
+    ap (λ (x : Result (List TypedRdn) Code). cond (is_eq (rdn_key_cmp (rdn_key_of types s) (rdn_key_of types r))) x (Err NoSuchObject)) (below_begins types ss rs)
     ∙ chosen (is_eq (rdn_key_cmp (rdn_key_of types s) (rdn_key_of types r))) (begins (map (rdn_key_of types) ss) (map (rdn_key_of types) rs)) (drop (length ss) rs)
 
-module _ (types : List AttributeType) (ss rs : List Rdn) (keys : Path) (b : Bool) (seen : keys ≡ map (rdn_key_of types) rs) (test : b ≡ begins (map (rdn_key_of types) ss) keys) where
+module _ (types : List AttributeType) (ss rs : List TypedRdn) (keys : Path) (b : Bool) (seen : keys ≡ map (rdn_key_of types) rs) (test : b ≡ begins (map (rdn_key_of types) ss) keys) where
   by_test : below types ss rs ≡ answer b (drop (length ss) rs)
   by_test = below_begins types ss rs ∙ ap (λ (x : Path). answer (begins (map (rdn_key_of types) ss) x) (drop (length ss) rs)) (sym seen) ∙ ap (λ x. answer x (drop (length ss) rs)) (sym test)
 

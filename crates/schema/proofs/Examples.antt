@@ -21,7 +21,7 @@ use Rattle.values.specs.Types.{type_of}
 use Rattle.schema.specs.TypeRules.{object_class}
 use Rattle.paths.specs.Paths.{RdnKey, path_cmp}
 use Rattle.schema.specs.Names.{name_in}
-use Rattle.schema.specs.Rdns.{Rdn, avas_from, rdns_from, put_pair, key_from, rdn_key_of}
+use Rattle.schema.specs.Rdns.{TypedRdn, avas_from, rdns_from, put_pair, key_from, rdn_key_of}
 use Rattle.schema.specs.Conf.{Conf, below, place_of, located, located_at, path_of}
 
 abbrev pub step : ℕ → List ℕ → RdnKey
@@ -60,7 +60,7 @@ unfoldable reads : ⊤
 unfolding located place_of name_in avas_from rdns_from below name_of cut_raw each rdn_of ava_of ava_at value_of octets_from trimmed type_of rdn_key_of key_from put_pair norm is_valid is_utf8 chars encode
 reads = tt
 
-abbrev refused : Code → Result (List Rdn) Code
+abbrev refused : Code → Result (List TypedRdn) Code
 refused code = Err code
 
 a_name_stands : located conf (codes "2.5.4.0=Person,OBJECTCLASS=Top") ≡ located_at (step 0 (codes "Person") ∷ [])

@@ -16,7 +16,7 @@ use Rattle.dn.specs.Spelling.{Spells, SpellsRdn, AreJoined}
 use Rattle.dn.specs.declared.faults.NameFaultKind.{NameFaultKind}
 use Rattle.values.specs.Types.{is_named, type_of, no_type, is_known, has_equality}
 use Rattle.schema.proofs.AvaValues.{plain_is}
-use Rattle.schema.specs.Rdns.{Ava, Rdn, is_valid_ava, has_type, ava_type, type_among, avas_from, typed_rdn, rdns_from, typed, rdn_key_of}
+use Rattle.schema.specs.Rdns.{Ava, TypedRdn, is_valid_ava, has_type, ava_type, type_among, avas_from, typed_rdn, rdns_from, typed, rdn_key_of}
 use Rattle.schema.specs.declared.fault.PathFault.{PathFault}
 use Rattle.schema.specs.Gives.{Gives}
 use Rattle.schema.specs.GoodRdns.{IsAva, IsRdn, type_in}
@@ -80,7 +80,7 @@ pub found_is_known : (types : List AttributeType) (text : List ℕ) (t : ℕ) �
 unfolding type_of
 found_is_known types text t e = lt-ltb t (length types) (position-Some (is_named text) types t no_type e).0
 
-record IsNext (types : List AttributeType) (earlier : Rdn) (p : Ava) : Type 0 where
+record IsNext (types : List AttributeType) (earlier : TypedRdn) (p : Ava) : Type 0 where
   good : IsAva types p
   apart : has_type p.0 earlier ≡ false
 
@@ -88,7 +88,7 @@ is_not : (b : Bool) → not b ≡ false → b ≡ true
 is_not true h = refl
 is_not false h = sym h
 
-ava_is : (types : List AttributeType) (earlier : Rdn) (p : names.Ava) (t : ℕ) → ava_type types earlier p ≡ Ok t → IsNext types earlier (t, p.1)
+ava_is : (types : List AttributeType) (earlier : TypedRdn) (p : names.Ava) (t : ℕ) → ava_type types earlier p ≡ Ok t → IsNext types earlier (t, p.1)
 ava_is types earlier p t e = by (type_of types p.0) refl e
   where
     checked : (s : ℕ) → type_of types p.0 ≡ Some s → (n q v d : Bool) → has_name_syntax types s ≡ n → not (has_equality types s) ≡ q → not (is_valid_ava types s p.1) ≡ v → has_type s earlier ≡ d
@@ -108,24 +108,24 @@ ava_is types earlier p t e = by (type_of types p.0) refl e
     by (Some s) is said = checked s is (has_name_syntax types s) (not (has_equality types s)) (not (is_valid_ava types s p.1)) (has_type s earlier) refl refl refl refl said
 
 -- one more type, which none before it is
-distinct_more : (r : Rdn) (p : Ava) → IsDistinct nat_eq (map type_in r) → has_type p.0 r ≡ false → IsDistinct nat_eq (map type_in (r ++ p ∷ []))
+distinct_more : (r : TypedRdn) (p : Ava) → IsDistinct nat_eq (map type_in r) → has_type p.0 r ≡ false → IsDistinct nat_eq (map type_in (r ++ p ∷ []))
 unfolding IsDistinct
 distinct_more [] p h none = (tt, tt)
 distinct_more (q ∷ qs) p h none =
     let k = or_parts (nat_eq q.0 p.0) (has_type p.0 qs) none in
     (before qs h.0 k.0, distinct_more qs p h.1 k.1)
   where
-    before : (rs : Rdn) → AllByRecursion (λ t. nat_eq q.0 t ≡ false) (map type_in rs) → nat_eq q.0 p.0 ≡ false → AllByRecursion (λ t. nat_eq q.0 t ≡ false) (map type_in (rs ++ p ∷ []))
+    before : (rs : TypedRdn) → AllByRecursion (λ t. nat_eq q.0 t ≡ false) (map type_in rs) → nat_eq q.0 p.0 ≡ false → AllByRecursion (λ t. nat_eq q.0 t ≡ false) (map type_in (rs ++ p ∷ []))
     before [] k off = (off, tt)
     before (r ∷ rs) k off = (k.0, before rs k.1 off)
 
-record AreAvas (types : List AttributeType) (r : Rdn) : Type 0 where
+record AreAvas (types : List AttributeType) (r : TypedRdn) : Type 0 where
   avas : AllByRecursion (IsAva types) r
   apart : IsDistinct nat_eq (map type_in r)
 
-avas_are : (types : List AttributeType) (earlier : Rdn) (ps : names.Rdn) (r : Rdn) → AreAvas types earlier → avas_from types earlier ps ≡ Ok r → AreAvas types r × (length r ≡ length earlier + length ps)
+avas_are : (types : List AttributeType) (earlier : TypedRdn) (ps : names.Rdn) (r : TypedRdn) → AreAvas types earlier → avas_from types earlier ps ≡ Ok r → AreAvas types r × (length r ≡ length earlier + length ps)
 unfolding avas_from
-avas_are types earlier [] r h e = subst (λ (x : Rdn). AreAvas types x × (length x ≡ length earlier + 0)) (same_ok earlier r e) (h, omega arith)
+avas_are types earlier [] r h e = subst (λ (x : TypedRdn). AreAvas types x × (length x ≡ length earlier + 0)) (same_ok earlier r e) (h, omega arith)
 avas_are types earlier (p ∷ ps) r h e =
     let k = bind_ok (ava_type types earlier p) (λ t. avas_from types (earlier ++ (t, p.1) ∷ []) ps) r e in
     let next = ava_is types earlier p k.0 k.1 in
@@ -136,7 +136,7 @@ avas_are types earlier (p ∷ ps) r h e =
     let long = length-append earlier ((k.0, p.1) ∷ []) in
     (more.0, omega (arith, more.1, long))
 
-rdn_is : (types : List AttributeType) (n : names.Rdn) (r : Rdn) → HasAvas n → typed_rdn types n ≡ Ok r → IsRdn types r
+rdn_is : (types : List AttributeType) (n : names.Rdn) (r : TypedRdn) → HasAvas n → typed_rdn types n ≡ Ok r → IsRdn types r
 unfolding IsDistinct
 rdn_is types n r some e =
     let k = avas_are types [] n r (record { avas = tt; apart = tt }) e in
@@ -144,21 +144,21 @@ rdn_is types n r some e =
     record { avas = k.0.avas; types_apart = k.0.apart; some = ap (λ x. x == 0) long ∙ some }
 
 -- the same of what is answered for one
-pub answered_is : (types : List AttributeType) (n : names.Rdn) (result : Result Rdn PathFault) → names.is_rdn n ≡ true → Gives (λ r. r) result (typed_rdn types n) → IfOk result (IsRdn types)
+pub answered_is : (types : List AttributeType) (n : names.Rdn) (result : Result TypedRdn PathFault) → names.is_rdn n ≡ true → Gives (λ r. r) result (typed_rdn types n) → IfOk result (IsRdn types)
 answered_is types n (Ok r) good gives = rdn_is types n r (not_true (length n == 0) (and_parts (not (length n == 0)) (list_all names.is_ava n) good).0) gives
 answered_is types n (Err fault) good gives = tt
 
-rdns_are_from : (types : List AttributeType) (done : List Rdn) (n : names.Name) (rs : List Rdn) → AllByRecursion (IsRdn types) done → AllByRecursion HasAvas n → rdns_from types done n ≡ Ok rs → AllByRecursion (IsRdn types) rs
+rdns_are_from : (types : List AttributeType) (done : List TypedRdn) (n : names.Name) (rs : List TypedRdn) → AllByRecursion (IsRdn types) done → AllByRecursion HasAvas n → rdns_from types done n ≡ Ok rs → AllByRecursion (IsRdn types) rs
 unfolding rdns_from
 rdns_are_from types done [] rs h some e = subst (AllByRecursion (IsRdn types)) (same_ok done rs e) h
 rdns_are_from types done (r ∷ more) rs h some e =
     let k = bind_ok (typed_rdn types r) (λ t. rdns_from types (done ++ t ∷ []) more) rs e in
     rdns_are_from types (done ++ k.0 ∷ []) more rs (all_append (IsRdn types) done (k.0 ∷ []) h (rdn_is types r k.0 some.0 k.1, tt)) some.1 k.2
 
-pub rdns_are : (types : List AttributeType) (n : names.Name) (rs : List Rdn) → AllByRecursion HasAvas n → typed types n ≡ Ok rs → AllByRecursion (IsRdn types) rs
+pub rdns_are : (types : List AttributeType) (n : names.Name) (rs : List TypedRdn) → AllByRecursion HasAvas n → typed types n ≡ Ok rs → AllByRecursion (IsRdn types) rs
 rdns_are types n rs = rdns_are_from types [] n rs tt
 
-pub below_are : (types : List AttributeType) (P : Rdn → Type 0) (ss rs out : List Rdn) → AllByRecursion P rs → below types ss rs ≡ Ok out → AllByRecursion P out
+pub below_are : (types : List AttributeType) (P : TypedRdn → Type 0) (ss rs out : List TypedRdn) → AllByRecursion P rs → below types ss rs ≡ Ok out → AllByRecursion P out
 unfolding below
 below_are types P [] rs out h e = subst (AllByRecursion P) (same_ok rs out e) h
 below_are types P (s ∷ ss) [] out h e = absurd cc
@@ -168,7 +168,7 @@ below_are types P (s ∷ ss) (r ∷ rs) out h e =
       | false ↦ λ is. absurd cc
     ] e
 
-pub located_are : SpellsRead → (conf : Conf) (text : List ℕ) (rs : List Rdn) → located conf text ≡ Ok rs → AllByRecursion (IsRdn conf.types) rs
+pub located_are : SpellsRead → (conf : Conf) (text : List ℕ) (rs : List TypedRdn) → located conf text ≡ Ok rs → AllByRecursion (IsRdn conf.types) rs
 unfolding located place_of
 located_are read conf text rs e =
     let k = bind_ok (name_in text) (place_of conf) rs e in
@@ -177,10 +177,10 @@ located_are read conf text rs e =
     (all_reverse (IsRdn conf.types) l.0 (rdns_are conf.types k.0 l.0 (name_has_avas read text k.0 k.1) l.1)) l.2
 
 -- the types of a good RDN are known
-pub types_known : (types : List AttributeType) (r : Rdn) → AllByRecursion (IsAva types) r → AllByRecursion (λ p. p.0 < length types) r
+pub types_known : (types : List AttributeType) (r : TypedRdn) → AllByRecursion (IsAva types) r → AllByRecursion (λ p. p.0 < length types) r
 types_known types [] h = tt
 types_known types (p ∷ ps) h = (ltb-true p.0 (length types) h.0.known, types_known types ps h.1)
 
-pub all_known : (types : List AttributeType) (rs : List Rdn) → AllByRecursion (IsRdn types) rs → AllByRecursion (AreKnown types) rs
+pub all_known : (types : List AttributeType) (rs : List TypedRdn) → AllByRecursion (IsRdn types) rs → AllByRecursion (AreKnown types) rs
 all_known types [] h = tt
 all_known types (r ∷ rs) h = (types_known types r h.0.avas, all_known types rs h.1)

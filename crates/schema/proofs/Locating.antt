@@ -15,7 +15,7 @@ use Rattle.schema.specs.declared.code.Code.TheVariants.{InvalidDnSyntax, NamingV
 use Rattle.base.specs.Answers.{◌>>=◌}
 use Rattle.values.specs.Types.{printed_name, name_of, type_at, is_known, has_equality, first_or}
 use Rattle.terms.specs.Naming.{is_oid, are_groups, is_name, is_name_byte, is_type_name, is_reserved}
-use Rattle.schema.specs.Rdns.{Ava, Rdn, is_valid_ava, has_type, ava_type, type_among, avas_from, rdns_from, rdn_key_of}
+use Rattle.schema.specs.Rdns.{Ava, TypedRdn, is_valid_ava, has_type, ava_type, type_among, avas_from, rdns_from, rdn_key_of}
 use Rattle.schema.specs.GoodRdns.{IsAva, IsRdn, type_in}
 use Rattle.dn.specs.Names as names
 use Rattle.dn.specs.Names.{is_type_byte, is_type, is_byte, is_ava, is_rdn, is_ascii}
@@ -138,10 +138,10 @@ pub all_mapped : {X Y : Type 0} (P : X → Type 0) (Q : Y → Type 0) (f : X →
 all_mapped P Q f g [] h = tt
 all_mapped P Q f g (x ∷ xs) h = (g x h.0, all_mapped P Q f g xs h.1)
 
-abbrev rdns_ok : List Rdn → Result (List Rdn) Code
+abbrev rdns_ok : List TypedRdn → Result (List TypedRdn) Code
 rdns_ok rs = Ok rs
 
-abbrev rdn_ok : Rdn → Result Rdn Code
+abbrev rdn_ok : TypedRdn → Result TypedRdn Code
 rdn_ok r = Ok r
 
 abbrev type_ok : ℕ → Result ℕ Code
@@ -150,19 +150,19 @@ type_ok t = Ok t
 abbrev names_ok : names.Name → Result names.Name Code
 names_ok n = Ok n
 
-below_is : (types : List AttributeType) (ss rs : List Rdn) → below types ss (ss ++ rs) ≡ Ok rs
+below_is : (types : List AttributeType) (ss rs : List TypedRdn) → below types ss (ss ++ rs) ≡ Ok rs
 unfolding below
 below_is types [] rs = refl
 below_is types (s ∷ ss) rs =
     ap (λ b. cond b (below types ss (ss ++ rs)) (Err NoSuchObject)) (ap is_eq (tied_itself rdn_key_total (rdn_key_of types s))) ∙ below_is types ss rs
 
 -- no AVA before another is of its type
-apart_before : (earlier : Rdn) (p : Ava) (ps : Rdn) → IsDistinct nat_eq (map type_in (earlier ++ p ∷ ps)) → has_type p.0 earlier ≡ false
+apart_before : (earlier : TypedRdn) (p : Ava) (ps : TypedRdn) → IsDistinct nat_eq (map type_in (earlier ++ p ∷ ps)) → has_type p.0 earlier ≡ false
 unfolding IsDistinct
 apart_before [] p ps h = refl
 apart_before (q ∷ qs) p ps h = ap (λ b. b || has_type p.0 qs) (before qs h.0) ∙ apart_before qs p ps h.1
   where
-    before : (rs : Rdn) → AllByRecursion (λ t. nat_eq q.0 t ≡ false) (map type_in (rs ++ p ∷ ps)) → nat_eq q.0 p.0 ≡ false
+    before : (rs : TypedRdn) → AllByRecursion (λ t. nat_eq q.0 t ≡ false) (map type_in (rs ++ p ∷ ps)) → nat_eq q.0 p.0 ≡ false
     before [] k = k.0
     before (r ∷ rs) k = before rs k.1
 
@@ -178,27 +178,27 @@ module _ (bytes : HaveBytes) (conf : Conf) (c : IsConf conf) where
   ava_is : (p : Ava) → IsAva conf.types p → is_ava (written_ava conf.types p) ≡ true
   ava_is p h = both (is_type (name_of conf.types p.0)) (list_all is_byte p.1) (printed_is_text conf p.0 c h.known) (valid_are_bytes bytes conf.types p.0 p.1 h.valid)
 
-  avas_are : (ps : Rdn) → AllByRecursion (IsAva conf.types) ps → list_all is_ava (written_rdn conf.types ps) ≡ true
+  avas_are : (ps : TypedRdn) → AllByRecursion (IsAva conf.types) ps → list_all is_ava (written_rdn conf.types ps) ≡ true
   avas_are [] h = refl
   avas_are (p ∷ ps) h = both (is_ava (written_ava conf.types p)) (list_all is_ava (written_rdn conf.types ps)) (ava_is p h.0) (avas_are ps h.1)
 
-  rdn_is : (r : Rdn) → IsRdn conf.types r → is_rdn (written_rdn conf.types r) ≡ true
+  rdn_is : (r : TypedRdn) → IsRdn conf.types r → is_rdn (written_rdn conf.types r) ≡ true
   rdn_is r h =
       both (not (length (written_rdn conf.types r) == 0)) (list_all is_ava (written_rdn conf.types r))
       (ap (λ n. not (n == 0)) (length-map r (written_ava conf.types)) ∙ ap not h.some) (avas_are r h.avas)
 
-  pub name_is : (rs : List Rdn) → AllByRecursion (IsRdn conf.types) rs → names.is_name (map (written_rdn conf.types) rs) ≡ true
+  pub name_is : (rs : List TypedRdn) → AllByRecursion (IsRdn conf.types) rs → names.is_name (map (written_rdn conf.types) rs) ≡ true
   name_is [] h = refl
   name_is (r ∷ rs) h = both (is_rdn (written_rdn conf.types r)) (names.is_name (map (written_rdn conf.types) rs)) (rdn_is r h.0) (name_is rs h.1)
 
   -- the RDNs of an entry, and those of the suffix behind them
-  abbrev pub all_of : List Rdn → List Rdn
+  abbrev pub all_of : List TypedRdn → List TypedRdn
   all_of rs = reverse rs ++ conf.suffix
 
-  pub all_are : (rs : List Rdn) → AllByRecursion (IsRdn conf.types) rs → AllByRecursion (IsRdn conf.types) (all_of rs)
+  pub all_are : (rs : List TypedRdn) → AllByRecursion (IsRdn conf.types) rs → AllByRecursion (IsRdn conf.types) (all_of rs)
   all_are rs h = all_append (IsRdn conf.types) (reverse rs) conf.suffix (all_reverse (IsRdn conf.types) rs h) c.suffix
 
-  ava_typed : (earlier : Rdn) (p : Ava) → IsAva conf.types p → has_type p.0 earlier ≡ false → ava_type conf.types earlier (written_ava conf.types p) ≡ Ok p.0
+  ava_typed : (earlier : TypedRdn) (p : Ava) → IsAva conf.types p → has_type p.0 earlier ≡ false → ava_type conf.types earlier (written_ava conf.types p) ≡ Ok p.0
   ava_typed earlier p h apart =
       ap (type_among conf.types earlier p.1) (type_is conf p.0 c h.known)
       ∙ ap (λ b. cond b (Err InvalidDnSyntax) (cond (not (has_equality conf.types p.0)) (Err NamingViolation) (cond (not (is_valid_ava conf.types p.0 p.1)) (Err InvalidDnSyntax) (cond (has_type p.0 earlier) (Err NamingViolation) (type_ok p.0))))) h.no_name
@@ -206,27 +206,27 @@ module _ (bytes : HaveBytes) (conf : Conf) (c : IsConf conf) where
       ∙ ap (λ b. cond (not b) (Err InvalidDnSyntax) (cond (has_type p.0 earlier) (Err NamingViolation) (type_ok p.0))) (sym (plain_is conf.types p.0 p.1 h.no_name) ∙ h.valid)
       ∙ ap (λ b. cond b (Err NamingViolation) (type_ok p.0)) apart
 
-  avas_typed : (earlier ps : Rdn) → AllByRecursion (IsAva conf.types) ps → IsDistinct nat_eq (map type_in (earlier ++ ps)) → avas_from conf.types earlier (written_rdn conf.types ps) ≡ Ok (earlier ++ ps)
+  avas_typed : (earlier ps : TypedRdn) → AllByRecursion (IsAva conf.types) ps → IsDistinct nat_eq (map type_in (earlier ++ ps)) → avas_from conf.types earlier (written_rdn conf.types ps) ≡ Ok (earlier ++ ps)
   unfolding avas_from
   avas_typed earlier [] h apart = ap rdn_ok (sym (append-nil earlier))
   avas_typed earlier (p ∷ ps) h apart =
       ap (λ (x : Result ℕ Code). x >>= λ t. avas_from conf.types (earlier ++ (t, p.1) ∷ []) (written_rdn conf.types ps)) (ava_typed earlier p h.0 (apart_before earlier p ps apart))
-      ∙ avas_typed (earlier ++ p ∷ []) ps h.1 (subst (λ (r : Rdn). IsDistinct nat_eq (map type_in r)) (sym (append_assoc earlier (p ∷ []) ps)) apart)
+      ∙ avas_typed (earlier ++ p ∷ []) ps h.1 (subst (λ (r : TypedRdn). IsDistinct nat_eq (map type_in r)) (sym (append_assoc earlier (p ∷ []) ps)) apart)
       ∙ ap rdn_ok (append_assoc earlier (p ∷ []) ps)
 
-  rdns_typed : (done rs : List Rdn) → AllByRecursion (IsRdn conf.types) rs → rdns_from conf.types done (map (written_rdn conf.types) rs) ≡ Ok (done ++ rs)
+  rdns_typed : (done rs : List TypedRdn) → AllByRecursion (IsRdn conf.types) rs → rdns_from conf.types done (map (written_rdn conf.types) rs) ≡ Ok (done ++ rs)
   unfolding rdns_from
   rdns_typed done [] h = ap rdns_ok (sym (append-nil done))
   rdns_typed done (r ∷ rs) h =
-      ap (λ (x : Result Rdn Code). x >>= λ y. rdns_from conf.types (done ++ y ∷ []) (map (written_rdn conf.types) rs)) (avas_typed [] r h.0.avas h.0.types_apart)
+      ap (λ (x : Result TypedRdn Code). x >>= λ y. rdns_from conf.types (done ++ y ∷ []) (map (written_rdn conf.types) rs)) (avas_typed [] r h.0.avas h.0.types_apart)
       ∙ rdns_typed (done ++ r ∷ []) rs h.1
       ∙ ap rdns_ok (append_assoc done (r ∷ []) rs)
 
-  pub name_ascii : WritesAscii → (rs : List Rdn) → AllByRecursion (IsRdn conf.types) rs → list_all is_ascii (name_text conf rs) ≡ true
+  pub name_ascii : WritesAscii → (rs : List TypedRdn) → AllByRecursion (IsRdn conf.types) rs → list_all is_ascii (name_text conf rs) ≡ true
   unfolding name_text
   name_ascii ascii rs h = ascii (map (written_rdn conf.types) (all_of rs)) (name_is (all_of rs) (all_are rs h))
 
-  name_read : ReadsWritten → WritesAscii → (rs : List Rdn) → AllByRecursion (IsRdn conf.types) rs → name_in (name_text conf rs) ≡ Ok (map (written_rdn conf.types) (all_of rs))
+  name_read : ReadsWritten → WritesAscii → (rs : List TypedRdn) → AllByRecursion (IsRdn conf.types) rs → name_in (name_text conf rs) ≡ Ok (map (written_rdn conf.types) (all_of rs))
   unfolding name_in name_text
   name_read read ascii rs h =
       let n : names.Name = map (written_rdn conf.types) (all_of rs) in
@@ -235,10 +235,10 @@ module _ (bytes : HaveBytes) (conf : Conf) (c : IsConf conf) where
       ∙ ap or_invalid (read n good)
 
   -- the name of these RDNs stands where they say
-  pub located_is : ReadsWritten → WritesAscii → (rs : List Rdn) → AllByRecursion (IsRdn conf.types) rs → located conf (name_text conf rs) ≡ Ok rs
+  pub located_is : ReadsWritten → WritesAscii → (rs : List TypedRdn) → AllByRecursion (IsRdn conf.types) rs → located conf (name_text conf rs) ≡ Ok rs
   unfolding located place_of
   located_is read ascii rs h =
       ap (λ (x : Result names.Name Code). x >>= place_of conf) (name_read read ascii rs h)
-      ∙ ap (λ (x : Result (List Rdn) Code). x >>= λ ys. below conf.types (reverse conf.suffix) (reverse ys)) (rdns_typed [] (all_of rs) (all_are rs h))
-      ∙ ap (below conf.types (reverse conf.suffix)) (reverse-append (reverse rs) conf.suffix ∙ ap (λ (x : List Rdn). reverse conf.suffix ++ x) (reverse-reverse rs))
+      ∙ ap (λ (x : Result (List TypedRdn) Code). x >>= λ ys. below conf.types (reverse conf.suffix) (reverse ys)) (rdns_typed [] (all_of rs) (all_are rs h))
+      ∙ ap (below conf.types (reverse conf.suffix)) (reverse-append (reverse rs) conf.suffix ∙ ap (λ (x : List TypedRdn). reverse conf.suffix ++ x) (reverse-reverse rs))
       ∙ below_is conf.types (reverse conf.suffix) rs

@@ -12,7 +12,7 @@ use Rattle.paths.specs.Paths.{RdnKey, Path, rdn_key_cmp}
 use Rattle.schema.specs.TypeRules.{object_class, FitsBehind}
 use Rattle.schema.specs.declared.object_class.ObjectClass.{ObjectClass}
 use Rattle.schema.specs.Classes.{class_at, top, extensible_object, share_class_name, IsClass}
-use Rattle.schema.specs.Rdns.{Rdn, typed, rdn_key_of}
+use Rattle.schema.specs.Rdns.{TypedRdn, typed, rdn_key_of}
 use Rattle.schema.specs.GoodRdns.{IsRdn}
 use Rattle.base.specs.Answers.{◌>>=◌}
 use Rattle.dn.specs.Names as names
@@ -24,7 +24,7 @@ use Rattle.schema.specs.Slots.{slot_cmp, IsSlot}
 pub record Conf : Type 0 where
   pub types : List AttributeType
   -- the suffix's RDNs, the first one its own entry's
-  pub suffix : List Rdn
+  pub suffix : List TypedRdn
   -- what is indexed, by the numbers of the types and then by kind
   pub slots : List Slot
   pub classes : List ObjectClass
@@ -35,24 +35,24 @@ abbrev pub same_rdn_key : RdnKey → RdnKey → Bool
 same_rdn_key a b = is_eq (rdn_key_cmp a b)
 
 -- both from the root of the tree down: what comes after the first
-unfoldable pub below : List AttributeType → List Rdn → List Rdn → Result (List Rdn) Code
+unfoldable pub below : List AttributeType → List TypedRdn → List TypedRdn → Result (List TypedRdn) Code
 below types [] rs = Ok rs
 below types (s ∷ ss) [] = Err NoSuchObject
 below types (s ∷ ss) (r ∷ rs) = if same_rdn_key (rdn_key_of types s) (rdn_key_of types r) then below types ss rs else Err NoSuchObject
 
 -- the RDNs below the suffix of the entry with this name, from the suffix down; or why there can be no such entry
-unfoldable pub place_of : Conf → names.Name → Result (List Rdn) Code
+unfoldable pub place_of : Conf → names.Name → Result (List TypedRdn) Code
 place_of conf n = typed conf.types n >>= λ rs. below conf.types (reverse conf.suffix) (reverse rs)
 
 -- the same of a name as text
-unfoldable pub located : Conf → List ℕ → Result (List Rdn) Code
+unfoldable pub located : Conf → List ℕ → Result (List TypedRdn) Code
 located conf text = name_in text >>= place_of conf
 
-abbrev pub located_at : List Rdn → Result (List Rdn) Code
+abbrev pub located_at : List TypedRdn → Result (List TypedRdn) Code
 located_at rs = Ok rs
 
 -- the path of these RDNs
-abbrev pub path_of : Conf → List Rdn → Path
+abbrev pub path_of : Conf → List TypedRdn → Path
 path_of conf rs = map (rdn_key_of conf.types) rs
 
 -- the path of the entry with this name
@@ -60,7 +60,7 @@ abbrev pub path_of_name : Conf → names.Name → Result Path Code
 path_of_name conf n = place_of conf n >>= λ rs. Ok (path_of conf rs)
 
 -- the name with these RDNs below the suffix, from the suffix down
-unfoldable pub name_text : Conf → List Rdn → List ℕ
+unfoldable pub name_text : Conf → List TypedRdn → List ℕ
 name_text conf rs = text_of (map (written_rdn conf.types) (reverse rs ++ conf.suffix))
 
 -- ---- what holds of a configuration
@@ -73,7 +73,7 @@ pub record IsType (t : AttributeType) : Type 0 where
   pub oid : is_oid t.oid ≡ true
   pub names : list_all is_type_name t.names ≡ true
 
-abbrev pub first_rdn : List Rdn → Rdn
+abbrev pub first_rdn : List TypedRdn → TypedRdn
 first_rdn [] = []
 first_rdn (r ∷ rs) = r
 
@@ -94,5 +94,5 @@ pub record IsConf (conf : Conf) : Type 0 where
   pub classes_apart : IsDistinct share_class_name conf.classes
 
 -- the RDN of the suffix's own entry
-abbrev pub root_rdn : Conf → Rdn
+abbrev pub root_rdn : Conf → TypedRdn
 root_rdn conf = first_rdn conf.suffix

@@ -8,7 +8,7 @@ use Rattle.values.specs.declared.types.AttributeType.{AttributeType}
 use Rattle.values.specs.Types as attribute_types
 use Rattle.schema.specs.declared.code.Code.{Code}
 use Rattle.schema.specs.declared.code.Code.TheVariants.{InvalidDnSyntax}
-use Rattle.schema.specs.Rdns.{Ava, Rdn}
+use Rattle.schema.specs.Rdns.{Ava, TypedRdn}
 
 -- each fault of a name is of one code
 abbrev pub or_invalid : Result names.Name NameFaultKind → Result names.Name Code
@@ -23,5 +23,5 @@ name_in text = if is_utf8 text then or_invalid (name_of text) else Err InvalidDn
 abbrev pub written_ava : List AttributeType → Ava → names.Ava
 written_ava types p = (attribute_types.name_of types p.0, p.1)
 
-abbrev pub written_rdn : List AttributeType → Rdn → names.Rdn
+abbrev pub written_rdn : List AttributeType → TypedRdn → names.Rdn
 written_rdn types r = map (written_ava types) r

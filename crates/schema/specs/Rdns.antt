@@ -19,8 +19,8 @@ abbrev pub Ava : Type 0
 Ava = ℕ × List ℕ
 
 -- an RDN: its AVAs in the order written
-abbrev pub Rdn : Type 0
-Rdn = List Ava
+abbrev pub TypedRdn : Type 0
+TypedRdn = List Ava
 
 -- ---- the types of a name's AVAs
 
@@ -37,12 +37,12 @@ abbrev pub norm_ava : List AttributeType → ℕ → List ℕ → List ℕ
 norm_ava types t v = norm_by (plain_family (type_at types t).equality) v
 
 -- whether one of the AVAs is of this type
-abbrev pub has_type : ℕ → Rdn → Bool
+abbrev pub has_type : ℕ → TypedRdn → Bool
 has_type t r = list_any (λ p. nat_eq p.0 t) r
 
 -- the type is known, its values aren't names, they can be compared, this one is valid, and no AVA before it is of this type:
 -- the first that fails answers
-abbrev pub type_among : List AttributeType → Rdn → List ℕ → Option ℕ → Result ℕ Code
+abbrev pub type_among : List AttributeType → TypedRdn → List ℕ → Option ℕ → Result ℕ Code
 type_among types earlier v None = Err InvalidDnSyntax
 type_among types earlier v (Some t) =
     if has_name_syntax types t then Err InvalidDnSyntax
@@ -51,24 +51,24 @@ type_among types earlier v (Some t) =
     else (if has_type t earlier then Err NamingViolation else Ok t)))
 
 -- the type of an AVA behind others in its RDN
-abbrev pub ava_type : List AttributeType → Rdn → names.Ava → Result ℕ Code
+abbrev pub ava_type : List AttributeType → TypedRdn → names.Ava → Result ℕ Code
 ava_type types earlier p = type_among types earlier p.1 (type_of types p.0)
 
 -- the AVAs of an RDN, behind earlier ones
-unfoldable pub avas_from : List AttributeType → Rdn → names.Rdn → Result Rdn Code
+unfoldable pub avas_from : List AttributeType → TypedRdn → names.Rdn → Result TypedRdn Code
 avas_from types earlier [] = Ok earlier
 avas_from types earlier (p ∷ ps) = ava_type types earlier p >>= λ t. avas_from types (earlier ++ (t, p.1) ∷ []) ps
 
-abbrev pub typed_rdn : List AttributeType → names.Rdn → Result Rdn Code
+abbrev pub typed_rdn : List AttributeType → names.Rdn → Result TypedRdn Code
 typed_rdn types r = avas_from types [] r
 
 -- the RDNs of a name, behind others
-unfoldable pub rdns_from : List AttributeType → List Rdn → names.Name → Result (List Rdn) Code
+unfoldable pub rdns_from : List AttributeType → List TypedRdn → names.Name → Result (List TypedRdn) Code
 rdns_from types done [] = Ok done
 rdns_from types done (r ∷ rs) = typed_rdn types r >>= λ t. rdns_from types (done ++ t ∷ []) rs
 
 -- the entry's own RDN first
-abbrev pub typed : List AttributeType → names.Name → Result (List Rdn) Code
+abbrev pub typed : List AttributeType → names.Name → Result (List TypedRdn) Code
 typed types n = rdns_from types [] n
 
 -- ---- what they come to
@@ -89,10 +89,10 @@ abbrev pub pair_of : List AttributeType → Ava → Pair
 pair_of types p = (p.0, norm_ava types p.0 p.1)
 
 -- the pairs of AVAs, among others
-unfoldable pub key_from : List AttributeType → RdnKey → Rdn → RdnKey
+unfoldable pub key_from : List AttributeType → RdnKey → TypedRdn → RdnKey
 key_from types key [] = key
 key_from types key (p ∷ ps) = key_from types (put_pair (pair_of types p) key) ps
 
 -- the step of a path that an RDN gives: its pairs of type and normal value, by type
-unfoldable pub rdn_key_of : List AttributeType → Rdn → RdnKey
+unfoldable pub rdn_key_of : List AttributeType → TypedRdn → RdnKey
 rdn_key_of types r = key_from types [] r

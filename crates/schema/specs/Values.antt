@@ -20,12 +20,12 @@ use Rattle.dn.specs.Writing.{text_of}
 use Rattle.paths.specs.Paths.{Pair, RdnKey}
 use Rattle.schema.specs.declared.code.Code.{Code}
 use Rattle.schema.specs.Names.{name_in}
-use Rattle.schema.specs.Rdns.{Rdn, typed, rdn_key_of}
+use Rattle.schema.specs.Rdns.{TypedRdn, typed, rdn_key_of}
 
 -- ---- names as values (RFC 4517, 3.3.9 and 4.2.15)
 
 -- the RDNs of the name that bytes spell; its AVAs pass the checks that those of an entry's name pass
-unfoldable pub rdns_in : List AttributeType → List ℕ → Result (List Rdn) Code
+unfoldable pub rdns_in : List AttributeType → List ℕ → Result (List TypedRdn) Code
 rdns_in types text = name_in text >>= typed types
 
 -- an AVA in a normal form: the name that its type is printed by in lower case, and its normal value
@@ -36,14 +36,14 @@ normal_ava types p = (lower (attribute_types.name_of types p.0), p.1)
 abbrev pub normal_avas : List AttributeType → RdnKey → names.Rdn
 normal_avas types key = map (normal_ava types) key
 
-abbrev pub normal_rdn : List AttributeType → Rdn → names.Rdn
+abbrev pub normal_rdn : List AttributeType → TypedRdn → names.Rdn
 normal_rdn types r = normal_avas types (rdn_key_of types r)
 
 -- the normal form of a name with these RDNs, in the order written
-unfoldable pub normal_text : List AttributeType → List Rdn → List ℕ
+unfoldable pub normal_text : List AttributeType → List TypedRdn → List ℕ
 normal_text types rs = text_of (map (normal_rdn types) rs)
 
-abbrev pub normal_of : List AttributeType → Result (List Rdn) Code → Option (List ℕ)
+abbrev pub normal_of : List AttributeType → Result (List TypedRdn) Code → Option (List ℕ)
 normal_of types (Ok rs) = Some (normal_text types rs)
 normal_of types (Err code) = None
 

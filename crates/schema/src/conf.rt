@@ -11,7 +11,7 @@ use crate::object_class::ObjectClass;
 use crate::settled::{Settled, settle};
 use crate::slots::Slot;
 use base::Sequence;
-use paths::{Path, Rdn};
+use paths::{Path, TypedRdn};
 use std::alloc::{AllocError, Global};
 use std::marker::Model;
 use values::{AttributeType, TypeId, TypeTable};
@@ -20,7 +20,7 @@ use values::{AttributeType, TypeId, TypeTable};
 #[derive(Debug, Drop)]
 pub struct Conf {
     types: TypeTable,
-    suffix: Sequence<Rdn>,
+    suffix: Sequence<TypedRdn>,
     slots: Sequence<Slot>,
     // what the suffix's RDNs come to, from the root of the tree down
     root: Path,
@@ -50,7 +50,7 @@ impl Conf {
     pub fn new(
         alloc: Global,
         types: TypeTable,
-        suffix: Sequence<Rdn>,
+        suffix: Sequence<TypedRdn>,
         slots: Sequence<Slot>,
         classes: ClassTable,
     ) -> Result<Conf, AllocError>
@@ -129,7 +129,7 @@ impl Conf {
     }
 
     /// The suffix's RDNs, its own entry's first.
-    pub fn suffix(&self) -> &[Rdn]
+    pub fn suffix(&self) -> &[TypedRdn]
         ensures { result.now ≡ self.now.suffix }
     {
         self.suffix.as_slice()
@@ -150,7 +150,7 @@ impl Conf {
     }
 
     /// The RDN of the suffix's own entry.
-    pub fn suffix_rdn(&self) -> &Rdn
+    pub fn suffix_rdn(&self) -> &TypedRdn
         ensures { result.now ≡ root_rdn self.now }
     {
         match self.suffix.as_slice() {

@@ -13,7 +13,7 @@ use crate::names::read_dn;
 use crate::rdns::{rdn_key_of, typed_rdns};
 use base::{Bytes, Sequence};
 use dn::put_value;
-use paths::Rdn;
+use paths::TypedRdn;
 use std::alloc::{AllocError, Global};
 use values::{TypeId, TypeTable, norm_by};
 
@@ -73,7 +73,7 @@ fn put_avas(
 }
 
 #[tactic(auto, unfolding(crate::specs::Rdns::rdn_key_of, crate::specs::Rdns::key_from, crate::specs::Rdns::put_pair))]
-fn put_rdn(alloc: Global, types: &TypeTable, out: &mut Vec<u8>, rdn: &Rdn) -> Result<(), AllocError>
+fn put_rdn(alloc: Global, types: &TypeTable, out: &mut Vec<u8>, rdn: &TypedRdn) -> Result<(), AllocError>
     requires { AreKnown types.now rdn.now }
     ensures { OnOk result (out.new.items ≡ out.old.items ++ rdn_text (normal_rdn types.now rdn.now)) }
 {
@@ -91,7 +91,7 @@ fn put_more_rdns(
     alloc: Global,
     types: &TypeTable,
     out: &mut Vec<u8>,
-    rdns: &[Rdn],
+    rdns: &[TypedRdn],
 ) -> Result<(), AllocError>
     requires { AllByRecursion (AreKnown types.now) rdns.now }
     ensures { OnOk result (out.new.items ≡ out.old.items ++ flat_map (λ r. 44 ∷ rdn_text (normal_rdn types.now r)) rdns.now) }
@@ -107,7 +107,7 @@ fn put_rdns(
     alloc: Global,
     types: &TypeTable,
     out: &mut Vec<u8>,
-    rdns: &[Rdn],
+    rdns: &[TypedRdn],
 ) -> Result<(), AllocError>
     requires { AllByRecursion (AreKnown types.now) rdns.now }
     ensures { OnOk result (out.new.items ≡ out.old.items ++ join_with_byte 44 (map (λ r. rdn_text (normal_rdn types.now r)) rdns.now)) }
@@ -126,7 +126,7 @@ fn put_rdns(
 fn normal_text(
     alloc: Global,
     types: &TypeTable,
-    rdns: &[Rdn],
+    rdns: &[TypedRdn],
     room: usize,
 ) -> Result<Bytes, AllocError>
     requires { AllByRecursion (AreKnown types.now) rdns.now }
@@ -139,7 +139,7 @@ fn normal_text(
 
 /// The RDNs of the name that bytes spell under these types, its own first, or the code of the first AVA that has a fault.
 #[tactic(auto, unfolding(crate::specs::Values::rdns_in))]
-pub fn rdns_in(alloc: Global, types: &TypeTable, text: &[u8]) -> Result<Sequence<Rdn>, PathFault>
+pub fn rdns_in(alloc: Global, types: &TypeTable, text: &[u8]) -> Result<Sequence<TypedRdn>, PathFault>
     ensures gives { Gives (λ rdns. rdns) result (rdns_in types.now text.now) }
     ensures known { IfOk result (AllByRecursion (AreKnown types.now)) }
 {

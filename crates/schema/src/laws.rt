@@ -7,7 +7,7 @@ ghost use Rattle.values.specs.Types.{type_of, name_of, is_known};
 ghost use Rattle.terms.specs.Naming.{is_reserved};
 ghost use Rattle.values.specs.declared.types.AttributeType.{AttributeType};
 ghost use Rattle.schema.specs.declared.code.Code.{Code};
-ghost use Rattle.schema.specs.Rdns.{Rdn, type_of_pair, pair_of, rdn_key_of, typed};
+ghost use Rattle.schema.specs.Rdns.{TypedRdn, type_of_pair, pair_of, rdn_key_of, typed};
 ghost use Rattle.schema.specs.FaultyNames.{IsAvaFault};
 ghost use Rattle.schema.specs.GoodRdns.{IsRdn};
 ghost use Rattle.schema.specs.Values.{is_valid_at};
@@ -40,8 +40,8 @@ pub fn valid_values_are_bytes()
 
 /// The name that is written for RDNs stands where they say, and is ASCII.
 pub fn written_names_are_located()
-    ensures located { (conf : Conf) (rs : List Rdn) → IsConf conf → AllByRecursion (IsRdn conf.types) rs → located conf (name_text conf rs) ≡ located_at rs }
-    ensures ascii { (conf : Conf) (rs : List Rdn) → IsConf conf → AllByRecursion (IsRdn conf.types) rs → list_all (λ b. nat_lt b 128) (name_text conf rs) ≡ true }
+    ensures located { (conf : Conf) (rs : List TypedRdn) → IsConf conf → AllByRecursion (IsRdn conf.types) rs → located conf (name_text conf rs) ≡ located_at rs }
+    ensures ascii { (conf : Conf) (rs : List TypedRdn) → IsConf conf → AllByRecursion (IsRdn conf.types) rs → list_all (λ b. nat_lt b 128) (name_text conf rs) ≡ true }
 {
     written_names_are_read();
     matching::valid_values_are_bytes();
@@ -49,13 +49,13 @@ pub fn written_names_are_located()
 
 /// The step of a path that an RDN gives has the pair of each of its AVAs, by the numbers of their types, whatever order they are written in.
 pub fn keys_are_sorted()
-    ensures same { (types : List AttributeType) (r : Rdn) → IsPermutation (map (pair_of types) r) (rdn_key_of types r) }
-    ensures sorted { (types : List AttributeType) (r : Rdn) → IsNonDecreasingBy type_of_pair (rdn_key_of types r) }
+    ensures same { (types : List AttributeType) (r : TypedRdn) → IsPermutation (map (pair_of types) r) (rdn_key_of types r) }
+    ensures sorted { (types : List AttributeType) (r : TypedRdn) → IsNonDecreasingBy type_of_pair (rdn_key_of types r) }
 {}
 
 /// The RDNs at which a name is located are good ones.
 pub fn located_rdns_are_good()
-    ensures { (conf : Conf) (text : List ℕ) (rs : List Rdn) → located conf text ≡ located_at rs → AllByRecursion (IsRdn conf.types) rs }
+    ensures { (conf : Conf) (text : List ℕ) (rs : List TypedRdn) → located conf text ≡ located_at rs → AllByRecursion (IsRdn conf.types) rs }
 {
     spelled_names_are_read();
 }

@@ -36,7 +36,7 @@ pub use locate::Located;
 pub use matching::{Family, Pieces, Syntax, contains_pieces, is_less};
 pub use names::read_dn;
 pub use object_class::ObjectClass;
-pub use paths::{Path, Rdn, RdnKey, order_of_paths};
+pub use paths::{Path, RdnKey, TypedRdn, order_of_paths};
 pub use slots::{IndexKind, Slot};
 pub use syntaxes::is_syntax;
 pub use terms::ClassKind;

@@ -15,7 +15,7 @@ use crate::names::read_dn;
 use crate::rdns::{rdn_key_of, step_down, typed_rdn, typed_rdns};
 use base::Sequence;
 use dn::Name;
-use paths::{Path, PathDraft, Rdn};
+use paths::{Path, PathDraft, TypedRdn};
 use std::alloc::{AllocError, Global};
 use values::TypeTable;
 
@@ -23,18 +23,18 @@ use values::TypeTable;
 #[derive(Debug, Drop)]
 pub struct Located {
     pub path: Path,
-    pub rdns: Sequence<Rdn>,
+    pub rdns: Sequence<TypedRdn>,
 }
 
 // RDNs, and what they come to from the last on
 #[derive(Drop)]
 struct TypedName {
-    rdns: Vec<Rdn>,
+    rdns: Vec<TypedRdn>,
     path: Path,
 }
 
 /// What RDNs come to, from the last on.
-pub(crate) fn path_of(alloc: Global, types: &TypeTable, rdns: &[Rdn]) -> Result<Path, AllocError>
+pub(crate) fn path_of(alloc: Global, types: &TypeTable, rdns: &[TypedRdn]) -> Result<Path, AllocError>
     requires { AllByRecursion (AreKnown types.now) rdns.now }
     ensures { IfOk result (λ p. p ≡ map (rdn_key_of types.now) (reverse rdns.now)) }
 {
@@ -111,7 +111,7 @@ impl Conf {
     }
 
     /// An RDN with its types, or the code of the first AVA that has a fault, as `place_of` answers it.
-    pub fn typed_rdn(&self, alloc: Global, rdn: &dn::Rdn) -> Result<Rdn, PathFault>
+    pub fn typed_rdn(&self, alloc: Global, rdn: &dn::Rdn) -> Result<TypedRdn, PathFault>
         ensures gives { Gives (λ r. r) result (typed_rdn self.now.types rdn.now) }
         ensures good { IfOk result (IsRdn self.now.types) }
     {
@@ -119,7 +119,7 @@ impl Conf {
     }
 
     /// The path of what stands below a path by an RDN.
-    pub fn path_below(&self, alloc: Global, upper: &Path, rdn: &Rdn) -> Result<Path, AllocError>
+    pub fn path_below(&self, alloc: Global, upper: &Path, rdn: &TypedRdn) -> Result<Path, AllocError>
         requires { IsRdn self.now.types rdn.now }
         ensures { IfOk result (λ p. p ≡ upper.now ++ rdn_key_of self.now.types rdn.now ∷ []) }
     {

@@ -15,7 +15,7 @@ use crate::conf::Conf;
 use crate::fault::PathFault;
 use base::Bytes;
 use dn::{Name, NameFault, put_value, read_name};
-use paths::Rdn;
+use paths::TypedRdn;
 use std::alloc::{AllocError, Global};
 use values::TypeId;
 
@@ -82,7 +82,7 @@ impl Conf {
 
     /// Writes an RDN as it stands in a name, behind what `out` has: its types by the names that they are printed by. Where memory runs
     /// out, a beginning of it may stand there.
-    pub fn put_rdn(&self, out: &mut Vec<u8>, rdn: &Rdn) -> Result<(), AllocError>
+    pub fn put_rdn(&self, out: &mut Vec<u8>, rdn: &TypedRdn) -> Result<(), AllocError>
         requires { IsRdn self.now.types rdn.now }
         ensures put { OnOk result (out.new.items ≡ out.old.items ++ rdn_text (written_rdn self.now.types rdn.now)) }
         ensures kept { OnErr result (Extends out.old.items out.new.items) }

@@ -13,7 +13,7 @@ use crate::syntaxes::is_syntax;
 use base::{Bytes, Sequence};
 use dn::{Ava, Name};
 use matching::is_valid;
-use paths::{PathDraft, Rdn, RdnKey};
+use paths::{PathDraft, RdnKey, TypedRdn};
 use std::alloc::{AllocError, Global};
 use values::{TypeId, TypeSyntax, TypeTable, norm_by};
 
@@ -61,7 +61,7 @@ fn ava_type(types: &TypeTable, earlier: &[(TypeId, Bytes)], ava: &Ava) -> Result
 /// An RDN with its types; `InvalidDnSyntax` where a type isn't known or has DN syntax, or a value isn't valid, and `NamingViolation` where a
 /// type has no equality rule or stands twice. The first AVA that has a fault answers.
 #[tactic(auto, unfolding(crate::specs::Rdns::avas_from))]
-pub(crate) fn typed_rdn(alloc: Global, types: &TypeTable, avas: &[Ava]) -> Result<Rdn, PathFault>
+pub(crate) fn typed_rdn(alloc: Global, types: &TypeTable, avas: &[Ava]) -> Result<TypedRdn, PathFault>
     ensures gives { Gives (λ r. r) result (typed_rdn types.now avas.now) }
     ensures known { IfOk result (AreKnown types.now) }
 {
@@ -73,7 +73,7 @@ pub(crate) fn typed_rdn(alloc: Global, types: &TypeTable, avas: &[Ava]) -> Resul
         };
         typed.push((t, Bytes::from_slice(alloc, ava.value())?))?;
     }
-    Ok(Rdn::new(Sequence::from_vec(typed)))
+    Ok(TypedRdn::new(Sequence::from_vec(typed)))
 }
 
 /// The RDNs of a name with their types, its own first.
@@ -82,7 +82,7 @@ pub(crate) fn typed_rdns(
     alloc: Global,
     types: &TypeTable,
     name: &Name,
-) -> Result<Vec<Rdn>, PathFault>
+) -> Result<Vec<TypedRdn>, PathFault>
     ensures gives { Gives (λ v. v.items) result (typed types.now name.now) }
     ensures known { IfOk result (λ v. AllByRecursion (AreKnown types.now) v.items) }
     ensures named { OnOk result (is_name name.now ≡ true) }
@@ -111,7 +111,7 @@ fn put_pair(pairs: &mut Vec<(TypeId, Bytes)>, t: TypeId, norm: Bytes) -> Result<
 }
 
 #[tactic(auto, unfolding(crate::specs::Rdns::rdn_key_of, crate::specs::Rdns::key_from))]
-pub(crate) fn rdn_key_of(alloc: Global, types: &TypeTable, rdn: &Rdn) -> Result<RdnKey, AllocError>
+pub(crate) fn rdn_key_of(alloc: Global, types: &TypeTable, rdn: &TypedRdn) -> Result<RdnKey, AllocError>
     requires { AreKnown types.now rdn.now }
     ensures { IfOk result (λ k. k ≡ rdn_key_of types.now rdn.now) }
 {
@@ -129,7 +129,7 @@ pub(crate) fn step_down(
     alloc: Global,
     types: &TypeTable,
     path: PathDraft,
-    rdn: &Rdn,
+    rdn: &TypedRdn,
 ) -> Result<PathDraft, AllocError>
     requires { AreKnown types.now rdn.now }
     ensures { IfOk result (λ d. d ≡ path ++ rdn_key_of types.now rdn.now ∷ []) }

@@ -26,7 +26,7 @@ use Rattle.values.specs.declared.types.AttributeType.{AttributeType}
 use Rattle.values.specs.Types.{type_of}
 use Rattle.schema.specs.TypeRules.{object_class}
 use Rattle.schema.specs.Values.{is_valid_at, norm_at}
-use Rattle.schema.specs.Rdns.{Rdn, avas_from, put_pair, key_from, rdn_key_of}
+use Rattle.schema.specs.Rdns.{TypedRdn, avas_from, put_pair, key_from, rdn_key_of}
 use Rattle.schema.specs.Names.{name_in}
 use Rattle.schema.specs.Conf.{Conf}
 use Rattle.base.specs.Answers.{each, through, ◌>>=◌}
@@ -84,7 +84,7 @@ cn value = with_values 1 (value ∷ [])
 abbrev descriptions : List (List ℕ) → Attribute
 descriptions vs = with_values 3 vs
 
-abbrev entry_with : Rdn → Attributes → EntryContent
+abbrev entry_with : TypedRdn → Attributes → EntryContent
 entry_with rdn attrs = record { rdn = rdn; attrs = attrs }
 
 abbrev block : Op → List ℕ → List (List ℕ) → Mod
@@ -331,12 +331,12 @@ abbrev rename_where : Bool → Bool → Result Change Code → Result Change Cod
 rename_where inside there rest = cond inside (Err result.UnwillingToPerform) (cond (not there) (Err result.NoSuchObject) rest)
 
 -- b, with what a look at the other entries finds
-rename_b : (new : Rdn) (delete_old : Bool) (upper : Path) → rename_below conf four at_b (person_named (codes "b")) new delete_old upper ≡ rename_where (begins at_b upper) (is_some (finite.find path_cmp upper in_order)) (rename_to conf four at_b (person_named (codes "b")) new delete_old (upper ++ rdn_key_of types new ∷ []))
+rename_b : (new : TypedRdn) (delete_old : Bool) (upper : Path) → rename_below conf four at_b (person_named (codes "b")) new delete_old upper ≡ rename_where (begins at_b upper) (is_some (finite.find path_cmp upper in_order)) (rename_to conf four at_b (person_named (codes "b")) new delete_old (upper ++ rdn_key_of types new ∷ []))
 rename_b new delete_old upper =
     ap (λ b. rename_where (begins at_b upper) b (rename_to conf four at_b (person_named (codes "b")) new delete_old (upper ++ rdn_key_of types new ∷ []))) (stands upper)
 
 -- a, with what stands below it
-below_its_child : (new : Rdn) (delete_old : Bool) → rename_below conf four at_a (person_named (codes "a")) new delete_old at_c ≡ refused result.UnwillingToPerform
+below_its_child : (new : TypedRdn) (delete_old : Bool) → rename_below conf four at_a (person_named (codes "a")) new delete_old at_c ≡ refused result.UnwillingToPerform
 below_its_child new delete_old = refl
 
 child_goes_along : moved_path at_a (step (codes "z") ∷ []) at_c ≡ step (codes "z") ∷ step (codes "c") ∷ []
@@ -345,20 +345,20 @@ child_goes_along = refl
 other_stays : moved_path at_a (step (codes "z") ∷ []) at_b ≡ at_b
 other_stays = refl
 
-below_itself : (new : Rdn) (delete_old : Bool) → rename_below conf four at_b (person_named (codes "b")) new delete_old at_b ≡ refused result.UnwillingToPerform
+below_itself : (new : TypedRdn) (delete_old : Bool) → rename_below conf four at_b (person_named (codes "b")) new delete_old at_b ≡ refused result.UnwillingToPerform
 below_itself new delete_old = rename_b new delete_old at_b
 
 -- also where no such entry is
-far_below_itself : (new : Rdn) (delete_old : Bool) → rename_below conf four at_b (person_named (codes "b")) new delete_old (step (codes "b") ∷ step (codes "x") ∷ []) ≡ refused result.UnwillingToPerform
+far_below_itself : (new : TypedRdn) (delete_old : Bool) → rename_below conf four at_b (person_named (codes "b")) new delete_old (step (codes "b") ∷ step (codes "x") ∷ []) ≡ refused result.UnwillingToPerform
 far_below_itself new delete_old = rename_b new delete_old (step (codes "b") ∷ step (codes "x") ∷ [])
 
-below_nothing : (new : Rdn) (delete_old : Bool) → rename_below conf four at_b (person_named (codes "b")) new delete_old (step (codes "no") ∷ []) ≡ refused result.NoSuchObject
+below_nothing : (new : TypedRdn) (delete_old : Bool) → rename_below conf four at_b (person_named (codes "b")) new delete_old (step (codes "no") ∷ []) ≡ refused result.NoSuchObject
 below_nothing new delete_old = rename_b new delete_old (step (codes "no") ∷ [])
 
-abbrev move_where : Bool → Path → Rdn → Bool → Result Change Code
+abbrev move_where : Bool → Path → TypedRdn → Bool → Result Change Code
 move_where there q new delete_old = cond (not (same_path at_b q) && there) (Err result.EntryAlreadyExists) (rename_entry conf (person_named (codes "b")) new delete_old >>= λ e. Ok (renamed_to at_b q e))
 
-name_taken : (new : Rdn) (delete_old : Bool) → rename_to conf four at_b (person_named (codes "b")) new delete_old at_a ≡ refused result.EntryAlreadyExists
+name_taken : (new : TypedRdn) (delete_old : Bool) → rename_to conf four at_b (person_named (codes "b")) new delete_old at_a ≡ refused result.EntryAlreadyExists
 name_taken new delete_old = ap (λ b. move_where b at_a new delete_old) (stands at_a)
 
 -- with its new RDN's spelling
@@ -409,7 +409,7 @@ six_stands : (p : Path) → finite.contains_key six p ≡ is_some (finite.find p
 unfolding six
 six_stands p = ap is_some (finite.get-from_sorted path_cmp six_in_order p tt)
 
-abbrev bob_where : Bool → Path → Rdn → Bool → Result Change Code
+abbrev bob_where : Bool → Path → TypedRdn → Bool → Result Change Code
 bob_where there q new delete_old = cond (not (same_path at_bob q) && there) (Err result.EntryAlreadyExists) (rename_entry conf (numbered_seven (codes "Bob")) new delete_old >>= λ e. Ok (renamed_to at_bob q e))
 
 bob_gets_another_name : rename_below conf six at_bob (numbered_seven (codes "Bob")) ((1, codes "Al") ∷ []) true [] ≡ allowed (Move at_bob at_al (numbered_seven (codes "Al")))
@@ -418,7 +418,7 @@ bob_gets_another_name =
     ap (λ b. rename_where false b (rename_to conf six at_bob (numbered_seven (codes "Bob")) ((1, codes "Al") ∷ []) true at_al)) (six_stands [])
     ∙ ap (λ b. bob_where b at_al ((1, codes "Al") ∷ []) true) (six_stands at_al)
 
-bob_below_k : (new : Rdn) (delete_old : Bool) → rename_below conf six at_bob (numbered_seven (codes "Bob")) new delete_old (k_below at_bob) ≡ refused result.UnwillingToPerform
+bob_below_k : (new : TypedRdn) (delete_old : Bool) → rename_below conf six at_bob (numbered_seven (codes "Bob")) new delete_old (k_below at_bob) ≡ refused result.UnwillingToPerform
 bob_below_k new delete_old = refl
 
 bob_comes_below_aba : rename_below conf six at_bob (numbered_seven (codes "Bob")) ((1, codes "Bob") ∷ []) false at_aba ≡ allowed (Move at_bob bob_below_aba (numbered_seven (codes "Bob")))

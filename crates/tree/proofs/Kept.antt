@@ -13,7 +13,7 @@ use Rattle.ldif.specs.Attrs.{Attr}
 use Rattle.schema.specs.declared.code.Code.{Code}
 use Rattle.schema.specs.declared.code.Code.TheVariants.{EntryAlreadyExists, NoSuchObject, ObjectClassViolation, ConstraintViolation, AdminLimitExceeded}
 use Rattle.paths.specs.Paths.{RdnKey, Path, path_cmp, parent_of, is_root}
-use Rattle.schema.specs.Rdns.{Rdn, rdn_key_of}
+use Rattle.schema.specs.Rdns.{TypedRdn, rdn_key_of}
 use Rattle.schema.specs.GoodRdns.{IsRdn}
 use Rattle.schema.specs.Conf.{Conf, IsConf, root_rdn, first_rdn, located, located_at, path_of}
 use Rattle.base.specs.Answers.{◌>>=◌}
@@ -82,29 +82,29 @@ module _ (conf : Conf) (d : Entries) (p : Path) (e : EntryContent) (h : IsDirect
 
 -- ---- the entry
 
-own_last : (conf : Conf) (r : Rdn) (rs : List Rdn) → (front : Path) × (path_of conf (r ∷ rs) ≡ front ++ rdn_key_of conf.types (own_rdn conf (r ∷ rs)) ∷ [])
+own_last : (conf : Conf) (r : TypedRdn) (rs : List TypedRdn) → (front : Path) × (path_of conf (r ∷ rs) ≡ front ++ rdn_key_of conf.types (own_rdn conf (r ∷ rs)) ∷ [])
 own_last conf r [] = ([], refl)
 own_last conf r (s ∷ rs) = let k = own_last conf s rs in (rdn_key_of conf.types r ∷ k.0, ap (λ (x : Path). rdn_key_of conf.types r ∷ x) k.1)
 
 nil_push : (q : Path) (s : RdnKey) → ◌≡◌ {A = Path} [] (q ++ s ∷ []) → ⊥
 nil_push q s e = let k = sym (not_root q s) ∙ sym (ap is_root e) in cc
 
-last_is : (conf : Conf) (rs : List Rdn) (q : Path) (s : RdnKey) → path_of conf rs ≡ q ++ s ∷ [] → rdn_key_of conf.types (own_rdn conf rs) ≡ s
+last_is : (conf : Conf) (rs : List TypedRdn) (q : Path) (s : RdnKey) → path_of conf rs ≡ q ++ s ∷ [] → rdn_key_of conf.types (own_rdn conf rs) ≡ s
 last_is conf [] q s e = absurd (nil_push q s e)
 last_is conf (r ∷ rs) q s e = let k = own_last conf r rs in (same_from_push k.0 q (rdn_key_of conf.types (own_rdn conf (r ∷ rs))) s (sym k.1 ∙ e)).1
 
-root_is : (conf : Conf) (rs : List Rdn) → path_of conf rs ≡ [] → own_rdn conf rs ≡ root_rdn conf
+root_is : (conf : Conf) (rs : List TypedRdn) → path_of conf rs ≡ [] → own_rdn conf rs ≡ root_rdn conf
 root_is conf [] e = refl
 root_is conf (r ∷ rs) e = absurd cc
 
-first_good : (P : Rdn → Type 0) (rs : List Rdn) → AllByRecursion P rs → nat_lt 0 (length rs) ≡ true → P (first_rdn rs)
+first_good : (P : TypedRdn → Type 0) (rs : List TypedRdn) → AllByRecursion P rs → nat_lt 0 (length rs) ≡ true → P (first_rdn rs)
 first_good P [] h some = absurd cc
 first_good P (r ∷ rs) h some = h.0
 
 pub root_good : (conf : Conf) → IsConf conf → IsRdn conf.types (root_rdn conf)
 root_good conf ok = first_good (IsRdn conf.types) conf.suffix ok.suffix ok.suffix_some
 
-pub own_good : (conf : Conf) → IsConf conf → (rs : List Rdn) → AllByRecursion (IsRdn conf.types) rs → IsRdn conf.types (own_rdn conf rs)
+pub own_good : (conf : Conf) → IsConf conf → (rs : List TypedRdn) → AllByRecursion (IsRdn conf.types) rs → IsRdn conf.types (own_rdn conf rs)
 own_good conf ok [] h = root_good conf ok
 own_good conf ok (r ∷ []) h = h.0
 own_good conf ok (r ∷ s ∷ rs) h = own_good conf ok (s ∷ rs) h.1
@@ -120,14 +120,14 @@ put_ok conf d p e out said =
     let f = guard_ok (nat_le 4294967295 (finite.len d)) AdminLimitExceeded (Ok (Put p e)) out b.1 in
     (not-false (has_its_classes conf e.attrs) a.0, not-false (are_single conf.types e.attrs) b.0, f.0, same_ok (Put p e) out f.1)
 
-pub keeps : ((conf : Conf) (text : List ℕ) (rs : List Rdn) → located conf text ≡ located_at rs → AllByRecursion (IsRdn conf.types) rs)
+pub keeps : ((conf : Conf) (text : List ℕ) (rs : List TypedRdn) → located conf text ≡ located_at rs → AllByRecursion (IsRdn conf.types) rs)
     → (conf : Conf) (mode : Mode) (d : Entries) (dn : List ℕ) (lines : List Attr) (out : Change) → IsConf conf → IsDirectory conf d → add conf mode d dn lines ≡ Ok out → IsDirectory conf (changed d out)
 unfolding add add_at
 keeps reads conf mode d dn lines out ok h said =
     let b = bind_ok (located conf dn) (λ rs. add_at conf mode d (path_of conf rs) (own_rdn conf rs) lines) out said in
-    let rs : List Rdn = b.0 in
+    let rs : List TypedRdn = b.0 in
     let p : Path = path_of conf rs in
-    let rdn : Rdn = own_rdn conf rs in
+    let rdn : TypedRdn = own_rdn conf rs in
     let fine = reads conf dn rs b.1 in
     let put : Attributes → Result Change Code = λ attrs. with_entry conf d p (entry_of conf rdn attrs) in
     let g = guard_ok (finite.contains_key d p) EntryAlreadyExists (cond (not (is_root p) && not (finite.contains_key d (parent_of p))) (Err NoSuchObject) (add_lines mode conf.types [] lines >>= put)) out b.2 in
@@ -152,7 +152,7 @@ pub get_inserted : (d : Entries) (p : Path) (e : EntryContent) → finite.get (f
 get_inserted d p e = finite.get-insert path_total d p e p ∙ ap (λ o. cond (is_eq o) (Some e) (finite.get d p)) (tied_itself path_total p)
 
 -- the last RDN, where there is one
-pub own_rdn_last : (conf : Conf) (rs : List Rdn) (d : Rdn) → 1 ≤ length rs → own_rdn conf rs ≡ slice_index_or rs (length rs - 1) d
+pub own_rdn_last : (conf : Conf) (rs : List TypedRdn) (d : TypedRdn) → 1 ≤ length rs → own_rdn conf rs ≡ slice_index_or rs (length rs - 1) d
 own_rdn_last conf [] d some = absurd (omega arith)
 own_rdn_last conf (r ∷ []) d some = refl
 own_rdn_last conf (r ∷ s ∷ rs) d some =

@@ -4,7 +4,7 @@ use Rattle.std.specs.Prelude.{is_some}
 use Rattle.std.specs.FinMap as finite
 use Rattle.ldif.specs.declared.record.Mod.{Mod}
 use Rattle.paths.specs.Paths.{RdnKey, Path, path_cmp, begins, parent_of, is_root}
-use Rattle.schema.specs.Rdns.{Rdn, rdn_key_of}
+use Rattle.schema.specs.Rdns.{TypedRdn, rdn_key_of}
 use Rattle.schema.specs.GoodRdns.{IsRdn}
 use Rattle.schema.specs.Conf.{Conf}
 use Rattle.entries.specs.Entries.{EntryContent, IsGood}
@@ -62,7 +62,7 @@ last_step [] (b ∷ q) x y e = absurd (not_empty q y (let k : [] ≡ q ++ y ∷ 
 last_step (a ∷ p) [] x y e = absurd (not_empty p x cc)
 last_step (a ∷ p) (b ∷ q) x y e = last_step p q x y cc
 
-stands : (made conf : Conf) (to upper : Path) (new : Rdn) (out : EntryContent) → made ≡ conf → to ≡ upper ++ rdn_key_of conf.types new ∷ [] → IsGood conf out → out.rdn ≡ new → MayStand made to out
+stands : (made conf : Conf) (to upper : Path) (new : TypedRdn) (out : EntryContent) → made ≡ conf → to ≡ upper ++ rdn_key_of conf.types new ∷ [] → IsGood conf out → out.rdn ≡ new → MayStand made to out
 stands made conf to upper new out same place good is = record {
   good = subst (λ (r : Conf). IsGood r out) (sym same) good;
   last = λ q s e.
@@ -81,7 +81,7 @@ moves d p to upper s place there apart above =
       apart = ap (begins p) parent ∙ apart;
     }
 
-module _ (t : Tree) (conf : Conf) (p to upper : Path) (old : EntryContent) (new : Rdn) (delete_old : Bool) (out : Entry) (same : t.conf ≡ conf) (h : IsDirectory t.conf t.entries) (at : finite.get t.entries p ≡ Some old)
+module _ (t : Tree) (conf : Conf) (p to upper : Path) (old : EntryContent) (new : TypedRdn) (delete_old : Bool) (out : Entry) (same : t.conf ≡ conf) (h : IsDirectory t.conf t.entries) (at : finite.get t.entries p ≡ Some old)
     (rdn : IsRdn conf.types new) (place : to ≡ upper ++ rdn_key_of conf.types new ∷ []) (made : IsMade conf.types out.attrs) (said : rename_entry conf old new delete_old ≡ changed_to (content_of out)) where
   may_stand : MayStand t.conf to (content_of out)
   may_stand =

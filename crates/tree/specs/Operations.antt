@@ -8,7 +8,7 @@ use Rattle.ldif.specs.declared.record.Record.TheVariants as records
 use Rattle.schema.specs.declared.code.Code.{Code}
 use Rattle.schema.specs.declared.code.Code.TheVariants.{UnavailableCriticalExtension}
 use Rattle.paths.specs.Paths.{Path}
-use Rattle.schema.specs.Rdns.{Rdn}
+use Rattle.schema.specs.Rdns.{TypedRdn}
 use Rattle.schema.specs.Conf.{Conf, located, path_of}
 use Rattle.base.specs.Answers.{◌>>=◌}
 use Rattle.tree.specs.Directories.{Entries}
@@ -48,7 +48,7 @@ change_of conf mode d r = if has_critical (controls_of r) then Err UnavailableCr
 abbrev pub apply : Conf → Mode → Entries → Record → Result Entries Code
 apply conf mode d r = change_of conf mode d r >>= λ c. Ok (changed d c)
 
-abbrev pub path_in : Conf → Result (List Rdn) Code → Option Path
+abbrev pub path_in : Conf → Result (List TypedRdn) Code → Option Path
 path_in conf (Ok rs) = Some (path_of conf rs)
 path_in conf (Err c) = None
 

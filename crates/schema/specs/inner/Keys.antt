@@ -3,10 +3,10 @@ use Rattle.std.specs.Prelude.{◌≡◌, ◌<◌, List, map, reverse, length}
 use Rattle.std.specs.List.{AllByRecursion}
 use Rattle.values.specs.declared.types.AttributeType.{AttributeType}
 use Rattle.schema.specs.declared.locate.TypedName.{TypedName}
-use Rattle.schema.specs.Rdns.{Rdn, rdn_key_of}
+use Rattle.schema.specs.Rdns.{TypedRdn, rdn_key_of}
 
 -- an RDN whose types are known
-abbrev pub AreKnown : List AttributeType → Rdn → Type 0
+abbrev pub AreKnown : List AttributeType → TypedRdn → Type 0
 AreKnown types r = AllByRecursion (λ p. p.0 < length types) r
 
 -- the path goes from the root of the tree down

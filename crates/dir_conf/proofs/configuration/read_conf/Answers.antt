@@ -4,7 +4,7 @@ use Rattle.schema.specs.declared.slots.Slot.{Slot}
 use Rattle.schema.specs.declared.object_class.ObjectClass.{ObjectClass}
 use Rattle.dir_conf.specs.ConfFaults.{At}
 use Rattle.schema.specs.Conf.{Conf, IsConf}
-use Rattle.schema.specs.Rdns.{Rdn}
+use Rattle.schema.specs.Rdns.{TypedRdn}
 use Rattle.dir_conf.specs.IndexLines.{in_order}
 use Rattle.dir_conf.specs.Configurations.{Defined, Found}
 use Rattle.dir_conf.proofs.Whole.{Holds, Defines, all_hold, IsFound, IsSuffix, found_is, rules_are, conf_is}
@@ -12,7 +12,7 @@ use Rattle.dir_conf.proofs.SlotLines.{known_bounds}
 use Rattle.dir_conf.proofs.configuration.read_conf.Goals as goal
 use Rattle.dir_conf.proofs.configuration.read_conf.Goals.{After-in_order}
 
-abbrev conf_with : List ObjectClass → List AttributeType → List Rdn → List Slot → Conf
+abbrev conf_with : List ObjectClass → List AttributeType → List TypedRdn → List Slot → Conf
 conf_with classes types suffix slots = record { types = types; suffix = suffix; slots = slots; classes = classes }
 
 abbrev conf_ok : Conf → Result Conf At
@@ -34,7 +34,7 @@ new-requires c =
     let past : After-in_order = (goal.at.new-requires c).After-in_order in
     let s : Defined = known past in
     let said : List Slot = (found past).slots in
-    let rdns : List Rdn = c.in-Some.suffix in
+    let rdns : List TypedRdn = c.in-Some.suffix in
     let good : Holds s = all_hold law c.deref.result.now s c.in_ok-types.ensures in
     let some : (found past).suffix ≡ Some rdns = c.in-Some.is in
     let kept : IsSuffix s.types (Some rdns) = subst (IsSuffix s.types) some (is_found past).suffix in
@@ -47,7 +47,7 @@ returns-in-Some c =
     let past : After-in_order = (goal.at.returns-in-Some c).After-in_order in
     let s : Defined = known past in
     let said : List Slot = (found past).slots in
-    let rdns : List Rdn = c.in-Some.suffix in
+    let rdns : List TypedRdn = c.in-Some.suffix in
     let some : (found past).suffix ≡ Some rdns = c.in-Some.is in
     let slots : c.in_ok-in_order-in-Some.field-0 ≡ in_order (length s.types) said = c.in_ok-in_order-in-Some.ensures (length s.types) (known_bounds s.types said (is_found past).slots) in
     conf_is c.args.text.now c.deref.result.now c.deref-2.result.now s (found past) rdns

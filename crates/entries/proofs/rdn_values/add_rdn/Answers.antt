@@ -1,5 +1,5 @@
 use Rattle.std.proofs.Common.{◌∙◌}
-use Rattle.schema.specs.Rdns.{Ava, Rdn}
+use Rattle.schema.specs.Rdns.{Ava, TypedRdn}
 use Rattle.schema.specs.GoodRdns.{IsAva}
 use Rattle.entries.specs.Entries.{Attributes}
 use Rattle.entries.specs.StoredEntries.{attributes_of}
@@ -9,7 +9,7 @@ use Rattle.entries.proofs.rdn_values.add_rdn.Goals as goal
 pub loop-ava-preserved : goal.loop-ava-preserved
 loop-ava-preserved c =
     let types = c.args.conf.now.types in
-    let avas : Rdn = c.avas-ava-items.result.now in
+    let avas : TypedRdn = c.avas-ava-items.result.now in
     let ava : Ava = c.ava-item.result in
     let now : Attributes = attributes_of c.loop-ava.attrs.entries in
     let next : Attributes = attributes_of c.add_ava.new.attrs.entries in

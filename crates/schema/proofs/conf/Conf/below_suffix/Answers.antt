@@ -2,7 +2,7 @@ use Rattle.std.proofs.Common.{◌≡◌, ℕ, ◌≤◌, ◌-◌, List, ap, sym,
 use Rattle.std.proofs.lemmas.List.{drop-map, length-map, length-reverse}
 use Rattle.schema.specs.declared.code.Code.{Code}
 use Rattle.paths.specs.Paths.{Path, begins}
-use Rattle.schema.specs.Rdns.{Rdn, rdn_key_of}
+use Rattle.schema.specs.Rdns.{TypedRdn, rdn_key_of}
 use Rattle.schema.proofs.Below.{isnt_below, is_below, reversed_front, begins_long}
 use Rattle.schema.specs.GoodRdns.{IsRdn}
 use Rattle.schema.proofs.Found.{below_are}
@@ -10,7 +10,7 @@ use Rattle.schema.proofs.Locating.{all_reverse}
 use Rattle.schema.proofs.conf.Conf.below_suffix.Goals as goal
 use Rattle.schema.proofs.conf.Conf.below_suffix.Goals.{After-suffix, After-reverse}
 
-abbrev ok : List Rdn → Result (List Rdn) Code
+abbrev ok : List TypedRdn → Result (List TypedRdn) Code
 ok rs = Ok rs
 
 pub returns-then-not-begins-clause-rdns : goal.returns-then-not-begins-clause-rdns
@@ -31,16 +31,16 @@ long c =
 pub overflow_sub-len : goal.overflow_sub-len
 overflow_sub-len c =
     let le = long c in
-    let seen : length c.suffix.result.now ≡ length c.args.self.now.suffix = ap (λ (s : List Rdn). length s) c.suffix.ensures in
+    let seen : length c.suffix.result.now ≡ length c.args.self.now.suffix = ap (λ (s : List TypedRdn). length s) c.suffix.ensures in
     omega (arith, le, c.args.typed.rdns.ok.0)
 
 -- the RDNs below the suffix, from the suffix down
 rest_is : (c : After-reverse) → length c.args.self.now.suffix ≤ length c.args.typed.rdns.items → c.reverse.new.self.items ≡ drop (length (reverse c.args.self.now.suffix)) (reverse c.args.typed.rdns.items)
 rest_is c le =
-    let rdns : List Rdn = c.args.typed.rdns.items in
+    let rdns : List TypedRdn = c.args.typed.rdns.items in
     let few : ℕ = length c.args.self.now.suffix in
     let kept : c.len.result - length c.suffix.result.now ≡ length rdns - few = λ i. (c.len.ensures ∙ c.args.typed.rdns.ok.0) i - length (c.suffix.ensures i) in
-    c.reverse.ensures.items ∙ ap (λ (rs : List Rdn). reverse rs) (c.truncate.ensures.items ∙ ap (λ n. take n rdns) kept) ∙ reversed_front rdns few le
+    c.reverse.ensures.items ∙ ap (λ (rs : List TypedRdn). reverse rs) (c.truncate.ensures.items ∙ ap (λ n. take n rdns) kept) ∙ reversed_front rdns few le
     ∙ ap (λ n. drop n (reverse rdns)) (sym (length-reverse c.args.self.now.suffix))
 
 pub returns-clause-rdns : goal.returns-clause-rdns
