@@ -18,7 +18,7 @@ use Rattle.filter.specs.declared.assertion.Assertion.TheVariants.{Equality, Grea
 use Rattle.filter.specs.Filters.{truth}
 use Rattle.filter.specs.Items.{item_type, true_or_false}
 use Rattle.filter.specs.Pieces.{fits}
-use Rattle.filter.specs.Prepared.{matches, assertion_of, settled, settled_at, item_test, prepared_tree, prepared_trees, filter_test, filter_tests}
+use Rattle.filter.specs.Prepared.{matches, assertion_of, prepared_with, prepared_at, item_test, prepared_filter, prepared_filters, filter_test, filter_tests}
 use Rattle.filter.specs.Truths.{and_of, or_of, opposite}
 use Rattle.filter.proofs.Truths.{lesser, greater, and_of_more, or_of_more}
 use Rattle.index.specs.EntryKeys.{norms_under, windows, empty_key}
@@ -102,41 +102,41 @@ module _ (told : (front back : Bool) (pieces : List (List ℕ)) (text : List ℕ
         h.exactly t kinds.Substrings s key is ∙ in_fitting key p.front p.back p.pieces (told p.front p.back p.pieces) there (norms_under types attrs t) e))
 
     module _ (all : AllByRecursion (IsAttribute types) attrs) where
-      of_settled : (t : ℕ) (o : Option Assertion) → Allows (item_test (stored types attrs) (settled types t o)) (item_sides shown n (settled types t o))
-      of_settled t None = of_undefined _
-      of_settled t (Some a) = subst (λ (b : Bool). Allows (true_or_false b) (assertion_sides shown n t a)) (sym (any_norm types (matches a) t attrs all)) (of_assertion t a)
+      of_prepared : (t : ℕ) (o : Option Assertion) → Allows (item_test (stored types attrs) (prepared_with types t o)) (item_sides shown n (prepared_with types t o))
+      of_prepared t None = of_undefined _
+      of_prepared t (Some a) = subst (λ (b : Bool). Allows (true_or_false b) (assertion_sides shown n t a)) (sym (any_norm types (matches a) t attrs all)) (of_assertion t a)
 
-      of_item : (item : Item) (o : Option ℕ) → Allows (item_test (stored types attrs) (settled_at types item o)) (item_sides shown n (settled_at types item o))
+      of_item : (item : Item) (o : Option ℕ) → Allows (item_test (stored types attrs) (prepared_at types item o)) (item_sides shown n (prepared_at types item o))
       of_item item None = of_undefined _
-      of_item item (Some t) = of_settled t (assertion_of types t item)
+      of_item item (Some t) = of_prepared t (assertion_of types t item)
 
       -- ---- filters
 
       mutual
-        of_filter : (f : texts.Tree) → Allows (filter_test (stored types attrs) (prepared_tree types f)) (sides shown n (prepared_tree types f))
+        of_filter : (f : texts.FilterContent) → Allows (filter_test (stored types attrs) (prepared_filter types f)) (sides shown n (prepared_filter types f))
         of_filter (texts.All_of operands) = of_all operands
         of_filter (texts.Any_of operands) = of_any operands
-        of_filter (texts.Not_of operand) = turned (filter_test (stored types attrs) (prepared_tree types operand)) (sides shown n (prepared_tree types operand)) (of_filter operand)
+        of_filter (texts.Not_of operand) = turned (filter_test (stored types attrs) (prepared_filter types operand)) (sides shown n (prepared_filter types operand)) (of_filter operand)
         of_filter (texts.Leaf item) = of_item item (item_type types item)
 
-        of_all : (fs : texts.Trees) → Allows (and_of (filter_tests (stored types attrs) (prepared_trees types fs))) (all_sides (sides_each shown n (prepared_trees types fs)))
+        of_all : (fs : texts.FilterContents) → Allows (and_of (filter_tests (stored types attrs) (prepared_filters types fs))) (all_sides (sides_each shown n (prepared_filters types fs)))
         of_all texts.No_more = record { if_true = λ _. refl; if_false = λ x. cc }
         of_all (texts.And_then first rest) =
-            rw (and_of_more (filter_test (stored types attrs) (prepared_tree types first)) (filter_tests (stored types attrs) (prepared_trees types rest)))
-            (both (filter_test (stored types attrs) (prepared_tree types first)) (and_of (filter_tests (stored types attrs) (prepared_trees types rest))) _ _ _ _ (of_filter first) (of_all rest))
+            rw (and_of_more (filter_test (stored types attrs) (prepared_filter types first)) (filter_tests (stored types attrs) (prepared_filters types rest)))
+            (both (filter_test (stored types attrs) (prepared_filter types first)) (and_of (filter_tests (stored types attrs) (prepared_filters types rest))) _ _ _ _ (of_filter first) (of_all rest))
 
-        of_any : (fs : texts.Trees) → Allows (or_of (filter_tests (stored types attrs) (prepared_trees types fs))) (any_sides (sides_each shown n (prepared_trees types fs)))
+        of_any : (fs : texts.FilterContents) → Allows (or_of (filter_tests (stored types attrs) (prepared_filters types fs))) (any_sides (sides_each shown n (prepared_filters types fs)))
         of_any texts.No_more = record { if_true = λ x. cc; if_false = λ _. refl }
         of_any (texts.And_then first rest) =
-            rw (or_of_more (filter_test (stored types attrs) (prepared_tree types first)) (filter_tests (stored types attrs) (prepared_trees types rest)))
-            (either (filter_test (stored types attrs) (prepared_tree types first)) (or_of (filter_tests (stored types attrs) (prepared_trees types rest))) _ _ _ _ (of_filter first) (of_any rest))
+            rw (or_of_more (filter_test (stored types attrs) (prepared_filter types first)) (filter_tests (stored types attrs) (prepared_filters types rest)))
+            (either (filter_test (stored types attrs) (prepared_filter types first)) (or_of (filter_tests (stored types attrs) (prepared_filters types rest))) _ _ _ _ (of_filter first) (of_any rest))
 
   -- of the contents of an entry, as it is of the entry that is stored
-  pub of_contents : ((conf : Conf) (attrs : List EntryAttribute) (f : texts.Tree) → IsConf conf → IsMade conf.types attrs → filter_test attrs (prepared_tree conf.types f) ≡ truth conf.types (attributes_of attrs) f)
-      → (conf : Conf) (shown : Shown) (n : ℕ) (attrs : Attributes) (f : texts.Tree) → IsConf conf → AllByRecursion (IsAttribute conf.types) attrs → Reflects shown conf.types n attrs
-      → Allows (truth conf.types attrs f) (sides shown n (prepared_tree conf.types f))
+  pub of_contents : ((conf : Conf) (attrs : List EntryAttribute) (f : texts.FilterContent) → IsConf conf → IsMade conf.types attrs → filter_test attrs (prepared_filter conf.types f) ≡ truth conf.types (attributes_of attrs) f)
+      → (conf : Conf) (shown : Shown) (n : ℕ) (attrs : Attributes) (f : texts.FilterContent) → IsConf conf → AllByRecursion (IsAttribute conf.types) attrs → Reflects shown conf.types n attrs
+      → Allows (truth conf.types attrs f) (sides shown n (prepared_filter conf.types f))
   of_contents same conf shown n attrs f is all h =
-      let test = filter_test (stored conf.types attrs) (prepared_tree conf.types f) in
+      let test = filter_test (stored conf.types attrs) (prepared_filter conf.types f) in
       let it_is : test ≡ truth conf.types attrs f =
       same conf (stored conf.types attrs) f is (record { each = are_made conf.types attrs all }) ∙ ap (λ (these : Attributes). truth conf.types these f) (attributes-stored conf.types attrs) in
-      subst (λ (t : Truth). Allows t (sides shown n (prepared_tree conf.types f))) it_is (of_filter shown conf.types n attrs h all f)
+      subst (λ (t : Truth). Allows t (sides shown n (prepared_filter conf.types f))) it_is (of_filter shown conf.types n attrs h all f)

@@ -20,8 +20,8 @@ use Rattle.schema.specs.declared.slots.Slot.{Slot}
 use Rattle.schema.specs.TypeRules.{object_class}
 use Rattle.schema.specs.Values.{is_valid_at, norm_at}
 use Rattle.filter_text.specs.declared.items.Item.TheVariants.{Equality, Approx, GreaterOrEqual, Present, Substrings}
-use Rattle.filter_text.specs.Spells.{Tree, Trees, All_of, Any_of, Not_of, Leaf, No_more, And_then}
-use Rattle.filter.specs.Prepared.{prepared_tree}
+use Rattle.filter_text.specs.Spells.{FilterContent, FilterContents, All_of, Any_of, Not_of, Leaf, No_more, And_then}
+use Rattle.filter.specs.Prepared.{prepared_filter}
 use Rattle.index.specs.KeySets.{Members}
 use Rattle.index.specs.Postings.{Shown, slot_in}
 use Rattle.candidates.specs.Sides.{Sides, unknown, neither, exactly, at_most, sides}
@@ -53,16 +53,16 @@ unfoldable compares : ⊤
 unfolding type_of is_valid_at norm_at norm piece_norm is_valid is_utf8 chars encode
 compares = tt
 
-abbrev two : Tree → Tree → Trees
+abbrev two : FilterContent → FilterContent → FilterContents
 two f g = And_then f (And_then g No_more)
 
-abbrev bob : Tree
+abbrev bob : FilterContent
 bob = Leaf (Equality (codes "cn") (codes "Bob"))
 
-abbrev has_obby : Tree
+abbrev has_obby : FilterContent
 has_obby = Leaf (Substrings (codes "cn") None (codes "OBBY" ∷ []) None)
 
-abbrev no_type : Tree
+abbrev no_type : FilterContent
 no_type = Leaf (Present (codes "mail"))
 
 module _ (numbers : ℕ → List ℕ → Members) (n : ℕ) where
@@ -73,8 +73,8 @@ module _ (numbers : ℕ → List ℕ → Members) (n : ℕ) where
   abbrev shown : Shown
   shown = record { slot_of = slot_in slots; members = numbers }
 
-  abbrev said : Tree → Sides
-  said f = sides shown n (prepared_tree types f)
+  abbrev said : FilterContent → Sides
+  said f = sides shown n (prepared_filter types f)
 
   -- ---- items
 

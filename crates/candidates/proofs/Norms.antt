@@ -1,4 +1,4 @@
--- An entry as it is stored, and what a settled item asks of the normal forms of its values.
+-- An entry as it is stored, and what a prepared item asks of the normal forms of its values.
 use Rattle.std.proofs.Common.{◌≡◌, ℕ, Bool, true, false, cond, ◌&&◌, ◌||◌, List, [], ◌∷◌, map, length, refl, sym, ap, ◌∙◌}
 use Rattle.std.specs.List.{list_any, AllByRecursion}
 use Rattle.std.proofs.lemmas.Bool.{ltb-true}

@@ -2,7 +2,7 @@
 use Rattle.std.proofs.Common.{◌≡◌, ℕ, suc, ◌+◌, ◌<◌, Bool, true, false, not, List, ◌∷◌, drop, length, get_or, refl, sym, ap, ◌∙◌, add-one, drop-cons}
 use Rattle.std.specs.List.{list_any, list_all}
 use Rattle.filter.specs.declared.prepared_filter.PreparedFilter.{PreparedFilter}
-use Rattle.filter.specs.Prepared.{Tree, All_of, Any_of, tree_of, trees_of}
+use Rattle.filter.specs.Prepared.{PreparedContent, All_of, Any_of, prepared_view, prepared_views}
 use Rattle.index.specs.Postings.{Shown}
 use Rattle.candidates.specs.declared.side.Side.{Side}
 use Rattle.candidates.specs.declared.side.Side.TheVariants.{May, MayNot}
@@ -36,31 +36,31 @@ one_more false false side s rest = refl
 module _ (shown : Shown) (n : ℕ) (all : Bool) (side : Side) (fs : List PreparedFilter) where
   -- with the sides of the operands from one on
   abbrev pub with_operands : Bool → ℕ → Bool
-  with_operands a i = both_or_either all a (every_or_some all side (sides_each shown n (trees_of (drop i fs))))
+  with_operands a i = both_or_either all a (every_or_some all side (sides_each shown n (prepared_views (drop i fs))))
 
-  pub operand_next : (a b : Bool) (i : ℕ) (d : PreparedFilter) → i < length fs → on side (sides shown n (tree_of (get_or fs i d))) ≡ b → with_operands a i ≡ with_operands (both_or_either all a b) (i + 1)
+  pub operand_next : (a b : Bool) (i : ℕ) (d : PreparedFilter) → i < length fs → on side (sides shown n (prepared_view (get_or fs i d))) ≡ b → with_operands a i ≡ with_operands (both_or_either all a b) (i + 1)
   operand_next a b i d lt is =
-      rw (add-one, drop-cons fs i d lt) (one_more all a side (sides shown n (tree_of (get_or fs i d))) (sides_each shown n (trees_of (drop (suc i) fs))))
-      ∙ ap (λ x. both_or_either all (both_or_either all a x) (every_or_some all side (sides_each shown n (trees_of (drop (i + 1) fs))))) is
+      rw (add-one, drop-cons fs i d lt) (one_more all a side (sides shown n (prepared_view (get_or fs i d))) (sides_each shown n (prepared_views (drop (suc i) fs))))
+      ∙ ap (λ x. both_or_either all (both_or_either all a x) (every_or_some all side (sides_each shown n (prepared_views (drop (i + 1) fs))))) is
 
   -- before the first operand: all numbers, or none
-  starts : (a : Bool) → a ≡ all → with_operands a 0 ≡ every_or_some all side (sides_each shown n (trees_of fs))
-  starts a is_a = let each = sides_each shown n (trees_of fs) in ap (λ b. both_or_either all b (every_or_some all side each)) is_a ∙ sym (from_start all (every_or_some all side each))
+  starts : (a : Bool) → a ≡ all → with_operands a 0 ≡ every_or_some all side (sides_each shown n (prepared_views fs))
+  starts a is_a = let each = sides_each shown n (prepared_views fs) in ap (λ b. both_or_either all b (every_or_some all side each)) is_a ∙ sym (from_start all (every_or_some all side each))
 
-  pub all_start : (a : Bool) (operands : List PreparedFilter) (tree : Tree) → a ≡ all → all ≡ is_may side → fs ≡ operands → tree ≡ All_of (trees_of operands) → with_operands a 0 ≡ on side (sides shown n tree)
-  all_start a operands tree is_a is_all is_fs is_tree =
-      let each = sides_each shown n (trees_of fs) in
+  pub all_start : (a : Bool) (operands : List PreparedFilter) (content : PreparedContent) → a ≡ all → all ≡ is_may side → fs ≡ operands → content ≡ All_of (prepared_views operands) → with_operands a 0 ≡ on side (sides shown n content)
+  all_start a operands content is_a is_all is_fs is_content =
+      let each = sides_each shown n (prepared_views fs) in
       starts a is_a
       ∙ ap (λ b. every_or_some b side each) is_all
       ∙ sym (on-all_sides side each)
-      ∙ ap (λ (xs : List PreparedFilter). on side (all_sides (sides_each shown n (trees_of xs)))) is_fs
-      ∙ ap (λ (t : Tree). on side (sides shown n t)) (sym is_tree)
+      ∙ ap (λ (xs : List PreparedFilter). on side (all_sides (sides_each shown n (prepared_views xs)))) is_fs
+      ∙ ap (λ (t : PreparedContent). on side (sides shown n t)) (sym is_content)
 
-  pub any_start : (a : Bool) (operands : List PreparedFilter) (tree : Tree) → a ≡ all → all ≡ not (is_may side) → fs ≡ operands → tree ≡ Any_of (trees_of operands) → with_operands a 0 ≡ on side (sides shown n tree)
-  any_start a operands tree is_a is_all is_fs is_tree =
-      let each = sides_each shown n (trees_of fs) in
+  pub any_start : (a : Bool) (operands : List PreparedFilter) (content : PreparedContent) → a ≡ all → all ≡ not (is_may side) → fs ≡ operands → content ≡ Any_of (prepared_views operands) → with_operands a 0 ≡ on side (sides shown n content)
+  any_start a operands content is_a is_all is_fs is_content =
+      let each = sides_each shown n (prepared_views fs) in
       starts a is_a
       ∙ ap (λ b. every_or_some b side each) is_all
       ∙ sym (on-any_sides side each)
-      ∙ ap (λ (xs : List PreparedFilter). on side (any_sides (sides_each shown n (trees_of xs)))) is_fs
-      ∙ ap (λ (t : Tree). on side (sides shown n t)) (sym is_tree)
+      ∙ ap (λ (xs : List PreparedFilter). on side (any_sides (sides_each shown n (prepared_views xs)))) is_fs
+      ∙ ap (λ (t : PreparedContent). on side (sides shown n t)) (sym is_content)

@@ -8,7 +8,7 @@ use Rattle.filter.specs.declared.assertion.Assertion.{Assertion}
 use Rattle.filter.specs.declared.assertion.Assertion.TheVariants.{Equality, GreaterOrEqual, LessOrEqual, Present, Substrings}
 use Rattle.filter.specs.declared.prepared_item.PreparedItem.{PreparedItem}
 use Rattle.filter.specs.declared.prepared_item.PreparedItem.TheVariants.{Undefined, Asserts}
-use Rattle.filter.specs.Prepared.{Tree, Trees, All_of, Any_of, Not_of, Leaf, No_more, And_then}
+use Rattle.filter.specs.Prepared.{PreparedContent, PreparedContents, All_of, Any_of, Not_of, Leaf, No_more, And_then}
 use Rattle.index.specs.EntryKeys.{windows}
 use Rattle.index.specs.Postings.{Shown}
 
@@ -75,14 +75,14 @@ any_sides each = record { may = list_any (λ s. s.may) each; may_not = list_all 
 abbrev pub swapped : Sides → Sides
 swapped s = record { may = s.may_not; may_not = s.may }
 
--- of a filter whose items are settled
+-- of a filter whose items are prepared
 abbrev mutual
-  pub sides : Shown → ℕ → Tree → Sides
+  pub sides : Shown → ℕ → PreparedContent → Sides
   sides shown n (All_of operands) = all_sides (sides_each shown n operands)
   sides shown n (Any_of operands) = any_sides (sides_each shown n operands)
   sides shown n (Not_of operand) = swapped (sides shown n operand)
   sides shown n (Leaf item) = item_sides shown n item
 
-  pub sides_each : Shown → ℕ → Trees → List Sides
+  pub sides_each : Shown → ℕ → PreparedContents → List Sides
   sides_each shown n No_more = []
   sides_each shown n (And_then first rest) = sides shown n first ∷ sides_each shown n rest

@@ -1,7 +1,7 @@
 //! The candidates of a filter.
 
 ghost use Rattle.std.specs.Prelude.{◌≡◌, IfOk};
-ghost use Rattle.filter.specs.Prepared.{tree_of};
+ghost use Rattle.filter.specs.Prepared.{prepared_view};
 ghost use Rattle.candidates.specs.Candidates.{may_be_true, may_be_false};
 ghost use Rattle.candidates.specs.Ids.{HasExactly};
 ghost use Rattle.candidates.specs.Sides.{sides};
@@ -32,7 +32,7 @@ fn numbers_on<'p, P: Postings>(
     postings: &'p P,
     side: Side,
 ) -> Result<Ids<Held<'p, P::Set>>, AllocError>
-    ensures { IfOk result (HasExactly (members_of P.Set.members) (λ n. on side (sides (P.shown postings.now) n (tree_of filter.now)))) }
+    ensures { IfOk result (HasExactly (members_of P.Set.members) (λ n. on side (sides (P.shown postings.now) n (prepared_view filter.now)))) }
 {
     match filter {
         PreparedFilter::And(operands) => {

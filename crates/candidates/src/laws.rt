@@ -5,9 +5,9 @@ ghost use Rattle.std.specs.List.{AllByRecursion};
 ghost use Rattle.std.specs.FinSet as set;
 ghost use Rattle.schema.specs.Conf.{Conf, IsConf};
 ghost use Rattle.entries.specs.Entries.{Attributes, IsAttribute};
-ghost use Rattle.filter_text.specs.Spells.{Tree};
+ghost use Rattle.filter_text.specs.Spells.{FilterContent};
 ghost use Rattle.filter.specs.Filters.{truth};
-ghost use Rattle.filter.specs.Prepared.{prepared_tree};
+ghost use Rattle.filter.specs.Prepared.{prepared_filter};
 ghost use Rattle.index.specs.declared.slot_key.SlotKey.{SlotKey};
 ghost use Rattle.index.specs.EntryKeys.{slot_keys};
 ghost use Rattle.index.specs.Indexes.{Index, members};
@@ -18,11 +18,11 @@ ghost use Rattle.candidates.specs.Sides.{sides};
 /// Where postings show a number under exactly the keys of an entry, a filter that is True of the entry may be True by what they show, and
 /// one that is False of it may be False.
 pub fn brackets_hold()
-    ensures { (conf : Conf) (shown : Shown) (n : ℕ) (attrs : Attributes) (f : Tree) → IsConf conf → AllByRecursion (IsAttribute conf.types) attrs
-        → Reflects shown conf.types n attrs → Allows (truth conf.types attrs f) (sides shown n (prepared_tree conf.types f)) }
+    ensures { (conf : Conf) (shown : Shown) (n : ℕ) (attrs : Attributes) (f : FilterContent) → IsConf conf → AllByRecursion (IsAttribute conf.types) attrs
+        → Reflects shown conf.types n attrs → Allows (truth conf.types attrs f) (sides shown n (prepared_filter conf.types f)) }
 {
     filter::pieces_are_told();
-    filter::settled_filters_say_the_same();
+    filter::prepared_filters_say_the_same();
 }
 
 /// An index that has a number under exactly the keys of an entry shows it so.

@@ -17,7 +17,7 @@ use Rattle.directory.specs.declared.runs.RunFault.{RunFault}
 use Rattle.directory.specs.declared.runs.RunFault.TheVariants as run_faults
 use Rattle.directory.specs.declared.loading.LoadFault.{LoadFault}
 use Rattle.directory.specs.declared.loading.LoadFault.TheVariants as loads
-use Rattle.filter_text.specs.Spells.{Tree}
+use Rattle.filter_text.specs.Spells.{FilterContent}
 use Rattle.commands.specs.Asked.{IsFilter, HasFilter}
 use Rattle.commands.specs.Folders.{Files, Finds, conf_name, data_name, index_name}
 use Rattle.commands.specs.Worlds.{World}
@@ -151,7 +151,7 @@ module _ (q : Query) (files : Option Files) where
   unwritten_stops = of_unwritten (StopsWith q files) (target_of q.file) (λ n named. named) tt
 
   -- behind the filter
-  module _ (t : Tree) (spelled : IsFilter q.filter t) where
+  module _ (t : FilterContent) (spelled : IsFilter q.filter t) where
     has : HasFilter q.filter
     has = (t, spelled)
 

@@ -6,7 +6,7 @@ use Rattle.schema.specs.Conf.{Conf, located, path_of}
 use Rattle.schema.specs.declared.code.Code.{Code}
 use Rattle.filter_text.specs.Depth.{IsShallow, IsDeepAt}
 use Rattle.filter_text.specs.Faults.{BeginsAt}
-use Rattle.filter_text.specs.Spells.{Tree, FilterText}
+use Rattle.filter_text.specs.Spells.{FilterContent, FilterText}
 use Rattle.filter_text.specs.declared.filter_fault.FilterFault.{FilterFault}
 use Rattle.filter_text.specs.declared.filter_fault.FilterFault.TheVariants.{At}
 use Rattle.filter_text.specs.declared.filter_fault.FilterFaultKind.TheVariants.{Deep}
@@ -19,16 +19,16 @@ abbrev pub any_entry : List ℕ
 any_entry = codes "(objectClass=*)"
 
 -- the filter that the text spells, and that isn't too deep; without a text, the filter that is True of every entry
-abbrev pub IsFilter : Option (List ℕ) → Tree → Type 0
+abbrev pub IsFilter : Option (List ℕ) → FilterContent → Type 0
 IsFilter text f = FilterText f (unwrap_or text any_entry) × IsShallow (unwrap_or text any_entry)
 
 -- there is one
 abbrev pub HasFilter : Option (List ℕ) → Type 0
-HasFilter text = (f : Tree) × IsFilter text f
+HasFilter text = (f : FilterContent) × IsFilter text f
 
 -- there is none
 abbrev pub IsNoFilter : Option (List ℕ) → Type 0
-IsNoFilter text = (f : Tree) → ¬ (IsFilter text f)
+IsNoFilter text = (f : FilterContent) → ¬ (IsFilter text f)
 
 -- what is told of a text that spells none: where it is too deep, exactly that; else a place, and the bytes before it begin one
 pub record IsNoFilterFor (text : Option (List ℕ)) (fault : FilterFault) : Type 0 where

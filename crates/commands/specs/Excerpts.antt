@@ -4,11 +4,11 @@ use Rattle.std.specs.FinMap as finite
 use Rattle.paths.specs.Paths.{Path}
 use Rattle.schema.specs.Conf.{Conf}
 use Rattle.tree.specs.Directories.{Entries}
-use Rattle.filter_text.specs.Spells.{Tree}
+use Rattle.filter_text.specs.Spells.{FilterContent}
 use Rattle.search.specs.declared.scope.Scope.TheVariants.{Sub}
 use Rattle.search.specs.Searches.{scan}
 use Rattle.directory.specs.Found.{found_text}
 
 -- the entries at a base and below it of which a filter is True, whole; nothing where the base isn't there
-abbrev pub excerpt_text : Conf → Entries → Path → Tree → List ℕ
+abbrev pub excerpt_text : Conf → Entries → Path → FilterContent → List ℕ
 excerpt_text conf d base f = if finite.contains_key d base then found_text conf d None (scan conf d base Sub f) else []

@@ -7,8 +7,8 @@ use Rattle.paths.specs.Paths.{Path}
 use Rattle.schema.specs.Conf.{Conf}
 use Rattle.entries.specs.Entries.{EntryContent}
 use Rattle.tree.specs.Directories.{Entries}
-use Rattle.filter_text.specs.Spells.{Tree}
-use Rattle.filter.specs.Prepared.{prepared_tree}
+use Rattle.filter_text.specs.Spells.{FilterContent}
+use Rattle.filter.specs.Prepared.{prepared_filter}
 use Rattle.candidates.specs.Sides.{sides}
 use Rattle.search.specs.declared.scope.Scope.{Scope}
 use Rattle.search.specs.Ranks.{rank_in}
@@ -40,8 +40,8 @@ pub record SaysOf (files : Option Files) (db : List ℕ) (conf : Conf) (d : Entr
 -- ---- what is found
 
 -- the entries in scope of which the filter is True; by an index, of those alone of which it may be True as that has it
-abbrev pub found_by : Said → Conf → Entries → Path → Scope → Tree → List (Path × EntryContent)
-found_by (Some (Ok stored)) conf d base scope f = scan_among conf d (λ p. (sides (shown_by stored) (rank_in d p) (prepared_tree conf.types f)).may) base scope f
+abbrev pub found_by : Said → Conf → Entries → Path → Scope → FilterContent → List (Path × EntryContent)
+found_by (Some (Ok stored)) conf d base scope f = scan_among conf d (λ p. (sides (shown_by stored) (rank_in d p) (prepared_filter conf.types f)).may) base scope f
 found_by (Some (Err fault)) conf d base scope f = scan conf d base scope f
 found_by None conf d base scope f = scan conf d base scope f
 

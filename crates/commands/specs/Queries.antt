@@ -7,7 +7,7 @@ use Rattle.schema.specs.Conf.{Conf}
 use Rattle.schema.specs.declared.code.Code.{Code}
 use Rattle.schema.specs.declared.code.Code.TheVariants.{NoSuchObject}
 use Rattle.tree.specs.Directories.{Entries}
-use Rattle.filter_text.specs.Spells.{Tree}
+use Rattle.filter_text.specs.Spells.{FilterContent}
 use Rattle.directory.specs.Dumps.{Begun}
 use Rattle.commands.specs.Asked.{IsFilter, HasFilter, IsNoFilterFor, base_of, IsBase}
 use Rattle.commands.specs.Folders.{Files, index_name}
@@ -33,7 +33,7 @@ pub record Query : Type 0 where
 
 -- a filter as it is read, and a directory, by its configuration and its entries
 pub record Basis : Type 0 where
-  pub filter : Tree
+  pub filter : FilterContent
   pub conf : Conf
   pub entries : Entries
 

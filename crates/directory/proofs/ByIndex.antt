@@ -29,7 +29,7 @@ use Rattle.index.specs.SlotKeys.{slot_key}
 use Rattle.index.specs.Indexes.{Index, members}
 use Rattle.index.specs.Postings.{Shown, slot_in, shown_by}
 use Rattle.candidates.specs.Brackets.{Reflects, Allows}
-use Rattle.candidates.specs.Candidates.{settled_filter, may_be_true}
+use Rattle.candidates.specs.Candidates.{prepared_of, may_be_true}
 use Rattle.candidates.specs.Sides.{Sides, exactly, at_most, if_indexed, assertion_sides, item_sides, all_sides, any_sides, swapped, sides, sides_each}
 use Rattle.search.specs.declared.scope.Scope.{Scope}
 use Rattle.search.specs.Scopes.{is_in_scope}
@@ -54,13 +54,13 @@ module _ (a b : Shown) (n : ℕ) (slots : (t : ℕ) (kind : IndexKind) → a.slo
   same_item (items.Asserts t types x) = same_assertion t x
 
   mutual
-    pub same_sides : (f : prepared.Tree) → sides a n f ≡ sides b n f
+    pub same_sides : (f : prepared.PreparedContent) → sides a n f ≡ sides b n f
     same_sides (prepared.All_of operands) = ap all_sides (same_each operands)
     same_sides (prepared.Any_of operands) = ap any_sides (same_each operands)
     same_sides (prepared.Not_of operand) = ap swapped (same_sides operand)
     same_sides (prepared.Leaf item) = same_item item
 
-    same_each : (fs : prepared.Trees) → sides_each a n fs ≡ sides_each b n fs
+    same_each : (fs : prepared.PreparedContents) → sides_each a n fs ≡ sides_each b n fs
     same_each prepared.No_more = refl
     same_each (prepared.And_then first rest) = λ i. same_sides first i ∷ same_each rest i
 
@@ -86,7 +86,7 @@ module _ (p q : Path → Bool) (base : Path) (scope : Scope) where
     pub same_count : count_among d p base scope ≡ count_among d q base scope
     same_count = ap length (same_tested (finite.entries d) agree)
 
-    pub same_steps : (conf : Conf) (f : texts.Tree) → counted_scan conf d p base scope f ≡ counted_scan conf d q base scope f
+    pub same_steps : (conf : Conf) (f : texts.FilterContent) → counted_scan conf d p base scope f ≡ counted_scan conf d q base scope f
     same_steps conf f = same_counted (λ e. is_true (truth conf.types e.1.attrs f)) 0 (finite.entries d) agree
 
 -- ---- the index of a tree
@@ -101,7 +101,7 @@ module _ (conf : Conf) (t : Tree) (numbered : IsNumbered t.entries t.numbers) (x
       ap (λ (s : Sides). s.may) (same_sides (shown_by x) (shown_by y) (number_at t p)
       (λ a kind. ap (λ (c : Conf). slot_in c.slots a kind) (of_x.same_conf ∙ sym of_y.same_conf))
       (λ slot key. of_x.has (number_at t p) e (entry_at p e at) (slot_key slot key) ∙ sym (of_y.has (number_at t p) e (entry_at p e at) (slot_key slot key)))
-      (settled_filter f))
+      (prepared_of f))
 
   pub reflected : ((x : Index) (n : ℕ) (attrs : Attributes) → ((k : SlotKey) → set.contains (members x k) n ≡ set.contains (slot_keys x.conf attrs) k) → Reflects (shown_by x) x.conf.types n attrs)
       → (p : Path) (e : EntryContent) → finite.get t.entries p ≡ Some e → Reflects (shown_by x) conf.types (number_at t p) e.attrs
@@ -118,10 +118,10 @@ told_true False e = cc
 
 -- an entry of which a filter is True is a candidate, by whichever number reflects it
 pub is_candidate : (d : Tree) (shown : Shown) (f : Made) → f.conf ≡ d.conf → IsConf d.conf → IsDirectory d.conf d.entries
-    → ((conf : Conf) (shown : Shown) (n : ℕ) (attrs : Attributes) (f : texts.Tree) → IsConf conf → AllByRecursion (IsAttribute conf.types) attrs
-    → Reflects shown conf.types n attrs → Allows (truth conf.types attrs f) (sides shown n (prepared.prepared_tree conf.types f)))
+    → ((conf : Conf) (shown : Shown) (n : ℕ) (attrs : Attributes) (f : texts.FilterContent) → IsConf conf → AllByRecursion (IsAttribute conf.types) attrs
+    → Reflects shown conf.types n attrs → Allows (truth conf.types attrs f) (sides shown n (prepared.prepared_filter conf.types f)))
     → (n : ℕ) (p : Path) (e : EntryContent) → finite.get d.entries p ≡ Some e → Reflects shown d.conf.types n e.attrs
     → is_true (truth d.conf.types e.attrs (texts.view f.filter)) ≡ true → may_be_true shown f n ≡ true
 is_candidate d shown f same is_conf good law n p e at shows is =
-    ap (λ (c : Conf). (sides shown n (prepared.prepared_tree c.types (texts.view f.filter))).may) same
+    ap (λ (c : Conf). (sides shown n (prepared.prepared_filter c.types (texts.view f.filter))).may) same
     ∙ (law d.conf shown n e.attrs (texts.view f.filter) is_conf (good.good p e at).attrs shows).if_true (told_true (truth d.conf.types e.attrs (texts.view f.filter)) is)

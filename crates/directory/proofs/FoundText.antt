@@ -11,7 +11,7 @@ use Rattle.paths.specs.Paths.{Path, path_cmp}
 use Rattle.schema.specs.Conf.{Conf}
 use Rattle.entries.specs.Entries.{EntryContent}
 use Rattle.tree.specs.Directories.{Entries, IsDirectory}
-use Rattle.filter_text.specs.Spells.{Tree}
+use Rattle.filter_text.specs.Spells.{FilterContent}
 use Rattle.filter.specs.Truths.{is_true}
 use Rattle.filter.specs.Filters.{truth}
 use Rattle.search.specs.declared.scope.Scope.{Scope}
@@ -69,10 +69,10 @@ kept_there d p (e ∷ es) h = by (p e) (kept_there d p es h.1)
     by false rest = rest
 
 -- what a scan finds
-pub scanned_are_there : (conf : Conf) (d : Entries) (base : Path) (scope : Scope) (f : Tree) → IsTotalOrder path_cmp → IsDirectory conf d → AreThere d (scan conf d base scope f)
+pub scanned_are_there : (conf : Conf) (d : Entries) (base : Path) (scope : Scope) (f : FilterContent) → IsTotalOrder path_cmp → IsDirectory conf d → AreThere d (scan conf d base scope f)
 scanned_are_there conf d base scope f total is = kept_there d (λ e. is_in_scope scope base e.0 && is_true (truth conf.types e.1.attrs f)) (finite.entries d) (all_there total conf d is)
 
-pub found_are_there : (conf : Conf) (d : Entries) (is_candidate : Path → Bool) (base : Path) (scope : Scope) (f : Tree) → IsTotalOrder path_cmp → IsDirectory conf d → AreThere d (scan_among conf d is_candidate base scope f)
+pub found_are_there : (conf : Conf) (d : Entries) (is_candidate : Path → Bool) (base : Path) (scope : Scope) (f : FilterContent) → IsTotalOrder path_cmp → IsDirectory conf d → AreThere d (scan_among conf d is_candidate base scope f)
 found_are_there conf d is_candidate base scope f total is = kept_there d (λ e. is_tested is_candidate scope base e && is_true (truth conf.types e.1.attrs f)) (finite.entries d) (all_there total conf d is)
 
 -- ---- text

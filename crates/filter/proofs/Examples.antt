@@ -18,7 +18,7 @@ use Rattle.schema.specs.TypeRules.{object_class}
 use Rattle.schema.specs.Values.{is_valid_at, norm_at}
 use Rattle.entries.specs.Entries.{Attributes}
 use Rattle.filter_text.specs.declared.items.Item.TheVariants.{Equality, Approx, GreaterOrEqual, LessOrEqual, Present, Substrings, Extensible}
-use Rattle.filter_text.specs.Spells.{Tree, Trees, All_of, Any_of, Not_of, Leaf, No_more, And_then}
+use Rattle.filter_text.specs.Spells.{FilterContent, FilterContents, All_of, Any_of, Not_of, Leaf, No_more, And_then}
 use Rattle.filter.specs.declared.truth.Truth.{Truth}
 use Rattle.filter.specs.declared.truth.Truth.TheVariants.{True, Undefined, False}
 use Rattle.filter.specs.Filters.{truth}
@@ -42,10 +42,10 @@ types =
 abbrev entry : Attributes
 entry = (2, codes "Bob" ∷ []) ∷ (3, codes "7" ∷ []) ∷ []
 
-abbrev said : Tree → Truth
+abbrev said : FilterContent → Truth
 said f = truth types entry f
 
-abbrev both : Tree → Tree → Trees
+abbrev both : FilterContent → FilterContent → FilterContents
 both f g = And_then f (And_then g No_more)
 
 -- what values and names are compared by
@@ -132,13 +132,13 @@ extensible = refl
 
 -- ---- filters
 
-abbrev bob : Tree
+abbrev bob : FilterContent
 bob = Leaf (Equality (codes "cn") (codes "bob"))
 
-abbrev eight : Tree
+abbrev eight : FilterContent
 eight = Leaf (Equality (codes "uidNumber") (codes "8"))
 
-abbrev no_type : Tree
+abbrev no_type : FilterContent
 no_type = Leaf (Present (codes "mail"))
 
 and_of_none : said (All_of No_more) ≡ True

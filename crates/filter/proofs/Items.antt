@@ -1,4 +1,4 @@
--- What a settled item says of a stored entry is what the item says of the entry.
+-- What a prepared item says of a stored entry is what the item says of the entry.
 use Rattle.std.proofs.Common.{◌≡◌, ℕ, ◌<◌, Bool, true, false, ◌&&◌, List, length, Option, Some, None, refl, ap, ◌∙◌}
 use Rattle.std.specs.Prelude.{is_some, if◌then◌else◌}
 use Rattle.std.specs.List.{list_any, list_all, AllByRecursion}
@@ -17,13 +17,13 @@ use Rattle.filter.specs.declared.assertion.Assertion.{Assertion}
 use Rattle.filter.specs.declared.assertion.Assertion.TheVariants.{Equality, GreaterOrEqual, LessOrEqual, Present, Substrings}
 use Rattle.schema.specs.Subtypes.{subtypes}
 use Rattle.filter.specs.Items.{item_type, item_pieces, texts_of, order_of, asks_for, attribute_of, values_under, true_or_false, truth_at, item_truth}
-use Rattle.filter.specs.Prepared.{only_if, assertion_of, settled, settled_at, prepared_item, matches, has_match, item_test}
+use Rattle.filter.specs.Prepared.{only_if, assertion_of, prepared_with, prepared_at, prepared_item, matches, has_match, item_test}
 use Rattle.schema.proofs.SubtypeTests.{AreTypes}
 use Rattle.filter.proofs.SubtypeRules.{same_norm}
 use Rattle.filter.proofs.Values.{AsksFor, of_entry}
 
 if_defined : (types : List AttributeType) (t : ℕ) (attrs : List EntryAttribute) (b : Bool) (a : Assertion) (x : Bool)
-    → (b ≡ true → has_match (subtypes types t) a attrs ≡ x) → item_test attrs (settled types t (only_if b a)) ≡ (if b then true_or_false x else truths.Undefined)
+    → (b ≡ true → has_match (subtypes types t) a attrs ≡ x) → item_test attrs (prepared_with types t (only_if b a)) ≡ (if b then true_or_false x else truths.Undefined)
 if_defined types t attrs true a x h = ap true_or_false (h refl)
 if_defined types t attrs false a x h = refl
 
@@ -46,7 +46,7 @@ module _ (types : List AttributeType) (each : AreTypes types) (attrs : List Entr
       → has_match (subtypes types t) a attrs ≡ list_any (asks_for types t item) (values_under types (attributes_of attrs) t)
   seen t item a h some = of_entry types t a (asks_for types t item) (by_rule types each t a (asks_for types t item) h some) attrs made
 
-  at_type : (t : ℕ) → t < length types → (item : Item) → item_test attrs (settled types t (assertion_of types t item)) ≡ truth_at types (attributes_of attrs) item (Some t)
+  at_type : (t : ℕ) → t < length types → (item : Item) → item_test attrs (prepared_with types t (assertion_of types t item)) ≡ truth_at types (attributes_of attrs) item (Some t)
   at_type t lt (items.Equality attribute value) =
       if_defined types t attrs (has_equality types t && is_valid_at types t value) (Equality (norm_at types t value)) _
       (λ e. seen t (items.Equality attribute value) (Equality (norm_at types t value)) (λ v. refl) (and_parts (has_equality types t) (is_valid_at types t value) e).0)
@@ -68,7 +68,7 @@ module _ (types : List AttributeType) (each : AreTypes types) (attrs : List Entr
       (has_rule ((type_at types t).equality) ((each t lt).substrings (and_parts ((type_at types t).has_substrings) (list_all (is_valid_at types t) (texts_of initial any last)) e).0)))
   at_type t lt (items.Extensible attribute words value) = refl
 
-  by_type : (item : Item) (o : Option ℕ) → ((t : ℕ) → o ≡ Some t → t < length types) → item_test attrs (settled_at types item o) ≡ truth_at types (attributes_of attrs) item o
+  by_type : (item : Item) (o : Option ℕ) → ((t : ℕ) → o ≡ Some t → t < length types) → item_test attrs (prepared_at types item o) ≡ truth_at types (attributes_of attrs) item o
   by_type item None known = refl
   by_type item (Some t) known = at_type t (known t refl) item
 

@@ -6,5 +6,5 @@ pub mod SubtypeRules
 pub mod Values
 pub mod Items
 pub mod Truths
-pub mod Trees
+pub mod PreparedOperands
 pub mod Examples

@@ -1,4 +1,4 @@
--- Filters whose items are settled under a configuration, and what they say of entries as they are stored.
+-- Filters whose items are prepared under a configuration, and what they say of entries as they are stored.
 use Rattle.std.specs.Prelude.{ℕ, Bool, true, not, ◌&&◌, ◌||◌, ◌==◌, List, [], ◌∷◌, map, Option, Some, None, if◌then◌else◌}
 use Rattle.std.specs.List.{list_any, list_all}
 use Rattle.std.specs.Str.{bytes_eq}
@@ -39,17 +39,17 @@ assertion_of types t (items.Present attribute) = Some Present
 assertion_of types t (items.Substrings attribute initial any last) = only_if ((type_at types t).has_substrings && list_all (is_valid_at types t) (texts_of initial any last)) (Substrings (item_pieces types t initial any last))
 assertion_of types t (items.Extensible attribute words value) = None
 
-abbrev pub settled : List AttributeType → ℕ → Option Assertion → PreparedItem
-settled types t None = Undefined
-settled types t (Some assertion) = Asserts t (subtypes types t) assertion
+abbrev pub prepared_with : List AttributeType → ℕ → Option Assertion → PreparedItem
+prepared_with types t None = Undefined
+prepared_with types t (Some assertion) = Asserts t (subtypes types t) assertion
 
-abbrev pub settled_at : List AttributeType → written.Item → Option ℕ → PreparedItem
-settled_at types item None = Undefined
-settled_at types item (Some t) = settled types t (assertion_of types t item)
+abbrev pub prepared_at : List AttributeType → written.Item → Option ℕ → PreparedItem
+prepared_at types item None = Undefined
+prepared_at types item (Some t) = prepared_with types t (assertion_of types t item)
 
 -- the item with its type, that type's subtypes, and what it asks of their values
 abbrev pub prepared_item : List AttributeType → written.Item → PreparedItem
-prepared_item types item = settled_at types item (item_type types item)
+prepared_item types item = prepared_at types item (item_type types item)
 
 -- whether the value with this normal form is one that is asked for
 abbrev pub matches : Assertion → List ℕ → Bool
@@ -72,54 +72,54 @@ item_test attrs (Asserts t types assertion) = true_or_false (has_match types ass
 
 -- ---- filters
 
--- a filter of settled items without where it lies in memory
+-- a filter of prepared items without where it lies in memory
 mutual
-  pub data Tree : Type 0 where
-    All_of : (operands : Trees) → Tree
-    Any_of : (operands : Trees) → Tree
-    Not_of : (operand : Tree) → Tree
-    Leaf : (item : PreparedItem) → Tree
+  pub data PreparedContent : Type 0 where
+    All_of : (operands : PreparedContents) → PreparedContent
+    Any_of : (operands : PreparedContents) → PreparedContent
+    Not_of : (operand : PreparedContent) → PreparedContent
+    Leaf : (item : PreparedItem) → PreparedContent
 
-  pub data Trees : Type 0 where
-    No_more : Trees
-    And_then : (first : Tree) (rest : Trees) → Trees
+  pub data PreparedContents : Type 0 where
+    No_more : PreparedContents
+    And_then : (first : PreparedContent) (rest : PreparedContents) → PreparedContents
 
-abbrev pub trees_then : List Tree → Trees → Trees
-trees_then [] us = us
-trees_then (t ∷ ts) us = And_then t (trees_then ts us)
+abbrev pub prepared_then : List PreparedContent → PreparedContents → PreparedContents
+prepared_then [] us = us
+prepared_then (t ∷ ts) us = And_then t (prepared_then ts us)
 
-abbrev pub tree_step : PreparedFilter-F Tree → Tree
-tree_step (And fs) = All_of (trees_then fs.items No_more)
-tree_step (Or fs) = Any_of (trees_then fs.items No_more)
-tree_step (Not f) = Not_of f.value
-tree_step (Item item) = Leaf item
+abbrev pub prepared_view_step : PreparedFilter-F PreparedContent → PreparedContent
+prepared_view_step (And fs) = All_of (prepared_then fs.items No_more)
+prepared_view_step (Or fs) = Any_of (prepared_then fs.items No_more)
+prepared_view_step (Not f) = Not_of f.value
+prepared_view_step (Item item) = Leaf item
 
-abbrev pub tree_of : PreparedFilter → Tree
-tree_of = fold-PreparedFilter Tree tree_step
+abbrev pub prepared_view : PreparedFilter → PreparedContent
+prepared_view = fold-PreparedFilter PreparedContent prepared_view_step
 
-abbrev pub trees_of : List PreparedFilter → Trees
-trees_of fs = trees_then (map tree_of fs) No_more
+abbrev pub prepared_views : List PreparedFilter → PreparedContents
+prepared_views fs = prepared_then (map prepared_view fs) No_more
 
--- the same filter with each item settled
+-- the same filter with each item prepared
 abbrev mutual
-  pub prepared_tree : List AttributeType → texts.Tree → Tree
-  prepared_tree types (texts.All_of operands) = All_of (prepared_trees types operands)
-  prepared_tree types (texts.Any_of operands) = Any_of (prepared_trees types operands)
-  prepared_tree types (texts.Not_of operand) = Not_of (prepared_tree types operand)
-  prepared_tree types (texts.Leaf item) = Leaf (prepared_item types item)
+  pub prepared_filter : List AttributeType → texts.FilterContent → PreparedContent
+  prepared_filter types (texts.All_of operands) = All_of (prepared_filters types operands)
+  prepared_filter types (texts.Any_of operands) = Any_of (prepared_filters types operands)
+  prepared_filter types (texts.Not_of operand) = Not_of (prepared_filter types operand)
+  prepared_filter types (texts.Leaf item) = Leaf (prepared_item types item)
 
-  pub prepared_trees : List AttributeType → texts.Trees → Trees
-  prepared_trees types texts.No_more = No_more
-  prepared_trees types (texts.And_then first rest) = And_then (prepared_tree types first) (prepared_trees types rest)
+  pub prepared_filters : List AttributeType → texts.FilterContents → PreparedContents
+  prepared_filters types texts.No_more = No_more
+  prepared_filters types (texts.And_then first rest) = And_then (prepared_filter types first) (prepared_filters types rest)
 
 -- what it says of an entry
 abbrev mutual
-  pub filter_test : List EntryAttribute → Tree → Truth
+  pub filter_test : List EntryAttribute → PreparedContent → Truth
   filter_test attrs (All_of operands) = and_of (filter_tests attrs operands)
   filter_test attrs (Any_of operands) = or_of (filter_tests attrs operands)
   filter_test attrs (Not_of operand) = opposite (filter_test attrs operand)
   filter_test attrs (Leaf item) = item_test attrs item
 
-  pub filter_tests : List EntryAttribute → Trees → List Truth
+  pub filter_tests : List EntryAttribute → PreparedContents → List Truth
   filter_tests attrs No_more = []
   filter_tests attrs (And_then first rest) = filter_test attrs first ∷ filter_tests attrs rest

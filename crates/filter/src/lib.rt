@@ -16,7 +16,7 @@ mod truth;
 pub use assertion::Assertion;
 pub use filter_text::{Filter, Item};
 pub use laws::{
-    negating_twice_changes_nothing, orders_are_told, pieces_are_told, settled_filters_say_the_same,
+    negating_twice_changes_nothing, orders_are_told, pieces_are_told, prepared_filters_say_the_same,
 };
 pub use meter::Meter;
 pub use prepared::Prepared;

@@ -240,7 +240,7 @@ fn type_of(conf: &Conf, item: &Item) -> Option<TypeId>
     }
 }
 
-/// An item settled under a configuration.
+/// An item prepared under a configuration.
 pub(crate) fn prepare_item(
     alloc: Global,
     conf: &Conf,

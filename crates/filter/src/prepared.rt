@@ -5,7 +5,7 @@ ghost use Rattle.schema.specs.Conf.{IsConf};
 ghost use Rattle.entries.specs.StoredEntries.{attributes_of, IsMade};
 ghost use Rattle.filter_text.specs.Spells.{view};
 ghost use Rattle.filter.specs.Filters.{truth};
-ghost use Rattle.filter.specs.Prepared.{prepared_tree, tree_of};
+ghost use Rattle.filter.specs.Prepared.{prepared_filter, prepared_view};
 
 use crate::meter::Meter;
 use crate::prepared_filter::PreparedFilter;
@@ -16,7 +16,7 @@ use schema::Conf;
 use std::marker::Model;
 use std::snapshot::Snapshot;
 
-/// A filter with its items settled under a configuration. A contract sees the two that it was made of.
+/// A filter with its items prepared under a configuration. A contract sees the two that it was made of.
 #[derive(Drop)]
 pub struct Prepared {
     conf: Snapshot<Conf>,
@@ -31,7 +31,7 @@ impl Model for Prepared {
     ghost use Rattle.filter_text.specs.contracts.filters.Filter as filters;
     ghost use Rattle.filter_text.specs.Spells as texts;
     ghost use Rattle.filter.specs.Made.{Made};
-    ghost use Rattle.filter.specs.Prepared.{prepared_tree, tree_of};
+    ghost use Rattle.filter.specs.Prepared.{prepared_filter, prepared_view};
 
     ghost Value = { Made };
 
@@ -39,13 +39,13 @@ impl Model for Prepared {
 
     ghost view = { λ p. record { conf = p.conf.value; filter = p.filter.value } };
 
-    ghost invariant = { λ p. (IsConf p.conf.value) × (tree_of p.root ≡ prepared_tree p.conf.value.types (texts.view p.filter.value)) };
+    ghost invariant = { λ p. (IsConf p.conf.value) × (prepared_view p.root ≡ prepared_filter p.conf.value.types (texts.view p.filter.value)) };
 }
 
 impl Prepared {
     pub(crate) fn of(filter: &Filter, conf: &Conf, root: PreparedFilter) -> Prepared
         requires conf { IsConf conf.now }
-        requires root { tree_of root ≡ prepared_tree conf.now.types (view filter.now) }
+        requires root { prepared_view root ≡ prepared_filter conf.now.types (view filter.now) }
         ensures { result ≡ record { conf = conf.now; filter = filter.now } }
     {
         Prepared {
@@ -55,9 +55,9 @@ impl Prepared {
         }
     }
 
-    /// The filter with each item settled.
+    /// The filter with each item prepared.
     pub fn root(&self) -> &PreparedFilter
-        ensures { tree_of result.now ≡ prepared_tree self.now.conf.types (view self.now.filter) }
+        ensures { prepared_view result.now ≡ prepared_filter self.now.conf.types (view self.now.filter) }
     {
         &self.root
     }

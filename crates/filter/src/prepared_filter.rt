@@ -1,14 +1,14 @@
-//! Filters of settled items.
+//! Filters of prepared items.
 
 ghost use Rattle.std.specs.Prelude.{◌≡◌};
 ghost use Rattle.filter.specs.Truths.{opposite};
-ghost use Rattle.filter.specs.Prepared.{filter_test, tree_of};
+ghost use Rattle.filter.specs.Prepared.{filter_test, prepared_view};
 
 use crate::prepared_item::PreparedItem;
 use crate::truth::Truth;
 use entries::Entry;
 
-/// A filter whose items are settled.
+/// A filter whose items are prepared.
 #[derive(Drop)]
 pub enum PreparedFilter {
     And(Vec<PreparedFilter>),
@@ -29,7 +29,7 @@ fn opposite(truth: Truth) -> Truth
 
 impl PreparedFilter {
     pub(crate) fn truth_of(&self, entry: &Entry) -> Truth
-        ensures { result ≡ filter_test entry.now.attrs (tree_of self.now) }
+        ensures { result ≡ filter_test entry.now.attrs (prepared_view self.now) }
     {
         match self {
             PreparedFilter::And(operands) => {

@@ -1,4 +1,4 @@
-//! Items that are settled under a configuration.
+//! Items that are prepared under a configuration.
 
 ghost use Rattle.std.specs.Prelude.{◌≡◌};
 ghost use Rattle.std.specs.List.{list_any};
@@ -10,7 +10,7 @@ use base::Sequence;
 use entries::{Entry, Values};
 use schema::TypeId;
 
-/// An item of a filter, settled under a configuration.
+/// An item of a filter, prepared under a configuration.
 #[derive(Debug, Drop)]
 pub enum PreparedItem {
     /// Of no entry it can be told.

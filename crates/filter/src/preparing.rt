@@ -2,7 +2,7 @@
 
 ghost use Rattle.std.specs.Prelude.{◌≡◌, IfOk};
 ghost use Rattle.filter_text.specs.Spells.{view};
-ghost use Rattle.filter.specs.Prepared.{prepared_tree, tree_of};
+ghost use Rattle.filter.specs.Prepared.{prepared_filter, prepared_view};
 
 use crate::prepare_item::prepare_item;
 use crate::prepared::Prepared;
@@ -12,7 +12,7 @@ use schema::Conf;
 use std::alloc::{AllocError, Global};
 
 fn prepare_filter(alloc: Global, conf: &Conf, filter: &Filter) -> Result<PreparedFilter, AllocError>
-    ensures { IfOk result (λ p. tree_of p ≡ prepared_tree conf.now.types (view filter.now)) }
+    ensures { IfOk result (λ p. prepared_view p ≡ prepared_filter conf.now.types (view filter.now)) }
 {
     match filter {
         Filter::And(operands) => {
@@ -37,7 +37,7 @@ fn prepare_filter(alloc: Global, conf: &Conf, filter: &Filter) -> Result<Prepare
     }
 }
 
-/// A filter made ready for testing entries under a configuration: of each item it is settled once which types it is about and what it
+/// A filter made ready for testing entries under a configuration: of each item it is found once which types it is about and what it
 /// asks of their values, or that it can't be told.
 pub fn prepare(alloc: Global, filter: &Filter, conf: &Conf) -> Result<Prepared, AllocError>
     ensures { IfOk result (λ p. p ≡ record { conf = conf.now; filter = filter.now }) }

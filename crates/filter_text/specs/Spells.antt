@@ -11,32 +11,32 @@ use Rattle.filter_text.specs.Runs.{Run, ampersand, vertical_line, exclamation_ma
 
 -- a filter without where it lies in memory
 mutual
-  pub data Tree : Type 0 where
-    All_of : (operands : Trees) → Tree
-    Any_of : (operands : Trees) → Tree
-    Not_of : (operand : Tree) → Tree
-    Leaf : (item : items.Item) → Tree
+  pub data FilterContent : Type 0 where
+    All_of : (operands : FilterContents) → FilterContent
+    Any_of : (operands : FilterContents) → FilterContent
+    Not_of : (operand : FilterContent) → FilterContent
+    Leaf : (item : items.Item) → FilterContent
 
-  pub data Trees : Type 0 where
-    No_more : Trees
-    And_then : (first : Tree) (rest : Trees) → Trees
+  pub data FilterContents : Type 0 where
+    No_more : FilterContents
+    And_then : (first : FilterContent) (rest : FilterContents) → FilterContents
 
 -- the filters of a list, and then these
-abbrev pub trees_then : List Tree → Trees → Trees
-trees_then [] us = us
-trees_then (t ∷ ts) us = And_then t (trees_then ts us)
+abbrev pub contents_then : List FilterContent → FilterContents → FilterContents
+contents_then [] us = us
+contents_then (t ∷ ts) us = And_then t (contents_then ts us)
 
-abbrev pub view_step : Filter-F Tree → Tree
-view_step (And fs) = All_of (trees_then fs.items No_more)
-view_step (Or fs) = Any_of (trees_then fs.items No_more)
+abbrev pub view_step : Filter-F FilterContent → FilterContent
+view_step (And fs) = All_of (contents_then fs.items No_more)
+view_step (Or fs) = Any_of (contents_then fs.items No_more)
 view_step (Not f) = Not_of f.value
 view_step (Item item) = Leaf item
 
-abbrev pub view : Filter → Tree
-view = fold-Filter Tree view_step
+abbrev pub view : Filter → FilterContent
+view = fold-Filter FilterContent view_step
 
-abbrev pub views : List Filter → Trees
-views fs = trees_then (map view fs) No_more
+abbrev pub views : List Filter → FilterContents
+views fs = contents_then (map view fs) No_more
 
 -- a text between parentheses
 abbrev pub Wrapped : (List ℕ → Type 0) → List ℕ → Type 0
@@ -48,7 +48,7 @@ Spaced P text = (s : List ℕ) × (rest : List ℕ) × (text ≡ s ++ rest) × R
 
 abbrev mutual
   -- what stands between the parentheses of a filter (filtercomp)
-  pub IsFilterComp : Tree → List ℕ → Type 0
+  pub IsFilterComp : FilterContent → List ℕ → Type 0
   IsFilterComp (All_of operands) text = (list : List ℕ) × (text ≡ ampersand ∷ list) × Spaced (IsFilterList operands) list
   IsFilterComp (Any_of operands) text = (list : List ℕ) × (text ≡ vertical_line ∷ list) × Spaced (IsFilterList operands) list
   IsFilterComp (Not_of operand) text = (s : List ℕ) × (a : List ℕ) × (z : List ℕ) × (text ≡ exclamation_mark ∷ (s ++ (a ++ z))) × Run is_space s
@@ -56,33 +56,33 @@ abbrev mutual
   IsFilterComp (Leaf item) text = IsItem item text
 
   -- filters, each with the spaces after it (filterlist)
-  pub IsFilterList : Trees → List ℕ → Type 0
+  pub IsFilterList : FilterContents → List ℕ → Type 0
   IsFilterList No_more text = text ≡ []
   IsFilterList (And_then first rest) text = (a : List ℕ) × (b : List ℕ) × (text ≡ a ++ b) × Wrapped (IsFilterComp first) a × Spaced (IsFilterList rest) b
 
-abbrev pub IsFilter : Tree → List ℕ → Type 0
+abbrev pub IsFilter : FilterContent → List ℕ → Type 0
 IsFilter f text = Wrapped (IsFilterComp f) text
 
-abbrev pub IsSpacedList : Trees → List ℕ → Type 0
+abbrev pub IsSpacedList : FilterContents → List ℕ → Type 0
 IsSpacedList fs text = Spaced (IsFilterList fs) text
 
 abbrev pub SomeFilter : List ℕ → Type 0
-SomeFilter text = (f : Tree) × IsFilter f text
+SomeFilter text = (f : FilterContent) × IsFilter f text
 
 abbrev pub SomeFilterComp : List ℕ → Type 0
-SomeFilterComp text = (f : Tree) × IsFilterComp f text
+SomeFilterComp text = (f : FilterContent) × IsFilterComp f text
 
 abbrev pub SomeSpacedList : List ℕ → Type 0
-SomeSpacedList text = (fs : Trees) × IsSpacedList fs text
+SomeSpacedList text = (fs : FilterContents) × IsSpacedList fs text
 
 -- a whole text: spaces round a filter, or spaces and what stands between parentheses
-abbrev pub FilterText : Tree → List ℕ → Type 0
+abbrev pub FilterText : FilterContent → List ℕ → Type 0
 FilterText f text = ((s : List ℕ) × (a : List ℕ) × (z : List ℕ) × (text ≡ s ++ (a ++ z)) × Run is_space s × IsFilter f a × Run is_space z)
     ⊎ ((s : List ℕ) × (a : List ℕ) × (text ≡ s ++ a) × Run is_space s × IsFilterComp f a)
 
 abbrev pub SomeText : List ℕ → Type 0
-SomeText text = (f : Tree) × FilterText f text
+SomeText text = (f : FilterContent) × FilterText f text
 
 -- no text has two readings
 abbrev pub OneReading : Type 0
-OneReading = (f g : Tree) (text : List ℕ) → FilterText f text → FilterText g text → f ≡ g
+OneReading = (f g : FilterContent) (text : List ℕ) → FilterText f text → FilterText g text → f ≡ g

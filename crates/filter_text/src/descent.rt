@@ -2,7 +2,7 @@
 ghost use Rattle.std.specs.Prelude.{◌≡◌, ℕ, ◌<◌, ◌≤◌, List, length, ◌++◌, IfOk, IfErr, MatchResult};
 ghost use Rattle.filter_text.specs.inner.Begins.{IsMemory, Faulty};
 ghost use Rattle.filter_text.specs.Runs.{Closed};
-ghost use Rattle.filter_text.specs.Spells.{Tree, Trees, view, views, IsFilter, IsFilterComp, IsSpacedList, SomeFilter, SomeFilterComp, SomeSpacedList};
+ghost use Rattle.filter_text.specs.Spells.{FilterContent, FilterContents, view, views, IsFilter, IsFilterComp, IsSpacedList, SomeFilter, SomeFilterComp, SomeSpacedList};
 
 use crate::cursor::{after, after_spaces, opens, to_parenthesis};
 use crate::fault::Fault;
@@ -15,7 +15,7 @@ use std::alloc::Global;
 pub fn filter_at(alloc: Global, bytes: &[u8]) -> Result<(Filter, &[u8]), Fault>
     ensures shorter { IfOk result (λ x. length x.1.now < length bytes.now) }
     ensures found { IfOk result (λ x. (text : List ℕ) × IsFilter (view x.0) text × (bytes.now ≡ text ++ x.1.now)) }
-    ensures only { (f : Tree) (text more : List ℕ) → IsFilter f text → bytes.now ≡ text ++ more
+    ensures only { (f : FilterContent) (text more : List ℕ) → IsFilter f text → bytes.now ≡ text ++ more
         → MatchResult result (λ x. (view x.0 ≡ f) × (x.1.now ≡ more)) IsMemory }
     ensures front { IfErr result (Faulty SomeFilter bytes.now) }
 {
@@ -34,7 +34,7 @@ pub fn filter_at(alloc: Global, bytes: &[u8]) -> Result<(Filter, &[u8]), Fault>
 pub fn comp_at(alloc: Global, bytes: &[u8]) -> Result<(Filter, &[u8]), Fault>
     ensures no_longer { IfOk result (λ x. length x.1.now ≤ length bytes.now) }
     ensures found { IfOk result (λ x. (text : List ℕ) × IsFilterComp (view x.0) text × (bytes.now ≡ text ++ x.1.now)) }
-    ensures only { (f : Tree) (text more : List ℕ) → IsFilterComp f text → Closed more → bytes.now ≡ text ++ more
+    ensures only { (f : FilterContent) (text more : List ℕ) → IsFilterComp f text → Closed more → bytes.now ≡ text ++ more
         → MatchResult result (λ x. (view x.0 ≡ f) × (x.1.now ≡ more)) IsMemory }
     ensures front { IfErr result (Faulty SomeFilterComp bytes.now) }
 {
@@ -64,7 +64,7 @@ pub fn comp_at(alloc: Global, bytes: &[u8]) -> Result<(Filter, &[u8]), Fault>
 fn list_at(alloc: Global, bytes: &[u8]) -> Result<(Vec<Filter>, &[u8]), Fault>
     ensures no_longer { IfOk result (λ x. length x.1.now ≤ length bytes.now) }
     ensures found { IfOk result (λ x. (text : List ℕ) × IsSpacedList (views x.0.items) text × (bytes.now ≡ text ++ x.1.now)) }
-    ensures only { (fs : Trees) (text more : List ℕ) → IsSpacedList fs text → Closed more → bytes.now ≡ text ++ more
+    ensures only { (fs : FilterContents) (text more : List ℕ) → IsSpacedList fs text → Closed more → bytes.now ≡ text ++ more
         → MatchResult result (λ x. (views x.0.items ≡ fs) × (x.1.now ≡ more)) IsMemory }
     ensures front { IfErr result (Faulty SomeSpacedList bytes.now) }
 {

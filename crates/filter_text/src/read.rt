@@ -2,7 +2,7 @@
 ghost use Rattle.std.specs.Prelude.{◌≡◌, ◌↔◌, ℕ, IfOk, IfErr, MatchResult};
 ghost use Rattle.filter_text.specs.Depth.{IsShallow, IsDeepAt};
 ghost use Rattle.filter_text.specs.Faults.{IsOutOfMemory, BeginsAt};
-ghost use Rattle.filter_text.specs.Spells.{Tree, view, FilterText, SomeText};
+ghost use Rattle.filter_text.specs.Spells.{FilterContent, view, FilterText, SomeText};
 ghost use Rattle.filter_text.specs.inner.Begins.{IsMemory, Faulty};
 ghost use Rattle.filter_text.specs.declared.filter_fault.FilterFaultKind.TheVariants.{Deep};
 
@@ -17,7 +17,7 @@ use std::alloc::Global;
 /// The filter that the whole text spells, however deep.
 fn whole(alloc: Global, text: &[u8]) -> Result<Filter, Fault>
     ensures found { IfOk result (λ f. FilterText (view f) text.now) }
-    ensures only { (f : Tree) → FilterText f text.now → MatchResult result (λ g. view g ≡ f) IsMemory }
+    ensures only { (f : FilterContent) → FilterText f text.now → MatchResult result (λ g. view g ≡ f) IsMemory }
     ensures front { IfErr result (Faulty SomeText text.now) }
 {
     let start = after_spaces(text);
@@ -46,7 +46,7 @@ pub fn read_filter(alloc: Global, text: &[u8]) -> Result<Filter, FilterFault>
     // What is read is spelled so, and not too deep.
     ensures found { IfOk result (λ f. FilterText (view f) text.now × IsShallow text.now) }
     // What is spelled so and is not too deep is read, unless memory runs out.
-    ensures only { (f : Tree) → FilterText f text.now → IsShallow text.now → MatchResult result (λ g. view g ≡ f) IsOutOfMemory }
+    ensures only { (f : FilterContent) → FilterText f text.now → IsShallow text.now → MatchResult result (λ g. view g ≡ f) IsOutOfMemory }
     // Deep comes first.
     ensures deep { (at : ℕ) → IsDeepAt text.now at ↔ (result ≡ Err (FilterFault.At at Deep)) }
     // The bytes before a fault begin some text.

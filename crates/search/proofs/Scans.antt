@@ -89,7 +89,7 @@ module _ (scope : Scope) (base : Path) (is_candidate : Path → Bool) where
   told : (e : Path × EntryContent) → begins base e.0 && tests e ≡ is_tested is_candidate scope base e
   told e = grouped (begins base e.0) (depth_fits scope (length base) (length e.0)) (is_candidate e.0)
 
-  module _ (types : List AttributeType) (f : texts.Tree) where
+  module _ (types : List AttributeType) (f : texts.FilterContent) where
     abbrev hits : Path × EntryContent → Bool
     hits e = is_true (truth types e.1.attrs f)
 
@@ -195,7 +195,7 @@ room_for_ranks d numbering base rank es first seen few =
 
 -- ---- candidates that suffice
 
-module _ (conf : Conf) (is_candidate : Path → Bool) (base : Path) (scope : Scope) (f : texts.Tree) where
+module _ (conf : Conf) (is_candidate : Path → Bool) (base : Path) (scope : Scope) (f : texts.FilterContent) where
   abbrev is_hit : Path × EntryContent → Bool
   is_hit e = is_true (truth conf.types e.1.attrs f)
 
@@ -218,7 +218,7 @@ module _ (conf : Conf) (is_candidate : Path → Bool) (base : Path) (scope : Sco
 -- ---- all as candidates
 
 module _ (is_candidate : Path → Bool) (all : (p : Path) → is_candidate p ≡ true) (d : Entries) (base : Path) (scope : Scope) where
-  pub scanned_whole : (conf : Conf) (f : texts.Tree) → scan_among conf d is_candidate base scope f ≡ scan conf d base scope f
+  pub scanned_whole : (conf : Conf) (f : texts.FilterContent) → scan_among conf d is_candidate base scope f ≡ scan conf d base scope f
   scanned_whole conf f = all_suffice conf is_candidate base scope f d (λ p e _ _. all p)
 
   pub counted_whole : count_among d is_candidate base scope ≡ count_in_scope d base scope

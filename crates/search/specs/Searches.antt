@@ -5,14 +5,14 @@ use Rattle.paths.specs.Paths.{Path}
 use Rattle.schema.specs.Conf.{Conf}
 use Rattle.entries.specs.Entries.{EntryContent}
 use Rattle.tree.specs.Directories.{Entries}
-use Rattle.filter_text.specs.Spells.{Tree}
+use Rattle.filter_text.specs.Spells.{FilterContent}
 use Rattle.filter.specs.Truths.{is_true}
 use Rattle.filter.specs.Filters.{truth}
 use Rattle.search.specs.declared.scope.Scope.{Scope}
 use Rattle.search.specs.Scopes.{is_in_scope}
 
 -- the entries in scope of which the filter is True, in dump order
-abbrev pub scan : Conf → Entries → Path → Scope → Tree → List (Path × EntryContent)
+abbrev pub scan : Conf → Entries → Path → Scope → FilterContent → List (Path × EntryContent)
 scan conf d base scope f = filter (λ e. is_in_scope scope base e.0 && is_true (truth conf.types e.1.attrs f)) (finite.entries d)
 
 -- how many entries are in scope
@@ -26,7 +26,7 @@ abbrev pub is_tested : (Path → Bool) → Scope → Path → Path × EntryConte
 is_tested is_candidate scope base e = is_in_scope scope base e.0 && is_candidate e.0
 
 -- the entries that are tested, and of which the filter is True, in dump order
-abbrev pub scan_among : Conf → Entries → (Path → Bool) → Path → Scope → Tree → List (Path × EntryContent)
+abbrev pub scan_among : Conf → Entries → (Path → Bool) → Path → Scope → FilterContent → List (Path × EntryContent)
 scan_among conf d is_candidate base scope f = filter (λ e. is_tested is_candidate scope base e && is_true (truth conf.types e.1.attrs f)) (finite.entries d)
 
 -- how many entries are tested
@@ -41,5 +41,5 @@ counted_by first second n (x ∷ xs) =
     else counted_by first second n xs
 
 -- the entries of `scan_among`, each with how many are tested up to it
-abbrev pub counted_scan : Conf → Entries → (Path → Bool) → Path → Scope → Tree → List (ℕ × (Path × EntryContent))
+abbrev pub counted_scan : Conf → Entries → (Path → Bool) → Path → Scope → FilterContent → List (ℕ × (Path × EntryContent))
 counted_scan conf d is_candidate base scope f = counted_by (is_tested is_candidate scope base) (λ e. is_true (truth conf.types e.1.attrs f)) 0 (finite.entries d)

@@ -7,7 +7,7 @@ use Rattle.values.specs.declared.types.AttributeType.{AttributeType}
 use Rattle.entries.specs.Entries.{EntryContent}
 use Rattle.entries.specs.StoredEntries.{Entry, content_of, attributes_of, entry_code}
 use Rattle.tree.specs.Trees.{path_code}
-use Rattle.filter_text.specs.Spells.{Tree}
+use Rattle.filter_text.specs.Spells.{FilterContent}
 use Rattle.filter.specs.Truths.{is_true}
 use Rattle.filter.specs.Filters.{truth}
 use Rattle.search.specs.declared.scope.Scope.{Scope}
@@ -44,7 +44,7 @@ pub record Steps (old : Walk) (item : Option (Bor Path × Bor Entry)) (new : Wal
       (λ x. old.to_come ≡ record { tested = new.tested; path = x.0.now; entry = x.1.now } ∷ new.to_come)
   pub end : new.in_the_end ≡ old.in_the_end
 
-module _ (types : List AttributeType) (scope : Scope) (base : ℕ) (f : Tree) where
+module _ (types : List AttributeType) (scope : Scope) (base : ℕ) (f : FilterContent) where
   -- of entries that the base begins, those that are lent, where so many were tested before
   abbrev pub lent : ℕ → List MarkedEntry → List Lent
   lent n [] = []
@@ -59,5 +59,5 @@ tested_in_all scope base n [] = n
 tested_in_all scope base n (e ∷ es) = if e.is_candidate && depth_fits scope base (length e.path) then tested_in_all scope base (n + 1) es else tested_in_all scope base n es
 
 -- the walk over entries that the base begins, where so many were tested before
-abbrev pub walk : List AttributeType → Scope → ℕ → Tree → ℕ → List MarkedEntry → Walk
+abbrev pub walk : List AttributeType → Scope → ℕ → FilterContent → ℕ → List MarkedEntry → Walk
 walk types scope base f n es = record { to_come = lent types scope base f n es; in_the_end = tested_in_all scope base n es; tested = n }

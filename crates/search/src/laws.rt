@@ -7,7 +7,7 @@ ghost use Rattle.paths.specs.Paths.{Path};
 ghost use Rattle.schema.specs.Conf.{Conf};
 ghost use Rattle.entries.specs.Entries.{EntryContent};
 ghost use Rattle.tree.specs.Directories.{Entries};
-ghost use Rattle.filter_text.specs.Spells.{Tree};
+ghost use Rattle.filter_text.specs.Spells.{FilterContent};
 ghost use Rattle.filter.specs.Truths.{is_true};
 ghost use Rattle.filter.specs.Filters.{truth};
 ghost use Rattle.search.specs.declared.scope.Scope.{Scope};
@@ -16,7 +16,7 @@ ghost use Rattle.search.specs.Searches.{scan, scan_among};
 
 /// Where each entry of which the filter is True is a candidate, a scan among the candidates finds what a scan of all entries finds.
 pub fn candidates_suffice()
-    ensures { (conf : Conf) (d : Entries) (is_candidate : Path → Bool) (base : Path) (scope : Scope) (f : Tree)
+    ensures { (conf : Conf) (d : Entries) (is_candidate : Path → Bool) (base : Path) (scope : Scope) (f : FilterContent)
         → ((p : Path) (e : EntryContent) → finite.get d p ≡ Some e → is_true (truth conf.types e.attrs f) ≡ true → is_candidate p ≡ true)
         → scan_among conf d is_candidate base scope f ≡ scan conf d base scope f }
 {}

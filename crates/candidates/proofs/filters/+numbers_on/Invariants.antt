@@ -1,5 +1,5 @@
 use Rattle.std.proofs.Common.{◌≡◌, ℕ}
-use Rattle.filter.specs.Prepared.{tree_of}
+use Rattle.filter.specs.Prepared.{prepared_view}
 use Rattle.candidates.specs.Ids.{ids_contain}
 use Rattle.candidates.specs.Sides.{sides}
 use Rattle.candidates.specs.inner.OneSide.{on}
@@ -13,9 +13,9 @@ decreases-numbers_on g l = goal.size-numbers_on g l
 abbrev pub invariant-loop-operand : goal.invariant-loop-operand
 invariant-loop-operand g l =
     (n : ℕ) → with_operands (g.P.Postings.shown l.postings) n l.all l.side l.operand-items (ids_contain (members_of g.P.Set.IdSet.members) l.ids n) l.operand-index
-    ≡ on l.side (sides (g.P.Postings.shown l.postings) n (tree_of l.filter))
+    ≡ on l.side (sides (g.P.Postings.shown l.postings) n (prepared_view l.filter))
 
 abbrev pub invariant-loop-operand-2 : goal.invariant-loop-operand-2
 invariant-loop-operand-2 g l =
     (n : ℕ) → with_operands (g.P.Postings.shown l.postings) n l.all l.side l.operand-items (ids_contain (members_of g.P.Set.IdSet.members) l.ids n) l.operand-index
-    ≡ on l.side (sides (g.P.Postings.shown l.postings) n (tree_of l.filter))
+    ≡ on l.side (sides (g.P.Postings.shown l.postings) n (prepared_view l.filter))

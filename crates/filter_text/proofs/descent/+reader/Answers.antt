@@ -4,7 +4,7 @@ use Rattle.filter_text.specs.declared.filters.Filter.{Filter}
 use Rattle.filter_text.specs.inner.Begins.{Faulty, IsMemory}
 use Rattle.filter_text.specs.Items.{IsItem, SomeItem}
 use Rattle.base.specs.Ends.{is_space}
-use Rattle.filter_text.specs.Spells.{Tree, Trees, All_of, Any_of, Not_of, Leaf, No_more, And_then, trees_then, view, IsFilterComp, IsFilterList, IsSpacedList, SomeFilter, SomeFilterComp, SomeSpacedList}
+use Rattle.filter_text.specs.Spells.{FilterContent, FilterContents, All_of, Any_of, Not_of, Leaf, No_more, And_then, contents_then, view, IsFilterComp, IsFilterList, IsSpacedList, SomeFilter, SomeFilterComp, SomeSpacedList}
 use Rattle.filter_text.proofs.Runs.{exit_only, exit_front, faulty_in, begins_before, tail_eq, same_span, closed_space, begins_also}
 use Rattle.filter_text.proofs.Texts.{view_and, view_or, view_not, view_item, views_push, comp_and, comp_or, comp_not, comp_item, item_only, list_only, filter_after, list_goes_on, list_ends, empty_filter, not_first}
 use Rattle.filter_text.proofs.descent.+reader.Goals as goal
@@ -72,7 +72,7 @@ comp_at-returns-in_err-operands-clause-front t c =
 pub comp_at-returns-in-Some-clause-found : goal.comp_at-returns-in-Some-clause-found
 comp_at-returns-in-Some-clause-found t c =
     let found = c.in_ok-operands.ensures.found in
-    (38 ∷ found.0, subst (λ (f : Tree). IsFilterComp f (38 ∷ found.0)) (sym (view_and c.in_ok-operands.operands)) (found.0, refl, found.1), c.in-Some.ensures ∙ ap (λ xs. 38 ∷ xs) found.2)
+    (38 ∷ found.0, subst (λ (f : FilterContent). IsFilterComp f (38 ∷ found.0)) (sym (view_and c.in_ok-operands.operands)) (found.0, refl, found.1), c.in-Some.ensures ∙ ap (λ xs. 38 ∷ xs) found.2)
 
 pub comp_at-returns-in-Some-clause-only : goal.comp_at-returns-in-Some-clause-only
 comp_at-returns-in-Some-clause-only t c f text more h closed e =
@@ -93,7 +93,7 @@ comp_at-returns-in_err-operands-2-clause-front t c =
 pub comp_at-returns-in-Some-after-clause-found : goal.comp_at-returns-in-Some-after-clause-found
 comp_at-returns-in-Some-after-clause-found t c =
     let found = c.in_ok-operands-2.ensures.found in
-    (124 ∷ found.0, subst (λ (f : Tree). IsFilterComp f (124 ∷ found.0)) (sym (view_or c.in_ok-operands-2.operands)) (found.0, refl, found.1), c.in-Some-after.ensures ∙ ap (λ xs. 124 ∷ xs) found.2)
+    (124 ∷ found.0, subst (λ (f : FilterContent). IsFilterComp f (124 ∷ found.0)) (sym (view_or c.in_ok-operands-2.operands)) (found.0, refl, found.1), c.in-Some-after.ensures ∙ ap (λ xs. 124 ∷ xs) found.2)
 
 pub comp_at-returns-in-Some-after-clause-only : goal.comp_at-returns-in-Some-after-clause-only
 comp_at-returns-in-Some-after-clause-only t c f text more h closed e =
@@ -123,7 +123,7 @@ comp_at-returns-in-Some-after-2-clause-found t c =
     let found = c.in_ok-operand.ensures.found in
     let text = 33 ∷ (before.0 ++ (found.0 ++ after.0)) in (
       text,
-      subst (λ (f : Tree). IsFilterComp f text) (sym (view_not c.in_ok-operand-2.operand ∙ ap (λ f. Not_of (view f)) c.in_ok-operand-2.ensures.ok)) (before.0, found.0, after.0, refl, before.1, found.1, after.1),
+      subst (λ (f : FilterContent). IsFilterComp f text) (sym (view_not c.in_ok-operand-2.operand ∙ ap (λ f. Not_of (view f)) c.in_ok-operand-2.ensures.ok)) (before.0, found.0, after.0, refl, before.1, found.1, after.1),
       c.in-Some-after-2.ensures ∙ ap (λ xs. 33 ∷ xs) (before.2 ∙ ap (λ xs. before.0 ++ xs) (found.2 ∙ ap (λ xs. found.0 ++ xs) after.2 ∙ sym (append_assoc found.0 after.0 c.after_spaces-in-Some-after-2.result.now))
           ∙ sym (append_assoc before.0 (found.0 ++ after.0) c.after_spaces-in-Some-after-2.result.now)),
     )
@@ -165,10 +165,10 @@ list_at-operands-init t c =
     record {
       no_longer = c.after_spaces-rest.ensures.no_longer;
       stops = c.after_spaces-rest.ensures.stops;
-      found = (run.0, run.2, λ us t h. (run.0, t, refl, run.1, subst (λ (fs : List Filter). IsFilterList (trees_then (map view fs) us) t) (sym none) h));
+      found = (run.0, run.2, λ us t h. (run.0, t, refl, run.1, subst (λ (fs : List Filter). IsFilterList (contents_then (map view fs) us) t) (sym none) h));
       only = λ fs text more h closed e.
           let cut = list_only fs c.args.bytes.now text more run.0 c.after_spaces-rest.result.now h closed e run.1 run.2 c.after_spaces-rest.ensures.stops in
-          (fs, cut.0, cut.1, cut.2, subst (λ (gs : List Filter). fs ≡ trees_then (map view gs) fs) (sym none) refl);
+          (fs, cut.0, cut.1, cut.2, subst (λ (gs : List Filter). fs ≡ contents_then (map view gs) fs) (sym none) refl);
     }
 
 pub list_at-operands-preserved : goal.list_at-operands-preserved
@@ -187,8 +187,8 @@ list_at-operands-preserved t c =
       found = (
         old.0 ++ (found.0 ++ run.0),
         old.1 ∙ ap (λ xs. old.0 ++ xs) (found.2 ∙ ap (λ xs. found.0 ++ xs) run.2 ∙ sym (append_assoc found.0 run.0 rest)) ∙ sym (append_assoc old.0 (found.0 ++ run.0) rest),
-        λ us t h. subst (λ (fs : Trees). IsSpacedList fs ((old.0 ++ (found.0 ++ run.0)) ++ t)) (sym (views_push operands more_operands c.in_ok-operand.operand us pushed))
-            (subst (IsSpacedList (trees_then (map view operands) (And_then (view c.in_ok-operand.operand) us)))
+        λ us t h. subst (λ (fs : FilterContents). IsSpacedList fs ((old.0 ++ (found.0 ++ run.0)) ++ t)) (sym (views_push operands more_operands c.in_ok-operand.operand us pushed))
+            (subst (IsSpacedList (contents_then (map view operands) (And_then (view c.in_ok-operand.operand) us)))
             (ap (λ xs. old.0 ++ xs) (sym (append_assoc found.0 run.0 t)) ∙ sym (append_assoc old.0 (found.0 ++ run.0) t))
             (old.2 (And_then (view c.in_ok-operand.operand) us) (found.0 ++ (run.0 ++ t)) (found.0, run.0 ++ t, refl, found.1, (run.0, t, refl, run.1, h)))),
       );
@@ -202,7 +202,7 @@ list_at-operands-preserved t c =
             cut.0,
             cut.1,
             cut.2,
-            o.4 ∙ ap (trees_then (map view operands)) (next.4 ∙ ap (λ f. And_then f next.1) (sym read.0)) ∙ sym (views_push operands more_operands c.in_ok-operand.operand next.1 pushed),
+            o.4 ∙ ap (contents_then (map view operands)) (next.4 ∙ ap (λ f. And_then f next.1) (sym read.0)) ∙ sym (views_push operands more_operands c.in_ok-operand.operand next.1 pushed),
           );
     }
 
@@ -215,7 +215,7 @@ pub list_at-returns-clause-only : goal.list_at-returns-clause-only
 list_at-returns-clause-only t c fs text more h closed e =
     let o = c.operands.invariant.only fs text more h closed e in
     let none = list_ends o.0 c.operands.rest.now o.1 more o.2 (c.operands-test.ensures.no refl) o.3 in
-    (sym (o.4 ∙ ap (trees_then (map view c.operands.operands.items)) none.0), none.1)
+    (sym (o.4 ∙ ap (contents_then (map view c.operands.operands.items)) none.0), none.1)
 
 pub list_at-returns-in_err-operand-clause-only : goal.list_at-returns-in_err-operand-clause-only
 list_at-returns-in_err-operand-clause-only t c fs text more h closed e =
@@ -229,5 +229,5 @@ list_at-returns-in_err-operand-clause-front t c =
     let old = c.operands.invariant.found in
     exit_front SomeSpacedList c.args.bytes.now c.from_residual.result _ c.from_residual.ensures.1
     (faulty_in SomeFilter SomeSpacedList old.0 c.args.bytes.now c.operands.rest.now old.1
-    (λ t h. ([], (trees_then (map view c.operands.operands.items) (And_then h.0 No_more), old.2 (And_then h.0 No_more) (t ++ []) (t, [], refl, h.1, ([], [], refl, tt, refl)))))
+    (λ t h. ([], (contents_then (map view c.operands.operands.items) (And_then h.0 No_more), old.2 (And_then h.0 No_more) (t ++ []) (t, [], refl, h.1, ([], [], refl, tt, refl)))))
     _ c.in_err-operand.ensures.front)

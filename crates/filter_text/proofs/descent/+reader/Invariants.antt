@@ -1,7 +1,7 @@
 use Rattle.std.proofs.Common.{◌≡◌, ◌≤◌, ◌*◌, ◌+◌, ◌++◌, List, ℕ, length, map}
 use Rattle.base.specs.Ends.{is_space}
 use Rattle.filter_text.specs.Runs.{Closed, Stops}
-use Rattle.filter_text.specs.Spells.{Trees, trees_then, view, IsSpacedList, IsFilterList}
+use Rattle.filter_text.specs.Spells.{FilterContents, contents_then, view, IsSpacedList, IsFilterList}
 use Rattle.filter_text.proofs.descent.+reader.Given as goal
 
 abbrev pub decreases-filter_at : goal.decreases-filter_at
@@ -20,9 +20,9 @@ invariant-list_at-operands l =
       no_longer : length l.rest ≤ length l.fn.bytes;
       stops : Stops is_space l.rest;
       found : (text : List ℕ) × (l.fn.bytes ≡ text ++ l.rest)
-          × ((us : Trees) (t : List ℕ) → IsFilterList us t → IsSpacedList (trees_then (map view l.operands.items) us) (text ++ t));
-      only : (fs : Trees) (text more : List ℕ) → IsSpacedList fs text → Closed more → l.fn.bytes ≡ text ++ more
-          → (us : Trees) × (t : List ℕ) × IsFilterList us t × (l.rest ≡ t ++ more) × (fs ≡ trees_then (map view l.operands.items) us);
+          × ((us : FilterContents) (t : List ℕ) → IsFilterList us t → IsSpacedList (contents_then (map view l.operands.items) us) (text ++ t));
+      only : (fs : FilterContents) (text more : List ℕ) → IsSpacedList fs text → Closed more → l.fn.bytes ≡ text ++ more
+          → (us : FilterContents) × (t : List ℕ) × IsFilterList us t × (l.rest ≡ t ++ more) × (fs ≡ contents_then (map view l.operands.items) us);
     }
 
 abbrev pub decreases-list_at-operands : goal.decreases-list_at-operands

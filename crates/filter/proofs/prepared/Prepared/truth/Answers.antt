@@ -4,7 +4,7 @@ use Rattle.filter_text.specs.Spells.{view}
 use Rattle.filter.specs.Filters.{truth}
 use Rattle.filter.specs.Made.{Made}
 use Rattle.filter.specs.Prepared.{filter_test}
-use Rattle.filter.proofs.Trees.{filter_law}
+use Rattle.filter.proofs.PreparedOperands.{filter_law}
 use Rattle.filter.proofs.prepared.Prepared.truth.Goals as goal
 
 pub returns-clause-truth : goal.returns-clause-truth
