@@ -3,7 +3,7 @@ use Rattle.std.proofs.Common.{◌≡◌, ℕ, ◌⊎◌, true, false, inl, inr, 
 use Rattle.std.specs.Prelude.{Result, Ok, Err, if◌then◌else◌}
 use Rattle.device.specs.Device.{Written}
 use Rattle.commands.specs.Changes.{written_by}
-use Rattle.commands.specs.Endings.{StoppedAt, Tells}
+use Rattle.commands.specs.Endings.{StoppedAt, ReportsStop}
 use Rattle.commands.specs.Failures.{IsMemory, FailsToRead, TellsInUse}
 use Rattle.commands.specs.Folders.{Files, Finds, conf_name}
 use Rattle.commands.specs.Locked.{LockFails, HasNoLock, EndsUnder}
@@ -16,7 +16,7 @@ use Rattle.commands.specs.declared.messages.CommandFault.{CommandFault}
 use Rattle.commands.specs.declared.messages.CommandFault.TheVariants as faults
 use Rattle.commands.specs.declared.messages.Stop.{Stop}
 use Rattle.commands.specs.declared.messages.Stop.TheVariants as stops
-use Rattle.commands.proofs.Stopping.{of_memory, of_unread, stopped, told}
+use Rattle.commands.proofs.Stopping.{of_memory, of_unread, stopped, reported}
 
 -- ---- why there is no lock
 
@@ -75,8 +75,8 @@ module _ (GoesThrough : World → World → Status → Type 0) (ComesTo : World 
   goes_through (Some db) w w' s (inl none) = absurd none
   goes_through (Some db) w w' s (inr under) = inr (record { locked = under.locked; is = under.is; goes = inl under.goes })
 
-  pub says_why : (writes : Option (List ℕ)) (w mid : World) (messages : Written) (why : Stop) (s : Status) → HasEndedUnder writes GoesThrough ComesTo w mid (Err why) → Tells why mid.messages messages s
+  pub reports_why : (writes : Option (List ℕ)) (w mid : World) (messages : Written) (why : Stop) (s : Status) → HasEndedUnder writes GoesThrough ComesTo w mid (Err why) → ReportsStop why mid.messages messages s
       → EndsUnder writes GoesThrough ComesTo w (record mid { messages = messages }) s
-  says_why None w mid messages why s ended tells = inr (told ComesTo w mid messages why s ended tells)
-  says_why (Some db) w mid messages why s (inl none) tells = inl (told (HasNoLock db) w mid messages why s none tells)
-  says_why (Some db) w mid messages why s (inr under) tells = inr (record { locked = under.locked; is = under.is; goes = inr (told ComesTo under.locked mid messages why s under.goes tells) })
+  reports_why None w mid messages why s ended tells = inr (reported ComesTo w mid messages why s ended tells)
+  reports_why (Some db) w mid messages why s (inl none) tells = inl (reported (HasNoLock db) w mid messages why s none tells)
+  reports_why (Some db) w mid messages why s (inr under) tells = inr (record { locked = under.locked; is = under.is; goes = inr (reported ComesTo under.locked mid messages why s under.goes tells) })

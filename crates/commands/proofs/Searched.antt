@@ -6,14 +6,14 @@ use Rattle.schema.specs.declared.code.Code.TheVariants.{SizeLimitExceeded}
 use Rattle.stored_index.specs.declared.fault.IndexFaultKind.{IndexFaultKind}
 use Rattle.command_line.specs.declared.request.SearchOptions.{SearchOptions}
 use Rattle.commands.specs.Folders.{Files}
-use Rattle.commands.specs.IndexFiles.{Said, SaysOf, Warns, IsWarned}
-use Rattle.commands.specs.Messages.{IsTold, code_text}
+use Rattle.commands.specs.IndexFiles.{Said, SaysOf, ReportsFault, IsFaultReported}
+use Rattle.commands.specs.Messages.{IsReported, code_text}
 use Rattle.commands.specs.Prints.{search_query, IsFoundText, SearchText, SearchGoesThrough, IsSaid, ComesFirst, SearchStops}
 use Rattle.commands.specs.Queries.{Basis, StopsWith, HasBegun, PrintsPartly}
 use Rattle.commands.specs.Worlds.{World}
-use Rattle.commands.specs.inner.IndexFiles.{said, FailsToSay, HasLoaded}
+use Rattle.commands.specs.inner.IndexFiles.{said, FailsToReport, HasLoaded}
 use Rattle.commands.specs.inner.Printed.{HasPrinted}
-use Rattle.commands.specs.inner.Stopped.{CanTell}
+use Rattle.commands.specs.inner.Stopped.{CanReport}
 use Rattle.commands.specs.inner.Views.{basis_of}
 use Rattle.commands.specs.declared.messages.CommandFault.{CommandFault}
 use Rattle.commands.specs.declared.messages.Status.{Status}
@@ -43,26 +43,26 @@ module _ (asked : SearchOptions) (w : World) where
     first = first;
   })
 
-  pub unsaid : (s : Said) (m : Written) (why : Stop) → IsSaid asked w.files s → FailsToSay s w.messages m why → SearchStops asked w (record { why = why; stored = []; world = record w { messages = m } })
-  unsaid (Some (Err fault)) m (stops.Fault f) is fails =
+  pub unreported : (s : Said) (m : Written) (why : Stop) → IsSaid asked w.files s → FailsToReport s w.messages m why → SearchStops asked w (record { why = why; stored = []; world = record w { messages = m } })
+  unreported (Some (Err fault)) m (stops.Fault f) is fails =
       subst (λ (messages : Written). SearchStops asked w (record { why = stops.Fault f; stored = []; world = record w { messages = messages } })) (sym fails.1)
       (at_once f (of_memory (StopsWith (search_query asked) w.files) tt f fails.0) (of_memory ComesFirst tt f fails.0))
-  unsaid (Some (Err fault)) m (stops.Usage text) is fails = absurd fails
-  unsaid (Some (Err fault)) m stops.Messages is fails = inr (inr (record { fault = fault; is = is; why = refl; stored = refl; broke = fails; stays = refl }))
-  unsaid (Some (Ok stored)) m why is fails = absurd fails
-  unsaid None m why is fails = absurd fails
+  unreported (Some (Err fault)) m (stops.Usage text) is fails = absurd fails
+  unreported (Some (Err fault)) m stops.Messages is fails = inr (inr (record { fault = fault; is = is; why = refl; stored = refl; broke = fails; stays = refl }))
+  unreported (Some (Ok stored)) m why is fails = absurd fails
+  unreported None m why is fails = absurd fails
 
-  module _ (s : Said) (m : Written) (warns : Warns s w.messages m) where
-    warned : IsWarned s w (record w { messages = m })
-    warned = record { warns = warns; stays = refl }
+  module _ (s : Said) (m : Written) (reports : ReportsFault s w.messages m) where
+    index_reported : IsFaultReported s w (record w { messages = m })
+    index_reported = record { reports = reports; stays = refl }
 
-    pub stops_warned : (output : Written) (f : CommandFault) → IsSaid asked w.files s → StopsWith (search_query asked) w.files f → PrintsPartly (HasBegun (λ text. (past : Bool) × SearchText asked w.files s past text) None) w.output output f
+    pub stops_reported : (output : Written) (f : CommandFault) → IsSaid asked w.files s → StopsWith (search_query asked) w.files f → PrintsPartly (HasBegun (λ text. (past : Bool) × SearchText asked w.files s past text) None) w.output output f
         → SearchStops asked w (record { why = stops.Fault f; stored = []; world = record w { output = output; messages = m } })
-    stops_warned output f is why printed = inr (inl (record {
+    stops_reported output f is why printed = inr (inl (record {
       said = s;
       is = is;
-      warned = record w { messages = m };
-      warns = warned;
+      index_reported = record w { messages = m };
+      reports = index_reported;
       stops = query_stops (search_query asked) (λ text. (past : Bool) × SearchText asked w.files s past text) (record w { messages = m }) (record w { output = output; messages = m }) f why printed refl;
     }))
 
@@ -74,33 +74,33 @@ module _ (asked : SearchOptions) (w : World) where
       past = false;
       text = h.text;
       is = h.is;
-      warned = record w { messages = m };
-      warns = warned;
+      index_reported = record w { messages = m };
+      reports = index_reported;
       mid = record w { output = output; messages = m };
       printed = record { took = h.took; stays = refl };
-      told = (refl, refl);
+      reported = (refl, refl);
     }
 
     pub searched_past : (output messages : Written) (text : List ℕ) (wanted status : Status) → HasPrinted (SearchText asked w.files s true) w.output output
-        → text ≡ code_text (codes "search") SizeLimitExceeded → wanted ≡ Refused → IsTold m messages text wanted status → SearchGoesThrough asked w (record w { output = output; messages = messages }) status
-    searched_past output messages text wanted status h same_text same_status told = record {
+        → text ≡ code_text (codes "search") SizeLimitExceeded → wanted ≡ Refused → IsReported m messages text wanted status → SearchGoesThrough asked w (record w { output = output; messages = messages }) status
+    searched_past output messages text wanted status h same_text same_status reported = record {
       said = s;
       past = true;
       text = h.text;
       is = h.is;
-      warned = record w { messages = m };
-      warns = warned;
+      index_reported = record w { messages = m };
+      reports = index_reported;
       mid = record w { output = output; messages = m };
       printed = record { took = h.took; stays = refl };
-      told = record {
-        told = subst (λ (t : List ℕ). IsTold m messages t Refused status) same_text (subst (λ (o : Status). IsTold m messages text o status) same_status told);
+      reported = record {
+        reported = subst (λ (t : List ℕ). IsReported m messages t Refused status) same_text (subst (λ (o : Status). IsReported m messages text o status) same_status reported);
         stays = refl;
       };
     }
 
 -- the messages can fail once more where they could before
-pub still_can : (why : Stop) (n k : ℕ) → k ≡ n → CanTell why n → CanTell why k
-still_can why n k same = subst (CanTell why) (sym same)
+pub still_can : (why : Stop) (n k : ℕ) → k ≡ n → CanReport why n → CanReport why k
+still_can why n k same = subst (CanReport why) (sym same)
 
 -- what is found without an index is found also where index.txt has a fault
 beside_a_fault : (asked : SearchOptions) (basis : Basis) (fault : IndexFaultKind) (past : Bool) (text : List ℕ) → IsFoundText asked None basis past text → IsFoundText asked (Some (Err fault)) basis past text

@@ -21,7 +21,7 @@ use Rattle.filter_text.specs.Spells.{FilterContent}
 use Rattle.commands.specs.Asked.{IsFilter, HasFilter}
 use Rattle.commands.specs.Folders.{Files, Finds, conf_name, data_name, index_name}
 use Rattle.commands.specs.Worlds.{World}
-use Rattle.commands.specs.Endings.{StoppedAt, Tells, Stops}
+use Rattle.commands.specs.Endings.{StoppedAt, ReportsStop, Stops}
 use Rattle.commands.specs.Loaded.{IsConfigured, IsLoaded, LoadFails}
 use Rattle.commands.specs.Failures.{IsMemory, FailsToRead, FailsToWrite}
 use Rattle.commands.specs.Changes.{Breaks}
@@ -30,7 +30,7 @@ use Rattle.commands.specs.Queries.{Query, LacksBase, target_of, StopsWith, IsBeg
 use Rattle.commands.specs.inner.Refusals.{FilterFails, Refuses, RefusesOrBreaks}
 use Rattle.commands.specs.inner.LoadFaults.{TellsLoadFault}
 use Rattle.commands.specs.inner.WriteFaults.{TellsWriteFault}
-use Rattle.commands.specs.inner.Stopped.{CanTell, HasStopped}
+use Rattle.commands.specs.inner.Stopped.{CanReport, HasStopped}
 use Rattle.commands.specs.declared.messages.Status.{Status}
 use Rattle.commands.specs.declared.messages.CommandFault.{CommandFault}
 use Rattle.commands.specs.declared.messages.CommandFault.TheVariants as faults
@@ -75,31 +75,31 @@ of_unwritten P name unwritten p (faults.CannotWrite n) h = unwritten n h
 of_unwritten P name unwritten p (faults.InUse n) h = absurd h
 of_unwritten P name unwritten p faults.OutOfMemory h = p
 
--- ---- what is said of a stop
+-- ---- what is reported of a stop
 
--- standard error can fail once more, so anything can be said
-pub fits_tells : (why : Stop) (n : ℕ) → n < 2 ^ 64 - 1 → CanTell why n
-fits_tells (stops.Fault fault) n fits = fits
-fits_tells (stops.Usage text) n fits = fits
-fits_tells stops.Messages n fits = tt
+-- standard error can fail once more, so anything can be reported
+pub fits_reports : (why : Stop) (n : ℕ) → n < 2 ^ 64 - 1 → CanReport why n
+fits_reports (stops.Fault fault) n fits = fits
+fits_reports (stops.Usage text) n fits = fits
+fits_reports stops.Messages n fits = tt
 
 -- where standard error can fail once more before a run, it can afterwards, unless it is what failed
-pub can_tell : (f : RunFault) (name : List ℕ) (why : Stop) (s s' w w' : ℕ) → w < 2 ^ 64 - 1 → Failures (Err f) s s' w w' → Breaks f name why → CanTell why w'
-can_tell (run_faults.Read t) name why s s' w w' fits h breaks = fits_tells why w' (subst (λ (n : ℕ). n < 2 ^ 64 - 1) (sym h.1) fits)
-can_tell (run_faults.Write t) name why s s' w w' fits h breaks = subst (λ (o : Stop). CanTell o w') (sym breaks) tt
-can_tell (run_faults.OutOfMemory t) name why s s' w w' fits h breaks = fits_tells why w' (subst (λ (n : ℕ). n < 2 ^ 64 - 1) (sym h.1) fits)
+pub can_report : (f : RunFault) (name : List ℕ) (why : Stop) (s s' w w' : ℕ) → w < 2 ^ 64 - 1 → Failures (Err f) s s' w w' → Breaks f name why → CanReport why w'
+can_report (run_faults.Read t) name why s s' w w' fits h breaks = fits_reports why w' (subst (λ (n : ℕ). n < 2 ^ 64 - 1) (sym h.1) fits)
+can_report (run_faults.Write t) name why s s' w w' fits h breaks = subst (λ (o : Stop). CanReport o w') (sym breaks) tt
+can_report (run_faults.OutOfMemory t) name why s s' w w' fits h breaks = fits_reports why w' (subst (λ (n : ℕ). n < 2 ^ 64 - 1) (sym h.1) fits)
 
 -- it stops, and no file was stored
 pub stopped : (ComesTo : World → StoppedAt → Type 0) (w w' : World) (why : Stop) → ComesTo w (record { why = why; stored = []; world = w' }) → w'.files ≡ w.files → HasStopped ComesTo w w' why
 stopped ComesTo w w' why comes same = record { stored = []; comes = comes; files = same }
 
--- and then it says why
-pub told : (ComesTo : World → StoppedAt → Type 0) (w mid : World) (messages : Written) (why : Stop) (s : Status) → HasStopped ComesTo w mid why → Tells why mid.messages messages s → Stops ComesTo w (record mid { messages = messages }) s
-told ComesTo w mid messages why s has tells = record {
+-- and then it reports why
+pub reported : (ComesTo : World → StoppedAt → Type 0) (w mid : World) (messages : Written) (why : Stop) (s : Status) → HasStopped ComesTo w mid why → ReportsStop why mid.messages messages s → Stops ComesTo w (record mid { messages = messages }) s
+reported ComesTo w mid messages why s has tells = record {
   at = record { why = why; stored = has.stored; world = mid };
   comes = has.comes;
   files = has.files;
-  told = tells;
+  reported = tells;
   stays = refl;
 }
 
@@ -115,12 +115,12 @@ module _ (files : Option Files) (db : List ℕ) where
   pub memory_loads : (f : CommandFault) → IsMemory f → LoadFails files db f
   memory_loads = of_memory (LoadFails files db) tt
 
-  -- a fault of loading the file, told as the command's
+  -- a fault of loading the file, reported as the command's
   pub load_told : (conf : Conf) (named name : List ℕ) (text : Option (List ℕ)) (fault : LoadFault) (f : CommandFault)
       → TellsLoadFault named fault f → named ≡ data_name db → IsConfigured files (conf_name db) conf → name ≡ data_name db → Finds files name (Some text) → StopsAt fault conf finite.empty (option_map records text) → LoadFails files db f
-  load_told conf named name text loads.Read f told is configured is_data finds stops = data_unread conf named f configured is told
-  load_told conf named name text loads.OutOfMemory f told is configured is_data finds stops = memory_loads f told
-  load_told conf named name text (loads.Refused line why) f told is configured is_data finds stops = subst (LoadFails files db) (sym told) (record {
+  load_told conf named name text loads.Read f reported is configured is_data finds stops = data_unread conf named f configured is reported
+  load_told conf named name text loads.OutOfMemory f reported is configured is_data finds stops = memory_loads f reported
+  load_told conf named name text (loads.Refused line why) f reported is configured is_data finds stops = subst (LoadFails files db) (sym reported) (record {
     conf = conf;
     configured = configured;
     text = text;
@@ -259,9 +259,9 @@ prints_more Less More a b goes faults.OutOfMemory (inr partly) = inr (goes fault
 
 -- a text was begun, with the fault that the output's becomes
 pub begun_told : (fault : WriteFault) (f : CommandFault) (a b : Written) (text : List ℕ) → TellsWriteFault fault f → Writes (Err fault) a b text → IsBegun f a b text
-begun_told writes.Device f a b text told broke = of_unwritten (λ f. IsBegun f a b text) (codes "output") (λ n named. broke) (inl broke) f told
-begun_told writes.OutOfMemory f a b text told begun = of_memory (λ f. IsBegun f a b text) (inr begun) f told
+begun_told writes.Device f a b text reported broke = of_unwritten (λ f. IsBegun f a b text) (codes "output") (λ n named. broke) (inl broke) f reported
+begun_told writes.OutOfMemory f a b text reported begun = of_memory (λ f. IsBegun f a b text) (inr begun) f reported
 
 pub write_told : (fault : WriteFault) (f : CommandFault) → TellsWriteFault fault f → FailsToWrite (codes "output") f
-write_told writes.Device f told = told
-write_told writes.OutOfMemory f told = of_memory (FailsToWrite (codes "output")) tt f told
+write_told writes.Device f reported = reported
+write_told writes.OutOfMemory f reported = of_memory (FailsToWrite (codes "output")) tt f reported

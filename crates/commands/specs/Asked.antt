@@ -30,7 +30,7 @@ HasFilter text = (f : FilterContent) × IsFilter text f
 abbrev pub IsNoFilter : Option (List ℕ) → Type 0
 IsNoFilter text = (f : FilterContent) → ¬ (IsFilter text f)
 
--- what is told of a text that spells none: where it is too deep, exactly that; else a place, and the bytes before it begin one
+-- what is reported of a text that spells none: where it is too deep, exactly that; else a place, and the bytes before it begin one
 pub record IsNoFilterFor (text : Option (List ℕ)) (fault : FilterFault) : Type 0 where
   pub none : IsNoFilter text
   pub deep : (at : ℕ) → IsDeepAt (unwrap_or text any_entry) at ↔ (fault ≡ At at Deep)

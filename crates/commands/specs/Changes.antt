@@ -144,7 +144,7 @@ Breaks (run_faults.Read t) name why = IsFault (FailsToRead name) why
 Breaks (run_faults.Write t) name why = why ≡ stops.Messages
 Breaks (run_faults.OutOfMemory t) name why = IsFault IsMemory why
 
--- the name that the source has in what is said of it
+-- the name that the source has in what is reported of it
 abbrev pub source_name : Option (List ℕ) → List ℕ
 source_name file = unwrap_or file (codes "input")
 

@@ -1,9 +1,9 @@
--- How a command ends: it goes through, or it stops and says why.
+-- How a command ends: it goes through, or it stops and reports why.
 use Rattle.std.specs.Prelude.{◌≡◌, ◌⊎◌, List, [], string_bytes}
 use Rattle.device.specs.Device.{Written}
 use Rattle.commands.specs.Folders.{File, with_files}
 use Rattle.commands.specs.Worlds.{World}
-use Rattle.commands.specs.Messages.{IsSaid, IsTold, fault_text}
+use Rattle.commands.specs.Messages.{IsTextReported, IsReported, fault_text}
 use Rattle.commands.specs.Statuses.{status_of_fault}
 use Rattle.commands.specs.declared.messages.Status.{Status}
 use Rattle.commands.specs.declared.messages.Status.TheVariants as statuses
@@ -32,18 +32,18 @@ abbrev pub IsFault : (CommandFault → Type 0) → Stop → Type 0
 IsFault Holds (stops.Fault fault) = Holds fault
 IsFault Holds why = ⊥
 
--- what the messages say of it, and the status: nothing, where it is they that failed
-abbrev pub Tells : Stop → Written → Written → Status → Type 0
-Tells (stops.Fault fault) a b s = IsTold a b (fault_text fault) (status_of_fault fault) s
-Tells (stops.Usage text) a b s = IsSaid a b (string_bytes text) statuses.Usage s
-Tells stops.Messages a b s = (b ≡ a) × (s ≡ statuses.Failed)
+-- what is reported of it, and the status: nothing, where it is the messages that failed
+abbrev pub ReportsStop : Stop → Written → Written → Status → Type 0
+ReportsStop (stops.Fault fault) a b s = IsReported a b (fault_text fault) (status_of_fault fault) s
+ReportsStop (stops.Usage text) a b s = IsTextReported a b (string_bytes text) statuses.Usage s
+ReportsStop stops.Messages a b s = (b ≡ a) × (s ≡ statuses.Failed)
 
--- The command stops: it came so far, and of all files it had stored these, and changed no other. Then it says why, and nothing else changes.
+-- The command stops: it came so far, and of all files it had stored these, and changed no other. Then it reports why, and nothing else changes.
 pub record Stops (ComesTo : World → StoppedAt → Type 0) (w w' : World) (s : Status) : Type 0 where
   pub at : StoppedAt
   pub comes : ComesTo w at
   pub files : at.world.files ≡ with_files w.files at.stored
-  pub told : Tells at.why at.world.messages w'.messages s
+  pub reported : ReportsStop at.why at.world.messages w'.messages s
   pub stays : w' ≡ record (at.world) { messages = w'.messages }
 
 -- It goes through, from one world to another and with this status; or it stops.

@@ -45,19 +45,19 @@ found_by (Some (Ok stored)) conf d base scope f = scan_among conf d (λ p. (side
 found_by (Some (Err fault)) conf d base scope f = scan conf d base scope f
 found_by None conf d base scope f = scan conf d base scope f
 
--- ---- what is said of it
+-- ---- what is reported of it
 
 -- as `index.txt: I2 stale`
 abbrev pub index_fault_text : IndexFaultKind → List ℕ
 index_fault_text fault = codes "index.txt: " ++ fault_report fault
 
--- a fault is said
-abbrev pub Warns : Said → Written → Written → Type 0
-Warns (Some (Err fault)) a b = Took a b (line_of (index_fault_text fault))
-Warns (Some (Ok stored)) a b = b ≡ a
-Warns None a b = b ≡ a
+-- a fault is reported
+abbrev pub ReportsFault : Said → Written → Written → Type 0
+ReportsFault (Some (Err fault)) a b = Took a b (line_of (index_fault_text fault))
+ReportsFault (Some (Ok stored)) a b = b ≡ a
+ReportsFault None a b = b ≡ a
 
 -- and nothing else changed
-pub record IsWarned (said : Said) (w w' : World) : Type 0 where
-  pub warns : Warns said w.messages w'.messages
+pub record IsFaultReported (said : Said) (w w' : World) : Type 0 where
+  pub reports : ReportsFault said w.messages w'.messages
   pub stays : w' ≡ record w { messages = w'.messages }

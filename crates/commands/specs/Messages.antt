@@ -1,4 +1,4 @@
--- What is said on standard error.
+-- What is reported: what is written on standard error.
 use Rattle.std.specs.Prelude.{◌≡◌, ℕ, ◌⊎◌, List, [], ◌∷◌, ◌++◌, codes, string_bytes}
 use Rattle.std.specs.Fmt.{decimal}
 use Rattle.base.specs.Ascii.{line_feed}
@@ -14,8 +14,8 @@ use Rattle.commands.specs.declared.messages.CommandFault.{CommandFault}
 use Rattle.commands.specs.declared.messages.CommandFault.TheVariants as faults
 
 -- the text was written, and the status is the one that is wanted; or the sink failed in it
-abbrev pub IsSaid : Written → Written → List ℕ → Status → Status → Type 0
-IsSaid a b text wanted status = ((status ≡ wanted) × Took a b text) ⊎ ((status ≡ Failed) × Broke a b text)
+abbrev pub IsTextReported : Written → Written → List ℕ → Status → Status → Type 0
+IsTextReported a b text wanted status = ((status ≡ wanted) × Took a b text) ⊎ ((status ≡ Failed) × Broke a b text)
 
 -- the result code that a command ends with, as `search: 32 noSuchObject`
 abbrev pub code_text : List ℕ → Code → List ℕ
@@ -36,6 +36,6 @@ fault_text faults.OutOfMemory = codes "out of memory"
 abbrev pub line_of : List ℕ → List ℕ
 line_of text = text ++ line_feed ∷ []
 
--- the line of this text is said, with the status that is wanted; or memory ran out, and that is said
-abbrev pub IsTold : Written → Written → List ℕ → Status → Status → Type 0
-IsTold a b text wanted status = IsSaid a b (line_of text) wanted status ⊎ IsSaid a b (codes "out of memory\n") Failed status
+-- the line of this text is reported, with the status that is wanted; or memory ran out, and that is reported
+abbrev pub IsReported : Written → Written → List ℕ → Status → Status → Type 0
+IsReported a b text wanted status = IsTextReported a b (line_of text) wanted status ⊎ IsTextReported a b (codes "out of memory\n") Failed status

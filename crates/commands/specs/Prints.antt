@@ -17,10 +17,10 @@ use Rattle.command_line.specs.declared.request.CatOptions.{CatOptions}
 use Rattle.command_line.specs.declared.request.SearchOptions.{SearchOptions}
 use Rattle.commands.specs.Asked.{IsBase, IsSelection}
 use Rattle.commands.specs.Folders.{Files, with_file}
-use Rattle.commands.specs.Worlds.{World, IsPrinted, Says}
+use Rattle.commands.specs.Worlds.{World, IsPrinted, Reports}
 use Rattle.commands.specs.Endings.{StoppedAt, IsFault}
 use Rattle.commands.specs.Messages.{code_text, line_of}
-use Rattle.commands.specs.IndexFiles.{Said, said_by, SaysOf, found_by, index_fault_text, IsWarned}
+use Rattle.commands.specs.IndexFiles.{Said, said_by, SaysOf, found_by, index_fault_text, IsFaultReported}
 use Rattle.commands.specs.Loaded.{IsLoaded}
 use Rattle.commands.specs.Excerpts.{excerpt_text}
 use Rattle.commands.specs.Queries.{Query, Basis, HasBasis, QueryStops}
@@ -75,7 +75,7 @@ pub record HasPut (IsText : List ℕ → Type 0) (file : Option (List ℕ)) (w w
   pub is : IsText text
   pub put : Puts file text w w'
 
--- where it goes through, it says nothing
+-- where it goes through, it reports nothing
 abbrev pub CatGoesThrough : CatOptions → World → World → Status → Type 0
 CatGoesThrough asked w w' s = (s ≡ Done) × HasPut (CatText asked w.files) (option_copied asked.file) w w'
 
@@ -112,22 +112,22 @@ pub record IsFoundText (asked : SearchOptions) (said : Said) (basis : Basis) (pa
 abbrev pub SearchText : SearchOptions → Option Files → Said → Bool → List ℕ → Type 0
 SearchText asked files said past text = HasBasis (search_query asked) files (λ basis. SaysOf files asked.db.now basis.conf basis.entries said × IsFoundText asked said basis past text)
 
--- where there is more than the limit, the code is 4, and it is said
-abbrev pub TellsPast : Bool → World → World → Status → Type 0
-TellsPast false w w' s = (s ≡ Done) × (w' ≡ w)
-TellsPast true w w' s = Says (code_text (codes "search") SizeLimitExceeded) Refused w w' s
+-- where there is more than the limit, the code is 4, and it is reported
+abbrev pub ReportsPast : Bool → World → World → Status → Type 0
+ReportsPast false w w' s = (s ≡ Done) × (w' ≡ w)
+ReportsPast true w w' s = Reports (code_text (codes "search") SizeLimitExceeded) Refused w w' s
 
--- a fault of index.txt was said, if it has one; then the text was printed; then it was said whether there is more
+-- a fault of index.txt was reported, if it has one; then the text was printed; then it was reported whether there is more
 pub record SearchGoesThrough (asked : SearchOptions) (w w' : World) (s : Status) : Type 0 where
   pub said : Said
   pub past : Bool
   pub text : List ℕ
   pub is : SearchText asked w.files said past text
-  pub warned : World
-  pub warns : IsWarned said w warned
+  pub index_reported : World
+  pub reports : IsFaultReported said w index_reported
   pub mid : World
-  pub printed : IsPrinted text warned mid
-  pub told : TellsPast past mid w' s
+  pub printed : IsPrinted text index_reported mid
+  pub reported : ReportsPast past mid w' s
 
 -- a directory was loaded whose index.txt says this
 pub record IsSaid (asked : SearchOptions) (files : Option Files) (said : Said) : Type 0 where
@@ -136,27 +136,27 @@ pub record IsSaid (asked : SearchOptions) (files : Option Files) (said : Said) :
   pub loaded : IsLoaded files asked.db.now conf entries
   pub says : SaysOf files asked.db.now conf entries said
 
--- a fault that is met before anything is said of index.txt: the base is looked up, and the text printed, afterwards
+-- a fault that is met before anything is reported of index.txt: the base is looked up, and the text printed, afterwards
 abbrev pub ComesFirst : CommandFault → Type 0
 ComesFirst (faults.Code by code) = ⊥
 ComesFirst (faults.CannotWrite name) = ⊥
 ComesFirst fault = ⊤
 
--- it stops with such a fault, before it says anything of index.txt
-pub record StopsUnwarned (asked : SearchOptions) (w : World) (at : StoppedAt) : Type 0 where
+-- it stops with such a fault, before it reports anything of index.txt
+pub record StopsUnreported (asked : SearchOptions) (w : World) (at : StoppedAt) : Type 0 where
   pub stops : QueryStops (search_query asked) (λ text. ⊥) w at
   pub first : IsFault ComesFirst at.why
 
 -- or afterwards, having printed so much
-pub record StopsWarned (asked : SearchOptions) (w : World) (at : StoppedAt) : Type 0 where
+pub record StopsReported (asked : SearchOptions) (w : World) (at : StoppedAt) : Type 0 where
   pub said : Said
   pub is : IsSaid asked w.files said
-  pub warned : World
-  pub warns : IsWarned said w warned
-  pub stops : QueryStops (search_query asked) (λ text. (past : Bool) × SearchText asked w.files said past text) warned at
+  pub index_reported : World
+  pub reports : IsFaultReported said w index_reported
+  pub stops : QueryStops (search_query asked) (λ text. (past : Bool) × SearchText asked w.files said past text) index_reported at
 
--- or while it says a fault of it
-pub record BreaksInWarning (asked : SearchOptions) (w : World) (at : StoppedAt) : Type 0 where
+-- or while it reports a fault of it
+pub record BreaksInReport (asked : SearchOptions) (w : World) (at : StoppedAt) : Type 0 where
   pub fault : IndexFaultKind
   pub is : IsSaid asked w.files (Some (Err fault))
   pub why : at.why ≡ stops.Messages
@@ -165,4 +165,4 @@ pub record BreaksInWarning (asked : SearchOptions) (w : World) (at : StoppedAt) 
   pub stays : at.world ≡ record w { messages = at.world.messages }
 
 abbrev pub SearchStops : SearchOptions → World → StoppedAt → Type 0
-SearchStops asked w at = StopsUnwarned asked w at ⊎ (StopsWarned asked w at ⊎ BreaksInWarning asked w at)
+SearchStops asked w at = StopsUnreported asked w at ⊎ (StopsReported asked w at ⊎ BreaksInReport asked w at)

@@ -80,7 +80,7 @@ abbrev pub target_of : Option (List ℕ) → List ℕ
 target_of file = unwrap_or file (codes "output")
 
 -- With which fault it stops: its filter is none, no directory was loaded, index.txt can't be read, the base isn't there, or what it prints to
--- can't be written. They are looked for in this order: where one of the later ones is told, the text spells a filter.
+-- can't be written. They are looked for in this order: where one of the later ones is reported, the text spells a filter.
 abbrev pub StopsWith : Query → Option Files → CommandFault → Type 0
 StopsWith q files faults.Words = ⊥
 StopsWith q files (faults.Filter fault) = IsNoFilterFor q.filter fault

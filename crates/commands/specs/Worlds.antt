@@ -3,7 +3,7 @@ use Rattle.std.specs.Prelude.{◌≡◌, ℕ, List, Option}
 use Rattle.device.specs.Device.{Seen, Written, Took}
 use Rattle.commands.specs.Folders.{Files}
 use Rattle.commands.specs.Locks.{Locking}
-use Rattle.commands.specs.Messages.{IsTold}
+use Rattle.commands.specs.Messages.{IsReported}
 use Rattle.commands.specs.declared.messages.Status.{Status}
 
 -- The files, where the folder tells them; what is seen of locks and of the input; what the output holds, and what the messages do, on standard
@@ -20,7 +20,7 @@ pub record IsPrinted (text : List ℕ) (w w' : World) : Type 0 where
   pub took : Took w.output w'.output text
   pub stays : w' ≡ record w { output = w'.output }
 
--- the line of the text was said, with the status that is wanted, or that memory ran out; and nothing else changed
-pub record Says (text : List ℕ) (wanted : Status) (w w' : World) (s : Status) : Type 0 where
-  pub told : IsTold w.messages w'.messages text wanted s
+-- the line of the text was reported, with the status that is wanted, or that memory ran out; and nothing else changed
+pub record Reports (text : List ℕ) (wanted : Status) (w w' : World) (s : Status) : Type 0 where
+  pub reported : IsReported w.messages w'.messages text wanted s
   pub stays : w' ≡ record w { messages = w'.messages }

@@ -5,7 +5,7 @@ ghost use Rattle.commands.specs.Worlds.{World};
 ghost use Rattle.commands.specs.Loaded.{IsLoaded};
 ghost use Rattle.commands.specs.Changes.{written_by, Breaks, RunsInput, RunsSource, RunsAndStores, ChangeGoesThrough, ChangeStops};
 ghost use Rattle.commands.specs.inner.Views.{run_of};
-ghost use Rattle.commands.specs.inner.Stopped.{CanTell, HasStopped, HasEnded, HasEndedUnder};
+ghost use Rattle.commands.specs.inner.Stopped.{CanReport, HasStopped, HasEnded, HasEndedUnder};
 
 use crate::database::{load_directory, lock, open_present};
 use crate::folder::Folder;
@@ -75,7 +75,7 @@ fn stop_of(alloc: Global, fault: RunFault, name: &str) -> Stop
 }
 
 /// Runs the records of a source that has this name, and answers how many were accepted and refused, or why the command stops.
-#[tactic(auto, using(crate::proofs::Stopping::can_tell))]
+#[tactic(auto, using(crate::proofs::Stopping::can_report))]
 fn run_source<S: Source, E: Sink>(
     alloc: Global,
     task: &Task<'_>,
@@ -95,7 +95,7 @@ fn run_source<S: Source, E: Sink>(
         (run_of dir.old dir.new (Err fault))
         (record w { input = S.seen source.old; messages = E.written err.old })
         (record w { input = S.seen source.new; messages = E.written err.new }))) }
-    ensures can_tell { IfErr result (λ why. CanTell why (E.written err.new).failed) }
+    ensures can_report { IfErr result (λ why. CanReport why (E.written err.new).failed) }
 {
     match run(alloc, dir, source, err, task.mode, task.go_on) {
         Ok(tally) => Ok(tally),
@@ -123,7 +123,7 @@ fn run_records<F: Folder, S: Source, E: Sink>(
     ensures stops { IfErr result (λ why. (w : World) → HasStopped (ChangeStops task.now)
         (record w { files = F.files folder.now; input = S.seen input.old; messages = E.written err.old })
         (record w { files = F.files folder.now; input = S.seen input.new; messages = E.written err.new }) why) }
-    ensures can_tell { IfErr result (λ why. CanTell why (E.written err.new).failed) }
+    ensures can_report { IfErr result (λ why. CanReport why (E.written err.new).failed) }
 {
     let Some(name) = task.file else {
         return run_source(alloc, task, dir, input, "input", err);
@@ -148,7 +148,7 @@ fn run_and_store<F: Folder, S: Source, E: Sink>(
         (record w { files = F.files folder.old; input = S.seen input.old; messages = E.written err.old })
         (record w { files = F.files folder.new; input = S.seen input.new; messages = E.written err.new }) result }
     ensures locking { F.locking folder.new ≡ F.locking folder.old }
-    ensures can_tell { IfErr result (λ why. CanTell why (E.written err.new).failed) }
+    ensures can_report { IfErr result (λ why. CanReport why (E.written err.new).failed) }
 {
     let tally = run_records(alloc, task, &mut dir, folder, input, err)?;
     if task.dry_run {
@@ -175,7 +175,7 @@ fn load_and_run<F: Folder, S: Source, E: Sink>(
         (record w { files = F.files folder.old; input = S.seen input.old; messages = E.written err.old })
         (record w { files = F.files folder.new; input = S.seen input.new; messages = E.written err.new }) result }
     ensures locking { F.locking folder.new ≡ F.locking folder.old }
-    ensures can_tell { IfErr result (λ why. CanTell why (E.written err.new).failed) }
+    ensures can_report { IfErr result (λ why. CanReport why (E.written err.new).failed) }
 {
     let dir = load_directory(alloc, folder, task.db)?;
     run_and_store(alloc, task, dir, folder, input, err)
@@ -197,7 +197,7 @@ pub fn change<F: Folder, S: Source, E: Sink>(
     ensures ends { (w : World) → HasEndedUnder (written_by task.now) (ChangeGoesThrough task.now) (ChangeStops task.now)
         (record w { files = F.files folder.old; lock = F.locking folder.old; input = S.seen input.old; messages = E.written err.old })
         (record w { files = F.files folder.new; lock = F.locking folder.new; input = S.seen input.new; messages = E.written err.new }) result }
-    ensures can_tell { IfErr result (λ why. CanTell why (E.written err.new).failed) }
+    ensures can_report { IfErr result (λ why. CanReport why (E.written err.new).failed) }
 {
     if !task.dry_run {
         lock(alloc, folder, task.db)?;

@@ -2,11 +2,11 @@
 ghost use Rattle.std.specs.Prelude.{◌<◌, ◌≤◌, ◌-◌, ◌^◌, IfErr, map};
 ghost use Rattle.commands.specs.Worlds.{World};
 ghost use Rattle.commands.specs.Commands.{HelpGoesThrough, HelpStops, RequestGoesThrough, RequestStops, writes_in, CommandEnds};
-ghost use Rattle.commands.specs.inner.Stopped.{CanTell, HasEnded, HasEndedUnder};
+ghost use Rattle.commands.specs.inner.Stopped.{CanReport, HasEnded, HasEndedUnder};
 
 use crate::changes::{Task, change};
 use crate::folder::Folder;
-use crate::messages::{CommandFault, Status, Stop, tell_stop};
+use crate::messages::{CommandFault, Status, Stop, report_stop};
 use crate::searching::search;
 use crate::slapcat::slapcat;
 use crate::slapindex::slapindex;
@@ -43,7 +43,7 @@ fn carry_out<F: Folder, S: Source, O: Sink, E: Sink>(
         (record { files = F.files folder.old; lock = F.locking folder.old; input = S.seen input.old; output = O.written out.old; messages = E.written err.old })
         (record { files = F.files folder.new; lock = F.locking folder.new; input = S.seen input.new; output = O.written out.new; messages = E.written err.new })
         result }
-    ensures can_tell { IfErr result (λ why. CanTell why (E.written err.new).failed) }
+    ensures can_report { IfErr result (λ why. CanReport why (E.written err.new).failed) }
 {
     match asked {
         Ok(Request::Help(text)) => print(alloc, text.as_str(), out),
@@ -81,6 +81,6 @@ pub fn command<W: AsStr, F: Folder, S: Source, O: Sink, E: Sink>(
     let asked = read(alloc, words);
     match carry_out(alloc, asked, folder, input, out, err) {
         Ok(status) => status.number(),
-        Err(stop) => tell_stop(alloc, err, &stop).number(),
+        Err(stop) => report_stop(alloc, err, &stop).number(),
     }
 }

@@ -5,10 +5,10 @@ ghost use Rattle.device.specs.Device.{Took};
 ghost use Rattle.stored_index.specs.Rows.{IsByte};
 ghost use Rattle.commands.specs.Failures.{FailsToRead};
 ghost use Rattle.commands.specs.Folders.{index_name};
-ghost use Rattle.commands.specs.IndexFiles.{SaysOf, index_fault_text, Warns};
+ghost use Rattle.commands.specs.IndexFiles.{SaysOf, index_fault_text, ReportsFault};
 ghost use Rattle.commands.specs.Messages.{line_of};
-ghost use Rattle.commands.specs.inner.IndexFiles.{said, IsTrue, FailsToWarn, FailsToSay};
-ghost use Rattle.commands.specs.inner.Stopped.{CanTell};
+ghost use Rattle.commands.specs.inner.IndexFiles.{said, IsTrue, FailsToReportFault, FailsToReport};
+ghost use Rattle.commands.specs.inner.Stopped.{CanReport};
 
 use crate::database::{Database, contents, open, path};
 use crate::folder::Folder;
@@ -69,13 +69,13 @@ fn line_of_fault(alloc: Global, fault: IndexFaultKind) -> Result<String, AllocEr
     format!(in alloc; "index.txt: {fault}\n")
 }
 
-// says a fault of index.txt
-fn warn<E: Sink>(alloc: Global, err: &mut E, fault: IndexFaultKind) -> Result<(), Stop>
+// reports a fault of index.txt
+fn report_index_fault<E: Sink>(alloc: Global, err: &mut E, fault: IndexFaultKind) -> Result<(), Stop>
     requires { (E.written err.old).failed < 2 ^ 64 - 1 }
-    ensures said { OnOk result (Took (E.written err.old) (E.written err.new) (line_of (index_fault_text fault))) }
+    ensures reported { OnOk result (Took (E.written err.old) (E.written err.new) (line_of (index_fault_text fault))) }
     ensures failed { OnOk result ((E.written err.new).failed ≡ (E.written err.old).failed) }
-    ensures err { IfErr result (FailsToWarn fault (E.written err.old) (E.written err.new)) }
-    ensures can_tell { IfErr result (λ why. CanTell why (E.written err.new).failed) }
+    ensures err { IfErr result (FailsToReportFault fault (E.written err.old) (E.written err.new)) }
+    ensures can_report { IfErr result (λ why. CanReport why (E.written err.new).failed) }
 {
     let Ok(line) = line_of_fault(alloc, fault) else {
         return Err(Stop::Fault(CommandFault::OutOfMemory));
@@ -86,16 +86,16 @@ fn warn<E: Sink>(alloc: Global, err: &mut E, fault: IndexFaultKind) -> Result<()
     }
 }
 
-/// Says what is wrong with index.txt, if anything is. Where that can't be said, the command stops.
-pub fn warn_of<E: Sink>(alloc: Global, err: &mut E, file: &IndexFile) -> Result<(), Stop>
+/// Reports what is wrong with index.txt, if anything is. Where that can't be reported, the command stops.
+pub fn report_index<E: Sink>(alloc: Global, err: &mut E, file: &IndexFile) -> Result<(), Stop>
     requires { (E.written err.old).failed < 2 ^ 64 - 1 }
-    ensures warns { OnOk result (Warns (said file.now) (E.written err.old) (E.written err.new)) }
+    ensures reports { OnOk result (ReportsFault (said file.now) (E.written err.old) (E.written err.new)) }
     ensures failed { OnOk result ((E.written err.new).failed ≡ (E.written err.old).failed) }
-    ensures err { IfErr result (FailsToSay (said file.now) (E.written err.old) (E.written err.new)) }
-    ensures can_tell { IfErr result (λ why. CanTell why (E.written err.new).failed) }
+    ensures err { IfErr result (FailsToReport (said file.now) (E.written err.old) (E.written err.new)) }
+    ensures can_report { IfErr result (λ why. CanReport why (E.written err.new).failed) }
 {
     match file {
-        IndexFile::Faulty(fault) => warn(alloc, err, *fault),
+        IndexFile::Faulty(fault) => report_index_fault(alloc, err, *fault),
         IndexFile::Read(_) => Ok(()),
         IndexFile::Missing => Ok(()),
     }

@@ -16,4 +16,4 @@ mod storing;
 
 pub use dispatch::command;
 pub use folder::{FileText, Folder, FolderFault, LockFault};
-pub use messages::{CommandFault, Status, tell};
+pub use messages::{CommandFault, Status, report_fault};

@@ -1,12 +1,12 @@
-//! How a command ends, and what it says on standard error.
+//! How a command ends, and what it reports.
 ghost use Rattle.std.specs.Prelude.{◌≡◌, ◌≤◌, ◌<◌, ◌-◌, ◌^◌, ◌⊎◌, Some, IfOk, string_bytes};
 ghost use Rattle.commands.specs.declared.messages.CommandFault.TheVariants.{OutOfMemory};
 ghost use Rattle.commands.specs.declared.messages.Stop.TheVariants.{Fault};
-ghost use Rattle.commands.specs.Messages.{IsSaid, IsTold, fault_text, line_of};
-ghost use Rattle.commands.specs.Endings.{Tells};
+ghost use Rattle.commands.specs.Messages.{IsTextReported, IsReported, fault_text, line_of};
+ghost use Rattle.commands.specs.Endings.{ReportsStop};
 ghost use Rattle.commands.specs.Failures.{FailsToRead, FailsToWrite, TellsInUse};
 ghost use Rattle.commands.specs.Statuses.{status_number, status_of_fault, status_of_tally};
-ghost use Rattle.commands.specs.inner.Stopped.{CanTell};
+ghost use Rattle.commands.specs.inner.Stopped.{CanReport};
 ghost use Rattle.commands.specs.inner.WriteFaults.{TellsWriteFault};
 
 use device::{Sink, push_all};
@@ -169,14 +169,14 @@ impl<T: Drop> From<AllocFailed<T>> for CommandFault {
     }
 }
 
-/// Why a command stops before its work is done, and what it says of that.
+/// Why a command stops before its work is done, and what it reports of that.
 #[derive(Debug, Drop)]
 pub enum Stop {
-    /// This fault, of which the line is said.
+    /// This fault, of which the line is reported.
     Fault(CommandFault),
     /// The words are at fault, as this text says.
     Usage(String),
-    /// Standard error failed, so nothing more is said.
+    /// Standard error failed, so nothing more is reported.
     Messages,
 }
 
@@ -195,9 +195,9 @@ fn line_of(alloc: Global, fault: &CommandFault) -> Result<String, AllocError>
 }
 
 /// Writes a text, and answers the status that is wanted, or `Failed` where it can't be written.
-pub fn say<W: Sink>(sink: &mut W, text: &str, status: Status) -> Status
+pub fn report_text<W: Sink>(sink: &mut W, text: &str, status: Status) -> Status
     requires { (W.written sink.old).failed < 2 ^ 64 - 1 }
-    ensures { IsSaid (W.written sink.old) (W.written sink.new) text.now status result }
+    ensures { IsTextReported (W.written sink.old) (W.written sink.new) text.now status result }
 {
     match push_all(sink, text.as_bytes()) {
         Ok(()) => status,
@@ -207,25 +207,25 @@ pub fn say<W: Sink>(sink: &mut W, text: &str, status: Status) -> Status
 
 /// Writes the line of a fault, and answers how the command ends: as the fault says, or `Failed` where the line can't be
 /// written.
-pub fn tell<E: Sink>(alloc: Global, err: &mut E, fault: &CommandFault) -> Status
+pub fn report_fault<E: Sink>(alloc: Global, err: &mut E, fault: &CommandFault) -> Status
     requires { (E.written err.old).failed < 2 ^ 64 - 1 }
     ensures status { (result ≡ status_of_fault fault.now) ⊎ (result ≡ Status.Failed) }
-    ensures told { IsTold (E.written err.old) (E.written err.new) (fault_text fault.now) (status_of_fault fault.now) result }
+    ensures reported { IsReported (E.written err.old) (E.written err.new) (fault_text fault.now) (status_of_fault fault.now) result }
 {
     match line_of(alloc, fault) {
-        Ok(line) => say(err, line.as_str(), fault.status()),
-        Err(_) => say(err, "out of memory\n", Status::Failed),
+        Ok(line) => report_text(err, line.as_str(), fault.status()),
+        Err(_) => report_text(err, "out of memory\n", Status::Failed),
     }
 }
 
-/// Says why a command stops, and answers how it ends.
-pub fn tell_stop<E: Sink>(alloc: Global, err: &mut E, stop: &Stop) -> Status
-    requires { CanTell stop.now (E.written err.old).failed }
-    ensures { Tells stop.now (E.written err.old) (E.written err.new) result }
+/// Reports why a command stops, and answers how it ends.
+pub fn report_stop<E: Sink>(alloc: Global, err: &mut E, stop: &Stop) -> Status
+    requires { CanReport stop.now (E.written err.old).failed }
+    ensures { ReportsStop stop.now (E.written err.old) (E.written err.new) result }
 {
     match stop {
-        Stop::Fault(fault) => tell(alloc, err, fault),
-        Stop::Usage(text) => say(err, text.as_str(), Status::Usage),
+        Stop::Fault(fault) => report_fault(alloc, err, fault),
+        Stop::Usage(text) => report_text(err, text.as_str(), Status::Usage),
         Stop::Messages => Status::Failed,
     }
 }

@@ -16,13 +16,13 @@ ghost use Rattle.commands.specs.inner.IndexFiles.{said, IsTrue, HasLoaded};
 ghost use Rattle.commands.specs.inner.Refusals.{Refuses, RefusesOrBreaks};
 ghost use Rattle.commands.specs.inner.Printed.{HasPrinted};
 ghost use Rattle.commands.specs.inner.Views.{basis_of, basis_in};
-ghost use Rattle.commands.specs.inner.Stopped.{CanTell, HasEnded};
+ghost use Rattle.commands.specs.inner.Stopped.{CanReport, HasEnded};
 
 use crate::database::{Database, load_database};
 use crate::finding::{filter_of, path_of, refused};
 use crate::folder::Folder;
-use crate::index_file::{IndexFile, read_index, warn_of};
-use crate::messages::{CommandFault, Status, Stop, tell};
+use crate::index_file::{IndexFile, read_index, report_index};
+use crate::messages::{CommandFault, Status, Stop, report_fault};
 use command_line::SearchOptions;
 use device::Sink;
 use directory::{Directory, Selection, search_with, write_found};
@@ -263,7 +263,7 @@ fn print<O: Sink>(
 
 /// Prints the entries of the directory in a folder that are in scope of the base and that the filter is True of, with the attributes that
 /// are asked for (RFC 4511, 4.5.1). They are found by index.txt, if it is there and was written for these entries; if it is there and has a
-/// fault, that is told on `err` first. Where more than the limit match, the first ones are printed, the code 4 sizeLimitExceeded is told on
+/// fault, that is reported on `err` first. Where more than the limit match, the first ones are printed, the code 4 sizeLimitExceeded is reported on
 /// `err`, and it ends as `Refused`. It stops where the filter is none, the directory can't be loaded, index.txt can't be read, the base
 /// isn't there (its code is 32 noSuchObject then), or `out`, `err` or memory fails.
 pub fn search<F: Folder, O: Sink, E: Sink>(
@@ -278,13 +278,13 @@ pub fn search<F: Folder, O: Sink, E: Sink>(
     ensures ends { (w : World) → HasEnded (SearchGoesThrough asked.now) (SearchStops asked.now)
         (record w { files = F.files folder.now; output = O.written out.old; messages = E.written err.old })
         (record w { files = F.files folder.now; output = O.written out.new; messages = E.written err.new }) result }
-    ensures can_tell { IfErr result (λ why. CanTell why (E.written err.new).failed) }
+    ensures can_report { IfErr result (λ why. CanReport why (E.written err.new).failed) }
 {
     let loaded = load(alloc, asked, folder)?;
-    warn_of(alloc, err, &loaded.file)?;
+    report_index(alloc, err, &loaded.file)?;
     match print(alloc, asked, loaded, out) {
         Ok(false) => Ok(Status::Done),
-        Ok(true) => Ok(tell(alloc, err, &past_limit())),
+        Ok(true) => Ok(report_fault(alloc, err, &past_limit())),
         Err(fault) => Err(Stop::Fault(fault)),
     }
 }

@@ -2,7 +2,7 @@
 
 use crate::case::{Case, Step};
 use crate::report::{put_files, put_stream};
-use commands::{CommandFault, tell};
+use commands::{CommandFault, report_fault};
 use device::{TrySink, TrySource};
 use memory_folder::{MemoryFolder, run_command};
 use std::alloc::{AllocError, Global};
@@ -32,7 +32,7 @@ fn answer_of(alloc: Global, step: &Step, folder: &mut MemoryFolder<'_>) -> Answe
             &mut output,
             &mut messages,
         ),
-        None => tell(alloc, &mut messages, &CommandFault::Words).number(),
+        None => report_fault(alloc, &mut messages, &CommandFault::Words).number(),
     };
     Answer {
         status,

@@ -3,7 +3,7 @@
 
 mod files;
 
-use commands::{CommandFault, command, tell};
+use commands::{CommandFault, command, report_fault};
 use device::{OfRead, OfWrite};
 use files::Files;
 use std::env;
@@ -28,7 +28,7 @@ fn main(rt: HostRuntime) -> ExitCode {
     let mut err = OfWrite::new(rt.stderr());
     let words = match words_of(&rt) {
         Ok(words) => words,
-        Err(fault) => return ExitCode::from(tell(rt.alloc(), &mut err, &fault).number()),
+        Err(fault) => return ExitCode::from(report_fault(rt.alloc(), &mut err, &fault).number()),
     };
     let mut folder = Files::new(&rt);
     let mut input = OfRead::new(rt.stdin());

@@ -32,17 +32,17 @@ said (files.Faulty fault) = Some (Err fault)
 abbrev pub IsTrue : Conf → Entries → Said → Type 0
 IsTrue conf d said = (x : Stored) → said ≡ Some (Ok x) → said ≡ said_by conf d (Some (index_text conf d)) → ReflectsDump (shown_by x) conf.types d
 
--- the line of a fault was broken off; or memory ran out, and nothing was said
-abbrev pub FailsToWarn : IndexFaultKind → Written → Written → Stop → Type 0
-FailsToWarn fault a b (stops.Fault f) = IsMemory f × (b ≡ a)
-FailsToWarn fault a b (stops.Usage text) = ⊥
-FailsToWarn fault a b stops.Messages = Broke a b (line_of (index_fault_text fault))
+-- the line of a fault was broken off; or memory ran out, and nothing was reported
+abbrev pub FailsToReportFault : IndexFaultKind → Written → Written → Stop → Type 0
+FailsToReportFault fault a b (stops.Fault f) = IsMemory f × (b ≡ a)
+FailsToReportFault fault a b (stops.Usage text) = ⊥
+FailsToReportFault fault a b stops.Messages = Broke a b (line_of (index_fault_text fault))
 
--- so it is where there is a fault to be said
-abbrev pub FailsToSay : Said → Written → Written → Stop → Type 0
-FailsToSay (Some (Err fault)) a b why = FailsToWarn fault a b why
-FailsToSay (Some (Ok stored)) a b why = ⊥
-FailsToSay None a b why = ⊥
+-- so it is where there is a fault to be reported
+abbrev pub FailsToReport : Said → Written → Written → Stop → Type 0
+FailsToReport (Some (Err fault)) a b why = FailsToReportFault fault a b why
+FailsToReport (Some (Ok stored)) a b why = ⊥
+FailsToReport None a b why = ⊥
 
 -- ---- what a search has loaded
 

@@ -17,7 +17,7 @@ abbrev pub refusal_fault : Bor (List ℕ) → Refusal → CommandFault
 refusal_fault command (refusals.Code code) = faults.Code command code
 refusal_fault command refusals.OutOfMemory = faults.OutOfMemory
 
--- this is told of a text that spells no filter, or memory ran out
+-- this is reported of a text that spells no filter, or memory ran out
 abbrev pub FilterFails : Option (List ℕ) → CommandFault → Type 0
 FilterFails text (faults.Filter fault) = IsNoFilterFor text fault
 FilterFails text fault = IsMemory fault

@@ -1,4 +1,4 @@
--- How a command has ended, before it says why it stops.
+-- How a command has ended, before it reports why it stops.
 use Rattle.std.specs.Prelude.{◌≡◌, ℕ, ◌<◌, ◌-◌, ◌^◌, ◌⊎◌, List, Option, None, Some, Result, Ok, Err, ⊤}
 use Rattle.commands.specs.Folders.{File, with_files}
 use Rattle.commands.specs.Worlds.{World}
@@ -8,11 +8,11 @@ use Rattle.commands.specs.declared.messages.Status.{Status}
 use Rattle.commands.specs.declared.messages.Stop.{Stop}
 use Rattle.commands.specs.declared.messages.Stop.TheVariants as stops
 
--- how often standard error may have failed where it is to say this: it can fail once more, unless nothing is said
-abbrev pub CanTell : Stop → ℕ → Type 0
-CanTell (stops.Fault fault) failed = failed < 2 ^ 64 - 1
-CanTell (stops.Usage text) failed = failed < 2 ^ 64 - 1
-CanTell stops.Messages failed = ⊤
+-- how often standard error may have failed where it is to report this: it can fail once more, unless nothing is reported
+abbrev pub CanReport : Stop → ℕ → Type 0
+CanReport (stops.Fault fault) failed = failed < 2 ^ 64 - 1
+CanReport (stops.Usage text) failed = failed < 2 ^ 64 - 1
+CanReport stops.Messages failed = ⊤
 
 -- it came to this world, had stored these files, and stops
 pub record HasStopped (ComesTo : World → StoppedAt → Type 0) (w w' : World) (why : Stop) : Type 0 where

@@ -36,8 +36,8 @@ returns-in_err-stored-clause-ends g c =
     let w₂ : World = record mid { files = g.F.Folder.files c.store_directory-stored.new.folder } in
     not_stored c.args.task.now run c.in_ok-tally.tally w₁ mid w₂ _ _ refl (c.in_ok-tally.ensures.ran w) c.if-task.false c.run_records.ensures.same_conf c.in_err-stored.ensures.err refl)
 
-pub returns-in_err-stored-clause-can_tell : goal.returns-in_err-stored-clause-can_tell
-returns-in_err-stored-clause-can_tell g c =
+pub returns-in_err-stored-clause-can_report : goal.returns-in_err-stored-clause-can_report
+returns-in_err-stored-clause-can_report g c =
     let p = err_from_is_err_and c.from_residual-in_err-stored.result c.from_residual-in_err-stored.ensures.1 in
     let runs = c.in_ok-tally.ensures.ran (record { files = g.F.Folder.files c.args.folder.now; lock = g.F.Folder.locking c.args.folder.now; input = g.S.Source.seen c.args.input.now; output = g.E.Sink.written c.args.err.now; messages = g.E.Sink.written c.args.err.now }) in
     rw (p.1, p.2) (subst (λ (n : ℕ). n < 2 ^ 64 - 1) (sym runs.ran.failures.1) c.requires.err)

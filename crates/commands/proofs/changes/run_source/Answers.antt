@@ -1,5 +1,5 @@
 use Rattle.std.proofs.Common.{refl}
-use Rattle.commands.proofs.Stopping.{can_tell}
+use Rattle.commands.proofs.Stopping.{can_report}
 use Rattle.commands.proofs.changes.run_source.Goals as goal
 
 pub returns-in-Ok-clause-ran : goal.returns-in-Ok-clause-ran
@@ -12,5 +12,5 @@ returns-in-Err-clause-broke g c = (
   λ w. record { gave = c.in-Err.ensures.gave; failures = c.in-Err.ensures.failures; runs = c.in-Err.ensures.runs; read = c.in-Err.ensures.read; stays = refl },
 )
 
-pub returns-in-Err-clause-can_tell : goal.returns-in-Err-clause-can_tell
-returns-in-Err-clause-can_tell g c = can_tell c.in-Err.fault _ _ _ _ _ _ c.requires.err c.in-Err.ensures.failures c.stop_of.ensures
+pub returns-in-Err-clause-can_report : goal.returns-in-Err-clause-can_report
+returns-in-Err-clause-can_report g c = can_report c.in-Err.fault _ _ _ _ _ _ c.requires.err c.in-Err.ensures.failures c.stop_of.ensures

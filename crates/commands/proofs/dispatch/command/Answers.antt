@@ -1,6 +1,6 @@
 use Rattle.commands.specs.Commands.{RequestGoesThrough, RequestStops, writes_in}
 use Rattle.commands.specs.Worlds.{World}
-use Rattle.commands.proofs.Locked.{goes_through, says_why}
+use Rattle.commands.proofs.Locked.{goes_through, reports_why}
 use Rattle.commands.proofs.dispatch.command.Goals as goal
 
 pub returns-in-Ok-clause-ends : goal.returns-in-Ok-clause-ends
@@ -28,7 +28,7 @@ returns-in-Err-clause-ends g c =
       asks = c.read-asked.ensures.asked;
       faulty = c.read-asked.ensures.faulty;
       help = c.read-asked.ensures.help;
-      status = c.tell_stop.result;
-      ends = says_why (RequestGoesThrough asked) (RequestStops asked) (writes_in asked) w mid (g.E.Sink.written c.tell_stop.new.err) c.in-Err.stop c.tell_stop.result c.in-Err.ensures.ends c.tell_stop.ensures;
+      status = c.report_stop.result;
+      ends = reports_why (RequestGoesThrough asked) (RequestStops asked) (writes_in asked) w mid (g.E.Sink.written c.report_stop.new.err) c.in-Err.stop c.report_stop.result c.in-Err.ensures.ends c.report_stop.ensures;
       number_is = c.number-in-Err.ensures.value;
     }

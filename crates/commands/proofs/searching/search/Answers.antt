@@ -8,7 +8,7 @@ use Rattle.commands.specs.inner.IndexFiles.{said}
 use Rattle.commands.specs.inner.Printed.{HasPrinted}
 use Rattle.commands.specs.inner.Views.{basis_of}
 use Rattle.commands.proofs.Ends.{printed_more}
-use Rattle.commands.proofs.Searched.{is_said, text_so, at_once, unsaid, stops_warned, searched, searched_past}
+use Rattle.commands.proofs.Searched.{is_said, text_so, at_once, unreported, stops_reported, searched, searched_past}
 use Rattle.commands.proofs.Stopping.{stopped, refused_stops, prints_more}
 use Rattle.commands.proofs.searching.search.Goals as goal
 
@@ -17,18 +17,18 @@ returns-in_err-loaded-clause-ends g c =
     let p = err_from_is_err_and c.from_residual.result c.from_residual.ensures.1 in
     rw (p.1, p.2) (λ w. stopped (SearchStops c.args.asked.now) _ _ _ (at_once c.args.asked.now (record w { files = g.F.Folder.files c.args.folder.now; output = g.O.Sink.written c.args.out.now; messages = g.E.Sink.written c.args.err.now }) _ c.in_err-loaded.ensures.stops c.in_err-loaded.ensures.first) refl)
 
-pub returns-in_err-warn_of-clause-ends : goal.returns-in_err-warn_of-clause-ends
-returns-in_err-warn_of-clause-ends g c =
-    let p = err_from_is_err_and c.from_residual-in_err-warn_of.result c.from_residual-in_err-warn_of.ensures.1 in
-    rw (p.1, p.2) (λ w. stopped (SearchStops c.args.asked.now) _ _ _ (unsaid c.args.asked.now (record w { files = g.F.Folder.files c.args.folder.now; output = g.O.Sink.written c.args.out.now; messages = g.E.Sink.written c.args.err.now }) (said c.in_ok-loaded.loaded.file) _ _
-    (is_said c.args.asked.now (g.F.Folder.files c.args.folder.now) c.in_ok-loaded.loaded c.in_ok-loaded.ensures.loaded) c.in_err-warn_of.ensures.err) refl)
+pub returns-in_err-report_index-clause-ends : goal.returns-in_err-report_index-clause-ends
+returns-in_err-report_index-clause-ends g c =
+    let p = err_from_is_err_and c.from_residual-in_err-report_index.result c.from_residual-in_err-report_index.ensures.1 in
+    rw (p.1, p.2) (λ w. stopped (SearchStops c.args.asked.now) _ _ _ (unreported c.args.asked.now (record w { files = g.F.Folder.files c.args.folder.now; output = g.O.Sink.written c.args.out.now; messages = g.E.Sink.written c.args.err.now }) (said c.in_ok-loaded.loaded.file) _ _
+    (is_said c.args.asked.now (g.F.Folder.files c.args.folder.now) c.in_ok-loaded.loaded c.in_ok-loaded.ensures.loaded) c.in_err-report_index.ensures.err) refl)
 
 pub returns-in-Ok-false-clause-ends : goal.returns-in-Ok-false-clause-ends
 returns-in-Ok-false-clause-ends g c = λ w.
     let asked = c.args.asked.now in
     let files = g.F.Folder.files c.args.folder.now in
     let l = c.in_ok-loaded.loaded in
-    searched asked (record w { files = files; output = g.O.Sink.written c.args.out.now; messages = g.E.Sink.written c.args.err.now }) (said l.file) _ c.in_ok-warn_of.ensures.warns _
+    searched asked (record w { files = files; output = g.O.Sink.written c.args.out.now; messages = g.E.Sink.written c.args.err.now }) (said l.file) _ c.in_ok-report_index.ensures.reports _
     (subst (λ (past : Bool). HasPrinted (SearchText asked files (said l.file) past) (g.O.Sink.written c.args.out.now) (g.O.Sink.written c.print.new.out)) c.in-Ok-false.field-0-test
     (printed_more (IsFoundText asked (said l.file) (basis_of l.filter l.database.tree) _) (SearchText asked files (said l.file) _) (text_so asked files l c.in_ok-loaded.ensures.loaded _) _ _ c.in-Ok-false.ensures.found))
 
@@ -37,10 +37,10 @@ returns-in-Ok-true-clause-ends g c = λ w.
     let asked = c.args.asked.now in
     let files = g.F.Folder.files c.args.folder.now in
     let l = c.in_ok-loaded.loaded in
-    searched_past asked (record w { files = files; output = g.O.Sink.written c.args.out.now; messages = g.E.Sink.written c.args.err.now }) (said l.file) _ c.in_ok-warn_of.ensures.warns _ (g.E.Sink.written c.tell.new.err) _ _ _
+    searched_past asked (record w { files = files; output = g.O.Sink.written c.args.out.now; messages = g.E.Sink.written c.args.err.now }) (said l.file) _ c.in_ok-report_index.ensures.reports _ (g.E.Sink.written c.report_fault.new.err) _ _ _
     (subst (λ (past : Bool). HasPrinted (SearchText asked files (said l.file) past) (g.O.Sink.written c.args.out.now) (g.O.Sink.written c.print.new.out)) c.in-Ok-true.field-0-test
     (printed_more (IsFoundText asked (said l.file) (basis_of l.filter l.database.tree) _) (SearchText asked files (said l.file) _) (text_so asked files l c.in_ok-loaded.ensures.loaded _) _ _ c.in-Ok-true.ensures.found))
-    c.past_limit.ensures.text c.past_limit.ensures.status c.tell.ensures.told
+    c.past_limit.ensures.text c.past_limit.ensures.status c.report_fault.ensures.reported
 
 pub returns-in-Err-clause-ends : goal.returns-in-Err-clause-ends
 returns-in-Err-clause-ends g c = λ w.
@@ -49,7 +49,7 @@ returns-in-Err-clause-ends g c = λ w.
     let l = c.in_ok-loaded.loaded in
     let h = c.in_ok-loaded.ensures.loaded in
     stopped (SearchStops asked) _ _ _
-    (stops_warned asked (record w { files = files; output = g.O.Sink.written c.args.out.now; messages = g.E.Sink.written c.args.err.now }) (said l.file) _ c.in_ok-warn_of.ensures.warns _ c.in-Err.fault
+    (stops_reported asked (record w { files = files; output = g.O.Sink.written c.args.out.now; messages = g.E.Sink.written c.args.err.now }) (said l.file) _ c.in_ok-report_index.ensures.reports _ c.in-Err.fault
     (is_said asked files l h)
     (refused_stops (search_query asked) files (view l.filter) h.filter_is l.database.tree.conf l.database.tree.entries h.directory c.in-Err.fault c.in-Err.ensures.fault)
     (prints_more (HasBegun (λ text. (past : Bool) × IsFoundText asked (said l.file) (basis_of l.filter l.database.tree) past text) None) (HasBegun (λ text. (past : Bool) × SearchText asked files (said l.file) past text) None) _ _
