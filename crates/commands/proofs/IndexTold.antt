@@ -54,10 +54,10 @@ pub faulty_true : (conf : Conf) (d : Entries) (fault : IndexFaultKind) → IsTru
 faulty_true conf d fault x is = absurd cc
 
 -- the answer to a call with other names for the same things
-pub answered : (conf conf' : Conf) (d : Entries) (count : ℕ) (digest text' text : List ℕ) (answer : Result Stored IndexFaultKind) → conf ≡ conf' → count ≡ finite.len d → digest ≡ stamp conf d → text' ≡ text
-    → index_in conf' count digest text' ≡ answer → index_in conf (finite.len d) (stamp conf d) text ≡ answer
-answered conf conf' d count digest text' text answer same_conf same_count same_digest same_text is =
-    (λ i. index_in (same_conf i) (sym same_count i) (sym same_digest i) (sym same_text i)) ∙ is
+pub answered : (conf conf' : Conf) (d : Entries) (count : ℕ) (stamp' text' text : List ℕ) (answer : Result Stored IndexFaultKind) → conf ≡ conf' → count ≡ finite.len d → stamp' ≡ stamp conf d → text' ≡ text
+    → index_in conf' count stamp' text' ≡ answer → index_in conf (finite.len d) (stamp conf d) text ≡ answer
+answered conf conf' d count stamp' text' text answer same_conf same_count same_stamp same_text is =
+    (λ i. index_in (same_conf i) (sym same_count i) (sym same_stamp i) (sym same_text i)) ∙ is
 
 pub each_byte : (bs : List ℕ) → ((i : ℕ) → get_or bs i 0 < 256) → AllByRecursion IsByte bs
 each_byte [] each = tt

@@ -10,7 +10,7 @@ use Rattle.dir_conf.specs.declared.conf_fault.ConfFaultKind.{ConfFaultKind}
 use Rattle.tree.specs.Directories.{Entries}
 use Rattle.directory.specs.Runs.{LoadsRecords, Loads, loaded_after}
 use Rattle.directory.specs.Folds.{Over}
-use Rattle.directory.specs.declared.reason.Reason.{Reason}
+use Rattle.directory.specs.declared.refusal.RecordRefusal.{RecordRefusal}
 use Rattle.commands.specs.Folders.{Files, Finds, conf_name, data_name}
 use Rattle.commands.specs.Failures.{IsMemory}
 use Rattle.commands.specs.declared.messages.CommandFault.{CommandFault}
@@ -41,7 +41,7 @@ pub record ConfFails (files : Option Files) (db : List ℕ) (line : ℕ) (kind :
   pub says : conf_of text ≡ Err (line, kind)
 
 -- the first record of data.ldif that is refused, by its line, and why
-pub record DataFails (files : Option Files) (db : List ℕ) (line : ℕ) (why : Reason) : Type 0 where
+pub record DataFails (files : Option Files) (db : List ℕ) (line : ℕ) (why : RecordRefusal) : Type 0 where
   pub conf : Conf
   pub configured : IsConfigured files (conf_name db) conf
   pub text : Option (List ℕ)

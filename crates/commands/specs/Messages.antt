@@ -7,7 +7,7 @@ use Rattle.schema.specs.declared.code.Code.{Code}
 use Rattle.schema.specs.Codes.{code_report}
 use Rattle.dir_conf.specs.ConfFaults.{kind_report}
 use Rattle.filter_text.specs.FaultReports as filters
-use Rattle.directory.specs.Reports.{reason_report}
+use Rattle.directory.specs.Reports.{refusal_report}
 use Rattle.commands.specs.declared.messages.Status.{Status}
 use Rattle.commands.specs.declared.messages.Status.TheVariants.{Failed}
 use Rattle.commands.specs.declared.messages.CommandFault.{CommandFault}
@@ -27,7 +27,7 @@ fault_text faults.Words = codes "command line: not UTF-8"
 fault_text (faults.Filter fault) = codes "filter: " ++ filters.fault_report fault
 fault_text (faults.Code command code) = code_text command.now code
 fault_text (faults.Configuration line kind) = codes "dir.conf line " ++ (decimal line ++ (codes ": " ++ kind_report kind))
-fault_text (faults.Data line reason) = codes "data.ldif line " ++ (decimal line ++ (codes ": " ++ reason_report reason))
+fault_text (faults.Data line refusal) = codes "data.ldif line " ++ (decimal line ++ (codes ": " ++ refusal_report refusal))
 fault_text (faults.CannotRead name) = string_bytes name ++ codes ": cannot read"
 fault_text (faults.CannotWrite name) = string_bytes name ++ codes ": cannot write"
 fault_text (faults.InUse name) = string_bytes name ++ codes ": in use"

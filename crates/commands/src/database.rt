@@ -154,7 +154,7 @@ fn fault_of(alloc: Global, name: &str, fault: LoadFault) -> CommandFault
     match fault {
         LoadFault::Read => CommandFault::cannot_read(alloc, name),
         LoadFault::OutOfMemory => CommandFault::OutOfMemory,
-        LoadFault::Refused { line, reason } => CommandFault::Data { line, reason },
+        LoadFault::Refused { line, refusal } => CommandFault::Data { line, refusal },
     }
 }
 

@@ -11,7 +11,7 @@ ghost use Rattle.commands.specs.inner.WriteFaults.{TellsWriteFault};
 
 use device::{Sink, push_all};
 use dir_conf::ConfFaultKind;
-use directory::{Reason, Tally};
+use directory::{RecordRefusal, Tally};
 use filter_text::FilterFault;
 use ldif::WriteFault;
 use schema::Code;
@@ -69,7 +69,7 @@ pub enum CommandFault {
     /// The line of the configuration that is at fault, or 0 where a line is missing.
     Configuration { line: u64, kind: ConfFaultKind },
     /// The first record of the directory's file that is refused.
-    Data { line: u64, reason: Reason },
+    Data { line: u64, refusal: RecordRefusal },
     /// The file or the stream of this name fails when it is read.
     CannotRead(String),
     /// The file or the stream of this name fails when it is written.
@@ -142,7 +142,7 @@ impl fmt::Display for CommandFault {
             CommandFault::Filter(fault) => write!(f, "filter: {fault}"),
             CommandFault::Code { command, code } => write!(f, "{command}: {code}"),
             CommandFault::Configuration { line, kind } => write!(f, "dir.conf line {line}: {kind}"),
-            CommandFault::Data { line, reason } => write!(f, "data.ldif line {line}: {reason}"),
+            CommandFault::Data { line, refusal } => write!(f, "data.ldif line {line}: {refusal}"),
             CommandFault::CannotRead(name) => write!(f, "{name}: cannot read"),
             CommandFault::CannotWrite(name) => write!(f, "{name}: cannot write"),
             CommandFault::InUse(folder) => write!(f, "{folder}: in use"),

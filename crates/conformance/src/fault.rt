@@ -12,7 +12,7 @@ pub enum CaseFault {
     End,
     /// A code in its text is wrong.
     Code,
-    /// It names the digest of a file that isn't there.
+    /// It names the stamp of a file that isn't there.
     Stamp,
     /// It doesn't belong here, as a line of a file does without that file.
     Place,

@@ -239,7 +239,7 @@ pub fn put_lines(alloc: Global, text: &str, into: &mut Vec<u8>) -> Result<(), Ca
     put_known_lines(alloc, text, Known::nothing(), into)
 }
 
-/// Puts down the line of a file that a text stands for, or the lines. It may name the digests of these files.
+/// Puts down the line of a file that a text stands for, or the lines. It may name the stamps of these files.
 pub fn put_file_lines(
     alloc: Global,
     text: &str,

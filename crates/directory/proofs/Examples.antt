@@ -46,8 +46,8 @@ use Rattle.directory.specs.Runs.{State, start, of_change, take_up, outcome, step
 use Rattle.directory.specs.Loading.{StopsAt}
 use Rattle.directory.specs.declared.loading.LoadFault.TheVariants as loads
 use Rattle.directory.specs.Reports.{report, report_line}
-use Rattle.directory.specs.declared.reason.Reason.{Reason}
-use Rattle.directory.specs.declared.reason.Reason.TheVariants as reasons
+use Rattle.directory.specs.declared.refusal.RecordRefusal.{RecordRefusal}
+use Rattle.directory.specs.declared.refusal.RecordRefusal.TheVariants as refusals
 
 -- what a text is read by
 unfoldable on_texts : ⊤
@@ -89,20 +89,20 @@ conf = record {
 
 -- ---- reports
 
-a_code : report ((4, reasons.Code result.NoSuchObject) ∷ []) ≡ ended (codes "line 4: 32 noSuchObject")
+a_code : report ((4, refusals.Code result.NoSuchObject) ∷ []) ≡ ended (codes "line 4: 32 noSuchObject")
 unfolding report_line digits
 a_code = refl
 
-a_fault_after_a_code : report ((10, reasons.Code result.InvalidDnSyntax) ∷ (127, reasons.Fault faults.Base64) ∷ []) ≡ ended (codes "line 10: 34 invalidDNSyntax") ++ ended (codes "line 127: L4 base64")
+a_fault_after_a_code : report ((10, refusals.Code result.InvalidDnSyntax) ∷ (127, refusals.Fault faults.Base64) ∷ []) ≡ ended (codes "line 10: 34 invalidDNSyntax") ++ ended (codes "line 127: L4 base64")
 unfolding report_line digits
 a_fault_after_a_code = refl
 
 -- ---- refused records change nothing, whatever the directory
 
-abbrev refusing : Entries → List (ℕ × Reason) → Bool → State
+abbrev refusing : Entries → List (ℕ × RecordRefusal) → Bool → State
 refusing d refused over = record { entries = d; accepted = 0; refused = refused; ended = over }
 
-other_version : (d : Entries) → after conf Content false d (ended (codes "version: 2") ++ ended (codes "dn: dc=ex")) ≡ refusing d ((1, reasons.Fault faults.Version) ∷ []) true
+other_version : (d : Entries) → after conf Content false d (ended (codes "version: 2") ++ ended (codes "dn: dc=ex")) ≡ refusing d ((1, refusals.Fault faults.Version) ∷ []) true
 unfolding on_texts
 other_version d = refl
 
@@ -115,11 +115,11 @@ version_alone d = refl
 abbrev two_refused : List ℕ
 two_refused = ended (codes "dn: cn=a,dc=no") ++ person ++ ended [] ++ ended (codes "# note") ++ ended (codes "dn: x")
 
-stops_at_the_first : (d : Entries) → after conf Content false d two_refused ≡ refusing d ((1, reasons.Code result.NoSuchObject) ∷ []) true
+stops_at_the_first : (d : Entries) → after conf Content false d two_refused ≡ refusing d ((1, refusals.Code result.NoSuchObject) ∷ []) true
 unfolding on_texts on_entries
 stops_at_the_first d = refl
 
-goes_on_to_the_second : (d : Entries) → after conf Content true d two_refused ≡ refusing d ((1, reasons.Code result.NoSuchObject) ∷ (5, reasons.Code result.InvalidDnSyntax) ∷ []) false
+goes_on_to_the_second : (d : Entries) → after conf Content true d two_refused ≡ refusing d ((1, refusals.Code result.NoSuchObject) ∷ (5, refusals.Code result.InvalidDnSyntax) ∷ []) false
 unfolding on_texts on_entries
 goes_on_to_the_second d = refl
 
@@ -194,7 +194,7 @@ module _ (total : IsTotalOrder path_cmp) where
   two_load : Loads conf two_records with_both
   two_load = record { entries = ap (λ (s : State). s.entries) (sym two_are_added); all = ap (λ (s : State). s.refused) two_are_added }
 
-loading_stops : StopsAt (loads.Refused 1 (reasons.Code result.NoSuchObject)) conf finite.empty (Some (records two_refused))
+loading_stops : StopsAt (loads.Refused 1 (refusals.Code result.NoSuchObject)) conf finite.empty (Some (records two_refused))
 loading_stops = record { given = records two_refused; are = refl; so = ap (λ (s : State). s.refused) (stops_at_the_first finite.empty) }
 
 -- ---- a dump, parents first

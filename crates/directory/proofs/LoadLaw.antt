@@ -122,7 +122,7 @@ module _ (total : IsTotalOrder path_cmp) where
     read_of x = as_record (record_of conf d x)
 
     loads_one : (s : State) (e : Path × EntryContent) → add conf Content s.entries (record_of conf d e).dn (record_of conf d e).attrs ≡ added e.0 e.1
-        → outcome conf Content s.entries (read_of e) ≡ (finite.insert s.entries e.0 e.1, Rattle.directory.specs.declared.reason.Outcome.TheVariants.Accepted)
+        → outcome conf Content s.entries (read_of e) ≡ (finite.insert s.entries e.0 e.1, Rattle.directory.specs.declared.refusal.Outcome.TheVariants.Accepted)
     unfolding outcome
     loads_one s e adds = ap (λ (x : Result Change Code). of_change s.entries false (x >>= λ c. Ok (changed s.entries c))) adds
 

@@ -15,9 +15,9 @@ use Rattle.directory.specs.inner.Steps.{ends}
 use Rattle.directory.specs.inner.Loading.{is_refused, IsLoaded, Explains, IsUnderWay}
 use Rattle.directory.specs.declared.loading.LoadFault.{LoadFault}
 use Rattle.directory.specs.declared.loading.LoadFault.TheVariants as faults
-use Rattle.directory.specs.declared.reason.Reason.{Reason}
-use Rattle.directory.specs.declared.reason.Outcome.{Outcome}
-use Rattle.directory.specs.declared.reason.Outcome.TheVariants.{Nothing, Accepted, Refused}
+use Rattle.directory.specs.declared.refusal.RecordRefusal.{RecordRefusal}
+use Rattle.directory.specs.declared.refusal.Outcome.{Outcome}
+use Rattle.directory.specs.declared.refusal.Outcome.TheVariants.{Nothing, Accepted, Refused}
 use Rattle.directory.proofs.Records.{takes_nothing, takes_more, counted_entries, settled, ended_is, last_refused}
 use Rattle.directory.proofs.Whole.{after_all}
 
@@ -31,7 +31,7 @@ keeps_going s line d Nothing h = refl
 keeps_going s line d Accepted h = refl
 keeps_going s line d (Refused why) h = cc
 
-refuses_over : (conf : Conf) (old : Entries) (all left : Option (List RawRecord)) (front : List RawRecord) (last : ℕ × Reason) → Takes all left front → (loaded_after conf old front).refused ≡ last ∷ [] → (loaded_after conf old front).ended ≡ true
+refuses_over : (conf : Conf) (old : Entries) (all left : Option (List RawRecord)) (front : List RawRecord) (last : ℕ × RecordRefusal) → Takes all left front → (loaded_after conf old front).refused ≡ last ∷ [] → (loaded_after conf old front).ended ≡ true
     → Over all (λ given. (loaded_after conf old given).refused ≡ last ∷ [])
 refuses_over conf old None left front last parts refused ended = record { given = front; are = tt; so = refused }
 refuses_over conf old (Some rs) left front last parts refused ended = record {
@@ -63,7 +63,7 @@ module _ (conf : Conf) (old : Entries) where
         }
 
     -- the records up to the one that is refused
-    refuses : (why : Reason) → o.1 ≡ Refused why → Over all (λ given. (loaded_after conf old given).refused ≡ (r.line, why) ∷ [])
+    refuses : (why : RecordRefusal) → o.1 ≡ Refused why → Over all (λ given. (loaded_after conf old given).refused ≡ (r.line, why) ∷ [])
     refuses why is =
         let front = h.front ++ r ∷ [] in
         let refused : (loaded_after conf old front).refused ≡ (r.line, why) ∷ [] = last_refused conf Content false old now h.front r h.going h.entries why is ∙ ap (λ xs. xs ++ (r.line, why) ∷ []) h.refused in

@@ -23,9 +23,9 @@ use Rattle.directory.specs.Faults.{Failures, LastRefused, WasGoing, WrittenAt, t
 use Rattle.directory.specs.FailedReads.{IsLeft, RanUpTo}
 use Rattle.directory.specs.Folds.{Runs}
 use Rattle.directory.proofs.Whole as whole
-use Rattle.directory.specs.declared.reason.Reason.{Reason}
-use Rattle.directory.specs.declared.reason.Outcome.{Outcome}
-use Rattle.directory.specs.declared.reason.Outcome.TheVariants.{Nothing, Accepted, Refused}
+use Rattle.directory.specs.declared.refusal.RecordRefusal.{RecordRefusal}
+use Rattle.directory.specs.declared.refusal.Outcome.{Outcome}
+use Rattle.directory.specs.declared.refusal.Outcome.TheVariants.{Nothing, Accepted, Refused}
 use Rattle.directory.specs.declared.runs.Tally.{Tally}
 use Rattle.directory.specs.declared.runs.RunFault.{RunFault}
 use Rattle.directory.specs.declared.runs.RunFault.TheVariants as faults
@@ -44,7 +44,7 @@ takes_more (Some all) (Some mid) (Some left) xs ys h k = h ∙ ap (λ zs. xs ++ 
 
 -- ---- one record more
 
-report_more : (refused : List (ℕ × Reason)) (r : ℕ × Reason) → report (refused ++ r ∷ []) ≡ report refused ++ report_line r
+report_more : (refused : List (ℕ × RecordRefusal)) (r : ℕ × RecordRefusal) → report (refused ++ r ∷ []) ≡ report refused ++ report_line r
 report_more refused r = flat_map-append report_line refused (r ∷ []) ∙ ap (λ bs. report refused ++ bs) (append-nil (report_line r))
 
 pub counted_entries : (go_on : Bool) (s : State) (line : ℕ) (d : Entries) (out : Outcome) → d ≡ (counted go_on s line d out).entries
@@ -107,7 +107,7 @@ module _ (conf : Conf) (mode : Mode) (go_on : Bool) (old : Entries) where
     written_more : (a b c : Written) → Took a b (report (at front).refused) → Took b c (reported r.line o.1) → Took a c (report (at (front ++ r ∷ [])).refused)
     written_more a b c h k = took_more a b c (report (at front).refused) (reported r.line o.1) (report (at (front ++ r ∷ [])).refused) h k (counted_report go_on (at front) r.line o.0 o.1 ∙ ap (λ (s : State). report s.refused) (sym settled))
 
-    pub last_refused : (why : Reason) → o.1 ≡ Refused why → (at (front ++ r ∷ [])).refused ≡ (at front).refused ++ (r.line, why) ∷ []
+    pub last_refused : (why : RecordRefusal) → o.1 ≡ Refused why → (at (front ++ r ∷ [])).refused ≡ (at front).refused ++ (r.line, why) ∷ []
     last_refused why is = ap (λ (s : State). s.refused) (settled ∙ ap (counted go_on (at front) r.line o.0) is)
 
   -- ---- what the loop keeps
@@ -139,7 +139,7 @@ module _ (conf : Conf) (mode : Mode) (go_on : Bool) (old : Entries) where
         (inr (ended_is now h.front r h.going h.reached.entries ∙ sym k.ended_is ∙ on))
         (written_more now h.front r h.going h.reached.entries a b c h.written k.written)
 
-    last_one : (why : Reason) → (outcome conf mode now (reading mode r.first r.lines)).1 ≡ Refused why → LastRefused at (h.front ++ r ∷ []) a b (r.line, why)
+    last_one : (why : RecordRefusal) → (outcome conf mode now (reading mode r.first r.lines)).1 ≡ Refused why → LastRefused at (h.front ++ r ∷ []) a b (r.line, why)
     last_one why is = record {
       earlier = h.front;
       last = r;
@@ -149,7 +149,7 @@ module _ (conf : Conf) (mode : Mode) (go_on : Bool) (old : Entries) where
     }
 
     -- behind the record that was refused
-    counts_it : (f : RunFault) → (why : Reason) → IsCounted (outcome conf mode now (reading mode r.first r.lines)) new t (tally_of f) why → WrittenAt f at (h.front ++ r ∷ []) a c → Runs conf mode go_on old new all (Err f) a c
+    counts_it : (f : RunFault) → (why : RecordRefusal) → IsCounted (outcome conf mode now (reading mode r.first r.lines)) new t (tally_of f) why → WrittenAt f at (h.front ++ r ∷ []) a c → Runs conf mode go_on old new all (Err f) a c
     counts_it f why k written = whole.broke_off conf mode go_on old new a c left (h.front ++ r ∷ []) f all
         (reached_more now h.front r h.going h.reached.entries all mid left t (tally_of f) new h.reached taken k.entries k.counts) written
 

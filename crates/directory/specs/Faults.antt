@@ -4,7 +4,7 @@ use Rattle.device.specs.Device.{Written, Took, Broke}
 use Rattle.ldif_lines.specs.Records.{RawRecord}
 use Rattle.directory.specs.Reports.{report, report_line}
 use Rattle.directory.specs.Runs.{State}
-use Rattle.directory.specs.declared.reason.Reason.{Reason}
+use Rattle.directory.specs.declared.refusal.RecordRefusal.{RecordRefusal}
 use Rattle.directory.specs.declared.runs.Tally.{Tally}
 use Rattle.directory.specs.declared.runs.RunFault.{RunFault}
 use Rattle.directory.specs.declared.runs.RunFault.TheVariants as faults
@@ -14,9 +14,9 @@ pub record WasGoing (s : State) (a b : Written) : Type 0 where
   pub going : s.ended ≡ false
   pub written : Took a b (report s.refused)
 
--- The last record was refused, for this reason on this line; the run was going before it, and the report of those before it was written.
+-- The last record was refused, by this refusal on this line; the run was going before it, and the report of those before it was written.
 -- `at` says where the run stands behind some records.
-pub record LastRefused (at : List RawRecord → State) (front : List RawRecord) (a mid : Written) (why : ℕ × Reason) : Type 0 where
+pub record LastRefused (at : List RawRecord → State) (front : List RawRecord) (a mid : Written) (why : ℕ × RecordRefusal) : Type 0 where
   pub earlier : List RawRecord
   pub last : RawRecord
   pub are : front ≡ earlier ++ last ∷ []
@@ -25,14 +25,14 @@ pub record LastRefused (at : List RawRecord → State) (front : List RawRecord) 
 
 -- the sink failed in the last report line, of which a beginning was written
 pub record BrokeInLast (at : List RawRecord → State) (front : List RawRecord) (a b : Written) : Type 0 where
-  pub why : ℕ × Reason
+  pub why : ℕ × RecordRefusal
   pub mid : Written
   pub last : LastRefused at front a mid why
   pub broke : Broke mid b (report_line why)
 
 -- the last report line was wanting memory, and nothing of it was written
 pub record WantedInLast (at : List RawRecord → State) (front : List RawRecord) (a b : Written) : Type 0 where
-  pub why : ℕ × Reason
+  pub why : ℕ × RecordRefusal
   pub last : LastRefused at front a b why
 
 -- where the run stood, and what was written of the report

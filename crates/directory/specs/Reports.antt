@@ -5,17 +5,17 @@ use Rattle.std.specs.Fmt.{decimal}
 use Rattle.base.specs.Ascii.{line_feed}
 use Rattle.ldif.specs.Faults.{fault_report}
 use Rattle.schema.specs.Codes.{code_report}
-use Rattle.directory.specs.declared.reason.Reason.{Reason}
-use Rattle.directory.specs.declared.reason.Reason.TheVariants as reasons
+use Rattle.directory.specs.declared.refusal.RecordRefusal.{RecordRefusal}
+use Rattle.directory.specs.declared.refusal.RecordRefusal.TheVariants as refusals
 
 -- a code by its number and name, a fault by its number behind an `L` and its text
-abbrev pub reason_report : Reason → List ℕ
-reason_report (reasons.Code c) = code_report c
-reason_report (reasons.Fault f) = fault_report f
+abbrev pub refusal_report : RecordRefusal → List ℕ
+refusal_report (refusals.Code c) = code_report c
+refusal_report (refusals.Fault f) = fault_report f
 
 -- `line N: 32 noSuchObject` or `line N: L4 base64` in kind, and a line feed
-unfoldable pub report_line : ℕ × Reason → List ℕ
-report_line r = codes "line " ++ (decimal r.0 ++ (codes ": " ++ (reason_report r.1 ++ line_feed ∷ [])))
+unfoldable pub report_line : ℕ × RecordRefusal → List ℕ
+report_line r = codes "line " ++ (decimal r.0 ++ (codes ": " ++ (refusal_report r.1 ++ line_feed ∷ [])))
 
-abbrev pub report : List (ℕ × Reason) → List ℕ
+abbrev pub report : List (ℕ × RecordRefusal) → List ℕ
 report refused = flat_map report_line refused

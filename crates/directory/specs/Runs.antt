@@ -17,17 +17,17 @@ use Rattle.schema.specs.Conf.{Conf}
 use Rattle.entries.specs.Entries.{EntryContent}
 use Rattle.tree.specs.Directories.{Entries, record_at}
 use Rattle.tree.specs.Operations.{apply}
-use Rattle.directory.specs.declared.reason.Outcome.{Outcome}
-use Rattle.directory.specs.declared.reason.Outcome.TheVariants as outcomes
-use Rattle.directory.specs.declared.reason.Reason.{Reason}
-use Rattle.directory.specs.declared.reason.Reason.TheVariants as reasons
+use Rattle.directory.specs.declared.refusal.Outcome.{Outcome}
+use Rattle.directory.specs.declared.refusal.Outcome.TheVariants as outcomes
+use Rattle.directory.specs.declared.refusal.RecordRefusal.{RecordRefusal}
+use Rattle.directory.specs.declared.refusal.RecordRefusal.TheVariants as refusals
 
--- where a run stands: the entries, how many records were accepted, the line and the reason of each refused one, and
+-- where a run stands: the entries, how many records were accepted, the line and the refusal of each refused one, and
 -- whether it has ended
 pub record State : Type 0 where
   pub entries : Entries
   pub accepted : ℕ
-  pub refused : List (ℕ × Reason)
+  pub refused : List (ℕ × RecordRefusal)
   pub ended : Bool
 
 abbrev pub start : Entries → State
@@ -46,12 +46,12 @@ is_empty (records.ModRdn dn controls newrdn delete_old new_superior) = false
 
 abbrev pub of_change : Entries → Bool → Result Entries Code → Entries × Outcome
 of_change d empty (Ok next) = (next, if empty then outcomes.Nothing else outcomes.Accepted)
-of_change d empty (Err code) = (d, outcomes.Refused (reasons.Code code))
+of_change d empty (Err code) = (d, outcomes.Refused (refusals.Code code))
 
 -- the entries after what was read of a record, and what becomes of it
 unfoldable pub outcome : Conf → Mode → Entries → Result Record LdifFaultKind → Entries × Outcome
 outcome conf mode d (Ok r) = of_change d (is_empty r) (apply conf mode d r)
-outcome conf mode d (Err fault) = (d, outcomes.Refused (reasons.Fault fault))
+outcome conf mode d (Err fault) = (d, outcomes.Refused (refusals.Fault fault))
 
 -- a refused record ends the run, unless it goes on
 abbrev pub counted : Bool → State → ℕ → Entries → Outcome → State

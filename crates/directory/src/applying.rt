@@ -15,7 +15,7 @@ ghost use Rattle.schema.specs.declared.code.Code.{Code};
 ghost use Rattle.directory.specs.RunEdits.{read_edits};
 ghost use Rattle.directory.specs.Runs.{is_empty, outcome};
 
-use crate::reason::{Outcome, Reason};
+use crate::refusal::{Outcome, RecordRefusal};
 use entries::{Entry, Refusal};
 use index::{Index, KeyChanges, key_changes};
 use ldif::{LdifFault, Mode, RawRecord, Record, read_record};
@@ -187,12 +187,12 @@ pub(crate) fn carry_out(
 {
     let asked = match read_record(alloc, raw, mode) {
         Ok(asked) => asked,
-        Err(LdifFault::Fault(fault)) => return Ok(Outcome::Refused(Reason::Fault(fault))),
+        Err(LdifFault::Fault(fault)) => return Ok(Outcome::Refused(RecordRefusal::Fault(fault))),
         Err(LdifFault::OutOfMemory) => return Err(AllocError),
     };
     match apply_record(alloc, tree, index, conf, &asked, mode) {
         Ok(_) => Ok(accepted(&asked)),
-        Err(Refusal::Code(code)) => Ok(Outcome::Refused(Reason::Code(code))),
+        Err(Refusal::Code(code)) => Ok(Outcome::Refused(RecordRefusal::Code(code))),
         Err(Refusal::OutOfMemory) => Err(AllocError),
     }
 }
@@ -213,12 +213,12 @@ pub(crate) fn carry_out_alone(
 {
     let asked = match read_record(alloc, raw, mode) {
         Ok(asked) => asked,
-        Err(LdifFault::Fault(fault)) => return Ok(Outcome::Refused(Reason::Fault(fault))),
+        Err(LdifFault::Fault(fault)) => return Ok(Outcome::Refused(RecordRefusal::Fault(fault))),
         Err(LdifFault::OutOfMemory) => return Err(AllocError),
     };
     match apply_alone(alloc, tree, conf, &asked, mode) {
         Ok(()) => Ok(accepted(&asked)),
-        Err(Refusal::Code(code)) => Ok(Outcome::Refused(Reason::Code(code))),
+        Err(Refusal::Code(code)) => Ok(Outcome::Refused(RecordRefusal::Code(code))),
         Err(Refusal::OutOfMemory) => Err(AllocError),
     }
 }

@@ -20,7 +20,7 @@ ghost use Rattle.directory.specs.Runs.{outcome};
 
 use crate::applying::{Edits, apply_record, carry_out};
 use crate::indexing::index_of;
-use crate::reason::Outcome;
+use crate::refusal::Outcome;
 use crate::searching::search_with_index;
 use entries::Refusal;
 use filter::Prepared;

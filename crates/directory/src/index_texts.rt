@@ -133,7 +133,7 @@ fn first_line(
     Ok(text)
 }
 
-/// Writes the text of the index of a tree's entries, in pieces of some 64 KiB: how many entries there are, the digest of their dump, and
+/// Writes the text of the index of a tree's entries, in pieces of some 64 KiB: how many entries there are, the stamp of their dump, and
 /// for each slot the keys that the entries have, each with the places in the dump of the entries that have it. The tree and the index
 /// were made with this configuration, and this is the stamp of the tree. On a fault a beginning was written.
 pub fn write_index_text<W: Sink>(

@@ -16,7 +16,7 @@ ghost use Rattle.directory.specs.inner.Loading.{IsLoaded, Explains};
 
 use crate::applying::carry_out_alone;
 use crate::directory::Directory;
-use crate::reason::{Outcome, Reason};
+use crate::refusal::{Outcome, RecordRefusal};
 use device::Source;
 use ldif::{Mode, RawRecord, ReadFault, Reader};
 use schema::Conf;
@@ -30,7 +30,7 @@ pub enum LoadFault {
     Read,
     OutOfMemory,
     /// The record that begins on this line is refused.
-    Refused { line: u64, reason: Reason },
+    Refused { line: u64, refusal: RecordRefusal },
 }
 
 // one record
@@ -46,9 +46,9 @@ fn load_record(
     ensures refused { IfErr result (λ f. Explains f raw.now.line (outcome tree.old.conf Content tree.old.entries (reading Content raw.now.first raw.now.lines))) }
 {
     match carry_out_alone(alloc, tree, conf, raw, Mode::Content) {
-        Ok(Outcome::Refused(reason)) => Err(LoadFault::Refused {
+        Ok(Outcome::Refused(refusal)) => Err(LoadFault::Refused {
             line: raw.line,
-            reason,
+            refusal,
         }),
         Ok(_) => Ok(()),
         Err(_) => Err(LoadFault::OutOfMemory),
@@ -88,7 +88,7 @@ fn load_rest<S: Source>(
 }
 
 /// The tree of the content records of a source, under a configuration. The first record that is refused is answered with
-/// the number of its line and the reason.
+/// the number of its line and the refusal.
 pub fn load_tree<S: Source>(alloc: Global, conf: &Conf, source: &mut S) -> Result<Tree, LoadFault>
     requires { (S.seen source.old).failed < 2 ^ 64 - 1 }
     ensures same_conf { IfOk result (λ t. t.conf ≡ conf.now) }
@@ -107,7 +107,7 @@ pub fn load_tree<S: Source>(alloc: Global, conf: &Conf, source: &mut S) -> Resul
 }
 
 /// The directory of the content records of a source, under a configuration. The first record that is refused is answered
-/// with the number of its line and the reason.
+/// with the number of its line and the refusal.
 pub fn load<S: Source>(alloc: Global, conf: Conf, source: &mut S) -> Result<Directory, LoadFault>
     requires { (S.seen source.old).failed < 2 ^ 64 - 1 }
     ensures same_conf { IfOk result (λ d. d.conf ≡ conf) }

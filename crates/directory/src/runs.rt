@@ -16,7 +16,7 @@ ghost use Rattle.directory.specs.inner.Steps.{IsTaken, IsBrokenOff};
 ghost use Rattle.ldif_lines.specs.Reader.{source_of, loan_of, is_failed, records_left, bytes_left};
 
 use crate::directory::Directory;
-use crate::reason::{Outcome, Reason, report_line};
+use crate::refusal::{Outcome, RecordRefusal, report_line};
 use device::{Device, Sink, Source, push_all};
 use ldif::{Mode, RawRecord, ReadFault, Reader, WriteFault};
 use std::alloc::Global;
@@ -43,14 +43,14 @@ fn write_report<W: Sink>(
     alloc: Global,
     sink: &mut W,
     line: u64,
-    reason: Reason,
+    refusal: RecordRefusal,
 ) -> Result<(), WriteFault>
     requires { (W.written sink.old).failed < 2 ^ 64 - 1 }
-    ensures ok { OnOk result (Took (W.written sink.old) (W.written sink.new) (report_line (line, reason))) }
-    ensures device { result ≡ Err WriteFault.Device → Broke (W.written sink.old) (W.written sink.new) (report_line (line, reason)) }
+    ensures ok { OnOk result (Took (W.written sink.old) (W.written sink.new) (report_line (line, refusal))) }
+    ensures device { result ≡ Err WriteFault.Device → Broke (W.written sink.old) (W.written sink.new) (report_line (line, refusal)) }
     ensures memory { result ≡ Err WriteFault.OutOfMemory → W.written sink.new ≡ W.written sink.old }
 {
-    match report_line(alloc, line, reason) {
+    match report_line(alloc, line, refusal) {
         Ok(text) => match push_all(sink, text.as_bytes()) {
             Ok(()) => Ok(()),
             Err(Device) => Err(WriteFault::Device),
@@ -85,9 +85,9 @@ fn take_record<W: Sink>(
             tally.accepted += 1;
             Ok(false)
         }
-        Outcome::Refused(reason) => {
+        Outcome::Refused(refusal) => {
             tally.refused += 1;
-            match write_report(alloc, sink, raw.line, reason) {
+            match write_report(alloc, sink, raw.line, refusal) {
                 Ok(()) => Ok(!go_on),
                 Err(WriteFault::Device) => Err(RunFault::Write(*tally)),
                 Err(WriteFault::OutOfMemory) => Err(RunFault::OutOfMemory(*tally)),
@@ -138,7 +138,7 @@ fn run_rest<S: Source, W: Sink>(
 }
 
 /// Carries out the records of a source in turn. For each that is refused, a line with the number of the line on which the
-/// record begins and the reason goes to the sink; the first one ends the run, unless it goes on.
+/// record begins and the refusal goes to the sink; the first one ends the run, unless it goes on.
 ///
 /// A refused record changes nothing. A fault leaves the records that were carried out by then, and comes with their counts. Where
 /// the source fails, these are the records whose closing empty line it gave by then.

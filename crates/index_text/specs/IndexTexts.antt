@@ -25,7 +25,7 @@ Rows = List (Slot × List Row)
 abbrev pub ended : List ℕ → List ℕ
 ended line = line ++ line_feed ∷ []
 
--- the number of the format, how many entries there are, and the stamp: the digest of the dump
+-- the number of the format, how many entries there are, and the stamp of the dump
 abbrev pub header_line : ℕ → List ℕ → List ℕ
 header_line entries stamp = codes "slapindex 1 " ++ decimal entries ++ space ∷ encode_lower stamp
 
@@ -57,6 +57,6 @@ end_line = codes "end"
 abbrev pub slot_text : List AttributeType → Slot × List Row → List ℕ
 slot_text types s = ended (slot_line types s.0) ++ flat_map (λ row. ended (key_line row)) s.1
 
--- the text of an index of so many entries, whose dump has this digest
+-- the text of an index of so many entries, whose dump has this stamp
 unfoldable pub index_text : List AttributeType → ℕ → List ℕ → Rows → List ℕ
 index_text types entries stamp rows = ended (header_line entries stamp) ++ flat_map (slot_text types) rows ++ ended end_line

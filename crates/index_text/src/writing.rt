@@ -31,7 +31,7 @@ fn put_count(out: &mut Vec<u8>, entries: usize) -> Result<(), AllocError>
     out.extend_from_slice(digits.format(entries).as_bytes())
 }
 
-// the digest, which ends the line
+// the stamp, which ends the line
 fn put_stamp(alloc: Global, out: &mut Vec<u8>, stamp: &[u8]) -> Result<(), AllocError>
     ensures put { OnOk result (out.new.items ≡ out.old.items ++ space ∷ encode_lower stamp.now ++ line_feed ∷ []) }
     ensures kept { OnErr result (Extends out.old.items out.new.items) }
@@ -42,7 +42,7 @@ fn put_stamp(alloc: Global, out: &mut Vec<u8>, stamp: &[u8]) -> Result<(), Alloc
     Ok(())
 }
 
-/// The first line: the number of the format, how many entries there are, and the digest of the dump.
+/// The first line: the number of the format, how many entries there are, and the stamp of the dump.
 pub fn put_header(
     alloc: Global,
     out: &mut Vec<u8>,

@@ -243,10 +243,10 @@ fn has_entries(alloc: Global, dir: &Directory, want: &str) -> Result<bool, Fail>
 }
 
 fn is_told(alloc: Global, fault: LoadFault, want: &str) -> Result<bool, Fail> {
-    let LoadFault::Refused { line, reason } = fault else {
+    let LoadFault::Refused { line, refusal } = fault else {
         return Ok(false);
     };
-    let found = format!(in alloc; "line {line}: {reason}")?;
+    let found = format!(in alloc; "line {line}: {refusal}")?;
     Ok(found.as_str() == want)
 }
 

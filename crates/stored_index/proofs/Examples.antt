@@ -122,13 +122,13 @@ six_entries : read_as (codes "slapindex 1 6 8693d50c14ee25d36384190df2bf9729b1b6
 unfolding on_texts
 six_entries = refl
 
-another_digest : read_as (codes "slapindex 1 5 e3b0c44298fc1c149afbf4c8996fb92427ae41e4649b934ca495991b7852b855" ∷ []) ≡ refused faults.Stale
+another_stamp : read_as (codes "slapindex 1 5 e3b0c44298fc1c149afbf4c8996fb92427ae41e4649b934ca495991b7852b855" ∷ []) ≡ refused faults.Stale
 unfolding on_texts
-another_digest = refl
+another_stamp = refl
 
-capital_digits_in_the_digest : read_as (codes "slapindex 1 5 8693D50C14EE25D36384190DF2BF9729B1B64588DA8486E24A3292B94E5BBB2B" ∷ []) ≡ refused faults.Header
+capital_digits_in_the_stamp : read_as (codes "slapindex 1 5 8693D50C14EE25D36384190DF2BF9729B1B64588DA8486E24A3292B94E5BBB2B" ∷ []) ≡ refused faults.Header
 unfolding on_texts
-capital_digits_in_the_digest = refl
+capital_digits_in_the_stamp = refl
 
 keys_exchanged : read_as (first_line ∷ codes "slot cn eq" ∷ codes "61626261 2" ∷ codes "616261 1" ∷ codes "61626320626364 3" ∷ codes "626f62 4" ∷ codes "slot cn pres" ∷ codes "- 1 2 3 4" ∷ codes "slot cn sub" ∷ codes "206263 3" ∷ codes "616261 1" ∷ codes "616262 2" ∷ codes "616263 3" ∷ codes "626261 2" ∷ codes "626320 3" ∷ codes "626364 3" ∷ codes "626f62 4" ∷ codes "632062 3" ∷ codes "slot sn eq" ∷ codes "slot uidNumber eq" ∷ codes "37 4" ∷ codes "slot description eq" ∷ codes "slot description sub" ∷ codes "end" ∷ []) ≡ refused faults.Order
 unfolding on_texts

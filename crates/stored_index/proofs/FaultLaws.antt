@@ -53,7 +53,7 @@ module _ (types : List AttributeType) (named : AreNamed types) (entries : ℕ) (
         (all_weaker (λ d. slot_cmp s.0 d ≡ Less) (λ d. is_passed (Some s.0) d ≡ false) (λ d less. ap (λ (o : Ordering). not (is_lt o)) less) (map good.slot_of done ++ due) order.0),
   )
 
--- ---- digests
+-- ---- stamps
 
 same_digits : (s t : List ℕ) → AllByRecursion good.IsByte s → AllByRecursion good.IsByte t → encode_lower s ≡ encode_lower t → s ≡ t
 same_digits s t one two e = same_ok s t (sym (bytes_read s one) ∙ ap bytes_in e ∙ bytes_read t two)

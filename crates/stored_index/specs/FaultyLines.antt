@@ -106,7 +106,7 @@ pub record IsLaterFault (types : List AttributeType) (entries : ℕ) (last : Las
 
 -- ---- the first line
 
--- so many entries, and a digest of 32 bytes
+-- so many entries, and a stamp of 32 bytes
 pub record IsHead (n : ℕ) (s : List ℕ) : Type 0 where
   pub short : n < 10 ^ 10
   pub size : length s ≡ 32

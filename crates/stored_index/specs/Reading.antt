@@ -20,7 +20,7 @@ use Rattle.stored_index.specs.declared.fault.IndexFaultKind.TheVariants.{Header,
 
 -- ---- the first line
 
--- the digest that a text was written for, and how many entries there were
+-- the stamp that a text was written for, and how many entries there were
 abbrev pub Head : Type 0
 Head = ℕ × List ℕ
 
@@ -99,6 +99,6 @@ lines_in conf entries stamp [] = Err Header
 lines_in conf entries stamp (line ∷ []) = Err Header
 lines_in conf entries stamp (line ∷ next ∷ more) = current_head entries stamp line >>= λ _. slots_of conf.types entries None conf.slots (next ∷ more)
 
--- the rows of an index under a configuration, of so many entries, whose dump has this digest
+-- the rows of an index under a configuration, of so many entries, whose dump has this stamp
 unfoldable pub rows_in : Conf → ℕ → List ℕ → List ℕ → Result Rows IndexFaultKind
 rows_in conf entries stamp text = lines_in conf entries stamp (parts line_feed text)

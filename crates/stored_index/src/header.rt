@@ -77,7 +77,7 @@ fn is_current(
     Ok(head.0 == entries as u64 && head.1 == digits.as_bytes())
 }
 
-/// Looks at the first line: whether it has its form, and says this number of entries and this digest.
+/// Looks at the first line: whether it has its form, and says this number of entries and this stamp.
 pub(crate) fn check_header(
     alloc: Global,
     line: &[u8],

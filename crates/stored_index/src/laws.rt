@@ -31,7 +31,7 @@ pub fn faults_stand_at_lines()
     schema::printed_names_name_their_types();
 }
 
-/// A text that has such a fault is refused with it, where a header can say how many entries there are and which digest. So it has one such
+/// A text that has such a fault is refused with it, where a header can say how many entries there are and which stamp. So it has one such
 /// fault at most.
 pub fn texts_at_fault_are_refused()
     ensures { (conf : Conf) (entries : ℕ) (stamp text : List ℕ) (kind : IndexFaultKind) → IsConf conf → IsHead entries stamp → IsIndexFault conf entries stamp text kind

@@ -75,7 +75,7 @@ fn ranks_of<'a>(rows: &'a [(Bytes, ListSet)], key: &[u8]) -> Option<&'a ListSet>
 }
 
 impl StoredIndex {
-    /// The index that a text writes under a configuration, of so many entries, for the dump with this digest; or what is wrong with the
+    /// The index that a text writes under a configuration, of so many entries, for the dump with this stamp; or what is wrong with the
     /// text's first line, or else with the first line behind it that is at fault.
     pub fn read(
         alloc: Global,

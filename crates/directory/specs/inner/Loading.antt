@@ -6,8 +6,8 @@ use Rattle.schema.specs.Conf.{Conf}
 use Rattle.tree.specs.Directories.{Entries}
 use Rattle.directory.specs.declared.loading.LoadFault.{LoadFault}
 use Rattle.directory.specs.declared.loading.LoadFault.TheVariants as faults
-use Rattle.directory.specs.declared.reason.Outcome.{Outcome}
-use Rattle.directory.specs.declared.reason.Outcome.TheVariants.{Nothing, Accepted, Refused}
+use Rattle.directory.specs.declared.refusal.Outcome.{Outcome}
+use Rattle.directory.specs.declared.refusal.Outcome.TheVariants.{Nothing, Accepted, Refused}
 use Rattle.directory.specs.Runs.{loaded_after}
 
 abbrev pub is_refused : Outcome → Bool

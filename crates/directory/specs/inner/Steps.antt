@@ -3,9 +3,9 @@ use Rattle.std.specs.Prelude.{◌≡◌, ℕ, ◌+◌, ◌⊎◌, Bool, false, n
 use Rattle.device.specs.Device.{Written, Took, Broke}
 use Rattle.tree.specs.Directories.{Entries}
 use Rattle.directory.specs.Reports.{report_line}
-use Rattle.directory.specs.declared.reason.Reason.{Reason}
-use Rattle.directory.specs.declared.reason.Outcome.{Outcome}
-use Rattle.directory.specs.declared.reason.Outcome.TheVariants.{Nothing, Accepted, Refused}
+use Rattle.directory.specs.declared.refusal.RecordRefusal.{RecordRefusal}
+use Rattle.directory.specs.declared.refusal.Outcome.{Outcome}
+use Rattle.directory.specs.declared.refusal.Outcome.TheVariants.{Nothing, Accepted, Refused}
 use Rattle.directory.specs.declared.runs.Tally.{Tally}
 use Rattle.directory.specs.declared.runs.RunFault.{RunFault}
 use Rattle.directory.specs.declared.runs.RunFault.TheVariants as faults
@@ -34,7 +34,7 @@ pub record IsTaken (o : Entries × Outcome) (go_on : Bool) (line : ℕ) (new : E
   pub ended_is : ended ≡ ends go_on o.1
 
 -- it was refused and counted, and its report line was broken off
-pub record IsCounted (o : Entries × Outcome) (new : Entries) (t t' : Tally) (why : Reason) : Type 0 where
+pub record IsCounted (o : Entries × Outcome) (new : Entries) (t t' : Tally) (why : RecordRefusal) : Type 0 where
   pub is : o.1 ≡ Refused why
   pub entries : new ≡ o.0
   pub counts : t' ≡ counts_after o.1 t
@@ -47,5 +47,5 @@ pub record IsUntouched (old new : Entries) (t t' : Tally) (a b : Written) : Type
 
 abbrev pub IsBrokenOff : Entries × Outcome → ℕ → Entries → Entries → Tally → Written → Written → RunFault → Type 0
 IsBrokenOff o line old new t a b (faults.Read t') = ⊥
-IsBrokenOff o line old new t a b (faults.Write t') = (why : Reason) × IsCounted o new t t' why × Broke a b (report_line (line, why))
-IsBrokenOff o line old new t a b (faults.OutOfMemory t') = IsUntouched old new t t' a b ⊎ ((why : Reason) × IsCounted o new t t' why × (b ≡ a))
+IsBrokenOff o line old new t a b (faults.Write t') = (why : RecordRefusal) × IsCounted o new t t' why × Broke a b (report_line (line, why))
+IsBrokenOff o line old new t a b (faults.OutOfMemory t') = IsUntouched old new t t' a b ⊎ ((why : RecordRefusal) × IsCounted o new t t' why × (b ≡ a))
