@@ -1,5 +1,5 @@
 pub mod Brackets
 pub mod Candidates
-pub mod Ids
+pub mod Numbers
 pub mod Sides
 pub mod inner

@@ -3,13 +3,13 @@
 ghost use Rattle.std.specs.Prelude.{◌≡◌, IfOk};
 ghost use Rattle.filter.specs.Prepared.{prepared_view};
 ghost use Rattle.candidates.specs.Candidates.{may_be_true, may_be_false};
-ghost use Rattle.candidates.specs.Ids.{HasExactly};
+ghost use Rattle.candidates.specs.Numbers.{HasExactly};
 ghost use Rattle.candidates.specs.Sides.{sides};
 ghost use Rattle.candidates.specs.inner.Held.{members_of};
 ghost use Rattle.candidates.specs.inner.OneSide.{on};
 
-use crate::held::{Held, all_or_none, both_or_either, owned_ids};
-use crate::ids::Ids;
+use crate::held::{Held, all_or_none, both_or_either, owned_numbers};
+use crate::numbers::Numbers;
 use crate::items::item_numbers;
 use crate::side::Side;
 use filter::{Prepared, PreparedFilter};
@@ -20,8 +20,8 @@ use std::alloc::{AllocError, Global};
 /// the entry, or neither.
 #[derive(Drop)]
 pub struct Bracket<S> {
-    pub may: Ids<S>,
-    pub may_not: Ids<S>,
+    pub may: Numbers<S>,
+    pub may_not: Numbers<S>,
 }
 
 // The numbers of the entries of which a filter may be what the side says. An And may be True where all of its operands may be, and False where
@@ -31,27 +31,27 @@ fn numbers_on<'p, P: Postings>(
     filter: &PreparedFilter,
     postings: &'p P,
     side: Side,
-) -> Result<Ids<Held<'p, P::Set>>, AllocError>
+) -> Result<Numbers<Held<'p, P::Set>>, AllocError>
     ensures { IfOk result (HasExactly (members_of P.Set.members) (λ n. on side (sides (P.shown postings.now) n (prepared_view filter.now)))) }
 {
     match filter {
         PreparedFilter::And(operands) => {
             let all = side.is_may();
-            let mut ids = all_or_none(postings, all);
+            let mut numbers = all_or_none(postings, all);
             for operand in operands {
                 let next = numbers_on(alloc, operand, postings, side)?;
-                ids = both_or_either(alloc, all, ids, next)?;
+                numbers = both_or_either(alloc, all, numbers, next)?;
             }
-            Ok(ids)
+            Ok(numbers)
         }
         PreparedFilter::Or(operands) => {
             let all = !side.is_may();
-            let mut ids = all_or_none(postings, all);
+            let mut numbers = all_or_none(postings, all);
             for operand in operands {
                 let next = numbers_on(alloc, operand, postings, side)?;
-                ids = both_or_either(alloc, all, ids, next)?;
+                numbers = both_or_either(alloc, all, numbers, next)?;
             }
-            Ok(ids)
+            Ok(numbers)
         }
         PreparedFilter::Not(operand) => numbers_on(alloc, operand, postings, side.other()),
         PreparedFilter::Item(item) => item_numbers(alloc, item, postings, side),
@@ -70,8 +70,8 @@ pub fn candidates<P: Postings>(
     let may = numbers_on(alloc, filter.root(), postings, Side::May)?;
     let may_not = numbers_on(alloc, filter.root(), postings, Side::MayNot)?;
     Ok(Bracket {
-        may: owned_ids(alloc, may)?,
-        may_not: owned_ids(alloc, may_not)?,
+        may: owned_numbers(alloc, may)?,
+        may_not: owned_numbers(alloc, may_not)?,
     })
 }
 
@@ -80,9 +80,9 @@ pub fn may_match<P: Postings>(
     alloc: Global,
     filter: &Prepared,
     postings: &P,
-) -> Result<Ids<P::Set>, AllocError>
+) -> Result<Numbers<P::Set>, AllocError>
     ensures { IfOk result (HasExactly P.Set.members (may_be_true (P.shown postings.now) filter.now)) }
 {
-    let ids = numbers_on(alloc, filter.root(), postings, Side::May)?;
-    owned_ids(alloc, ids)
+    let numbers = numbers_on(alloc, filter.root(), postings, Side::May)?;
+    owned_numbers(alloc, numbers)
 }

@@ -2,11 +2,11 @@
 
 ghost use Rattle.std.specs.Prelude.{◌≡◌, ◌&&◌, ◌||◌, not, ℕ, IfOk, MatchOption};
 ghost use Rattle.std.specs.FinSet as set;
-ghost use Rattle.candidates.specs.Ids.{ids_contain, HasExactly};
+ghost use Rattle.candidates.specs.Numbers.{numbers_contain, HasExactly};
 ghost use Rattle.candidates.specs.inner.Held.{members_of, held_contains};
 ghost use Rattle.candidates.specs.inner.OneSide.{both_or_either};
 
-use crate::ids::Ids;
+use crate::numbers::Numbers;
 use id_sets::IdSet;
 use index::Postings;
 use std::alloc::{AllocError, Global};
@@ -95,54 +95,54 @@ fn minus<'p, S: IdSet>(
 }
 
 /// All numbers, or none. They count as lent by the postings, so that they can stand in for what these lend.
-pub(crate) fn all_or_none<'p, P: Postings>(_postings: &'p P, all: bool) -> Ids<Held<'p, P::Set>>
+pub(crate) fn all_or_none<'p, P: Postings>(_postings: &'p P, all: bool) -> Numbers<Held<'p, P::Set>>
     ensures { HasExactly (members_of P.Set.members) (λ n. all) result }
 {
     if all {
-        Ids::AllBut(Held::Nothing)
+        Numbers::AllBut(Held::Nothing)
     } else {
-        Ids::Only(Held::Nothing)
+        Numbers::Only(Held::Nothing)
     }
 }
 
 /// The numbers that are among both.
-pub(crate) fn meet_ids<'p, S: IdSet>(
+pub(crate) fn meet_numbers<'p, S: IdSet>(
     alloc: Global,
-    left: Ids<Held<'p, S>>,
-    right: Ids<Held<'p, S>>,
-) -> Result<Ids<Held<'p, S>>, AllocError>
+    left: Numbers<Held<'p, S>>,
+    right: Numbers<Held<'p, S>>,
+) -> Result<Numbers<Held<'p, S>>, AllocError>
     ensures { IfOk result (HasExactly (members_of S.members) (λ n.
-        ids_contain (members_of S.members) left.entry n && ids_contain (members_of S.members) right.entry n)) }
+        numbers_contain (members_of S.members) left.entry n && numbers_contain (members_of S.members) right.entry n)) }
 {
     match left {
-        Ids::Only(a) => match right {
-            Ids::Only(b) => Ok(Ids::Only(meet(alloc, a, b)?)),
-            Ids::AllBut(b) => Ok(Ids::Only(minus(alloc, a, b)?)),
+        Numbers::Only(a) => match right {
+            Numbers::Only(b) => Ok(Numbers::Only(meet(alloc, a, b)?)),
+            Numbers::AllBut(b) => Ok(Numbers::Only(minus(alloc, a, b)?)),
         },
-        Ids::AllBut(a) => match right {
-            Ids::Only(b) => Ok(Ids::Only(minus(alloc, b, a)?)),
-            Ids::AllBut(b) => Ok(Ids::AllBut(join(alloc, a, b)?)),
+        Numbers::AllBut(a) => match right {
+            Numbers::Only(b) => Ok(Numbers::Only(minus(alloc, b, a)?)),
+            Numbers::AllBut(b) => Ok(Numbers::AllBut(join(alloc, a, b)?)),
         },
     }
 }
 
 /// The numbers that are among one of them.
-pub(crate) fn join_ids<'p, S: IdSet>(
+pub(crate) fn join_numbers<'p, S: IdSet>(
     alloc: Global,
-    left: Ids<Held<'p, S>>,
-    right: Ids<Held<'p, S>>,
-) -> Result<Ids<Held<'p, S>>, AllocError>
+    left: Numbers<Held<'p, S>>,
+    right: Numbers<Held<'p, S>>,
+) -> Result<Numbers<Held<'p, S>>, AllocError>
     ensures { IfOk result (HasExactly (members_of S.members) (λ n.
-        ids_contain (members_of S.members) left.entry n || ids_contain (members_of S.members) right.entry n)) }
+        numbers_contain (members_of S.members) left.entry n || numbers_contain (members_of S.members) right.entry n)) }
 {
     match left {
-        Ids::Only(a) => match right {
-            Ids::Only(b) => Ok(Ids::Only(join(alloc, a, b)?)),
-            Ids::AllBut(b) => Ok(Ids::AllBut(minus(alloc, b, a)?)),
+        Numbers::Only(a) => match right {
+            Numbers::Only(b) => Ok(Numbers::Only(join(alloc, a, b)?)),
+            Numbers::AllBut(b) => Ok(Numbers::AllBut(minus(alloc, b, a)?)),
         },
-        Ids::AllBut(a) => match right {
-            Ids::Only(b) => Ok(Ids::AllBut(minus(alloc, a, b)?)),
-            Ids::AllBut(b) => Ok(Ids::AllBut(meet(alloc, a, b)?)),
+        Numbers::AllBut(a) => match right {
+            Numbers::Only(b) => Ok(Numbers::AllBut(minus(alloc, a, b)?)),
+            Numbers::AllBut(b) => Ok(Numbers::AllBut(meet(alloc, a, b)?)),
         },
     }
 }
@@ -151,25 +151,25 @@ pub(crate) fn join_ids<'p, S: IdSet>(
 pub(crate) fn both_or_either<'p, S: IdSet>(
     alloc: Global,
     both: bool,
-    left: Ids<Held<'p, S>>,
-    right: Ids<Held<'p, S>>,
-) -> Result<Ids<Held<'p, S>>, AllocError>
+    left: Numbers<Held<'p, S>>,
+    right: Numbers<Held<'p, S>>,
+) -> Result<Numbers<Held<'p, S>>, AllocError>
     ensures { IfOk result (HasExactly (members_of S.members) (λ n.
-        both_or_either both (ids_contain (members_of S.members) left.entry n) (ids_contain (members_of S.members) right.entry n))) }
+        both_or_either both (numbers_contain (members_of S.members) left.entry n) (numbers_contain (members_of S.members) right.entry n))) }
 {
     if both {
-        meet_ids(alloc, left, right)
+        meet_numbers(alloc, left, right)
     } else {
-        join_ids(alloc, left, right)
+        join_numbers(alloc, left, right)
     }
 }
 
 /// The same numbers, with no set lent.
-pub(crate) fn owned_ids<S: IdSet>(alloc: Global, ids: Ids<Held<S>>) -> Result<Ids<S>, AllocError>
-    ensures { IfOk result (HasExactly S.members (λ n. ids_contain (members_of S.members) ids.entry n)) }
+pub(crate) fn owned_numbers<S: IdSet>(alloc: Global, numbers: Numbers<Held<S>>) -> Result<Numbers<S>, AllocError>
+    ensures { IfOk result (HasExactly S.members (λ n. numbers_contain (members_of S.members) numbers.entry n)) }
 {
-    match ids {
-        Ids::Only(held) => Ok(Ids::Only(into_owned(alloc, held)?)),
-        Ids::AllBut(held) => Ok(Ids::AllBut(into_owned(alloc, held)?)),
+    match numbers {
+        Numbers::Only(held) => Ok(Numbers::Only(into_owned(alloc, held)?)),
+        Numbers::AllBut(held) => Ok(Numbers::AllBut(into_owned(alloc, held)?)),
     }
 }

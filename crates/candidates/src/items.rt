@@ -4,13 +4,13 @@ ghost use Rattle.std.specs.Prelude.{◌≡◌, ◌&&◌, [], IfOk};
 ghost use Rattle.std.specs.List.{list_all};
 ghost use Rattle.schema.specs.declared.slots.IndexKind.TheVariants.{Presence, Substrings};
 ghost use Rattle.index.specs.EntryKeys.{windows};
-ghost use Rattle.candidates.specs.Ids.{ids_contain, HasExactly};
+ghost use Rattle.candidates.specs.Numbers.{numbers_contain, HasExactly};
 ghost use Rattle.candidates.specs.Sides.{is_member, has_windows, exactly, at_most, if_indexed, assertion_sides, item_sides};
 ghost use Rattle.candidates.specs.inner.Held.{members_of};
 ghost use Rattle.candidates.specs.inner.OneSide.{on};
 
-use crate::held::{Held, all_or_none, meet_ids};
-use crate::ids::Ids;
+use crate::held::{Held, all_or_none, meet_numbers};
+use crate::numbers::Numbers;
 use crate::side::Side;
 use filter::{Assertion, PreparedItem};
 use index::{Postings, SlotNumber, first_window};
@@ -34,28 +34,28 @@ fn exactly<'p, P: Postings>(
     kind: IndexKind,
     key: &[u8],
     side: Side,
-) -> Ids<Held<'p, P::Set>>
+) -> Numbers<Held<'p, P::Set>>
     ensures { HasExactly (members_of P.Set.members) (λ n.
         on side (if_indexed ((P.shown postings.now).slot_of t kind) (λ slot. exactly (is_member (P.shown postings.now) n slot key.now)))) result }
 {
     match postings.slot(t, kind) {
         None => all_or_none(postings, true),
         Some(slot) => match side {
-            Side::May => Ids::Only(members(postings, slot, key)),
-            Side::MayNot => Ids::AllBut(members(postings, slot, key)),
+            Side::May => Numbers::Only(members(postings, slot, key)),
+            Side::MayNot => Numbers::AllBut(members(postings, slot, key)),
         },
     }
 }
 
 // where the item asks by an order: an entry of which it is True has a value, and one that has values need not be such an entry
-fn by_presence<'p, P: Postings>(postings: &'p P, t: TypeId, side: Side) -> Ids<Held<'p, P::Set>>
+fn by_presence<'p, P: Postings>(postings: &'p P, t: TypeId, side: Side) -> Numbers<Held<'p, P::Set>>
     ensures { HasExactly (members_of P.Set.members) (λ n.
         on side (if_indexed ((P.shown postings.now).slot_of t Presence) (λ slot. at_most (is_member (P.shown postings.now) n slot [])))) result }
 {
     match postings.slot(t, IndexKind::Presence) {
         None => all_or_none(postings, true),
         Some(slot) => match side {
-            Side::May => Ids::Only(members(postings, slot, &[])),
+            Side::May => Numbers::Only(members(postings, slot, &[])),
             Side::MayNot => all_or_none(postings, true),
         },
     }
@@ -67,16 +67,16 @@ fn with_windows<'p, P: Postings>(
     postings: &'p P,
     slot: SlotNumber,
     piece: &[u8],
-    ids: Ids<Held<'p, P::Set>>,
-) -> Result<Ids<Held<'p, P::Set>>, AllocError>
+    numbers: Numbers<Held<'p, P::Set>>,
+) -> Result<Numbers<Held<'p, P::Set>>, AllocError>
     ensures { IfOk result (HasExactly (members_of P.Set.members) (λ n.
-        ids_contain (members_of P.Set.members) ids.entry n && list_all (is_member (P.shown postings.now) n slot.0) (windows piece.now))) }
+        numbers_contain (members_of P.Set.members) numbers.entry n && list_all (is_member (P.shown postings.now) n slot.0) (windows piece.now))) }
 {
-    let mut left = ids;
+    let mut left = numbers;
     let mut rest = piece;
     while let Some(first) = first_window(rest) {
         let (window, after) = first;
-        left = meet_ids(alloc, left, Ids::Only(members(postings, slot, window)))?;
+        left = meet_numbers(alloc, left, Numbers::Only(members(postings, slot, window)))?;
         rest = after;
     }
     Ok(left)
@@ -88,7 +88,7 @@ fn by_windows<'p, P: Postings>(
     postings: &'p P,
     slot: SlotNumber,
     pieces: &Pieces,
-) -> Result<Ids<Held<'p, P::Set>>, AllocError>
+) -> Result<Numbers<Held<'p, P::Set>>, AllocError>
     ensures { IfOk result (HasExactly (members_of P.Set.members) (λ n. has_windows (P.shown postings.now) n slot.0 pieces.now.pieces)) }
 {
     let mut left = all_or_none(postings, true);
@@ -105,7 +105,7 @@ fn by_pieces<'p, P: Postings>(
     t: TypeId,
     pieces: &Pieces,
     side: Side,
-) -> Result<Ids<Held<'p, P::Set>>, AllocError>
+) -> Result<Numbers<Held<'p, P::Set>>, AllocError>
     ensures { IfOk result (HasExactly (members_of P.Set.members) (λ n.
         on side (if_indexed ((P.shown postings.now).slot_of t Substrings) (λ slot. at_most (has_windows (P.shown postings.now) n slot pieces.now.pieces))))) }
 {
@@ -125,7 +125,7 @@ fn by_assertion<'p, P: Postings>(
     t: TypeId,
     assertion: &Assertion,
     side: Side,
-) -> Result<Ids<Held<'p, P::Set>>, AllocError>
+) -> Result<Numbers<Held<'p, P::Set>>, AllocError>
     ensures { IfOk result (HasExactly (members_of P.Set.members) (λ n. on side (assertion_sides (P.shown postings.now) n t assertion.now))) }
 {
     match assertion {
@@ -146,7 +146,7 @@ pub(crate) fn item_numbers<'p, P: Postings>(
     item: &PreparedItem,
     postings: &'p P,
     side: Side,
-) -> Result<Ids<Held<'p, P::Set>>, AllocError>
+) -> Result<Numbers<Held<'p, P::Set>>, AllocError>
     ensures { IfOk result (HasExactly (members_of P.Set.members) (λ n. on side (item_sides (P.shown postings.now) n item.now))) }
 {
     match item {

@@ -6,11 +6,11 @@
 
 mod filters;
 mod held;
-mod ids;
 mod items;
 mod laws;
+mod numbers;
 mod side;
 
 pub use filters::{Bracket, candidates, may_match};
-pub use ids::Ids;
 pub use laws::{brackets_hold, indexes_reflect_entries};
+pub use numbers::Numbers;

@@ -84,30 +84,30 @@ fn rows() -> &'static [Row] {
     &ROWS
 }
 
-fn set_of<S: IdSet>(alloc: Global, ids: &[u32]) -> Result<S, AllocError> {
+fn set_of<S: IdSet>(alloc: Global, numbers: &[u32]) -> Result<S, AllocError> {
     let mut set = S::new(alloc);
-    for id in ids {
-        set.insert(*id)?;
+    for number in numbers {
+        set.insert(*number)?;
     }
     Ok(set)
 }
 
 /// The members, by a walk.
 fn listed<S: IdSet>(alloc: Global, set: &S) -> Result<Vec<u32>, AllocError> {
-    let mut ids = Vec::new(alloc);
-    for id in set.walk() {
-        ids.push(id)?;
+    let mut numbers = Vec::new(alloc);
+    for number in set.walk() {
+        numbers.push(number)?;
     }
-    Ok(ids)
+    Ok(numbers)
 }
 
 /// Whether the calls that look at a set find these members, which are ascending.
-fn has_exactly<S: IdSet>(set: &S, ids: &[u32]) -> bool {
-    let mut found = set.len() == ids.len() as u64;
+fn has_exactly<S: IdSet>(set: &S, numbers: &[u32]) -> bool {
+    let mut found = set.len() == numbers.len() as u64;
     let mut from = 0;
-    for id in ids {
-        found &= set.contains(*id) && set.next_from(from) == Some(*id);
-        from = id.saturating_add(1);
+    for number in numbers {
+        found &= set.contains(*number) && set.next_from(from) == Some(*number);
+        from = number.saturating_add(1);
     }
     found && !set.contains(from) && set.next_from(from).is_none()
 }
@@ -150,14 +150,14 @@ fn rows_hold<S: IdSet>(alloc: Global) -> Result<bool, AllocError> {
 
 /// Some numbers below the end of so many words, the last one there among them.
 fn spread(alloc: Global, words: u32, step: u32) -> Result<Vec<u32>, AllocError> {
-    let mut ids = Vec::new(alloc);
+    let mut numbers = Vec::new(alloc);
     let end = words.saturating_mul(64);
-    for id in 0..end {
-        if id.wrapping_mul(step) & 5 == 1 || id == end - 1 {
-            ids.push(id)?;
+    for number in 0..end {
+        if number.wrapping_mul(step) & 5 == 1 || number == end - 1 {
+            numbers.push(number)?;
         }
     }
-    Ok(ids)
+    Ok(numbers)
 }
 
 /// Whether each call answers what it answers on lists.
@@ -187,10 +187,10 @@ fn all_agree<S: IdSet>(alloc: Global) -> Result<bool, AllocError> {
 /// Makes a change with each number, and answers how often the set changes.
 fn make(set: &mut KeySet, change: Change, from: u32, end: u32) -> Result<u64, AllocError> {
     let mut changes = 0u64;
-    for id in from..end {
+    for number in from..end {
         let changed = match change {
-            Change::Insert => set.insert(id)?,
-            Change::Remove => set.remove(id),
+            Change::Insert => set.insert(number)?,
+            Change::Remove => set.remove(number),
         };
         changes = changes.saturating_add(u64::from(changed));
     }

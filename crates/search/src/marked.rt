@@ -2,11 +2,11 @@
 
 ghost use Rattle.std.specs.Prelude.{◌≡◌, ◌+◌, ◌<◌, ◌^◌, length};
 ghost use Rattle.std.specs.Iterator.{YieldsFirstBy, item_count};
-ghost use Rattle.candidates.specs.Ids.{ids_contain};
+ghost use Rattle.candidates.specs.Numbers.{numbers_contain};
 ghost use Rattle.search.specs.inner.Marks.{marked};
 
 use crate::numbering::Numbering;
-use candidates::Ids;
+use candidates::Numbers;
 use entries::Entry;
 use id_sets::IdSet;
 use schema::Path;
@@ -20,20 +20,20 @@ pub(crate) struct MarkedEntries<'a, S: IdSet> {
     // of the next entry, as far as ranks are counted
     rank: u32,
     numbering: Numbering,
-    candidates: Ids<S>,
+    candidates: Numbers<S>,
 }
 
 impl<'a, S: IdSet> Model for MarkedEntries<'a, S> {
     ghost use Rattle.std.specs.Prelude.{◌+◌, ◌<◌, ◌^◌, List, length};
     ghost use Rattle.std.specs.Coded.{coded_list};
-    ghost use Rattle.candidates.specs.Ids.{ids_contain};
+    ghost use Rattle.candidates.specs.Numbers.{numbers_contain};
     ghost use Rattle.search.specs.inner.Marks.{MarkedEntry, marked_code, marked};
 
     ghost Value = { List MarkedEntry };
 
     ghost coded = { coded_list marked_code };
 
-    ghost view = { λ m. marked (ids_contain S.members m.candidates) m.numbering m.rank m.rest };
+    ghost view = { λ m. marked (numbers_contain S.members m.candidates) m.numbering m.rank m.rest };
 
     ghost invariant = { λ m. m.rank + length m.rest < 2 ^ 32 };
 }
@@ -44,10 +44,10 @@ impl<'a, S: IdSet> MarkedEntries<'a, S> {
         rest: NumberedEntries<'a>,
         rank: u32,
         numbering: Numbering,
-        candidates: Ids<S>,
+        candidates: Numbers<S>,
     ) -> MarkedEntries<'a, S>
         requires { rank + length rest < 2 ^ 32 }
-        ensures { result ≡ marked (ids_contain S.members candidates) numbering rank rest.entry }
+        ensures { result ≡ marked (numbers_contain S.members candidates) numbering rank rest.entry }
     {
         MarkedEntries {
             rest,

@@ -4,7 +4,7 @@ ghost use Rattle.std.specs.Prelude.{◌≡◌, map, true, is_some, IfSome};
 ghost use Rattle.std.specs.FinMap as finite;
 ghost use Rattle.tree.specs.Trees.{number_at};
 ghost use Rattle.filter_text.specs.Spells.{view};
-ghost use Rattle.candidates.specs.Ids.{ids_contain};
+ghost use Rattle.candidates.specs.Numbers.{numbers_contain};
 ghost use Rattle.search.specs.Ranks.{rank_in};
 ghost use Rattle.search.specs.Searches.{scan, count_in_scope, scan_among, counted_scan, count_among};
 ghost use Rattle.search.specs.Walks.{seen, counted};
@@ -15,7 +15,7 @@ use crate::marked::MarkedEntries;
 use crate::numbering::Numbering;
 use crate::ranks::rank_of;
 use crate::scope::Scope;
-use candidates::Ids;
+use candidates::Numbers;
 use filter::Prepared;
 use id_sets::{IdSet, KeySet};
 use schema::Path;
@@ -30,18 +30,18 @@ fn search_from<'a, S: IdSet>(
     scope: Scope,
     filter: &'a Prepared,
     numbering: Numbering,
-    candidates: Ids<S>,
+    candidates: Numbers<S>,
 ) -> Option<Hits<'a, S>>
     requires conf { filter.now.conf ≡ tree.now.conf }
     requires rank { rank ≡ first_rank numbering (rank_in tree.now.entries base.now) }
     ensures there { is_some result ≡ finite.contains_key tree.now.entries base.now }
     ensures start { IfSome result (λ h. h.tested ≡ 0) }
     ensures steps { IfSome result (λ h. map counted h.to_come ≡ counted_scan tree.now.conf tree.now.entries
-        (λ p. ids_contain S.members candidates (number_by numbering (number_at tree.now p) (rank_in tree.now.entries p))) base.now scope (view filter.now.filter)) }
+        (λ p. numbers_contain S.members candidates (number_by numbering (number_at tree.now p) (rank_in tree.now.entries p))) base.now scope (view filter.now.filter)) }
     ensures found { IfSome result (λ h. map seen h.to_come ≡ scan_among tree.now.conf tree.now.entries
-        (λ p. ids_contain S.members candidates (number_by numbering (number_at tree.now p) (rank_in tree.now.entries p))) base.now scope (view filter.now.filter)) }
+        (λ p. numbers_contain S.members candidates (number_by numbering (number_at tree.now p) (rank_in tree.now.entries p))) base.now scope (view filter.now.filter)) }
     ensures tested { IfSome result (λ h. h.in_the_end ≡ count_among tree.now.entries
-        (λ p. ids_contain S.members candidates (number_by numbering (number_at tree.now p) (rank_in tree.now.entries p))) base.now scope) }
+        (λ p. numbers_contain S.members candidates (number_by numbering (number_at tree.now p) (rank_in tree.now.entries p))) base.now scope) }
 {
     tree.entries_are_a_directory();
     tree.get(base)?;
@@ -56,17 +56,17 @@ pub fn search<'a, S: IdSet>(
     base: &'a Path,
     scope: Scope,
     filter: &'a Prepared,
-    candidates: Ids<S>,
+    candidates: Numbers<S>,
 ) -> Option<Hits<'a, S>>
     requires { filter.now.conf ≡ tree.now.conf }
     ensures there { is_some result ≡ finite.contains_key tree.now.entries base.now }
     ensures start { IfSome result (λ h. h.tested ≡ 0) }
     ensures steps { IfSome result (λ h. map counted h.to_come ≡ counted_scan tree.now.conf tree.now.entries
-        (λ p. ids_contain S.members candidates (number_at tree.now p)) base.now scope (view filter.now.filter)) }
+        (λ p. numbers_contain S.members candidates (number_at tree.now p)) base.now scope (view filter.now.filter)) }
     ensures found { IfSome result (λ h. map seen h.to_come ≡ scan_among tree.now.conf tree.now.entries
-        (λ p. ids_contain S.members candidates (number_at tree.now p)) base.now scope (view filter.now.filter)) }
+        (λ p. numbers_contain S.members candidates (number_at tree.now p)) base.now scope (view filter.now.filter)) }
     ensures tested { IfSome result (λ h. h.in_the_end ≡ count_among tree.now.entries
-        (λ p. ids_contain S.members candidates (number_at tree.now p)) base.now scope) }
+        (λ p. numbers_contain S.members candidates (number_at tree.now p)) base.now scope) }
 {
     search_from(tree, base, 0, scope, filter, Numbering::InTree, candidates)
 }
@@ -78,17 +78,17 @@ pub fn search_by_ranks<'a, S: IdSet>(
     base: &'a Path,
     scope: Scope,
     filter: &'a Prepared,
-    candidates: Ids<S>,
+    candidates: Numbers<S>,
 ) -> Option<Hits<'a, S>>
     requires { filter.now.conf ≡ tree.now.conf }
     ensures there { is_some result ≡ finite.contains_key tree.now.entries base.now }
     ensures start { IfSome result (λ h. h.tested ≡ 0) }
     ensures steps { IfSome result (λ h. map counted h.to_come ≡ counted_scan tree.now.conf tree.now.entries
-        (λ p. ids_contain S.members candidates (rank_in tree.now.entries p)) base.now scope (view filter.now.filter)) }
+        (λ p. numbers_contain S.members candidates (rank_in tree.now.entries p)) base.now scope (view filter.now.filter)) }
     ensures found { IfSome result (λ h. map seen h.to_come ≡ scan_among tree.now.conf tree.now.entries
-        (λ p. ids_contain S.members candidates (rank_in tree.now.entries p)) base.now scope (view filter.now.filter)) }
+        (λ p. numbers_contain S.members candidates (rank_in tree.now.entries p)) base.now scope (view filter.now.filter)) }
     ensures tested { IfSome result (λ h. h.in_the_end ≡ count_among tree.now.entries
-        (λ p. ids_contain S.members candidates (rank_in tree.now.entries p)) base.now scope) }
+        (λ p. numbers_contain S.members candidates (rank_in tree.now.entries p)) base.now scope) }
 {
     let rank = rank_of(alloc, tree, base);
     search_from(
@@ -118,5 +118,5 @@ pub fn scan<'a>(
     ensures tested { IfSome result (λ h. h.in_the_end ≡ count_in_scope tree.now.entries base.now scope) }
 {
     let none: KeySet = KeySet::new(alloc);
-    search(tree, base, scope, filter, Ids::AllBut(none))
+    search(tree, base, scope, filter, Numbers::AllBut(none))
 }

@@ -17,10 +17,10 @@ use std::alloc::{AllocError, Global};
 fn add(ranks: &mut ListSet, rank: u64) -> Result<(), AllocError>
     ensures { OnOk result (ranks.new ≡ set.insert ranks.old rank) }
 {
-    let Ok(id) = u32::try_from(rank) else {
+    let Ok(number) = u32::try_from(rank) else {
         return Err(AllocError);
     };
-    let _ = ranks.insert(id)?;
+    let _ = ranks.insert(number)?;
     Ok(())
 }
 

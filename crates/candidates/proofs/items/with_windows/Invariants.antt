@@ -1,7 +1,7 @@
 use Rattle.std.proofs.Common.{◌≡◌, ◌&&◌, ℕ, List, length}
 use Rattle.std.specs.List.{list_all}
 use Rattle.index.specs.EntryKeys.{windows}
-use Rattle.candidates.specs.Ids.{ids_contain}
+use Rattle.candidates.specs.Numbers.{numbers_contain}
 use Rattle.candidates.specs.Sides.{is_member}
 use Rattle.candidates.specs.inner.Held.{members_of}
 use Rattle.candidates.proofs.items.with_windows.Given as goal
@@ -10,7 +10,7 @@ use Rattle.candidates.proofs.items.with_windows.Given as goal
 abbrev pub invariant-loop-first : goal.invariant-loop-first
 invariant-loop-first g l =
     let in_windows = λ (text : List ℕ) (n : ℕ). list_all (is_member (g.P.Postings.shown l.postings) n l.slot.0) (windows text) in
-    (n : ℕ) → (ids_contain (members_of g.P.Set.IdSet.members) l.left n && in_windows l.rest n) ≡ (ids_contain (members_of g.P.Set.IdSet.members) l.fn.ids n && in_windows l.fn.piece n)
+    (n : ℕ) → (numbers_contain (members_of g.P.Set.IdSet.members) l.left n && in_windows l.rest n) ≡ (numbers_contain (members_of g.P.Set.IdSet.members) l.fn.numbers n && in_windows l.fn.piece n)
 
 abbrev pub decreases-loop-first : goal.decreases-loop-first
 decreases-loop-first g l = length l.rest
