@@ -2,7 +2,7 @@
 """Each fault of dir.conf alone, and each two together, by a built program: faults.py PROGRAM
 
 Alone: at the first line, at the last, and with its line continued at each blank. Together: on two lines in both orders, and on one
-line where one can have both. What must be told follows from the order of faults alone: lines answer in their order, those of the
+line where one can have both. What must be reported follows from the order of faults alone: lines answer in their order, those of the
 suffix and of indexes after all others; a definition C2, C10, C3, C9, C4, C5, C6; an index line C2, C4, C8. The second reading must say
 the same. slapcat and slapindex are asked in turn, and neither may make a file. Prints each difference and at the end the number of texts; the exit status is 0 where nothing differs, else 1.
 """
@@ -70,7 +70,7 @@ def is_later(line):
 
 
 def told(lines, faulty):
-    """lines, [(which line, its fault)] -> (the text, which line must be told, with which fault)"""
+    """lines, [(which line, its fault)] -> (the text, which line must be reported, with which fault)"""
     at, fault = min(faulty, key=lambda pair: (is_later(lines[pair[0]]), pair[0]))
     before = b"".join(line + b"\n" for line in lines[:at])
     return b"".join(line + b"\n" for line in lines), before.count(b"\n") + 1, fault
@@ -88,7 +88,7 @@ def definitions():
 
 
 def texts():
-    """-> (the text, which line must be told, with which fault)"""
+    """-> (the text, which line must be reported, with which fault)"""
     alone = [(line, fault) for fault, lines in ALONE.items() for line in lines]
     for line, fault in alone:
         without = [good for good in GOOD if fault != "C7" or not good.startswith(b"suffix")]
