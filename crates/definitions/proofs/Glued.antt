@@ -77,29 +77,29 @@ nothing_left (x ∷ y ∷ ys) = ap (λ (ls : List Line). x ∷ ls) (nothing_left
 
 -- ---- the loop
 
-numbered_one : (n : ℕ) (part : List ℕ) (rest : List (List ℕ)) (last : Bool) → last ≡ (length rest == 0) → numbered n (part ∷ rest) ≡ line n (cond last part (strip_carriage_return part)) ∷ numbered (n + 1) rest
-numbered_one n part [] last e = sym (ap (λ b. line n (cond b part (strip_carriage_return part)) ∷ []) e)
-numbered_one n part (q ∷ qs) last e =
-    sym (ap (λ b. line n (cond b part (strip_carriage_return part)) ∷ numbered (n + 1) (q ∷ qs)) (e ∙ ne_eqb (length (q ∷ qs)) 0 (λ x. omega arith)))
+numbered_one : (n : ℕ) (stretch : List ℕ) (rest : List (List ℕ)) (last : Bool) → last ≡ (length rest == 0) → numbered n (stretch ∷ rest) ≡ line n (cond last stretch (strip_carriage_return stretch)) ∷ numbered (n + 1) rest
+numbered_one n stretch [] last e = sym (ap (λ b. line n (cond b stretch (strip_carriage_return stretch)) ∷ []) e)
+numbered_one n stretch (q ∷ qs) last e =
+    sym (ap (λ b. line n (cond b stretch (strip_carriage_return stretch)) ∷ numbered (n + 1) (q ∷ qs)) (e ∙ ne_eqb (length (q ∷ qs)) 0 (λ x. omega arith)))
 
 same_test : (i n l : ℕ) → l + (i + 1) ≡ n → (i + 1 == n) ≡ (l == 0)
 same_test i n l h = grind (arith, nat_tests)
 
-module _ {A : Type 0} (seen : A → List ℕ) (parts : List A) (i : ℕ) (read total : List Line) (so_far : glued read (unfolded (numbered (i + 1) (map seen (drop i parts)))) ≡ total) where
-  pub goes_on : (d : A) (read' : List Line) (text : List ℕ) (last : Bool) → i < length parts → last ≡ (i + 1 == length parts)
-      → text ≡ cond last (seen (get_or parts i d)) (strip_carriage_return (seen (get_or parts i d))) → read' ≡ with_line read (line (i + 1) text)
-      → glued read' (unfolded (numbered (i + 1 + 1) (map seen (drop (i + 1) parts)))) ≡ total
+module _ {A : Type 0} (seen : A → List ℕ) (stretches : List A) (i : ℕ) (read total : List Line) (so_far : glued read (unfolded (numbered (i + 1) (map seen (drop i stretches)))) ≡ total) where
+  pub goes_on : (d : A) (read' : List Line) (text : List ℕ) (last : Bool) → i < length stretches → last ≡ (i + 1 == length stretches)
+      → text ≡ cond last (seen (get_or stretches i d)) (strip_carriage_return (seen (get_or stretches i d))) → read' ≡ with_line read (line (i + 1) text)
+      → glued read' (unfolded (numbered (i + 1 + 1) (map seen (drop (i + 1) stretches)))) ≡ total
   unfolding unfolded
   goes_on d read' text last within is_last is_text put =
-      let others = numbered (i + 1 + 1) (map seen (drop (i + 1) parts)) in
-      let left : length (map seen (drop (i + 1) parts)) + (i + 1) ≡ length parts =
-      (let a = length-map (drop (i + 1) parts) seen in let b = length-drop (i + 1) parts in omega (arith, a, b)) in
+      let others = numbered (i + 1 + 1) (map seen (drop (i + 1) stretches)) in
+      let left : length (map seen (drop (i + 1) stretches)) + (i + 1) ≡ length stretches =
+      (let a = length-map (drop (i + 1) stretches) seen in let b = length-drop (i + 1) stretches in omega (arith, a, b)) in
       ap (λ (ls : List Line). glued ls (unfolded others)) put ∙ one_more read (line (i + 1) text) (unfolded others)
       ∙ ap (λ (t : List ℕ). glued read (unfolded (line (i + 1) t ∷ others))) is_text
-      ∙ ap (λ (ls : List Line). glued read (unfolded ls)) (sym (numbered_one (i + 1) (seen (get_or parts i d)) (map seen (drop (i + 1) parts)) last (is_last ∙ same_test i (length parts) (length (map seen (drop (i + 1) parts))) left)))
-      ∙ ap (λ (ps : List A). glued read (unfolded (numbered (i + 1) (map seen ps)))) (sym (drop_more parts i d within)) ∙ so_far
+      ∙ ap (λ (ls : List Line). glued read (unfolded ls)) (sym (numbered_one (i + 1) (seen (get_or stretches i d)) (map seen (drop (i + 1) stretches)) last (is_last ∙ same_test i (length stretches) (length (map seen (drop (i + 1) stretches))) left)))
+      ∙ ap (λ (ps : List A). glued read (unfolded (numbered (i + 1) (map seen ps)))) (sym (drop_more stretches i d within)) ∙ so_far
 
-  pub is_done : length parts ≤ i → read ≡ total
+  pub is_done : length stretches ≤ i → read ≡ total
   unfolding unfolded
   is_done past =
-      sym (nothing_left read) ∙ ap (λ (ps : List A). glued read (unfolded (numbered (i + 1) (map seen ps)))) (sym (drop_all i parts past)) ∙ so_far
+      sym (nothing_left read) ∙ ap (λ (ps : List A). glued read (unfolded (numbered (i + 1) (map seen ps)))) (sym (drop_all i stretches past)) ∙ so_far

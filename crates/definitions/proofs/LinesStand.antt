@@ -12,39 +12,39 @@ use Rattle.base.specs.Ends.{ends_with}
 use Rattle.base.proofs.LastByte.{ends_is}
 use Rattle.definitions.specs.declared.lines.Line.{Line}
 use Rattle.definitions.specs.Lines.{is_line_feed, numbered, begins_blank, goes_on_with, joined, onto, unfolded, lines_of}
-use Rattle.definitions.specs.LineGrammar.{is_in_line, IsEnd, AreParts, IsIndented, said, Continues, Stops, Takes, AreTaken, AreLines}
+use Rattle.definitions.specs.LineGrammar.{is_in_line, IsEnd, AreStretches, IsIndented, said, Continues, Stops, Takes, AreTaken, AreLines}
 
 abbrev line : ℕ → List ℕ → Line
 line n text = record { number = n; text = text }
 
--- parts as lines of their own
+-- stretches as lines of their own
 abbrev counted : ℕ → List (List ℕ) → List Line
 counted n [] = []
-counted n (part ∷ parts) = line n part ∷ counted (n + 1) parts
+counted n (stretch ∷ stretches) = line n stretch ∷ counted (n + 1) stretches
 
 -- ---- a carriage return at the end
 
-kept_return : (part : List ℕ) → ends_with 13 part ≡ false → strip_carriage_return part ≡ part
+kept_return : (stretch : List ℕ) → ends_with 13 stretch ≡ false → strip_carriage_return stretch ≡ stretch
 kept_return [] h = refl
 kept_return (b ∷ bs) h =
     ap (λ (t : Bool). cond t (take (length (b ∷ bs) - 1) (b ∷ bs)) (b ∷ bs)) (sym (ends_is (b ∷ bs) 13 (length (b ∷ bs) - 1) (omega arith) (omega arith)) ∙ h)
 
-return_ends : (part : List ℕ) → ends_with 13 (part ++ 13 ∷ []) ≡ true
+return_ends : (stretch : List ℕ) → ends_with 13 (stretch ++ 13 ∷ []) ≡ true
 return_ends [] = refl
 return_ends (b ∷ []) = refl
 return_ends (b ∷ c ∷ cs) = return_ends (c ∷ cs)
 
-stripped : (part : List ℕ) → ends_with 13 part ≡ true → strip_carriage_return part ≡ take (length part - 1) part
+stripped : (stretch : List ℕ) → ends_with 13 stretch ≡ true → strip_carriage_return stretch ≡ take (length stretch - 1) stretch
 stripped [] h = absurd cc
 stripped (b ∷ bs) h =
     ap (λ (t : Bool). cond t (take (length (b ∷ bs) - 1) (b ∷ bs)) (b ∷ bs)) (sym (ends_is (b ∷ bs) 13 (length (b ∷ bs) - 1) (omega arith) (omega arith)) ∙ h)
 
-lost_return : (part : List ℕ) → strip_carriage_return (part ++ 13 ∷ []) ≡ part
-lost_return part =
-    let less : length (part ++ 13 ∷ []) - 1 ≡ length part = omega (arith, length_push part 13) in
-    stripped (part ++ 13 ∷ []) (return_ends part) ∙ ap (λ (n : ℕ). take n (part ++ 13 ∷ [])) less ∙ take-append_seam part (13 ∷ [])
+lost_return : (stretch : List ℕ) → strip_carriage_return (stretch ++ 13 ∷ []) ≡ stretch
+lost_return stretch =
+    let less : length (stretch ++ 13 ∷ []) - 1 ≡ length stretch = omega (arith, length_push stretch 13) in
+    stripped (stretch ++ 13 ∷ []) (return_ends stretch) ∙ ap (λ (n : ℕ). take n (stretch ++ 13 ∷ [])) less ∙ take-append_seam stretch (13 ∷ [])
 
-a_return : (part : List ℕ) → ends_with 13 part ≡ true → part ≡ strip_carriage_return part ++ 13 ∷ []
+a_return : (stretch : List ℕ) → ends_with 13 stretch ≡ true → stretch ≡ strip_carriage_return stretch ++ 13 ∷ []
 a_return [] h = absurd cc
 a_return (b ∷ bs) h =
     let n = length (b ∷ bs) - 1 in
@@ -52,10 +52,10 @@ a_return (b ∷ bs) h =
     let last : get_or (b ∷ bs) n 0 ≡ 13 = eqb-true (get_or (b ∷ bs) n 0) 13 (sym (ends_is (b ∷ bs) 13 n (omega arith) all) ∙ h) in
     sym (take_all (n + 1) (b ∷ bs) (omega arith)) ∙ take_more (b ∷ bs) n 0 (omega arith) ∙ (λ i. sym (stripped (b ∷ bs) h) i ++ last i ∷ [])
 
--- ---- parts
+-- ---- stretches
 
-no_feeds : (part : List ℕ) → list_all is_in_line part ≡ true → All (λ b. is_line_feed b ≡ false) part
-no_feeds part h k d within = off (is_line_feed (get_or part k d)) (AllPass-from_list_all is_in_line part h k d within) where
+no_feeds : (stretch : List ℕ) → list_all is_in_line stretch ≡ true → All (λ b. is_line_feed b ≡ false) stretch
+no_feeds stretch h k d within = off (is_line_feed (get_or stretch k d)) (AllPass-from_list_all is_in_line stretch h k d within) where
   off : (t : Bool) → not t ≡ true → t ≡ false
   off true h = absurd cc
   off false h = refl
@@ -63,17 +63,17 @@ no_feeds part h k d within = off (is_line_feed (get_or part k d)) (AllPass-from_
 -- what a cut at each line feed gives
 abbrev AreCut : List (List ℕ) → List ℕ → Type 0
 AreCut [] text = ⊥
-AreCut (part ∷ []) text = (list_all is_in_line part ≡ true) × (text ≡ part)
-AreCut (part ∷ next ∷ parts) text = (rest : List ℕ) × (list_all is_in_line part ≡ true) × (text ≡ part ++ 10 ∷ rest) × AreCut (next ∷ parts) rest
+AreCut (stretch ∷ []) text = (list_all is_in_line stretch ≡ true) × (text ≡ stretch)
+AreCut (stretch ∷ next ∷ stretches) text = (rest : List ℕ) × (list_all is_in_line stretch ≡ true) × (text ≡ stretch ++ 10 ∷ rest) × AreCut (next ∷ stretches) rest
 
-cut_here : (b : ℕ) (bs : List ℕ) (parts : List (List ℕ)) → b ≡ 10 → AreCut parts bs → AreCut ([] ∷ parts) (b ∷ bs)
+cut_here : (b : ℕ) (bs : List ℕ) (stretches : List (List ℕ)) → b ≡ 10 → AreCut stretches bs → AreCut ([] ∷ stretches) (b ∷ bs)
 cut_here b bs [] e h = absurd h
-cut_here b bs (part ∷ parts) e h = (bs, refl, ap (λ (c : ℕ). c ∷ bs) e, h)
+cut_here b bs (stretch ∷ stretches) e h = (bs, refl, ap (λ (c : ℕ). c ∷ bs) e, h)
 
-not_here : (b : ℕ) (bs : List ℕ) (parts : List (List ℕ)) → is_line_feed b ≡ false → AreCut parts bs → AreCut (onto_first b parts) (b ∷ bs)
+not_here : (b : ℕ) (bs : List ℕ) (stretches : List (List ℕ)) → is_line_feed b ≡ false → AreCut stretches bs → AreCut (onto_first b stretches) (b ∷ bs)
 not_here b bs [] e h = absurd h
-not_here b bs (part ∷ []) e h = ((λ i. not (e i) && h.0 i), ap (λ (cs : List ℕ). b ∷ cs) h.1)
-not_here b bs (part ∷ next ∷ parts) e h = (h.0, (λ i. not (e i) && h.1 i), ap (λ (cs : List ℕ). b ∷ cs) h.2, h.3)
+not_here b bs (stretch ∷ []) e h = ((λ i. not (e i) && h.0 i), ap (λ (cs : List ℕ). b ∷ cs) h.1)
+not_here b bs (stretch ∷ next ∷ stretches) e h = (h.0, (λ i. not (e i) && h.1 i), ap (λ (cs : List ℕ). b ∷ cs) h.2, h.3)
 
 are_cut : (text : List ℕ) → AreCut (slice_split is_line_feed text) text
 are_cut [] = (refl, refl)
@@ -83,62 +83,62 @@ are_cut (b ∷ bs) = by (is_line_feed b) refl (are_cut bs) where
   by false e more = not_here b bs (slice_split is_line_feed bs) e more
 
 -- without the carriage returns of the ends
-abbrev parts_of : List (List ℕ) → List (List ℕ)
-parts_of [] = []
-parts_of (part ∷ []) = part ∷ []
-parts_of (part ∷ next ∷ parts) = strip_carriage_return part ∷ parts_of (next ∷ parts)
+abbrev stretches_of : List (List ℕ) → List (List ℕ)
+stretches_of [] = []
+stretches_of (stretch ∷ []) = stretch ∷ []
+stretches_of (stretch ∷ next ∷ stretches) = strip_carriage_return stretch ∷ stretches_of (next ∷ stretches)
 
-numbered_is : (n : ℕ) (cut : List (List ℕ)) → numbered n cut ≡ counted n (parts_of cut)
+numbered_is : (n : ℕ) (cut : List (List ℕ)) → numbered n cut ≡ counted n (stretches_of cut)
 numbered_is n [] = refl
-numbered_is n (part ∷ []) = refl
-numbered_is n (part ∷ next ∷ parts) = ap (λ (ls : List Line). line n (strip_carriage_return part) ∷ ls) (numbered_is (n + 1) (next ∷ parts))
+numbered_is n (stretch ∷ []) = refl
+numbered_is n (stretch ∷ next ∷ stretches) = ap (λ (ls : List Line). line n (strip_carriage_return stretch) ∷ ls) (numbered_is (n + 1) (next ∷ stretches))
 
--- ---- parts that are read stand there
+-- ---- stretches that are read stand there
 
-a_part : (part end : List ℕ) (rest text : List ℕ) (parts : List (List ℕ)) → list_all is_in_line part ≡ true → IsEnd part end → text ≡ part ++ (end ++ rest) → AreParts parts rest → AreParts (part ∷ parts) text
-a_part part end rest text [] inside is_end is more = absurd more
-a_part part end rest text (next ∷ parts) inside is_end is more = (end, rest, inside, is_end, is, more)
+a_stretch : (stretch end : List ℕ) (rest text : List ℕ) (stretches : List (List ℕ)) → list_all is_in_line stretch ≡ true → IsEnd stretch end → text ≡ stretch ++ (end ++ rest) → AreStretches stretches rest → AreStretches (stretch ∷ stretches) text
+a_stretch stretch end rest text [] inside is_end is more = absurd more
+a_stretch stretch end rest text (next ∷ stretches) inside is_end is more = (end, rest, inside, is_end, is, more)
 
-cut_part : (part rest text : List ℕ) (parts : List (List ℕ)) (t : Bool) → ends_with 13 part ≡ t → list_all is_in_line part ≡ true → text ≡ part ++ 10 ∷ rest → AreParts parts rest → AreParts (strip_carriage_return part ∷ parts) text
-cut_part part rest text parts true ends inside is more =
-    let whole = a_return part ends in
-    let front = and_parts (list_all is_in_line (strip_carriage_return part)) true (sym (list_all-append is_in_line (strip_carriage_return part) (13 ∷ [])) ∙ ap (list_all is_in_line) (sym whole) ∙ inside) in
-    a_part (strip_carriage_return part) (13 ∷ 10 ∷ []) rest text parts front.0 (inl refl) (is ∙ ap (λ (bs : List ℕ). bs ++ 10 ∷ rest) whole ∙ append_assoc (strip_carriage_return part) (13 ∷ []) (10 ∷ rest)) more
-cut_part part rest text parts false ends inside is more =
-    let same = kept_return part ends in
-    a_part (strip_carriage_return part) (10 ∷ []) rest text parts (ap (list_all is_in_line) same ∙ inside) (inr (refl, ap (ends_with 13) same ∙ ends)) (is ∙ ap (λ (bs : List ℕ). bs ++ 10 ∷ rest) (sym same)) more
+cut_stretch : (stretch rest text : List ℕ) (stretches : List (List ℕ)) (t : Bool) → ends_with 13 stretch ≡ t → list_all is_in_line stretch ≡ true → text ≡ stretch ++ 10 ∷ rest → AreStretches stretches rest → AreStretches (strip_carriage_return stretch ∷ stretches) text
+cut_stretch stretch rest text stretches true ends inside is more =
+    let whole = a_return stretch ends in
+    let front = and_parts (list_all is_in_line (strip_carriage_return stretch)) true (sym (list_all-append is_in_line (strip_carriage_return stretch) (13 ∷ [])) ∙ ap (list_all is_in_line) (sym whole) ∙ inside) in
+    a_stretch (strip_carriage_return stretch) (13 ∷ 10 ∷ []) rest text stretches front.0 (inl refl) (is ∙ ap (λ (bs : List ℕ). bs ++ 10 ∷ rest) whole ∙ append_assoc (strip_carriage_return stretch) (13 ∷ []) (10 ∷ rest)) more
+cut_stretch stretch rest text stretches false ends inside is more =
+    let same = kept_return stretch ends in
+    a_stretch (strip_carriage_return stretch) (10 ∷ []) rest text stretches (ap (list_all is_in_line) same ∙ inside) (inr (refl, ap (ends_with 13) same ∙ ends)) (is ∙ ap (λ (bs : List ℕ). bs ++ 10 ∷ rest) (sym same)) more
 
-cut_parts : (cut : List (List ℕ)) (text : List ℕ) → AreCut cut text → AreParts (parts_of cut) text
-cut_parts [] text h = absurd h
-cut_parts (part ∷ []) text h = h
-cut_parts (part ∷ next ∷ parts) text h = cut_part part h.0 text (parts_of (next ∷ parts)) (ends_with 13 part) refl h.1 h.2 (cut_parts (next ∷ parts) h.0 h.3)
+cut_stretches : (cut : List (List ℕ)) (text : List ℕ) → AreCut cut text → AreStretches (stretches_of cut) text
+cut_stretches [] text h = absurd h
+cut_stretches (stretch ∷ []) text h = h
+cut_stretches (stretch ∷ next ∷ stretches) text h = cut_stretch stretch h.0 text (stretches_of (next ∷ stretches)) (ends_with 13 stretch) refl h.1 h.2 (cut_stretches (next ∷ stretches) h.0 h.3)
 
--- ---- and parts that stand there are read
+-- ---- and stretches that stand there are read
 
-more_counted : (n : ℕ) (cut part : List ℕ) (parts others : List (List ℕ)) (next : List ℕ) → strip_carriage_return cut ≡ part → numbered (n + 1) others ≡ counted (n + 1) (next ∷ parts)
-    → numbered n (cut ∷ others) ≡ counted n (part ∷ next ∷ parts)
-more_counted n cut part parts [] next same h = absurd cc
-more_counted n cut part parts (other ∷ others) next same h = (λ i. line n (same i) ∷ h i)
+more_counted : (n : ℕ) (cut stretch : List ℕ) (stretches others : List (List ℕ)) (next : List ℕ) → strip_carriage_return cut ≡ stretch → numbered (n + 1) others ≡ counted (n + 1) (next ∷ stretches)
+    → numbered n (cut ∷ others) ≡ counted n (stretch ∷ next ∷ stretches)
+more_counted n cut stretch stretches [] next same h = absurd cc
+more_counted n cut stretch stretches (other ∷ others) next same h = (λ i. line n (same i) ∷ h i)
 
-cut_at : (n : ℕ) (cut part rest text : List ℕ) (parts : List (List ℕ)) (next : List ℕ) → list_all is_in_line cut ≡ true → text ≡ cut ++ 10 ∷ rest → strip_carriage_return cut ≡ part
-    → numbered (n + 1) (slice_split is_line_feed rest) ≡ counted (n + 1) (next ∷ parts) → numbered n (slice_split is_line_feed text) ≡ counted n (part ∷ next ∷ parts)
-cut_at n cut part rest text parts next inside is same h =
+cut_at : (n : ℕ) (cut stretch rest text : List ℕ) (stretches : List (List ℕ)) (next : List ℕ) → list_all is_in_line cut ≡ true → text ≡ cut ++ 10 ∷ rest → strip_carriage_return cut ≡ stretch
+    → numbered (n + 1) (slice_split is_line_feed rest) ≡ counted (n + 1) (next ∷ stretches) → numbered n (slice_split is_line_feed text) ≡ counted n (stretch ∷ next ∷ stretches)
+cut_at n cut stretch rest text stretches next inside is same h =
     ap (λ (bs : List ℕ). numbered n (slice_split is_line_feed bs)) is
     ∙ ap (numbered n) (slice_split_at is_line_feed cut 10 rest (no_feeds cut inside) refl)
-    ∙ more_counted n cut part parts (slice_split is_line_feed rest) next same h
+    ∙ more_counted n cut stretch stretches (slice_split is_line_feed rest) next same h
 
-with_return : (part : List ℕ) → list_all is_in_line part ≡ true → list_all is_in_line (part ++ 13 ∷ []) ≡ true
-with_return part inside = list_all-append is_in_line part (13 ∷ []) ∙ ap (λ (t : Bool). t && true) inside
+with_return : (stretch : List ℕ) → list_all is_in_line stretch ≡ true → list_all is_in_line (stretch ++ 13 ∷ []) ≡ true
+with_return stretch inside = list_all-append is_in_line stretch (13 ∷ []) ∙ ap (λ (t : Bool). t && true) inside
 
-parts_found : (parts : List (List ℕ)) (text : List ℕ) (n : ℕ) → AreParts parts text → numbered n (slice_split is_line_feed text) ≡ counted n parts
-parts_found [] text n h = absurd h
-parts_found (part ∷ []) text n h =
-    ap (λ (bs : List ℕ). numbered n (slice_split is_line_feed bs)) h.1 ∙ ap (numbered n) (slice_split_none is_line_feed part (no_feeds part h.0))
-parts_found (part ∷ next ∷ parts) text n h = by h.3 (parts_found (next ∷ parts) h.1 (n + 1) h.5) where
-  by : IsEnd part h.0 → numbered (n + 1) (slice_split is_line_feed h.1) ≡ counted (n + 1) (next ∷ parts) → numbered n (slice_split is_line_feed text) ≡ counted n (part ∷ next ∷ parts)
+stretches_found : (stretches : List (List ℕ)) (text : List ℕ) (n : ℕ) → AreStretches stretches text → numbered n (slice_split is_line_feed text) ≡ counted n stretches
+stretches_found [] text n h = absurd h
+stretches_found (stretch ∷ []) text n h =
+    ap (λ (bs : List ℕ). numbered n (slice_split is_line_feed bs)) h.1 ∙ ap (numbered n) (slice_split_none is_line_feed stretch (no_feeds stretch h.0))
+stretches_found (stretch ∷ next ∷ stretches) text n h = by h.3 (stretches_found (next ∷ stretches) h.1 (n + 1) h.5) where
+  by : IsEnd stretch h.0 → numbered (n + 1) (slice_split is_line_feed h.1) ≡ counted (n + 1) (next ∷ stretches) → numbered n (slice_split is_line_feed text) ≡ counted n (stretch ∷ next ∷ stretches)
   by (inl e) more =
-      cut_at n (part ++ 13 ∷ []) part h.1 text parts next (with_return part h.2) (h.4 ∙ ap (λ (end : List ℕ). part ++ (end ++ h.1)) e ∙ sym (append_assoc part (13 ∷ []) (10 ∷ h.1))) (lost_return part) more
-  by (inr e) more = cut_at n part part h.1 text parts next h.2 (h.4 ∙ ap (λ (end : List ℕ). part ++ (end ++ h.1)) e.0) (kept_return part e.1) more
+      cut_at n (stretch ++ 13 ∷ []) stretch h.1 text stretches next (with_return stretch h.2) (h.4 ∙ ap (λ (end : List ℕ). stretch ++ (end ++ h.1)) e ∙ sym (append_assoc stretch (13 ∷ []) (10 ∷ h.1))) (lost_return stretch) more
+  by (inr e) more = cut_at n stretch stretch h.1 text stretches next h.2 (h.4 ∙ ap (λ (end : List ℕ). stretch ++ (end ++ h.1)) e.0) (kept_return stretch e.1) more
 
 -- ---- what goes on
 
@@ -146,65 +146,65 @@ either_true : (a b : Bool) → (a || b) ≡ true → (a ≡ true) ⊎ (b ≡ tru
 either_true true b h = inl refl
 either_true false b h = inr h
 
-indented : (part : List ℕ) → IsIndented part → begins_blank part ≡ true
-indented part h = ap begins_blank h.3 ∙ by h.2 where
+indented : (stretch : List ℕ) → IsIndented stretch → begins_blank stretch ≡ true
+indented stretch h = ap begins_blank h.3 ∙ by h.2 where
   by : (h.0 ≡ 32) ⊎ (h.0 ≡ 9) → begins_blank (h.0 ∷ h.1) ≡ true
   by (inl e) = ap (λ (b : ℕ). eqb b 32 || eqb b 9) e
   by (inr e) = ap (λ (b : ℕ). eqb b 32 || eqb b 9) e
 
-is_indented : (part : List ℕ) → begins_blank part ≡ true → IsIndented part
+is_indented : (stretch : List ℕ) → begins_blank stretch ≡ true → IsIndented stretch
 is_indented [] h = absurd cc
 is_indented (b ∷ bs) h = by (either_true (eqb b 32) (eqb b 9) h) where
   by : (eqb b 32 ≡ true) ⊎ (eqb b 9 ≡ true) → IsIndented (b ∷ bs)
   by (inl e) = (b, bs, inl (eqb-true b 32 e), refl)
   by (inr e) = (b, bs, inr (eqb-true b 9 e), refl)
 
-not_indented : (part : List ℕ) → ¬ (IsIndented part) → begins_blank part ≡ false
-not_indented part bare = by (begins_blank part) refl where
-  by : (t : Bool) → begins_blank part ≡ t → t ≡ false
-  by true e = absurd (bare (is_indented part e))
+not_indented : (stretch : List ℕ) → ¬ (IsIndented stretch) → begins_blank stretch ≡ false
+not_indented stretch bare = by (begins_blank stretch) refl where
+  by : (t : Bool) → begins_blank stretch ≡ t → t ≡ false
+  by true e = absurd (bare (is_indented stretch e))
   by false e = refl
 
-some_bytes : (part : List ℕ) → IsIndented part → 0 < length part
-some_bytes part h = omega (arith, ap (λ (bs : List ℕ). length bs) h.3)
+some_bytes : (stretch : List ℕ) → IsIndented stretch → 0 < length stretch
+some_bytes stretch h = omega (arith, ap (λ (bs : List ℕ). length bs) h.3)
 
 -- ---- lines that stand there are read
 
--- the first line of parts begins as the first of them
-record Begun (ls : List Line) (part : List ℕ) : Type 0 where
+-- the first line of stretches begins as the first of them
+record Begun (ls : List Line) (stretch : List ℕ) : Type 0 where
   next : Line
   others : List Line
   is : ls ≡ next ∷ others
-  same : begins_blank next.text ≡ begins_blank part
+  same : begins_blank next.text ≡ begins_blank stretch
 
-joined_begun : (n : ℕ) (part : List ℕ) (m : Line) (ms : List Line) → goes_on_with part m.text ≡ true → Begun (joined (line n part) m.text ∷ ms) part
+joined_begun : (n : ℕ) (stretch : List ℕ) (m : Line) (ms : List Line) → goes_on_with stretch m.text ≡ true → Begun (joined (line n stretch) m.text ∷ ms) stretch
 joined_begun n [] m ms e = absurd cc
 joined_begun n (b ∷ bs) m ms e = record { next = joined (line n (b ∷ bs)) m.text; others = ms; is = refl; same = refl }
 
-onto_begun : (n : ℕ) (part : List ℕ) (ls : List Line) → Begun (onto (line n part) ls) part
-onto_begun n part [] = record { next = line n part; others = []; is = refl; same = refl }
-onto_begun n part (m ∷ ms) = by (goes_on_with part m.text) refl where
-  by : (t : Bool) → goes_on_with part m.text ≡ t → Begun (cond t (joined (line n part) m.text ∷ ms) (line n part ∷ m ∷ ms)) part
-  by true e = joined_begun n part m ms e
-  by false e = record { next = line n part; others = m ∷ ms; is = refl; same = refl }
+onto_begun : (n : ℕ) (stretch : List ℕ) (ls : List Line) → Begun (onto (line n stretch) ls) stretch
+onto_begun n stretch [] = record { next = line n stretch; others = []; is = refl; same = refl }
+onto_begun n stretch (m ∷ ms) = by (goes_on_with stretch m.text) refl where
+  by : (t : Bool) → goes_on_with stretch m.text ≡ t → Begun (cond t (joined (line n stretch) m.text ∷ ms) (line n stretch ∷ m ∷ ms)) stretch
+  by true e = joined_begun n stretch m ms e
+  by false e = record { next = line n stretch; others = m ∷ ms; is = refl; same = refl }
 
-no_more : (n : ℕ) (part : List ℕ) (next : Line) (others : List Line) → goes_on_with part next.text ≡ false → onto (line n part) (next ∷ others) ≡ line n part ∷ next ∷ others
-no_more n part next others e = ap (λ (t : Bool). cond t (joined (line n part) next.text ∷ others) (line n part ∷ next ∷ others)) e
+no_more : (n : ℕ) (stretch : List ℕ) (next : Line) (others : List Line) → goes_on_with stretch next.text ≡ false → onto (line n stretch) (next ∷ others) ≡ line n stretch ∷ next ∷ others
+no_more n stretch next others e = ap (λ (t : Bool). cond t (joined (line n stretch) next.text ∷ others) (line n stretch ∷ next ∷ others)) e
 
-goes_not : (part text : List ℕ) → (part ≡ []) ⊎ (begins_blank text ≡ false) → goes_on_with part text ≡ false
+goes_not : (stretch text : List ℕ) → (stretch ≡ []) ⊎ (begins_blank text ≡ false) → goes_on_with stretch text ≡ false
 goes_not [] text h = refl
 goes_not (b ∷ bs) text (inl e) = absurd cc
 goes_not (b ∷ bs) text (inr e) = e
 
-stopped : (n : ℕ) (part : List ℕ) (left : List (List ℕ)) → Stops part left → unfolded (counted n (part ∷ left)) ≡ line n part ∷ unfolded (counted (n + 1) left)
+stopped : (n : ℕ) (stretch : List ℕ) (left : List (List ℕ)) → Stops stretch left → unfolded (counted n (stretch ∷ left)) ≡ line n stretch ∷ unfolded (counted (n + 1) left)
 unfolding unfolded
-stopped n part [] h = refl
-stopped n part (next ∷ left) h =
+stopped n stretch [] h = refl
+stopped n stretch (next ∷ left) h =
     let begun : Begun (unfolded (counted (n + 1) (next ∷ left))) next = onto_begun (n + 1) next (unfolded (counted (n + 1 + 1) left)) in
-    let apart : (part ≡ []) ⊎ (begins_blank begun.next.text ≡ false) = elim h [ inl e ↦ inl e | inr bare ↦ inr (begun.same ∙ not_indented next bare) ] in
-    ap (onto (line n part)) begun.is ∙ no_more n part begun.next begun.others (goes_not part begun.next.text apart) ∙ ap (λ (ls : List Line). line n part ∷ ls) (sym begun.is)
+    let apart : (stretch ≡ []) ⊎ (begins_blank begun.next.text ≡ false) = elim h [ inl e ↦ inl e | inr bare ↦ inr (begun.same ∙ not_indented next bare) ] in
+    ap (onto (line n stretch)) begun.is ∙ no_more n stretch begun.next begun.others (goes_not stretch begun.next.text apart) ∙ ap (λ (ls : List Line). line n stretch ∷ ls) (sym begun.is)
 
-goes : (part text : List ℕ) → 0 < length part → begins_blank text ≡ true → goes_on_with part text ≡ true
+goes : (stretch text : List ℕ) → 0 < length stretch → begins_blank text ≡ true → goes_on_with stretch text ≡ true
 goes [] text some e = absurd (omega arith)
 goes (b ∷ bs) text some e = e
 
@@ -242,75 +242,75 @@ taken n first (next ∷ further) left continues stops =
     ∙ joins n first (said next further) (n + 1) (unfolded (counted (n + 1 + (1 + length further)) left)) (goes first (said next further) continues.0 (said_blank next further some ∙ indented next continues.1.0))
     ∙ (λ i. line n (said_more first next further some i) ∷ unfolded (counted (later i) left))
 
-lines_found : (lines : List Line) (parts : List (List ℕ)) (n : ℕ) → AreTaken n lines parts → unfolded (counted n parts) ≡ lines
+lines_found : (lines : List Line) (stretches : List (List ℕ)) (n : ℕ) → AreTaken n lines stretches → unfolded (counted n stretches) ≡ lines
 unfolding unfolded
-lines_found [] parts n h = ap (λ (ps : List (List ℕ)). unfolded (counted n ps)) h
-lines_found (l ∷ ls) parts n h =
+lines_found [] stretches n h = ap (λ (ps : List (List ℕ)). unfolded (counted n ps)) h
+lines_found (l ∷ ls) stretches n h =
     let t = h.1 in
     let same : line n (said t.first t.further) ≡ l = (λ i. record { number = sym t.number_is i; text = sym t.text_is i }) in
-    ap (λ (ps : List (List ℕ)). unfolded (counted n ps)) t.parts_are
+    ap (λ (ps : List (List ℕ)). unfolded (counted n ps)) t.stretches_are
     ∙ taken n t.first t.further h.0 t.continues (subst (λ (text : List ℕ). Stops text h.0) t.text_is t.stops)
     ∙ (λ i. same i ∷ lines_found ls h.0 (n + (1 + length t.further)) h.2 i)
 
 -- ---- lines that are read stand there
 
-abbrev alone : (n : ℕ) (part : List ℕ) (left : List (List ℕ)) → Stops part left → Takes n (line n part) (part ∷ left) left
-alone n part left stops = record { first = part; further = []; parts_are = refl; continues = tt; stops = stops; number_is = refl; text_is = sym (append-nil part) }
+abbrev alone : (n : ℕ) (stretch : List ℕ) (left : List (List ℕ)) → Stops stretch left → Takes n (line n stretch) (stretch ∷ left) left
+alone n stretch left stops = record { first = stretch; further = []; stretches_are = refl; continues = tt; stops = stops; number_is = refl; text_is = sym (append-nil stretch) }
 
--- a line that begins with a blank stands on parts that do
+-- a line that begins with a blank stands on stretches that do
 blank_first : (first text : List ℕ) (further : List (List ℕ)) → Continues first further → text ≡ said first further → begins_blank text ≡ true → IsIndented first × AllByRecursion IsIndented further
 blank_first [] text [] continues is e = let k = ap begins_blank (sym is) ∙ e in absurd cc
 blank_first [] text (next ∷ further) continues is e = absurd (omega (arith, continues.0))
 blank_first (b ∷ bs) text [] continues is e = (is_indented (b ∷ bs) (ap begins_blank (sym is) ∙ e), tt)
 blank_first (b ∷ bs) text (next ∷ further) continues is e = (is_indented (b ∷ bs) (ap begins_blank (sym is) ∙ e), continues.1)
 
-goes_parts : (part text : List ℕ) → goes_on_with part text ≡ true → (0 < length part) × (begins_blank text ≡ true)
-goes_parts [] text e = absurd cc
-goes_parts (b ∷ bs) text e = (omega arith, e)
+goes_stretches : (stretch text : List ℕ) → goes_on_with stretch text ≡ true → (0 < length stretch) × (begins_blank text ≡ true)
+goes_stretches [] text e = absurd cc
+goes_stretches (b ∷ bs) text e = (omega arith, e)
 
 stops_joined : (text joined_text : List ℕ) (left : List (List ℕ)) → begins_blank text ≡ true → Stops text left → Stops joined_text left
 stops_joined text joined_text [] e h = tt
 stops_joined text joined_text (next ∷ left) e (inl none) = let k = ap begins_blank (sym none) ∙ e in absurd cc
 stops_joined text joined_text (next ∷ left) e (inr bare) = inr bare
 
-abbrev more_taken : (n : ℕ) (part : List ℕ) (parts left : List (List ℕ)) (m : Line) → goes_on_with part m.text ≡ true → Takes (n + 1) m parts left → Takes n (joined (line n part) m.text) (part ∷ parts) left
-more_taken n part parts left m e t =
-    let k = goes_parts part m.text e in
+abbrev more_taken : (n : ℕ) (stretch : List ℕ) (stretches left : List (List ℕ)) (m : Line) → goes_on_with stretch m.text ≡ true → Takes (n + 1) m stretches left → Takes n (joined (line n stretch) m.text) (stretch ∷ stretches) left
+more_taken n stretch stretches left m e t =
+    let k = goes_stretches stretch m.text e in
     let are = blank_first t.first m.text t.further t.continues t.text_is k.1 in
     record {
-      first = part;
+      first = stretch;
       further = t.first ∷ t.further;
-      parts_are = ap (λ (ps : List (List ℕ)). part ∷ ps) t.parts_are;
+      stretches_are = ap (λ (ps : List (List ℕ)). stretch ∷ ps) t.stretches_are;
       continues = (k.0, (are.0, are.1));
-      stops = stops_joined m.text (part ++ 32 ∷ drop 1 m.text) left k.1 t.stops;
+      stops = stops_joined m.text (stretch ++ 32 ∷ drop 1 m.text) left k.1 t.stops;
       number_is = refl;
-      text_is = ap (λ (text : List ℕ). part ++ 32 ∷ drop 1 text) t.text_is ∙ said_more part t.first t.further (some_bytes t.first are.0);
+      text_is = ap (λ (text : List ℕ). stretch ++ 32 ∷ drop 1 text) t.text_is ∙ said_more stretch t.first t.further (some_bytes t.first are.0);
     }
 
--- where a line doesn't go on with the next one, its part doesn't with the next part
-stops_at : (part text first : List ℕ) (others : List (List ℕ)) → goes_on_with part text ≡ false → (IsIndented first → begins_blank text ≡ true) → Stops part (first ∷ others)
+-- where a line doesn't go on with the next one, its stretch doesn't with the next stretch
+stops_at : (stretch text first : List ℕ) (others : List (List ℕ)) → goes_on_with stretch text ≡ false → (IsIndented first → begins_blank text ≡ true) → Stops stretch (first ∷ others)
 stops_at [] text first others e same = inl refl
 stops_at (b ∷ bs) text first others e same = inr (λ h. let k = sym (same h) ∙ e in absurd cc)
 
-onto_taken : (n : ℕ) (part : List ℕ) (parts : List (List ℕ)) (ls : List Line) → AreTaken (n + 1) ls parts → AreTaken n (onto (line n part) ls) (part ∷ parts)
-onto_taken n part parts [] h = ([], subst (λ (ps : List (List ℕ)). Takes n (line n part) (part ∷ ps) []) (sym h) (alone n part [] tt), refl)
-onto_taken n part parts (m ∷ ms) h = by (goes_on_with part m.text) refl where
-  t : Takes (n + 1) m parts h.0
+onto_taken : (n : ℕ) (stretch : List ℕ) (stretches : List (List ℕ)) (ls : List Line) → AreTaken (n + 1) ls stretches → AreTaken n (onto (line n stretch) ls) (stretch ∷ stretches)
+onto_taken n stretch stretches [] h = ([], subst (λ (ps : List (List ℕ)). Takes n (line n stretch) (stretch ∷ ps) []) (sym h) (alone n stretch [] tt), refl)
+onto_taken n stretch stretches (m ∷ ms) h = by (goes_on_with stretch m.text) refl where
+  t : Takes (n + 1) m stretches h.0
   t = h.1
 
   later : n + 1 + (1 + length t.further) ≡ n + (1 + length (t.first ∷ t.further))
   later = omega arith
 
-  by : (b : Bool) → goes_on_with part m.text ≡ b → AreTaken n (cond b (joined (line n part) m.text ∷ ms) (line n part ∷ m ∷ ms)) (part ∷ parts)
-  by true e = (h.0, more_taken n part parts h.0 m e t, subst (λ (k : ℕ). AreTaken k ms h.0) later h.2)
+  by : (b : Bool) → goes_on_with stretch m.text ≡ b → AreTaken n (cond b (joined (line n stretch) m.text ∷ ms) (line n stretch ∷ m ∷ ms)) (stretch ∷ stretches)
+  by true e = (h.0, more_taken n stretch stretches h.0 m e t, subst (λ (k : ℕ). AreTaken k ms h.0) later h.2)
   by false e =
       let blank : IsIndented t.first → begins_blank m.text ≡ true = λ is. ap begins_blank t.text_is ∙ said_blank t.first t.further (some_bytes t.first is) ∙ indented t.first is in
-      (parts, alone n part parts (subst (Stops part) (sym t.parts_are) (stops_at part m.text t.first (t.further ++ h.0) e blank)), h)
+      (stretches, alone n stretch stretches (subst (Stops stretch) (sym t.stretches_are) (stops_at stretch m.text t.first (t.further ++ h.0) e blank)), h)
 
-lines_only : (parts : List (List ℕ)) (n : ℕ) → AreTaken n (unfolded (counted n parts)) parts
+lines_only : (stretches : List (List ℕ)) (n : ℕ) → AreTaken n (unfolded (counted n stretches)) stretches
 unfolding unfolded
 lines_only [] n = refl
-lines_only (part ∷ parts) n = onto_taken n part parts (unfolded (counted (n + 1) parts)) (lines_only parts (n + 1))
+lines_only (stretch ∷ stretches) n = onto_taken n stretch stretches (unfolded (counted (n + 1) stretches)) (lines_only stretches (n + 1))
 
 -- ---- both
 
@@ -319,11 +319,11 @@ unfolding lines_of
 lines_stand text =
     let cut = slice_split is_line_feed text in
     record {
-      parts = parts_of cut;
-      text_is = cut_parts cut text (are_cut text);
-      taken = subst (λ (ls : List Line). AreTaken 1 (unfolded ls) (parts_of cut)) (sym (numbered_is 1 cut)) (lines_only (parts_of cut) 1);
+      stretches = stretches_of cut;
+      text_is = cut_stretches cut text (are_cut text);
+      taken = subst (λ (ls : List Line). AreTaken 1 (unfolded ls) (stretches_of cut)) (sym (numbered_is 1 cut)) (lines_only (stretches_of cut) 1);
     }
 
 pub lines_are_read : (text : List ℕ) (lines : List Line) → AreLines text lines → lines_of text ≡ lines
 unfolding lines_of
-lines_are_read text lines h = ap unfolded (parts_found h.parts text 1 h.text_is) ∙ lines_found lines h.parts 1 h.taken
+lines_are_read text lines h = ap unfolded (stretches_found h.stretches text 1 h.text_is) ∙ lines_found lines h.stretches 1 h.taken

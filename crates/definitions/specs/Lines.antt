@@ -12,8 +12,8 @@ is_line_feed b = b == line_feed
 -- numbered lines: all but what stands behind the last line feed lose a carriage return at their end
 abbrev pub numbered : ℕ → List (List ℕ) → List Line
 numbered n [] = []
-numbered n (part ∷ []) = record { number = n; text = part } ∷ []
-numbered n (part ∷ q ∷ qs) = record { number = n; text = strip_carriage_return part } ∷ numbered (n + 1) (q ∷ qs)
+numbered n (stretch ∷ []) = record { number = n; text = stretch } ∷ []
+numbered n (stretch ∷ q ∷ qs) = record { number = n; text = strip_carriage_return stretch } ∷ numbered (n + 1) (q ∷ qs)
 
 abbrev pub begins_blank : List ℕ → Bool
 begins_blank text = begins_with space text || begins_with tab text

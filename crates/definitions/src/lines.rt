@@ -19,7 +19,7 @@ pub struct Line {
 }
 
 // the text cut at its line feeds
-fn parts_of<'a>(alloc: Global, text: &'a [u8]) -> Result<Vec<&'a [u8]>, AllocError>
+fn stretches_of<'a>(alloc: Global, text: &'a [u8]) -> Result<Vec<&'a [u8]>, AllocError>
     ensures { IfOk result (λ v. map (λ x. x.now) v.items ≡ slice_split is_line_feed text.now) }
 {
     text.split(|b| *b == b'\n').collect(alloc)
@@ -34,10 +34,10 @@ fn without_return(line: &[u8]) -> &[u8]
     }
 }
 
-fn line_of(part: &[u8], is_last: bool) -> &[u8]
-    ensures { result.now ≡ (if is_last then part.now else strip_carriage_return part.now) }
+fn line_of(stretch: &[u8], is_last: bool) -> &[u8]
+    ensures { result.now ≡ (if is_last then stretch.now else strip_carriage_return stretch.now) }
 {
-    if is_last { part } else { without_return(part) }
+    if is_last { stretch } else { without_return(stretch) }
 }
 
 fn begins_blank(text: &[u8]) -> bool
@@ -97,13 +97,13 @@ fn add_line(
     Ok(())
 }
 
-// parts of a text, from the first on, with those that they go on on
-fn unfolded(alloc: Global, parts: &[&[u8]]) -> Result<Vec<Line>, AllocError>
-    ensures { IfOk result (λ v. v.items ≡ unfolded (numbered 1 (map (λ x. x.now) parts.now))) }
+// stretches of a text, from the first on, with those that they go on on
+fn unfolded(alloc: Global, stretches: &[&[u8]]) -> Result<Vec<Line>, AllocError>
+    ensures { IfOk result (λ v. v.items ≡ unfolded (numbered 1 (map (λ x. x.now) stretches.now))) }
 {
     let mut lines = Vec::new(alloc);
-    for (i, part) in parts.iter().enumerate() {
-        let text = line_of(part, i + 1 == parts.len());
+    for (i, stretch) in stretches.iter().enumerate() {
+        let text = line_of(stretch, i + 1 == stretches.len());
         add_line(alloc, &mut lines, i as u64 + 1, text)?;
     }
     Ok(lines)
@@ -115,6 +115,6 @@ fn unfolded(alloc: Global, parts: &[&[u8]]) -> Result<Vec<Line>, AllocError>
 pub fn lines_of(alloc: Global, text: &[u8]) -> Result<Vec<Line>, AllocError>
     ensures { IfOk result (λ v. v.items ≡ lines_of text.now) }
 {
-    let parts = parts_of(alloc, text)?;
-    unfolded(alloc, &parts)
+    let stretches = stretches_of(alloc, text)?;
+    unfolded(alloc, &stretches)
 }
