@@ -9,8 +9,8 @@ ghost use Rattle.candidates.specs.inner.Held.{members_of};
 ghost use Rattle.candidates.specs.inner.OneSide.{on};
 
 use crate::held::{Held, all_or_none, both_or_either, owned_numbers};
-use crate::numbers::Numbers;
 use crate::items::item_numbers;
+use crate::numbers::Numbers;
 use crate::side::Side;
 use filter::{Prepared, PreparedFilter};
 use index::Postings;

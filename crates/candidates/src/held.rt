@@ -165,7 +165,10 @@ pub(crate) fn both_or_either<'p, S: IdSet>(
 }
 
 /// The same numbers, with no set lent.
-pub(crate) fn owned_numbers<S: IdSet>(alloc: Global, numbers: Numbers<Held<S>>) -> Result<Numbers<S>, AllocError>
+pub(crate) fn owned_numbers<S: IdSet>(
+    alloc: Global,
+    numbers: Numbers<Held<S>>,
+) -> Result<Numbers<S>, AllocError>
     ensures { IfOk result (HasExactly S.members (λ n. numbers_contain (members_of S.members) numbers.entry n)) }
 {
     match numbers {

@@ -70,7 +70,11 @@ fn line_of_fault(alloc: Global, fault: IndexFaultKind) -> Result<String, AllocEr
 }
 
 // reports a fault of index.txt
-fn report_index_fault<E: Sink>(alloc: Global, err: &mut E, fault: IndexFaultKind) -> Result<(), Stop>
+fn report_index_fault<E: Sink>(
+    alloc: Global,
+    err: &mut E,
+    fault: IndexFaultKind,
+) -> Result<(), Stop>
     requires { (E.written err.old).failed < 2 ^ 64 - 1 }
     ensures reported { OnOk result (Took (E.written err.old) (E.written err.new) (line_of (index_fault_text fault))) }
     ensures failed { OnOk result ((E.written err.new).failed ≡ (E.written err.old).failed) }

@@ -37,7 +37,11 @@ fn without_return(line: &[u8]) -> &[u8]
 fn line_of(stretch: &[u8], is_last: bool) -> &[u8]
     ensures { result.now ≡ (if is_last then stretch.now else strip_carriage_return stretch.now) }
 {
-    if is_last { stretch } else { without_return(stretch) }
+    if is_last {
+        stretch
+    } else {
+        without_return(stretch)
+    }
 }
 
 fn begins_blank(text: &[u8]) -> bool

@@ -39,7 +39,11 @@ impl fmt::Display for RecordRefusal {
 
 /// The line of a report: the number of the line on which the record begins, and the refusal.
 #[tactic(auto, unfolding(crate::specs::Reports::report_line))]
-pub(crate) fn report_line(alloc: Global, line: u64, refusal: RecordRefusal) -> Result<String, AllocError>
+pub(crate) fn report_line(
+    alloc: Global,
+    line: u64,
+    refusal: RecordRefusal,
+) -> Result<String, AllocError>
     ensures { IfOk result (λ t. string_bytes t ≡ report_line (line, refusal)) }
 {
     format!(in alloc; "line {line}: {refusal}\n")

@@ -12,9 +12,9 @@ ghost use Rattle.dn.specs.inner.Cuts.{first_value, first_ava, first_rdn, ava_fro
 ghost use Rattle.dn.specs.inner.Texts.{Starts};
 ghost use Rattle.dn.specs.Gives.{Gives, fault_of};
 
+use crate::avas::{Ava, split_type};
 use crate::faults::{NameFault, NameFaultKind};
 use crate::names::{Name, Rdn};
-use crate::avas::{Ava, split_type};
 use crate::split::{after_first, after_plus, begins_with_plus, split_piece};
 use crate::value::{Plain, split_plain, value_of};
 use std::alloc::Global;

@@ -81,11 +81,7 @@ impl AvaText {
     }
 
     /// A type, an equals sign and a value.
-    pub(crate) fn of_ava(
-        alloc: Global,
-        ty_text: &[u8],
-        value: &[u8],
-    ) -> Result<AvaText, AllocError>
+    pub(crate) fn of_ava(alloc: Global, ty_text: &[u8], value: &[u8]) -> Result<AvaText, AllocError>
         ensures { IfOk result (λ text. text ≡ ty_text.now ++ 61 ∷ value.now) }
     {
         let len = ty_text.len() + 1 + value.len();

@@ -8,8 +8,8 @@ ghost use Rattle.dn.specs.Names.{is_name};
 ghost use Rattle.dn.specs.Spelling.{Spells};
 ghost use Rattle.dn.specs.Writing.{digit, needs_pair, stands, written, value_text, ava_text, rdn_text, text_of};
 
-use crate::names::{Name, Rdn};
 use crate::avas::Ava;
+use crate::names::{Name, Rdn};
 use crate::value::may_stand;
 use std::alloc::{AllocError, Global};
 

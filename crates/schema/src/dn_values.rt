@@ -73,7 +73,12 @@ fn put_avas(
 }
 
 #[tactic(auto, unfolding(crate::specs::Rdns::rdn_key_of, crate::specs::Rdns::key_from, crate::specs::Rdns::put_pair))]
-fn put_rdn(alloc: Global, types: &TypeTable, out: &mut Vec<u8>, rdn: &TypedRdn) -> Result<(), AllocError>
+fn put_rdn(
+    alloc: Global,
+    types: &TypeTable,
+    out: &mut Vec<u8>,
+    rdn: &TypedRdn,
+) -> Result<(), AllocError>
     requires { AreKnown types.now rdn.now }
     ensures { OnOk result (out.new.items ≡ out.old.items ++ rdn_text (normal_rdn types.now rdn.now)) }
 {
@@ -139,7 +144,11 @@ fn normal_text(
 
 /// The RDNs of the name that bytes spell under these types, its own first, or the code of the first AVA that has a fault.
 #[tactic(auto, unfolding(crate::specs::Values::rdns_in))]
-pub fn rdns_in(alloc: Global, types: &TypeTable, text: &[u8]) -> Result<Sequence<TypedRdn>, PathFault>
+pub fn rdns_in(
+    alloc: Global,
+    types: &TypeTable,
+    text: &[u8],
+) -> Result<Sequence<TypedRdn>, PathFault>
     ensures gives { Gives (λ rdns. rdns) result (rdns_in types.now text.now) }
     ensures known { IfOk result (AllByRecursion (AreKnown types.now)) }
 {

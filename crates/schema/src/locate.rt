@@ -34,7 +34,11 @@ struct TypedName {
 }
 
 /// What RDNs come to, from the last on.
-pub(crate) fn path_of(alloc: Global, types: &TypeTable, rdns: &[TypedRdn]) -> Result<Path, AllocError>
+pub(crate) fn path_of(
+    alloc: Global,
+    types: &TypeTable,
+    rdns: &[TypedRdn],
+) -> Result<Path, AllocError>
     requires { AllByRecursion (AreKnown types.now) rdns.now }
     ensures { IfOk result (λ p. p ≡ map (rdn_key_of types.now) (reverse rdns.now)) }
 {
@@ -119,7 +123,12 @@ impl Conf {
     }
 
     /// The path of what stands below a path by an RDN.
-    pub fn path_below(&self, alloc: Global, upper: &Path, rdn: &TypedRdn) -> Result<Path, AllocError>
+    pub fn path_below(
+        &self,
+        alloc: Global,
+        upper: &Path,
+        rdn: &TypedRdn,
+    ) -> Result<Path, AllocError>
         requires { IsRdn self.now.types rdn.now }
         ensures { IfOk result (λ p. p ≡ upper.now ++ rdn_key_of self.now.types rdn.now ∷ []) }
     {

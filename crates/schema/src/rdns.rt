@@ -61,7 +61,11 @@ fn ava_type(types: &TypeTable, earlier: &[(TypeId, Bytes)], ava: &Ava) -> Result
 /// An RDN with its types; `InvalidDnSyntax` where a type isn't known or has DN syntax, or a value isn't valid, and `NamingViolation` where a
 /// type has no equality rule or stands twice. The first AVA that has a fault answers.
 #[tactic(auto, unfolding(crate::specs::Rdns::avas_from))]
-pub(crate) fn typed_rdn(alloc: Global, types: &TypeTable, avas: &[Ava]) -> Result<TypedRdn, PathFault>
+pub(crate) fn typed_rdn(
+    alloc: Global,
+    types: &TypeTable,
+    avas: &[Ava],
+) -> Result<TypedRdn, PathFault>
     ensures gives { Gives (λ r. r) result (typed_rdn types.now avas.now) }
     ensures known { IfOk result (AreKnown types.now) }
 {
@@ -111,7 +115,11 @@ fn put_pair(pairs: &mut Vec<(TypeId, Bytes)>, t: TypeId, norm: Bytes) -> Result<
 }
 
 #[tactic(auto, unfolding(crate::specs::Rdns::rdn_key_of, crate::specs::Rdns::key_from))]
-pub(crate) fn rdn_key_of(alloc: Global, types: &TypeTable, rdn: &TypedRdn) -> Result<RdnKey, AllocError>
+pub(crate) fn rdn_key_of(
+    alloc: Global,
+    types: &TypeTable,
+    rdn: &TypedRdn,
+) -> Result<RdnKey, AllocError>
     requires { AreKnown types.now rdn.now }
     ensures { IfOk result (λ k. k ≡ rdn_key_of types.now rdn.now) }
 {
