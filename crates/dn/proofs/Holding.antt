@@ -17,7 +17,7 @@ module _ (text ty value : List ℕ) (is : is_type ty ≡ true) (text_is : text �
   pub held : ava_in text ≡ ava_with ty value
   held =
       ap ava_in text_is
-      ∙ ap (λ (x : List ℕ). ava x (drop 1 (after_type (ty ++ 61 ∷ value)))) (run_front is_type_byte ty (61 ∷ value) bytes refl)
+      ∙ ap (λ (x : List ℕ). ava_with x (drop 1 (after_type (ty ++ 61 ∷ value)))) (run_front is_type_byte ty (61 ∷ value) bytes refl)
       ∙ ap (λ (x : List ℕ). ava_with ty (drop 1 x)) (run_rest is_type_byte ty (61 ∷ value) bytes refl)
 
   pub held_is_ava : list_all is_byte value ≡ true → is_ava (ava_in text) ≡ true

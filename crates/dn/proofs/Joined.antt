@@ -3,7 +3,7 @@ use Rattle.std.proofs.Common.{◌≡◌, ℕ, zero, suc, ◌+◌, ◌-◌, ◌<�
 use Rattle.std.proofs.lemmas.List.{drop_more, length-append, length_push, length-set, length-drop}
 use Rattle.std.proofs.lemmas.Slice.{take-put_mid}
 use Rattle.std.proofs.Math.Seq.{set-append_seam, take-append_seam}
-use borrow.Rule.Slice.AvaMut.{put_mid}
+use borrow.Rule.Slice.PartMut.{put_mid}
 use Rattle.dn.specs.Spelling.{spaces}
 use Rattle.dn.specs.inner.Texts.{Starts, EndsAt}
 
