@@ -9,7 +9,7 @@ use Rattle.entries.proofs.values_draft.first_places.Goals as goal
 pub loop-value-preserved : goal.loop-value-preserved
 loop-value-preserved c =
     let key = c.in_ok-from_slice.ensures ∙ c.norm.ensures in
-    let one_more : c.in_ok-count.count ≡ c.loop-value.count + 1 = (subst (λ (o : Option ℕ). SomeIff o (c.loop-value.count + 1 < 18446744073709551616) (c.loop-value.count + 1)) c.in_ok-count.ensures.ok_ava c.checked_add.ensures).1 in
+    let one_more : c.in_ok-count.count ≡ c.loop-value.count + 1 = (subst (λ (o : Option ℕ). SomeIff o (c.loop-value.count + 1 < 18446744073709551616) (c.loop-value.count + 1)) c.in_ok-count.ensures.ok_part c.checked_add.ensures).1 in
     record {
       can = c.loop-value.invariant.can;
       start = subst (λ (n : ℕ). AtStart c.insert.new.self n c.next.new.self c.args.values.now) (sym one_more) (goes_on c.loop-value.since c.insert.new.self c.loop-value.count c.loop-value.value-iterator c.next.new.self c.args.values.now c.in-Some.value.now

@@ -18,7 +18,7 @@ module _ (c : goal.In_ok-push) where
   same_key = sym (c.in_ok-key.ensures ∙ c.norm.ensures)
 
   one_more : c.in_ok-count.count ≡ c.args.places.now.count + 1
-  one_more = (subst (λ (o : Option ℕ). SomeIff o (c.args.places.now.count + 1 < 18446744073709551616) (c.args.places.now.count + 1)) c.in_ok-count.ensures.ok_ava c.checked_add.ensures).1
+  one_more = (subst (λ (o : Option ℕ). SomeIff o (c.args.places.now.count + 1 < 18446744073709551616) (c.args.places.now.count + 1)) c.in_ok-count.ensures.ok_part c.checked_add.ensures).1
 
   pushed : left_from c.insert.new.self 0 c.push.new.self ≡ left_from c.args.places.now.since 0 c.args.values.now ++ c.args.value ∷ []
   pushed =
