@@ -1,27 +1,29 @@
 -- An index that is made of all entries, one after the other.
-use Rattle.std.proofs.Common.{◌≡◌, ℕ, Bool, true, false, cond, ◌&&◌, ◌||◌, nat_eq, List, [], ◌∷◌, filter, map, Some, None, refl, sym, ap, ◌∙◌}
-use Rattle.std.specs.Prelude.{unwrap_or}
+use Rattle.std.proofs.Common.{◌≡◌, ℕ, Bool, true, false, cond, ◌&&◌, ◌||◌, nat_eq, List, [], ◌∷◌, ◌++◌, filter, map, Some, None, Result, Ok, Err, refl, sym, ap, ◌∙◌}
+use Rattle.std.specs.Prelude.{unwrap_or, IfOk}
 use Rattle.std.specs.List.{list_any, AllByRecursion}
 use Rattle.std.specs.FinMap as finite
 use Rattle.std.specs.FinSet as set
-use Rattle.std.specs.Ordering.{nat_cmp, eq_by_cmp}
-use Rattle.std.specs.Cmp.{IsTotalOrder, nat_cmp_total, unsigned_tied}
+use Rattle.std.specs.Ordering.{eq_by_cmp}
+use Rattle.std.specs.Cmp.{IsTotalOrder}
 use Rattle.std.specs.FinMap.Entries.{find}
 use Rattle.std.proofs.lemmas.Bool.{eqb-true, eq-eqb}
+use Rattle.std.proofs.lemmas.List.Folds.{list_any-append}
 use Rattle.paths.specs.Paths.{Path, path_cmp, begins}
 use Rattle.schema.specs.Conf.{Conf}
 use Rattle.entries.specs.Entries.{EntryContent}
 use Rattle.tree.specs.Directories.{IsDirectory}
-use Rattle.entries.specs.StoredEntries.{attributes_of}
+use Rattle.entries.specs.StoredEntries.{attributes_of, EntryAttribute}
 use Rattle.tree.specs.Trees.{Tree, Placed, unnumbered, seen_entries, number_at, IsNumbered, HasEntry}
 use Rattle.tree.proofs.Order.{path_exact}
 use Rattle.tree.proofs.Kept.{equal}
 use Rattle.index.specs.declared.slot_key.SlotKey.{SlotKey}
-use Rattle.index.specs.KeySets.{Members}
-use Rattle.index.specs.Indexes.{Index, members, Inserts}
+use Rattle.index.specs.declared.whole_entries.Numbered.{Numbered}
+use Rattle.index.specs.Indexes.{Index, members}
 use Rattle.index.specs.EntryKeys.{slot_keys}
+use Rattle.index.specs.NumberedEntries.{has_among}
 use Rattle.directory.specs.Indexes.{IsIndexOf}
-use Rattle.directory.specs.inner.Indexes.{has_among, has_in_tree}
+use Rattle.directory.specs.inner.Indexes.{has_placed, has_in_tree}
 use Rattle.directory.proofs.DumpText.{all_begin}
 use Rattle.directory.proofs.LoadLaw.{all_there}
 use Rattle.directory.proofs.RanksByNumber.{there_number}
@@ -30,36 +32,25 @@ or_false : (b : Bool) → (b || false) ≡ b
 or_false true = refl
 or_false false = refl
 
-put_has : (s : Members) (n m : ℕ) → set.contains (set.insert s n) m ≡ (nat_eq m n || set.contains s m)
-put_has s n m = set.contains-insert nat_cmp_total s n m ∙ ap (λ b. b || set.contains s m) (unsigned_tied m n)
-
 -- ---- one entry more
 
-pub one_more : (conf : Conf) (old new : Index) (e : Placed) (es rest : List Placed) (whole : ℕ → SlotKey → Bool)
-    → es ≡ e ∷ rest → Inserts (λ k. set.contains (slot_keys conf (attributes_of e.entry.attrs)) k) e.number old new
-    → ((n : ℕ) (k : SlotKey) → (set.contains (members old k) n || has_among conf es n k) ≡ whole n k)
-    → (n : ℕ) (k : SlotKey) → (set.contains (members new k) n || has_among conf rest n k) ≡ whole n k
-one_more conf old new e es rest whole cut puts so_far n k =
-    ap (λ (s : Members). set.contains s n || has_among conf rest n k) (puts k)
-    ∙ by (set.contains (slot_keys conf (attributes_of e.entry.attrs)) k)
-    ∙ ap (λ (xs : List Placed). set.contains (members old k) n || has_among conf xs n k) (sym cut)
+pub one_more : (conf : Conf) (old new : List Numbered) (x : Numbered) (e : Placed) (es rest : List Placed) (whole : ℕ → SlotKey → Bool)
+    → es ≡ e ∷ rest → new ≡ old ++ x ∷ [] → x.number ≡ e.number → x.entry.now.attrs ≡ e.entry.attrs
+    → ((n : ℕ) (k : SlotKey) → (has_among conf old n k || has_placed conf es n k) ≡ whole n k)
+    → (n : ℕ) (k : SlotKey) → (has_among conf new n k || has_placed conf rest n k) ≡ whole n k
+one_more conf old new x e es rest whole cut pushed number attrs so_far n k =
+    ap (λ (xs : List Numbered). has_among conf xs n k || has_placed conf rest n k) pushed
+    ∙ ap (λ b. b || has_placed conf rest n k) (list_any-append (λ (y : Numbered). nat_eq n y.number && set.contains (slot_keys conf (attributes_of y.entry.now.attrs)) k) old (x ∷ []))
+    ∙ ap (λ m. (has_among conf old n k || ((nat_eq n m && set.contains (slot_keys conf (attributes_of x.entry.now.attrs)) k) || false)) || has_placed conf rest n k) number
+    ∙ ap (λ (given : List EntryAttribute). (has_among conf old n k || ((nat_eq n e.number && set.contains (slot_keys conf (attributes_of given)) k) || false)) || has_placed conf rest n k) attrs
+    ∙ by (has_among conf old n k) (nat_eq n e.number && set.contains (slot_keys conf (attributes_of e.entry.attrs)) k) (has_placed conf rest n k)
+    ∙ ap (λ (xs : List Placed). has_among conf old n k || has_placed conf xs n k) (sym cut)
     ∙ so_far n k
   where
-    turn : (a b c : Bool) → ((a || b) || c) ≡ (b || ((a && true) || c))
-    turn true true c = refl
-    turn true false c = refl
-    turn false true c = refl
-    turn false false c = refl
-
-    drop_it : (a b c : Bool) → (b || c) ≡ (b || ((a && false) || c))
-    drop_it true true c = refl
-    drop_it true false c = refl
-    drop_it false true c = refl
-    drop_it false false c = refl
-
-    by : (c : Bool) → (set.contains (cond c (set.insert (members old k) e.number) (members old k)) n || has_among conf rest n k) ≡ (set.contains (members old k) n || ((nat_eq n e.number && c) || has_among conf rest n k))
-    by true = ap (λ b. b || has_among conf rest n k) (put_has (members old k) e.number n) ∙ turn (nat_eq n e.number) (set.contains (members old k) n) (has_among conf rest n k)
-    by false = drop_it (nat_eq n e.number) (set.contains (members old k) n) (has_among conf rest n k)
+    by : (a b c : Bool) → ((a || (b || false)) || c) ≡ (a || (b || c))
+    by true b c = refl
+    by false true c = refl
+    by false false c = refl
 
 -- ---- the entries of a tree
 
@@ -67,20 +58,24 @@ module _ (conf : Conf) (t : Tree) where
   abbrev has_here : List (Path × EntryContent) → ℕ → SlotKey → Bool
   has_here es n k = list_any (λ e. nat_eq n (number_at t e.0) && set.contains (slot_keys conf e.1.attrs) k) es
 
-  same_tests : (es : List Placed) → AllByRecursion (λ e. finite.get t.numbers e.path ≡ Some e.number) es → (n : ℕ) (k : SlotKey) → has_among conf es n k ≡ has_here (seen_entries (map unnumbered es)) n k
+  same_tests : (es : List Placed) → AllByRecursion (λ e. finite.get t.numbers e.path ≡ Some e.number) es → (n : ℕ) (k : SlotKey) → has_placed conf es n k ≡ has_here (seen_entries (map unnumbered es)) n k
   same_tests [] all n k = refl
   same_tests (e ∷ es) all n k =
-      ap (λ (m : ℕ). (nat_eq n m && set.contains (slot_keys conf (attributes_of e.entry.attrs)) k) || has_among conf es n k) (ap (λ o. unwrap_or o t.next_number) (sym all.0))
+      ap (λ (m : ℕ). (nat_eq n m && set.contains (slot_keys conf (attributes_of e.entry.attrs)) k) || has_placed conf es n k) (ap (λ o. unwrap_or o t.next_number) (sym all.0))
       ∙ ap (λ b. (nat_eq n (number_at t e.path) && set.contains (slot_keys conf (attributes_of e.entry.attrs)) k) || b) (same_tests es all.1 n k)
 
   -- before the first entry
-  pub none_yet : (x : Index) (items : List Placed) (root : Path) → ((k : SlotKey) → members x k ≡ set.empty) → root ≡ []
+  pub none_yet : (items : List Placed) (root : Path) → root ≡ []
       → seen_entries (map unnumbered items) ≡ filter (λ e. begins root e.0) (finite.entries t.entries) → AllByRecursion (λ e. finite.get t.numbers e.path ≡ Some e.number) items
-      → (n : ℕ) (k : SlotKey) → (set.contains (members x k) n || has_among conf items n k) ≡ has_in_tree conf t n k
-  none_yet x items root nothing top seen numbers n k =
-      ap (λ b. b || has_among conf items n k) (ap (λ (s : Members). set.contains s n) (nothing k) ∙ set.contains-empty nat_cmp n)
-      ∙ same_tests items numbers n k
+      → (n : ℕ) (k : SlotKey) → has_placed conf items n k ≡ has_in_tree conf t n k
+  none_yet items root top seen numbers n k =
+      same_tests items numbers n k
       ∙ ap (λ (es : List (Path × EntryContent)). has_here es n k) (seen ∙ ap (λ (p : Path). filter (λ e. begins p e.0) (finite.entries t.entries)) top ∙ all_begin (finite.entries t.entries))
+
+  -- behind the last entry
+  pub no_more : (es : List Numbered) (rest : List Placed) → rest ≡ [] → ((n : ℕ) (k : SlotKey) → (has_among conf es n k || has_placed conf rest n k) ≡ has_in_tree conf t n k)
+      → (n : ℕ) (k : SlotKey) → has_among conf es n k ≡ has_in_tree conf t n k
+  no_more es rest none so_far n k = sym (or_false (has_among conf es n k)) ∙ ap (λ (xs : List Placed). has_among conf es n k || has_placed conf xs n k) (sym none) ∙ so_far n k
 
   module _ (numbered : IsNumbered t.entries t.numbers) where
     -- where no entry has the number, none of these has
@@ -142,18 +137,19 @@ module _ (conf : Conf) (t : Tree) where
           by true false ea eb = sym (hits (finite.entries t.entries) all ea) ∙ eb
           by false true ea eb = sym ea ∙ found (finite.entries t.entries) (sym (finite.get-entries t.entries h.path) ∙ h.entry) eb
 
-    -- behind the last entry
-    pub whole : IsTotalOrder path_cmp → IsDirectory t.conf t.entries → (x : Index) (rest : List Placed) → x.conf ≡ conf → rest ≡ []
-        → ((n : ℕ) (k : SlotKey) → (set.contains (members x k) n || has_among conf rest n k) ≡ has_in_tree conf t n k)
+    -- an index of them is that of the tree
+    pub whole : IsTotalOrder path_cmp → IsDirectory t.conf t.entries → (x : Index) (es : List Numbered) → x.conf ≡ conf
+        → ((k : SlotKey) (n : ℕ) → set.contains (members x k) n ≡ has_among conf es n k) → ((n : ℕ) (k : SlotKey) → has_among conf es n k ≡ has_in_tree conf t n k)
         → IsIndexOf conf t.entries t.numbers x
-    whole total directory x rest same_conf none so_far = record {
+    whole total directory x es same_conf has here = record {
       same_conf = same_conf;
-      has = λ n e h k. shown n k ∙ entry_has n k e h all;
-      none = λ n nobody k. shown n k ∙ nobody_has n k nobody (finite.entries t.entries) all;
+      has = λ n e h k. has k n ∙ here n k ∙ entry_has n k e h all;
+      none = λ n nobody k. has k n ∙ here n k ∙ nobody_has n k nobody (finite.entries t.entries) all;
     }
       where
         all : AllByRecursion (λ e. finite.get t.entries e.0 ≡ Some e.1) (finite.entries t.entries)
         all = all_there total t.conf t.entries directory
 
-        shown : (n : ℕ) (k : SlotKey) → set.contains (members x k) n ≡ has_in_tree conf t n k
-        shown n k = sym (or_false (set.contains (members x k) n)) ∙ ap (λ (es : List Placed). set.contains (members x k) n || has_among conf es n k) (sym none) ∙ so_far n k
+pub by_both : {X E : Type 0} (r : Result X E) (P Q R : X → Type 0) → ((x : X) → P x → Q x → R x) → IfOk r P → IfOk r Q → IfOk r R
+by_both (Ok x) P Q R give p q = give x p q
+by_both (Err e) P Q R give p q = tt

@@ -51,7 +51,7 @@ no_slot : (o : Option Slot) (key : List ℕ) → is_slot_that (λ s. gives_key s
 no_slot None key = refl
 no_slot (Some s) key = gives_none s.kind key
 
-contains-slot_keys : (conf : Conf) (attrs : Attributes) (p : SlotKey) → set.contains (slot_keys conf attrs) p ≡ is_slot_that (λ s. has_key conf.types attrs s.type_id s.kind p.key) (slice_get conf.slots p.slot.0)
+pub contains-slot_keys : (conf : Conf) (attrs : Attributes) (p : SlotKey) → set.contains (slot_keys conf attrs) p ≡ is_slot_that (λ s. has_key conf.types attrs s.type_id s.kind p.key) (slice_get conf.slots p.slot.0)
 contains-slot_keys conf attrs p = contains-from_list (slot_keys_from conf.types attrs 0 conf.slots) p ∙ at_place conf.types attrs conf.slots 0 p.slot.0 p.slot.0 p.key (sym (zero-add p.slot.0))
 
 pub contains-slot_keys_in : (conf : Conf) (e : Option EntryContent) (p : SlotKey) → set.contains (slot_keys_in conf e) p ≡ has_slot_key conf e p

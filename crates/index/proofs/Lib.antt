@@ -15,4 +15,5 @@ pub mod Search
 pub mod ShortKeys
 pub mod SlotKeyOrder
 pub mod StoredKeys
+pub mod WholeEntries
 pub mod WindowSteps

@@ -81,12 +81,26 @@ impl Index {
         ensures empty { IfOk result (λ x. (p : seen.SlotKey) → members x p ≡ set.empty) }
         ensures edits { IfOk result (λ x. x.edits ≡ 0) }
     {
-        let slots = conf.slots();
+        let sets = no_keys(alloc, conf.slots().len())?;
+        Index::of_sets(alloc, conf, sets)
+    }
+
+    // the index with these keys of the slots of a configuration
+    pub(crate) fn of_sets(
+        alloc: Global,
+        conf: &Conf,
+        sets: Vec<KeySets>,
+    ) -> Result<Index, AllocError>
+        requires { length sets.items ≡ length conf.now.slots }
+        ensures same_conf { IfOk result (λ x. x.conf ≡ conf.now) }
+        ensures slots { IfOk result (λ x. x.slots ≡ sets.items) }
+        ensures edits { IfOk result (λ x. x.edits ≡ 0) }
+    {
         Ok(Index {
             alloc,
             made: Snapshot::of(conf),
-            slots: Vec::from_slice(alloc, slots)?,
-            sets: no_keys(alloc, slots.len())?,
+            slots: Vec::from_slice(alloc, conf.slots())?,
+            sets,
             edits: EditCount::new(),
         })
     }

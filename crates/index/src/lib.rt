@@ -20,6 +20,7 @@ mod rows;
 mod short_key;
 mod slot_key;
 mod stored_key;
+mod whole_entries;
 mod windows;
 
 pub use changes::{KeyChanges, key_changes, keys_of};
@@ -28,4 +29,5 @@ pub use key_sets::Keys;
 pub use laws::keys_are_told;
 pub use postings::Postings;
 pub use slot_key::{SlotKey, SlotNumber};
+pub use whole_entries::Numbered;
 pub use windows::first_window;

@@ -10,8 +10,8 @@ use Rattle.index.specs.declared.slot_key.SlotKey.{SlotKey}
 use Rattle.index.specs.EntryKeys.{slot_keys}
 
 -- whether one of these has the number and the key
-abbrev pub has_among : Conf → List Placed → ℕ → SlotKey → Bool
-has_among conf es n k = list_any (λ e. nat_eq n e.number && set.contains (slot_keys conf (attributes_of e.entry.attrs)) k) es
+abbrev pub has_placed : Conf → List Placed → ℕ → SlotKey → Bool
+has_placed conf es n k = list_any (λ e. nat_eq n e.number && set.contains (slot_keys conf (attributes_of e.entry.attrs)) k) es
 
 -- the same of the entries of a tree
 abbrev pub has_in_tree : Conf → Tree → ℕ → SlotKey → Bool
