@@ -1,5 +1,5 @@
 //! A folder of files in memory, of which one can fail.
-ghost use Rattle.std.specs.Prelude.{◌≡◌, ℕ, true, false, List, Option, None, Some, Err, IfOk, IfErr, IfSome, OnOk, OnErr};
+ghost use Rattle.std.specs.Prelude.{◌≡◌, ℕ, true, false, List, Option, None, Some, Err, IsOk, IfOk, IfErr, IfSome, OnOk, OnErr};
 ghost use Rattle.std.specs.Option.{option_map};
 ghost use Rattle.std.specs.FinMap as finite;
 ghost use Rattle.device.specs.Adapters.{read_seen};
@@ -149,9 +149,10 @@ impl<'t> Folder for MemoryFolder<'t> {
         ensures same_files { OnErr result (Some (folder_files self.new) ≡ Some (folder_files self.old)) }
         ensures same_locking { OnErr result (folder_locking self.new ≡ folder_locking self.old) }
 
-        // Beside what the trait says: why a file that is there isn't locked.
+        // Beside what the trait says: why a file that is there isn't locked, and that it is else.
         ensures fault { (fault : LockFault) → lock_fault (folder_trouble self.old name.now) ≡ Some fault
             → finite.contains_key (folder_files self.old) name.now ≡ true → result ≡ Err fault }
+        ensures free { lock_fault (folder_trouble self.old name.now) ≡ None → finite.contains_key (folder_files self.old) name.now ≡ true → IsOk result }
     {
         if self.files.get(name).is_none() {
             return Err(LockFault::Device);
