@@ -7,13 +7,13 @@ ghost use Rattle.commands.specs.Changes.{written_by, Breaks, RunsInput, RunsSour
 ghost use Rattle.commands.specs.inner.Views.{run_of};
 ghost use Rattle.commands.specs.inner.Stopped.{CanReport, HasStopped, HasEnded, HasEndedUnder};
 
-use crate::database::{load_directory, lock, open_present};
+use crate::database::{load_database, lock, open_present};
 use crate::folder::Folder;
 use crate::messages::{CommandFault, Status, Stop};
-use crate::storing::store_directory;
+use crate::storing::store_database;
 use command_line::{AddOptions, ModifyOptions};
 use device::{Sink, Source};
-use directory::{Directory, RunFault, Tally, run};
+use directory::{Database, RunFault, Tally, run};
 use ldif::Mode;
 use std::alloc::Global;
 use std::mem;
@@ -79,25 +79,25 @@ fn stop_of(alloc: Global, fault: RunFault, name: &str) -> Stop
 fn run_source<S: Source, E: Sink>(
     alloc: Global,
     task: &Task<'_>,
-    dir: &mut Directory,
+    database: &mut Database,
     source: &mut S,
     name: &str,
     err: &mut E,
 ) -> Result<Tally, Stop>
     requires source { (S.seen source.old).failed < 2 ^ 64 - 1 }
     requires err { (E.written err.old).failed < 2 ^ 64 - 1 }
-    ensures same_conf { dir.new.conf ≡ dir.old.conf }
+    ensures same_conf { database.new.tree.conf ≡ database.old.tree.conf }
     ensures ran { IfOk result (λ t. (w : World) → RunsInput task.now
-        (run_of dir.old dir.new (Ok t))
+        (run_of database.old.tree database.new.tree (Ok t))
         (record w { input = S.seen source.old; messages = E.written err.old })
         (record w { input = S.seen source.new; messages = E.written err.new })) }
     ensures broke { IfErr result (λ why. (fault : RunFault) × Breaks fault name.now why × ((w : World) → RunsInput task.now
-        (run_of dir.old dir.new (Err fault))
+        (run_of database.old.tree database.new.tree (Err fault))
         (record w { input = S.seen source.old; messages = E.written err.old })
         (record w { input = S.seen source.new; messages = E.written err.new }))) }
     ensures can_report { IfErr result (λ why. CanReport why (E.written err.new).failed) }
 {
-    match run(alloc, dir, source, err, task.mode, task.go_on) {
+    match run(alloc, database, source, err, task.mode, task.go_on) {
         Ok(tally) => Ok(tally),
         Err(fault) => Err(stop_of(alloc, fault, name)),
     }
@@ -107,17 +107,17 @@ fn run_source<S: Source, E: Sink>(
 fn run_records<F: Folder, S: Source, E: Sink>(
     alloc: Global,
     task: &Task<'_>,
-    dir: &mut Directory,
+    database: &mut Database,
     folder: &F,
     input: &mut S,
     err: &mut E,
 ) -> Result<Tally, Stop>
     requires input { (S.seen input.old).failed < 2 ^ 64 - 1 }
     requires err { (E.written err.old).failed < 2 ^ 64 - 1 }
-    requires loaded { IsLoaded (F.files folder.now) task.now.db.now dir.old.conf dir.old.entries }
-    ensures same_conf { dir.new.conf ≡ dir.old.conf }
+    requires loaded { IsLoaded (F.files folder.now) task.now.db.now database.old.tree.conf database.old.tree.entries }
+    ensures same_conf { database.new.tree.conf ≡ database.old.tree.conf }
     ensures ran { IfOk result (λ t. (w : World) → RunsSource task.now
-        (run_of dir.old dir.new (Ok t))
+        (run_of database.old.tree database.new.tree (Ok t))
         (record w { files = F.files folder.now; input = S.seen input.old; messages = E.written err.old })
         (record w { files = F.files folder.now; input = S.seen input.new; messages = E.written err.new })) }
     ensures stops { IfErr result (λ why. (w : World) → HasStopped (ChangeStops task.now)
@@ -126,38 +126,37 @@ fn run_records<F: Folder, S: Source, E: Sink>(
     ensures can_report { IfErr result (λ why. CanReport why (E.written err.new).failed) }
 {
     let Some(name) = task.file else {
-        return run_source(alloc, task, dir, input, "input", err);
+        return run_source(alloc, task, database, input, "input", err);
     };
     let mut source = open_present(alloc, folder, name)?;
-    run_source(alloc, task, dir, &mut source, name, err)
+    run_source(alloc, task, database, &mut source, name, err)
 }
 
 /// Runs the records, and stores what they leave.
 fn run_and_store<F: Folder, S: Source, E: Sink>(
     alloc: Global,
     task: &Task<'_>,
-    mut dir: Directory,
+    mut database: Database,
     folder: &mut F,
     input: &mut S,
     err: &mut E,
 ) -> Result<Status, Stop>
     requires input { (S.seen input.old).failed < 2 ^ 64 - 1 }
     requires err { (E.written err.old).failed < 2 ^ 64 - 1 }
-    requires loaded { IsLoaded (F.files folder.old) task.now.db.now dir.conf dir.entries }
+    requires loaded { IsLoaded (F.files folder.old) task.now.db.now database.tree.conf database.tree.entries }
     ensures ends { (w : World) → HasEnded (RunsAndStores task.now) (ChangeStops task.now)
         (record w { files = F.files folder.old; input = S.seen input.old; messages = E.written err.old })
         (record w { files = F.files folder.new; input = S.seen input.new; messages = E.written err.new }) result }
     ensures locking { F.locking folder.new ≡ F.locking folder.old }
     ensures can_report { IfErr result (λ why. CanReport why (E.written err.new).failed) }
 {
-    let tally = run_records(alloc, task, &mut dir, folder, input, err)?;
+    let tally = run_records(alloc, task, &mut database, folder, input, err)?;
     if task.dry_run {
+        // The program ends with its command, and that frees the entries at once.
+        mem::forget(database);
         return Ok(Status::of_tally(tally));
     }
-    let stored = store_directory(alloc, folder, task.db, &dir);
-    // The program ends with its command, and that frees the entries at once.
-    mem::forget(dir);
-    stored?;
+    store_database(alloc, folder, task.db, database)?;
     Ok(Status::of_tally(tally))
 }
 
@@ -177,8 +176,8 @@ fn load_and_run<F: Folder, S: Source, E: Sink>(
     ensures locking { F.locking folder.new ≡ F.locking folder.old }
     ensures can_report { IfErr result (λ why. CanReport why (E.written err.new).failed) }
 {
-    let dir = load_directory(alloc, folder, task.db)?;
-    run_and_store(alloc, task, dir, folder, input, err)
+    let database = load_database(alloc, folder, task.db)?;
+    run_and_store(alloc, task, database, folder, input, err)
 }
 
 /// Carries out the records of the file, or of the input, on the directory in a folder, with a line on `err` for each that is refused, and

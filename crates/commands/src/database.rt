@@ -13,7 +13,7 @@ use crate::folder::{FileText, Folder, FolderFault, LockFault};
 use crate::messages::CommandFault;
 use device::{Device, Sink, Source};
 use dir_conf::{ConfFault, read_conf};
-use directory::{Directory, LoadFault, load_tree, write_dump};
+use directory::{Database, Directory, LoadFault, load_tree, write_dump};
 use ldif::WriteFault;
 use schema::Conf;
 use std::alloc::{AllocError, Global};
@@ -21,14 +21,6 @@ use tree::Tree;
 
 /// How many bytes are asked of a file at a time.
 const PIECE: usize = 65536;
-
-/// What the files of a folder say: entries, and the configuration that they were made with. It has no index.
-#[derive(Drop)]
-pub struct Database {
-    pub conf: Conf,
-    pub tree: Tree,
-    ghost same_conf: { tree.conf ≡ conf },
-}
 
 impl FileText for Database {
     type Answer = ();

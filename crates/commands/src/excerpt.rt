@@ -3,10 +3,9 @@ ghost use Rattle.std.specs.Prelude.{◌≡◌, ⊤};
 ghost use Rattle.filter_text.specs.Spells.{view};
 ghost use Rattle.commands.specs.Excerpts.{excerpt_text};
 
-use crate::database::Database;
 use crate::folder::FileText;
 use device::Sink;
-use directory::{Scope, Selection, search_tree, write_found};
+use directory::{Database, Scope, Selection, search_tree, write_found};
 use filter::Prepared;
 use ldif::WriteFault;
 use schema::Path;

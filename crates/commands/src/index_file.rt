@@ -10,11 +10,11 @@ ghost use Rattle.commands.specs.Messages.{line_of};
 ghost use Rattle.commands.specs.inner.IndexFiles.{said, IsTrue, FailsToReportFault, FailsToReport};
 ghost use Rattle.commands.specs.inner.Stopped.{CanReport};
 
-use crate::database::{Database, contents, open, path};
+use crate::database::{contents, open, path};
 use crate::folder::Folder;
 use crate::messages::{CommandFault, Stop};
 use device::{Sink, push_all};
-use directory::{index_texts_reflect_dumps, kept_index_texts_are_read, stamp_of};
+use directory::{Database, index_texts_reflect_dumps, kept_index_texts_are_read, stamp_of};
 use std::alloc::{AllocError, Global};
 use stored_index::{IndexFault, IndexFaultKind, StoredIndex};
 

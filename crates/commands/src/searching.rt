@@ -18,14 +18,14 @@ ghost use Rattle.commands.specs.inner.Printed.{HasPrinted};
 ghost use Rattle.commands.specs.inner.Views.{basis_of, basis_in};
 ghost use Rattle.commands.specs.inner.Stopped.{CanReport, HasEnded};
 
-use crate::database::{Database, load_database};
+use crate::database::load_database;
 use crate::finding::{filter_of, path_of, refused};
 use crate::folder::Folder;
 use crate::index_file::{IndexFile, read_index, report_index};
 use crate::messages::{CommandFault, Status, Stop, report_fault};
 use command_line::SearchOptions;
 use device::Sink;
-use directory::{Directory, Selection, search_with, write_found};
+use directory::{Database, Directory, Selection, search_with, write_found};
 use filter::{Prepared, prepare};
 use filter_text::Filter;
 use id_sets::IdSet;

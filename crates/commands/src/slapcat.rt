@@ -12,13 +12,14 @@ ghost use Rattle.commands.specs.inner.Refusals.{Refuses, RefusesOrBreaks};
 ghost use Rattle.commands.specs.inner.Views.{basis_of};
 ghost use Rattle.commands.specs.inner.Stopped.{HasEnded};
 
-use crate::database::{Database, load_database, store};
+use crate::database::{load_database, store};
 use crate::excerpt::Excerpt;
 use crate::finding::{filter_of, path_of};
 use crate::folder::{FileText, Folder};
 use crate::messages::{CommandFault, Status, Stop};
 use command_line::CatOptions;
 use device::Sink;
+use directory::Database;
 use filter::prepare;
 use filter_text::Filter;
 use schema::{Code, Path};

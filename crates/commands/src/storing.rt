@@ -11,9 +11,10 @@ use crate::database::{path, store};
 use crate::folder::{FileText, Folder};
 use crate::messages::CommandFault;
 use device::Sink;
-use directory::{Directory, stamp_of};
+use directory::{Database, Directory, stamp_of};
 use ldif::WriteFault;
 use std::alloc::Global;
+use std::mem;
 
 impl FileText for Directory {
     /// The stamp of the directory.
@@ -99,7 +100,7 @@ pub fn store_index<F: Folder>(
 }
 
 /// Puts the dump of a directory in place of the folder's data.ldif, and then the text of its index in place of index.txt.
-pub fn store_directory<F: Folder>(
+fn store_directory<F: Folder>(
     alloc: Global,
     folder: &mut F,
     db: &str,
@@ -111,4 +112,25 @@ pub fn store_directory<F: Folder>(
 {
     let stamp = store_in(alloc, folder, db, "data.ldif", dir)?;
     store_index_with(alloc, folder, db, dir, &stamp)
+}
+
+/// Makes the index of these entries, and puts their dump in place of the folder's data.ldif, and then the text of the index in place of
+/// index.txt. Nothing is stored before the index is made.
+#[tactic(auto, using(crate::proofs::StoredFiles::memory_fails))]
+pub fn store_database<F: Folder>(
+    alloc: Global,
+    folder: &mut F,
+    db: &str,
+    database: Database,
+) -> Result<(), CommandFault>
+    ensures ok { OnOk result (F.files folder.new ≡ with_files (F.files folder.old) (kept_files db.now database.tree.conf database.tree.entries)) }
+    ensures err { IfErr result (StoresPartly (kept_files db.now database.tree.conf database.tree.entries) (F.files folder.old) (F.files folder.new)) }
+    ensures locking { F.locking folder.new ≡ F.locking folder.old }
+{
+    let Database { conf, tree } = database;
+    let dir = Directory::from_tree(alloc, conf, tree)?;
+    let stored = store_directory(alloc, folder, db, &dir);
+    // The program ends with its command, and that frees the entries at once.
+    mem::forget(dir);
+    stored
 }

@@ -18,7 +18,7 @@ use Rattle.tree.specs.Directories.{Entries}
 use Rattle.tree.specs.Operations.{apply, change_of}
 use Rattle.directory.specs.Folds.{Over}
 use Rattle.directory.specs.Indexes.{edits_by, record_edits}
-use Rattle.directory.specs.RunEdits.{read_edits, step_edits, edits_from, run_edits, Edited, EditedByFirst, EditsRise}
+use Rattle.directory.specs.RunEdits.{CountEdits, step_edits, edits_from, run_edits, Edited, EditedByFirst, EditsRise}
 use Rattle.directory.specs.Runs.{State, start, outcome, step, after_records, read_as, state_after}
 use Rattle.directory.specs.inner.RecordEdits.{RiseBy}
 use Rattle.directory.specs.inner.Stands.{IsReached, Stands}
@@ -37,18 +37,18 @@ refused_by conf d (Err code') code e = refl
 pub none_refused : (conf : Conf) (mode : Mode) (d : Entries) (r : Record) (code : Code) → apply conf mode d r ≡ Err code → record_edits conf mode d r ≡ 0
 none_refused conf mode d r code e = refused_by conf d (change_of conf mode d r) code e
 
-module _ (conf : Conf) (mode : Mode) (go_on : Bool) where
+module _ (count : CountEdits) (conf : Conf) (mode : Mode) (go_on : Bool) where
   -- after the end there are none
-  none_ended : (s : State) (rs : List (ℕ × Result Record LdifFaultKind)) → s.ended ≡ true → edits_from conf mode go_on s rs ≡ 0
+  none_ended : (s : State) (rs : List (ℕ × Result Record LdifFaultKind)) → s.ended ≡ true → edits_from count conf mode go_on s rs ≡ 0
   none_ended s [] over = refl
   none_ended s (r ∷ rs) over =
-      let one : step_edits conf mode s r.1 ≡ 0 = ap (λ b. cond b 0 (read_edits conf mode s.entries r.1)) over in
-      let stays : edits_from conf mode go_on (step conf mode go_on s r) rs ≡ edits_from conf mode go_on s rs = ap (λ (x : State). edits_from conf mode go_on x rs) (step_ended conf mode go_on s.entries s r over) in
+      let one : step_edits count conf mode s r.1 ≡ 0 = ap (λ b. cond b 0 (count conf mode s.entries r.1)) over in
+      let stays : edits_from count conf mode go_on (step conf mode go_on s r) rs ≡ edits_from count conf mode go_on s rs = ap (λ (x : State). edits_from count conf mode go_on x rs) (step_ended conf mode go_on s.entries s r over) in
       let rest = none_ended s rs over in
       omega (arith, one, stays, rest)
 
-  parts : (s : State) (rs qs : List (ℕ × Result Record LdifFaultKind)) → edits_from conf mode go_on s (rs ++ qs) ≡ edits_from conf mode go_on s rs + edits_from conf mode go_on (fold (step conf mode go_on) s rs) qs
-  parts s [] qs = sym (zero-add (edits_from conf mode go_on s qs))
+  parts : (s : State) (rs qs : List (ℕ × Result Record LdifFaultKind)) → edits_from count conf mode go_on s (rs ++ qs) ≡ edits_from count conf mode go_on s rs + edits_from count conf mode go_on (fold (step conf mode go_on) s rs) qs
+  parts s [] qs = sym (zero-add (edits_from count conf mode go_on s qs))
   parts s (r ∷ rs) qs = let rest = parts (step conf mode go_on s r) rs qs in omega (arith, rest)
 
   module _ (old : Entries) where
@@ -56,17 +56,17 @@ module _ (conf : Conf) (mode : Mode) (go_on : Bool) where
     at front = state_after conf mode go_on old front
 
     abbrev edits_of : List RawRecord → ℕ
-    edits_of = run_edits conf mode go_on old
+    edits_of = run_edits count conf mode go_on old
 
-    split : (front others : List RawRecord) → edits_of (front ++ others) ≡ edits_of front + edits_from conf mode go_on (at front) (map (read_as mode) others)
+    split : (front others : List RawRecord) → edits_of (front ++ others) ≡ edits_of front + edits_from count conf mode go_on (at front) (map (read_as mode) others)
     unfolding after_records
-    split front others = ap (edits_from conf mode go_on (start old)) (map-append (read_as mode) front others) ∙ parts (start old) (map (read_as mode) front) (map (read_as mode) others)
+    split front others = ap (edits_from count conf mode go_on (start old)) (map-append (read_as mode) front others) ∙ parts (start old) (map (read_as mode) front) (map (read_as mode) others)
 
-    going_on : (s : State) (now : Entries) (r : Result Record LdifFaultKind) → s.ended ≡ false → now ≡ s.entries → step_edits conf mode s r ≡ read_edits conf mode now r
-    going_on s now r going here = ap (λ b. cond b 0 (read_edits conf mode s.entries r)) going ∙ ap (λ (d : Entries). read_edits conf mode d r) (sym here)
+    going_on : (s : State) (now : Entries) (r : Result Record LdifFaultKind) → s.ended ≡ false → now ≡ s.entries → step_edits count conf mode s r ≡ count conf mode now r
+    going_on s now r going here = ap (λ b. cond b 0 (count conf mode s.entries r)) going ∙ ap (λ (d : Entries). count conf mode d r) (sym here)
 
     -- one record more
-    pub one_more : (now : Entries) (front : List RawRecord) (r : RawRecord) → (at front).ended ≡ false → now ≡ (at front).entries → edits_of (front ++ r ∷ []) ≡ edits_of front + read_edits conf mode now (reading mode r.first r.lines)
+    pub one_more : (now : Entries) (front : List RawRecord) (r : RawRecord) → (at front).ended ≡ false → now ≡ (at front).entries → edits_of (front ++ r ∷ []) ≡ edits_of front + count conf mode now (reading mode r.first r.lines)
     one_more now front r going here =
         let all = split front (r ∷ []) in
         let one = going_on (at front) now (reading mode r.first r.lines) going here in
@@ -76,7 +76,7 @@ module _ (conf : Conf) (mode : Mode) (go_on : Bool) where
     none_edited edits = omega arith
 
     pub one_edited : (edits edits' edits'' : ℕ) (now : Entries) (front : List RawRecord) (r : RawRecord) → (at front).ended ≡ false → now ≡ (at front).entries → edits' ≡ edits + edits_of front
-        → edits'' ≡ edits' + read_edits conf mode now (reading mode r.first r.lines) → edits'' ≡ edits + edits_of (front ++ r ∷ [])
+        → edits'' ≡ edits' + count conf mode now (reading mode r.first r.lines) → edits'' ≡ edits + edits_of (front ++ r ∷ [])
     one_edited edits edits' edits'' now front r going here so_far rise = let one = one_more now front r going here in omega (arith, so_far, one, rise)
 
     -- once all records were taken, or the run has ended, the rest makes none
@@ -90,7 +90,7 @@ module _ (conf : Conf) (mode : Mode) (go_on : Bool) where
         omega (arith, all, none, same)
 
     module _ (new : Entries) (edits edits' : ℕ) (front : List RawRecord) (left : Option (List RawRecord)) (entries : new ≡ (at front).entries) (rise : edits' ≡ edits + edits_of front) where
-      whole : (all : Option (List RawRecord)) → Takes all left front → (IsEnd left ⊎ ((at front).ended ≡ true)) → Over all (λ given. Edited conf mode go_on old new given edits edits')
+      whole : (all : Option (List RawRecord)) → Takes all left front → (IsEnd left ⊎ ((at front).ended ≡ true)) → Over all (λ given. Edited count conf mode go_on old new given edits edits')
       whole None taken over = record { given = front; are = tt; so = record { entries = entries; rise = rise } }
       whole (Some rs) taken over =
           let same = rest_makes_none rs front left taken over in
@@ -105,10 +105,10 @@ module _ (conf : Conf) (mode : Mode) (go_on : Bool) where
 
     -- the records of a tally were taken, and perhaps others are left
     module _ (new : Entries) (edits edits' : ℕ) (front : List RawRecord) (left : Option (List RawRecord)) (t : Tally) (rise : edits' ≡ edits + edits_of front) where
-      of_tally : (given others : List RawRecord) → given ≡ front ++ others → (all : Option (List RawRecord)) → IsReached conf mode go_on old new all left t front → EditedByFirst conf mode go_on old new given t edits edits'
+      of_tally : (given others : List RawRecord) → given ≡ front ++ others → (all : Option (List RawRecord)) → IsReached conf mode go_on old new all left t front → EditedByFirst count conf mode go_on old new given t edits edits'
       of_tally given others parts all h = record { front = front; others = others; parts = parts; accepted = h.accepted; refused = h.refused; edited = record { entries = h.entries; rise = rise } }
 
-      first : (all : Option (List RawRecord)) → IsReached conf mode go_on old new all left t front → Over all (λ given. EditedByFirst conf mode go_on old new given t edits edits')
+      first : (all : Option (List RawRecord)) → IsReached conf mode go_on old new all left t front → Over all (λ given. EditedByFirst count conf mode go_on old new given t edits edits')
       first None h = record { given = front; are = tt; so = of_tally front [] (sym (append-nil front)) None h }
       first (Some rs) h = record { given = rs; are = refl; so = of_tally rs (others_of left) (parts_of rs front left h.parts) (Some rs) h }
 
@@ -116,25 +116,25 @@ module _ (conf : Conf) (mode : Mode) (go_on : Bool) where
 
     module _ (edits edits' : ℕ) (P : List RawRecord → Type 0) (rose : (front : List RawRecord) → P front → edits' ≡ edits + edits_of front) where
       module _ (now : Entries) (all left : Option (List RawRecord)) (t : Tally) (a b : Written) (h : Stands P conf mode go_on old now all left t a b) where
-        pub ends : IsEnd left → EditsRise conf mode go_on old now all (Ok t) edits edits'
+        pub ends : IsEnd left → EditsRise count conf mode go_on old now all (Ok t) edits edits'
         ends over = whole now edits edits' h.front left h.reached.entries (rose h.front h.so) all h.reached.parts (inl over)
 
-        pub stops_reading : EditsRise conf mode go_on old now all (Err (faults.Read t)) edits edits'
+        pub stops_reading : EditsRise count conf mode go_on old now all (Err (faults.Read t)) edits edits'
         stops_reading = first now edits edits' h.front left t (rose h.front h.so) all h.reached
 
       module _ (now new : Entries) (all mid left : Option (List RawRecord)) (t t' : Tally) (a b c : Written) (r : RawRecord) (h : Stands P conf mode go_on old now all mid t a b) (taken : Takes mid left (r ∷ [])) (edits'' : ℕ) where
-        rose_more : edits'' ≡ edits' + read_edits conf mode now (reading mode r.first r.lines) → edits'' ≡ edits + edits_of (h.front ++ r ∷ [])
+        rose_more : edits'' ≡ edits' + count conf mode now (reading mode r.first r.lines) → edits'' ≡ edits + edits_of (h.front ++ r ∷ [])
         rose_more rise =
             let so_far = rose h.front h.so in
             let one = one_more now h.front r h.going h.reached.entries in
             omega (arith, so_far, one, rise)
 
-        pub ends_there : (ended : Bool) → IsTaken (outcome conf mode now (reading mode r.first r.lines)) go_on r.line new t t' b c ended → ended ≡ true → edits'' ≡ edits' + read_edits conf mode now (reading mode r.first r.lines) → EditsRise conf mode go_on old new all (Ok t') edits edits''
+        pub ends_there : (ended : Bool) → IsTaken (outcome conf mode now (reading mode r.first r.lines)) go_on r.line new t t' b c ended → ended ≡ true → edits'' ≡ edits' + count conf mode now (reading mode r.first r.lines) → EditsRise count conf mode go_on old new all (Ok t') edits edits''
         ends_there ended k on rise =
             let reached = reached_more conf mode go_on old now h.front r h.going h.reached.entries all mid left t t' new h.reached taken k.entries k.counts in
             whole new edits edits'' (h.front ++ r ∷ []) left reached.entries (rose_more rise) all reached.parts (inr (ended_is conf mode go_on old now h.front r h.going h.reached.entries ∙ sym k.ended_is ∙ on))
 
-        pub breaks_off : (f : RunFault) → IsBrokenOff (outcome conf mode now (reading mode r.first r.lines)) r.line now new t b c f → RiseBy {A = Bool} (read_edits conf mode now (reading mode r.first r.lines)) (Err f) edits' edits'' → EditsRise conf mode go_on old new all (Err f) edits edits''
+        pub breaks_off : (f : RunFault) → IsBrokenOff (outcome conf mode now (reading mode r.first r.lines)) r.line now new t b c f → RiseBy {A = Bool} (count conf mode now (reading mode r.first r.lines)) (Err f) edits' edits'' → EditsRise count conf mode go_on old new all (Err f) edits edits''
         breaks_off (faults.Read u) k rise = absurd k
         breaks_off (faults.Write u) (why, k, broke) rise =
             let reached = reached_more conf mode go_on old now h.front r h.going h.reached.entries all mid left t u new h.reached taken k.entries k.counts in

@@ -2,7 +2,6 @@
 
 ghost use Rattle.std.specs.Prelude.{◌≡◌, ◌+◌, true, Err, map, IfOk, IfErr, OnOk, OnErr};
 ghost use Rattle.std.specs.FinMap as finite;
-ghost use Rattle.ldif.specs.Reading.{reading};
 ghost use Rattle.tree.specs.Operations.{apply};
 ghost use Rattle.entries.specs.Gives.{Gives};
 ghost use Rattle.filter_text.specs.Spells.{view};
@@ -16,12 +15,12 @@ ghost use Rattle.directory.specs.Indexes.{IsIndexOf, record_edits};
 ghost use Rattle.directory.specs.Searches.{IsRefused, may_by_number};
 ghost use Rattle.schema.specs.declared.code.Code.{Code};
 ghost use Rattle.directory.specs.RunEdits.{read_edits};
-ghost use Rattle.directory.specs.Runs.{outcome};
 
 use crate::applying::{Edits, apply_record, carry_out};
 use crate::indexing::index_of;
 use crate::refusal::Outcome;
 use crate::searching::search_with_index;
+use crate::target::Target;
 use entries::Refusal;
 use filter::Prepared;
 use id_sets::KeySet;
@@ -152,19 +151,23 @@ impl Directory {
             mode,
         )
     }
+}
 
-    // Reads a record from its lines and carries it out.
-    pub(crate) fn carry_out(
+impl Target for Directory {
+    ghost conf = { λ d. d.conf };
+
+    ghost entries = { λ d. d.entries };
+
+    ghost edits = { λ d. d.edits };
+
+    ghost count_edits = { read_edits };
+
+    fn carry_out(
         &mut self,
         alloc: Global,
         raw: &RawRecord,
         mode: Mode,
-    ) -> Result<Outcome, AllocError>
-        ensures same_conf { self.new.conf ≡ self.old.conf }
-        ensures edits { OnOk result (self.new.edits ≡ self.old.edits + read_edits self.old.conf mode self.old.entries (reading mode raw.now.first raw.now.lines)) }
-        ensures outcome { IfOk result (λ o. outcome self.old.conf mode self.old.entries (reading mode raw.now.first raw.now.lines) ≡ (self.new.entries, o)) }
-        ensures err { OnErr result (tree_of self.new ≡ tree_of self.old) }
-    {
+    ) -> Result<Outcome, AllocError> {
         carry_out(
             alloc,
             &mut self.tree,

@@ -4,6 +4,7 @@
 #![tactic(auto)]
 
 mod applying;
+mod database;
 mod directory;
 mod dump;
 mod found;
@@ -17,17 +18,20 @@ mod runs;
 mod searching;
 mod selection;
 mod stamps;
+mod target;
 
 pub use applying::Edits;
+pub use database::Database;
 pub use directory::Directory;
 pub use dump::write_dump;
 pub use found::write_found;
 pub use index_texts::write_index_text;
 pub use laws::{index_texts_reflect_dumps, kept_index_texts_are_read, loading_a_dump};
 pub use loading::{LoadFault, load, load_tree};
-pub use refusal::RecordRefusal;
+pub use refusal::{Outcome, RecordRefusal};
 pub use runs::{RunFault, Tally, run};
 pub use search::{Hits, Scope};
 pub use searching::{search_tree, search_with};
 pub use selection::Selection;
 pub use stamps::{stamp_of, write_stamped_dump};
+pub use target::Target;

@@ -8,15 +8,15 @@ ghost use Rattle.directory.specs.Runs.{outcome};
 ghost use Rattle.directory.specs.Reports.{report_line};
 ghost use Rattle.directory.specs.Faults.{Failures};
 ghost use Rattle.directory.specs.Folds.{Runs};
-ghost use Rattle.directory.specs.RunEdits.{read_edits, EditsRise};
+ghost use Rattle.directory.specs.RunEdits.{EditsRise};
 ghost use Rattle.directory.specs.FailedReads.{StopsReading};
 ghost use Rattle.directory.specs.inner.Pulls.{closed_with};
 ghost use Rattle.directory.specs.inner.RecordEdits.{RiseBy};
 ghost use Rattle.directory.specs.inner.Steps.{IsTaken, IsBrokenOff};
 ghost use Rattle.ldif_lines.specs.Reader.{source_of, loan_of, is_failed, records_left, bytes_left};
 
-use crate::directory::Directory;
 use crate::refusal::{Outcome, RecordRefusal, report_line};
+use crate::target::Target;
 use device::{Device, Sink, Source, push_all};
 use ldif::{Mode, RawRecord, ReadFault, Reader, WriteFault};
 use std::alloc::Global;
@@ -60,9 +60,9 @@ fn write_report<W: Sink>(
 }
 
 // one record; it answers whether the run has ended
-fn take_record<W: Sink>(
+fn take_record<T: Target, W: Sink>(
     alloc: Global,
-    dir: &mut Directory,
+    target: &mut T,
     raw: &RawRecord,
     sink: &mut W,
     mode: Mode,
@@ -71,12 +71,12 @@ fn take_record<W: Sink>(
 ) -> Result<bool, RunFault>
     requires can_fail { (W.written sink.old).failed < 2 ^ 64 - 1 }
     requires room { tally.old.accepted + tally.old.refused < 2 ^ 64 - 1 }
-    ensures same_conf { dir.new.conf ≡ dir.old.conf }
-    ensures taken { IfOk result (λ ended. IsTaken (outcome dir.old.conf mode dir.old.entries (reading mode raw.now.first raw.now.lines)) go_on raw.now.line dir.new.entries tally.old tally.new (W.written sink.old) (W.written sink.new) ended) }
-    ensures edits { RiseBy (read_edits dir.old.conf mode dir.old.entries (reading mode raw.now.first raw.now.lines)) result dir.old.edits dir.new.edits }
-    ensures broken { IfErr result (λ f. IsBrokenOff (outcome dir.old.conf mode dir.old.entries (reading mode raw.now.first raw.now.lines)) raw.now.line dir.old.entries dir.new.entries tally.old (W.written sink.old) (W.written sink.new) f) }
+    ensures same_conf { T.conf target.new ≡ T.conf target.old }
+    ensures taken { IfOk result (λ ended. IsTaken (outcome (T.conf target.old) mode (T.entries target.old) (reading mode raw.now.first raw.now.lines)) go_on raw.now.line (T.entries target.new) tally.old tally.new (W.written sink.old) (W.written sink.new) ended) }
+    ensures edits { RiseBy (T.count_edits (T.conf target.old) mode (T.entries target.old) (reading mode raw.now.first raw.now.lines)) result (T.edits target.old) (T.edits target.new) }
+    ensures broken { IfErr result (λ f. IsBrokenOff (outcome (T.conf target.old) mode (T.entries target.old) (reading mode raw.now.first raw.now.lines)) raw.now.line (T.entries target.old) (T.entries target.new) tally.old (W.written sink.old) (W.written sink.new) f) }
 {
-    let Ok(outcome) = dir.carry_out(alloc, raw, mode) else {
+    let Ok(outcome) = target.carry_out(alloc, raw, mode) else {
         return Err(RunFault::OutOfMemory(*tally));
     };
     match outcome {
@@ -97,9 +97,9 @@ fn take_record<W: Sink>(
 }
 
 // the rest of the records
-fn run_rest<S: Source, W: Sink>(
+fn run_rest<T: Target, S: Source, W: Sink>(
     alloc: Global,
-    dir: &mut Directory,
+    target: &mut T,
     reader: &mut Reader<'_, S>,
     sink: &mut W,
     mode: Mode,
@@ -110,10 +110,10 @@ fn run_rest<S: Source, W: Sink>(
     requires going { is_failed reader.old ≡ false }
     requires bound { bytes_left S.seen reader.old ≤ 2 ^ 64 }
     ensures same_loan { loan_of reader.new ≡ loan_of reader.old }
-    ensures same_conf { dir.new.conf ≡ dir.old.conf }
-    ensures runs { Runs dir.old.conf mode go_on dir.old.entries dir.new.entries (records_left S.seen reader.old) result (W.written sink.old) (W.written sink.new) }
-    ensures edits { EditsRise dir.old.conf mode go_on dir.old.entries dir.new.entries (records_left S.seen reader.old) result dir.old.edits dir.new.edits }
-    ensures read { IfErr result (λ f. StopsReading f (closed_with reader.old) dir.old.conf mode go_on dir.old.entries dir.new.entries (S.seen (source_of reader.old)) (S.seen (source_of reader.new)) (W.written sink.old) (W.written sink.new)) }
+    ensures same_conf { T.conf target.new ≡ T.conf target.old }
+    ensures runs { Runs (T.conf target.old) mode go_on (T.entries target.old) (T.entries target.new) (records_left S.seen reader.old) result (W.written sink.old) (W.written sink.new) }
+    ensures edits { EditsRise T.count_edits (T.conf target.old) mode go_on (T.entries target.old) (T.entries target.new) (records_left S.seen reader.old) result (T.edits target.old) (T.edits target.new) }
+    ensures read { IfErr result (λ f. StopsReading f (closed_with reader.old) (T.conf target.old) mode go_on (T.entries target.old) (T.entries target.new) (S.seen (source_of reader.old)) (S.seen (source_of reader.new)) (W.written sink.old) (W.written sink.new)) }
     ensures failures { Failures result (S.seen (source_of reader.old)).failed (S.seen (source_of reader.new)).failed (W.written sink.old).failed (W.written sink.new).failed }
     ensures gave { GaveSome (S.seen (source_of reader.old)) (S.seen (source_of reader.new)) }
 {
@@ -124,7 +124,7 @@ fn run_rest<S: Source, W: Sink>(
     'records: loop {
         match reader.next() {
             Ok(Some(raw)) => {
-                if take_record(alloc, dir, &raw, sink, mode, go_on, &mut tally)? {
+                if take_record(alloc, target, &raw, sink, mode, go_on, &mut tally)? {
                     return Ok(tally);
                 }
                 reader.reuse(raw);
@@ -137,14 +137,14 @@ fn run_rest<S: Source, W: Sink>(
     }
 }
 
-/// Carries out the records of a source in turn. For each that is refused, a line with the number of the line on which the
-/// record begins and the refusal goes to the sink; the first one ends the run, unless it goes on.
+/// Carries out the records of a source in turn, on a `Directory` or a `Database`. For each that is refused, a line with the number of the
+/// line on which the record begins and the refusal goes to the sink; the first one ends the run, unless it goes on.
 ///
 /// A refused record changes nothing. A fault leaves the records that were carried out by then, and comes with their counts. Where
 /// the source fails, these are the records whose closing empty line it gave by then.
-pub fn run<S: Source, W: Sink>(
+pub fn run<T: Target, S: Source, W: Sink>(
     alloc: Global,
-    dir: &mut Directory,
+    target: &mut T,
     source: &mut S,
     sink: &mut W,
     mode: Mode,
@@ -152,13 +152,13 @@ pub fn run<S: Source, W: Sink>(
 ) -> Result<Tally, RunFault>
     requires source { (S.seen source.old).failed < 2 ^ 64 - 1 }
     requires sink { (W.written sink.old).failed < 2 ^ 64 - 1 }
-    ensures same_conf { dir.new.conf ≡ dir.old.conf }
-    ensures runs { Runs dir.old.conf mode go_on dir.old.entries dir.new.entries (option_map records (S.seen source.old).left) result (W.written sink.old) (W.written sink.new) }
-    ensures edits { EditsRise dir.old.conf mode go_on dir.old.entries dir.new.entries (option_map records (S.seen source.old).left) result dir.old.edits dir.new.edits }
-    ensures read { IfErr result (λ f. StopsReading f closed_records dir.old.conf mode go_on dir.old.entries dir.new.entries (S.seen source.old) (S.seen source.new) (W.written sink.old) (W.written sink.new)) }
+    ensures same_conf { T.conf target.new ≡ T.conf target.old }
+    ensures runs { Runs (T.conf target.old) mode go_on (T.entries target.old) (T.entries target.new) (option_map records (S.seen source.old).left) result (W.written sink.old) (W.written sink.new) }
+    ensures edits { EditsRise T.count_edits (T.conf target.old) mode go_on (T.entries target.old) (T.entries target.new) (option_map records (S.seen source.old).left) result (T.edits target.old) (T.edits target.new) }
+    ensures read { IfErr result (λ f. StopsReading f closed_records (T.conf target.old) mode go_on (T.entries target.old) (T.entries target.new) (S.seen source.old) (S.seen source.new) (W.written sink.old) (W.written sink.new)) }
     ensures failures { Failures result (S.seen source.old).failed (S.seen source.new).failed (W.written sink.old).failed (W.written sink.new).failed }
     ensures gave { GaveSome (S.seen source.old) (S.seen source.new) }
 {
     let mut reader = Reader::new(alloc, source);
-    run_rest(alloc, dir, &mut reader, sink, mode, go_on)
+    run_rest(alloc, target, &mut reader, sink, mode, go_on)
 }

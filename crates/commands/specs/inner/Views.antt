@@ -17,5 +17,5 @@ abbrev pub basis_in : Filter → Directory → Basis
 basis_in filter d = record { filter = view filter; conf = d.conf; entries = d.entries }
 
 -- before and after a run, with what that answers
-abbrev pub run_of : Directory → Directory → Result Tally RunFault → Run
+abbrev pub run_of : Tree → Tree → Result Tally RunFault → Run
 run_of d d' answer = record { conf = d.conf; old = d.entries; new = d'.entries; answer = answer }

@@ -8,7 +8,7 @@ use Rattle.ldif_lines.specs.declared.reader.Reader.{Reader}
 use Rattle.ldif.specs.declared.record.Mode.{Mode}
 use Rattle.schema.specs.Conf.{Conf}
 use Rattle.tree.specs.Directories.{Entries}
-use Rattle.directory.specs.RunEdits.{run_edits}
+use Rattle.directory.specs.RunEdits.{CountEdits, run_edits}
 use Rattle.directory.specs.declared.runs.RunFault.{RunFault}
 use Rattle.directory.specs.declared.runs.RunFault.TheVariants as faults
 use Rattle.directory.specs.inner.Pulls.{TookBeforeEnd}
@@ -21,5 +21,5 @@ RiseBy count (Err (faults.Write t)) edits edits' = edits' ≡ edits + count
 RiseBy count (Err (faults.OutOfMemory t)) edits edits' = ⊤
 
 -- the reader took these records, and the edits rose by theirs
-abbrev pub TookAndEdited : {S : Type 0} {g : Ghosts S} → (S → Seen) → Reader S RecordDraft g → Reader S RecordDraft g → Conf → Mode → Bool → Entries → ℕ → ℕ → List RawRecord → Type 0
-TookAndEdited seen r r' conf mode go_on old edits edits' front = TookBeforeEnd seen r r' front × (edits' ≡ edits + run_edits conf mode go_on old front)
+abbrev pub TookAndEdited : {S : Type 0} {g : Ghosts S} → (S → Seen) → Reader S RecordDraft g → Reader S RecordDraft g → CountEdits → Conf → Mode → Bool → Entries → ℕ → ℕ → List RawRecord → Type 0
+TookAndEdited seen r r' count conf mode go_on old edits edits' front = TookBeforeEnd seen r r' front × (edits' ≡ edits + run_edits count conf mode go_on old front)

@@ -6,7 +6,7 @@ use Rattle.directory.proofs.runs.run.Goals as goal
 
 pub returns-clause-runs : goal.returns-clause-runs
 returns-clause-runs g c =
-    subst (λ all. Runs c.args.dir.now.conf c.args.mode c.args.go_on c.args.dir.now.entries c.run_rest.new.dir.entries all c.run_rest.result (g.W.Sink.written c.args.sink.now) (g.W.Sink.written c.run_rest.new.sink)) c.new-reader.ensures.records c.run_rest.ensures.runs
+    subst (λ all. Runs (g.T.Target.conf c.args.target.now) c.args.mode c.args.go_on (g.T.Target.entries c.args.target.now) (g.T.Target.entries c.run_rest.new.target) all c.run_rest.result (g.W.Sink.written c.args.sink.now) (g.W.Sink.written c.run_rest.new.sink)) c.new-reader.ensures.records c.run_rest.ensures.runs
 
 pub returns-clause-read : goal.returns-clause-read
 returns-clause-read g c =
@@ -16,4 +16,4 @@ returns-clause-read g c =
 
 pub returns-clause-edits : goal.returns-clause-edits
 returns-clause-edits g c =
-    subst (λ all. EditsRise c.args.dir.now.conf c.args.mode c.args.go_on c.args.dir.now.entries c.run_rest.new.dir.entries all c.run_rest.result c.args.dir.now.edits c.run_rest.new.dir.edits) c.new-reader.ensures.records c.run_rest.ensures.edits
+    subst (λ all. EditsRise g.T.Target.count_edits (g.T.Target.conf c.args.target.now) c.args.mode c.args.go_on (g.T.Target.entries c.args.target.now) (g.T.Target.entries c.run_rest.new.target) all c.run_rest.result (g.T.Target.edits c.args.target.now) (g.T.Target.edits c.run_rest.new.target)) c.new-reader.ensures.records c.run_rest.ensures.edits

@@ -12,8 +12,8 @@ invariant-records g l = record {
   going : is_failed l.reader ≡ false;
   same_loan : loan_of l.reader ≡ loan_of l.fn.reader;
   gave : GaveSome (g.S.Source.seen (source_of l.fn.reader)) (g.S.Source.seen (source_of l.reader));
-  conf : l.dir.conf ≡ l.fn.dir.conf;
-  stands : Stands (TookAndEdited g.S.Source.seen l.fn.reader l.reader l.fn.dir.conf l.mode l.go_on l.fn.dir.entries l.fn.dir.edits l.dir.edits) l.fn.dir.conf l.mode l.go_on l.fn.dir.entries l.dir.entries (records_left g.S.Source.seen l.fn.reader) (records_left g.S.Source.seen l.reader) l.tally (g.W.Sink.written l.fn.sink) (g.W.Sink.written l.sink);
+  conf : (g.T.Target.conf l.target) ≡ (g.T.Target.conf l.fn.target);
+  stands : Stands (TookAndEdited g.S.Source.seen l.fn.reader l.reader g.T.Target.count_edits (g.T.Target.conf l.fn.target) l.mode l.go_on (g.T.Target.entries l.fn.target) (g.T.Target.edits l.fn.target) (g.T.Target.edits l.target)) (g.T.Target.conf l.fn.target) l.mode l.go_on (g.T.Target.entries l.fn.target) (g.T.Target.entries l.target) (records_left g.S.Source.seen l.fn.reader) (records_left g.S.Source.seen l.reader) l.tally (g.W.Sink.written l.fn.sink) (g.W.Sink.written l.sink);
   few : l.tally.accepted + l.tally.refused + bytes_left g.S.Source.seen l.reader ≤ 2 ^ 64;
 }
 
