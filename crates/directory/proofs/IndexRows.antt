@@ -122,7 +122,7 @@ unfolding IsStrictlySortedBy
 sorted_rows ranks [] h = refl
 sorted_rows ranks (row ∷ rows) h = ap (λ b. b && is_sorted (slice_cmp nat_cmp) (map (ranked_row ranks) rows)) (below_keys ranks row.0 rows h.0) ∙ sorted_rows ranks rows h.1
 
-is_T : (b : Bool) → b ≡ true → T b
+pub is_T : (b : Bool) → b ≡ true → T b
 is_T true h = tt
 is_T false h = absurd cc
 

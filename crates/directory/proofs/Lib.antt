@@ -21,3 +21,5 @@ pub mod IndexRows
 pub mod StoredRows
 pub mod WrittenLines
 pub mod IndexExamples
+pub mod RankedEntries
+pub mod SortedRows

@@ -38,6 +38,14 @@ module _ (a b c : Written) (whole rest : List ℕ) (h : SoFar a b whole rest) wh
   stops faults.Device xs more is k = breaks xs more is k
   stops faults.OutOfMemory xs more is k = wants xs more is k
 
+  -- the rest was begun
+  pub goes_on : (left : List ℕ) → SoFar b c rest left → SoFar a c whole left
+  goes_on left k = record {
+    front = h.front ++ k.front;
+    parts = h.parts ∙ ap (λ ys. h.front ++ ys) k.parts ∙ sym (append_assoc h.front k.front left);
+    written = took_more a b c h.front k.front (h.front ++ k.front) h.written k.written refl;
+  }
+
   -- the last piece is the rest
   pub ends : (answer : Result (Unit {0}) WriteFault) → Writes answer b c rest → Writes answer a c whole
   ends (Ok u) k = subst (λ ys. Took a c ys) (sym h.parts) (took_more a b c h.front rest (h.front ++ rest) h.written k refl)

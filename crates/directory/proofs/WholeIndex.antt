@@ -18,7 +18,7 @@ use Rattle.tree.specs.Trees.{Tree, Placed, unnumbered, seen_entries, number_at, 
 use Rattle.tree.proofs.Order.{path_exact}
 use Rattle.tree.proofs.Kept.{equal}
 use Rattle.index.specs.declared.slot_key.SlotKey.{SlotKey}
-use Rattle.index.specs.declared.whole_entries.Numbered.{Numbered}
+use Rattle.index.specs.declared.type_norms.Numbered.{Numbered}
 use Rattle.index.specs.Indexes.{Index, members}
 use Rattle.index.specs.EntryKeys.{slot_keys}
 use Rattle.index.specs.NumberedEntries.{has_among}

@@ -7,3 +7,4 @@ pub mod Pulls
 pub mod RecordEdits
 pub mod Indexes
 pub mod IndexRows
+pub mod RankedEntries

@@ -118,8 +118,8 @@ impl Listing<'_> {
     }
 }
 
-// a text that begins with the first line
-fn first_line(
+/// A text that begins with the first line.
+pub(crate) fn first_line(
     alloc: Global,
     tree: &Tree,
     conf: &Conf,

@@ -16,14 +16,15 @@ use Rattle.schema.specs.declared.slots.Slot.{Slot}
 use Rattle.schema.specs.Conf.{Conf}
 use Rattle.entries.specs.StoredEntries.{attributes_of, IsMade}
 use Rattle.index.specs.declared.slot_key.SlotKey.{SlotKey}
-use Rattle.index.specs.declared.whole_entries.Numbered.{Numbered}
-use Rattle.index.specs.declared.whole_entries.NumberedNorm.{NumberedNorm}
+use Rattle.index.specs.declared.type_norms.Numbered.{Numbered}
+use Rattle.index.specs.declared.type_norms.NumberedNorm.{NumberedNorm}
 use Rattle.index.specs.EntryKeys.{windows, gives_key, has_key, norms_under}
 use Rattle.index.specs.KeySets.{Members, SetsByKey, members_in}
 use Rattle.index.specs.NumberedEntries.{has_among}
 use Rattle.index.specs.inner.SlotTests.{is_slot_that}
 use Rattle.index.specs.inner.StoredKeys.{stored_norms}
-use Rattle.index.specs.inner.SlotEntries.{has_for, has_by, AreNormsOf, IsSetOf, AreSetsOf}
+use Rattle.index.specs.TypeNorms.{has_for, has_by, AreNormsOf}
+use Rattle.index.specs.inner.SlotEntries.{IsSetOf, AreSetsOf}
 use Rattle.index.proofs.Agreement.{contains-slot_keys}
 use Rattle.index.proofs.Fronts.{gives_none}
 use Rattle.index.proofs.Keyed.{none_in}

@@ -5,4 +5,5 @@ pub mod KeySets
 pub mod NumberedEntries
 pub mod Postings
 pub mod SlotKeys
+pub mod TypeNorms
 pub mod inner

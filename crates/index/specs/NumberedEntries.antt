@@ -5,7 +5,7 @@ use Rattle.std.specs.FinSet as set
 use Rattle.schema.specs.Conf.{Conf}
 use Rattle.entries.specs.StoredEntries.{attributes_of}
 use Rattle.index.specs.declared.slot_key.SlotKey.{SlotKey}
-use Rattle.index.specs.declared.whole_entries.Numbered.{Numbered}
+use Rattle.index.specs.declared.type_norms.Numbered.{Numbered}
 use Rattle.index.specs.EntryKeys.{slot_keys}
 
 -- whether one of these has the number and the key

@@ -20,6 +20,7 @@ mod rows;
 mod short_key;
 mod slot_key;
 mod stored_key;
+mod type_norms;
 mod whole_entries;
 mod windows;
 
@@ -29,5 +30,5 @@ pub use key_sets::Keys;
 pub use laws::keys_are_told;
 pub use postings::Postings;
 pub use slot_key::{SlotKey, SlotNumber};
-pub use whole_entries::Numbered;
+pub use type_norms::{Numbered, NumberedNorm, TypeNorms, norms_for};
 pub use windows::first_window;

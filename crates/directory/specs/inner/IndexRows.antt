@@ -49,6 +49,10 @@ rows_text ranks rows = flat_map (row_text ranks) rows
 abbrev pub first_line : Conf → Entries → List ℕ
 first_line conf d = ended (header_line (finite.len d) (stamp conf d))
 
+-- the keys of a slot as they are written
+abbrev pub keys_lines : Conf → Entries → Slot → List ℕ
+keys_lines conf d s = flat_map (λ row. ended (key_line row)) (slot_rows conf.types (contents d) s)
+
 -- a slot as it is written
 abbrev pub slot_lines : Conf → Entries → Slot → List ℕ
 slot_lines conf d s = slot_text conf.types (s, slot_rows conf.types (contents d) s)

@@ -1,5 +1,5 @@
 use Rattle.std.proofs.Common.{List, ap, ◌∙◌}
-use Rattle.index.specs.declared.whole_entries.Numbered.{Numbered}
+use Rattle.index.specs.declared.type_norms.Numbered.{Numbered}
 use Rattle.index.specs.NumberedEntries.{has_among}
 use Rattle.directory.proofs.WholeIndex.{whole, by_both}
 use Rattle.directory.proofs.indexing.index_of.Goals as goal

@@ -1,8 +1,8 @@
 use Rattle.std.proofs.Common.{◌≡◌, ◌&&◌, ◌||◌, ℕ, List, nat_eq}
 use Rattle.schema.specs.declared.slots.IndexKind.{IndexKind}
 use Rattle.index.specs.EntryKeys.{gives_key}
-use Rattle.index.specs.inner.SlotEntries.{has_by}
-use Rattle.index.proofs.whole_entries.push_norms.Given as goal
+use Rattle.index.specs.TypeNorms.{has_by}
+use Rattle.index.proofs.type_norms.push_norms.Given as goal
 
 abbrev pub invariant-loop-norm : goal.invariant-loop-norm
 invariant-loop-norm l = record {

@@ -1,6 +1,6 @@
 use Rattle.entries.specs.StoredEntries.{IsMade}
 use Rattle.index.proofs.WholeEntries.{made_at, one_entry}
-use Rattle.index.proofs.whole_entries.norms_of.Goals as goal
+use Rattle.index.proofs.type_norms.norms_of.Goals as goal
 
 pub loop-numbered-preserved : goal.loop-numbered-preserved
 loop-numbered-preserved c =

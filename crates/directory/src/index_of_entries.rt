@@ -1,0 +1,209 @@
+//! The text of an index, made of the entries alone.
+
+ghost use Rattle.std.specs.Prelude.{◌≡◌, ◌<◌, ◌≤◌, ◌-◌, ◌^◌, ◌++◌, ◌∷◌, [], List, ℕ, map, length, IfOk, IfErr, Err};
+ghost use Rattle.index.specs.TypeNorms.{AreNormsOf};
+ghost use Rattle.ranked_keys.specs.RankedKeys.{rows_text};
+ghost use Rattle.directory.specs.Dumps.{SoFar, Writes};
+ghost use Rattle.directory.specs.IndexTexts.{stamp as stamp_by, index_text};
+ghost use Rattle.directory.specs.inner.Dumps.{WritesOn};
+ghost use Rattle.directory.specs.inner.IndexRows.{slot_lines, slots_lines, keys_lines};
+ghost use Rattle.directory.specs.inner.RankedEntries.{AreRankedEntries};
+
+use crate::dump::{pass_on, pass_on_long};
+use crate::index_texts::first_line;
+use device::Sink;
+use index::{Numbered, NumberedNorm, norms_for};
+use index_text::{put_end, put_slot};
+use ldif::WriteFault;
+use ranked_keys::{RankedKey, put_row, ranked_norms, ranked_presence, ranked_windows};
+use schema::{Conf, IndexKind, Path, Slot};
+use std::alloc::{AllocError, Global};
+use tree::Tree;
+
+// all entries of a tree below its root, each with its rank as its number
+fn ranked_entries<'a>(
+    alloc: Global,
+    conf: &Conf,
+    tree: &'a Tree,
+    root: &'a Path,
+) -> Result<Vec<Numbered<'a>>, AllocError>
+    requires same_conf { tree.now.conf ≡ conf.now }
+    requires root { root.now ≡ [] }
+    ensures { IfOk result (λ es. AreRankedEntries conf.now tree.now.entries es.items) }
+{
+    tree.entries_are_a_directory();
+    let mut entries = Vec::with_capacity(alloc, tree.len())?;
+    let mut rank: u32 = 0;
+    for found in tree.range(root) {
+        let (_, entry) = found;
+        entries.push(Numbered {
+            number: rank,
+            entry,
+        })?;
+        rank += 1;
+    }
+    Ok(entries)
+}
+
+// puts the row of the first key behind a text, hands the text on where it is long, and hands out the keys of the other rows
+fn write_row<'k, K: RankedKey, W: Sink>(
+    alloc: Global,
+    sink: &mut W,
+    first: &K,
+    others: &'k [K],
+    ranks: &mut Vec<u32>,
+    text: &mut Vec<u8>,
+) -> Result<&'k [K], WriteFault>
+    requires { (W.written sink.old).failed < 2 ^ 64 - 1 }
+    ensures ok { IfOk result (λ rest. SoFar (W.written sink.old) (W.written sink.new) (text.old.items ++ rows_text (map K.pair (first.now ∷ others.now))) (text.new.items ++ rows_text (map K.pair rest.now))) }
+    ensures err { IfErr result (λ e. Writes (Err e) (W.written sink.old) (W.written sink.new) (text.old.items ++ rows_text (map K.pair (first.now ∷ others.now)))) }
+    ensures fewer { IfOk result (λ rest. length rest.now ≤ length others.now) }
+{
+    let Ok(rest) = put_row(alloc, first, others, ranks, text) else {
+        return Err(WriteFault::OutOfMemory);
+    };
+    pass_on_long(sink, text)?;
+    Ok(rest)
+}
+
+// puts the rows of keys behind a text, and hands the text on where it is long
+fn write_rows<K: RankedKey, W: Sink>(
+    alloc: Global,
+    sink: &mut W,
+    keys: &[K],
+    text: &mut Vec<u8>,
+) -> Result<(), WriteFault>
+    requires { (W.written sink.old).failed < 2 ^ 64 - 1 }
+    ensures { WritesOn result (W.written sink.old) (W.written sink.new) (text.old.items ++ rows_text (map K.pair keys.now)) text.new.items }
+{
+    let mut ranks = Vec::new(alloc);
+    let mut left = keys;
+    while let Some(parts) = left.split_first() {
+        let (first, others) = parts;
+        left = write_row(alloc, sink, first, others, &mut ranks, text)?;
+    }
+    Ok(())
+}
+
+// the same of keys that were asked for
+fn write_sorted<K: RankedKey, W: Sink>(
+    alloc: Global,
+    sink: &mut W,
+    keys: Result<Vec<K>, AllocError>,
+    text: &mut Vec<u8>,
+) -> Result<(), WriteFault>
+    requires { (W.written sink.old).failed < 2 ^ 64 - 1 }
+    ensures { (lines : List ℕ) → IfOk keys (λ ks. rows_text (map K.pair ks.items) ≡ lines) → WritesOn result (W.written sink.old) (W.written sink.new) (text.old.items ++ lines) text.new.items }
+{
+    match keys {
+        Ok(keys) => write_rows(alloc, sink, keys.as_slice(), text),
+        Err(AllocError) => Err(WriteFault::OutOfMemory),
+    }
+}
+
+/// The entries of a tree in the order of its dump, each with its rank as its number, and the configuration that the tree was made with.
+#[derive(Drop)]
+struct RankedEntries<'a> {
+    alloc: Global,
+    tree: &'a Tree,
+    conf: &'a Conf,
+    entries: &'a [Numbered<'a>],
+    ghost same_conf: { tree.now.conf ≡ conf.now },
+}
+
+impl<'a> RankedEntries<'a> {
+    // puts the rows of a slot behind a text, where these are the normal forms of its type
+    fn write_keys<W: Sink>(
+        &self,
+        sink: &mut W,
+        slot: &Slot,
+        norms: &[NumberedNorm<'_>],
+        text: &mut Vec<u8>,
+    ) -> Result<(), WriteFault>
+        requires can_fail { (W.written sink.old).failed < 2 ^ 64 - 1 }
+        requires ranked { AreRankedEntries self.now.conf.now self.now.tree.now.entries self.now.entries.now }
+        requires norms { AreNormsOf self.now.conf.now.types self.now.entries.now slot.now.type_id norms.now }
+        ensures { WritesOn result (W.written sink.old) (W.written sink.new) (text.old.items ++ keys_lines self.now.conf.now self.now.tree.now.entries slot.now) text.new.items }
+    {
+        let alloc = self.alloc;
+        match slot.kind {
+            IndexKind::Equality => write_sorted(alloc, sink, ranked_norms(alloc, norms), text),
+            IndexKind::Presence => write_sorted(alloc, sink, ranked_presence(alloc, norms), text),
+            IndexKind::Substrings => write_sorted(alloc, sink, ranked_windows(alloc, norms), text),
+        }
+    }
+
+    // puts the lines of a slot behind a text, likewise
+    fn write_slot<W: Sink>(
+        &self,
+        sink: &mut W,
+        slot: &Slot,
+        norms: &[NumberedNorm<'_>],
+        text: &mut Vec<u8>,
+    ) -> Result<(), WriteFault>
+        requires can_fail { (W.written sink.old).failed < 2 ^ 64 - 1 }
+        requires known { slot.now.type_id < length self.now.conf.now.types }
+        requires ranked { AreRankedEntries self.now.conf.now self.now.tree.now.entries self.now.entries.now }
+        requires norms { AreNormsOf self.now.conf.now.types self.now.entries.now slot.now.type_id norms.now }
+        ensures { WritesOn result (W.written sink.old) (W.written sink.new) (text.old.items ++ slot_lines self.now.conf.now self.now.tree.now.entries slot.now) text.new.items }
+    {
+        if put_slot(text, self.conf, slot).is_err() {
+            return Err(WriteFault::OutOfMemory);
+        }
+        self.write_keys(sink, slot, norms, text)
+    }
+
+    // the same of all slots
+    fn write_slots<W: Sink>(&self, sink: &mut W, text: &mut Vec<u8>) -> Result<(), WriteFault>
+        requires can_fail { (W.written sink.old).failed < 2 ^ 64 - 1 }
+        requires ranked { AreRankedEntries self.now.conf.now self.now.tree.now.entries self.now.entries.now }
+        ensures { WritesOn result (W.written sink.old) (W.written sink.new) (text.old.items ++ slots_lines self.now.conf.now self.now.tree.now.entries self.now.conf.now.slots) text.new.items }
+    {
+        self.conf.rules_are_kept();
+        let mut kept = None;
+        for slot in self.conf.slots() {
+            let Ok(of_type) = norms_for(self.alloc, self.conf, kept, slot.type_id, self.entries)
+            else {
+                return Err(WriteFault::OutOfMemory);
+            };
+            self.write_slot(sink, slot, of_type.norms.as_slice(), text)?;
+            kept = Some(of_type);
+        }
+        Ok(())
+    }
+}
+
+/// Writes the text of the index of a tree's entries, as `Directory::index_text` does, and makes it of the entries alone: slot by slot the keys of
+/// all entries are sorted, so it takes the memory of one slot. The tree was made with this configuration, and this is its stamp. On a fault
+/// a beginning was written.
+pub fn write_index_of_entries<W: Sink>(
+    alloc: Global,
+    tree: &Tree,
+    conf: &Conf,
+    stamp: &[u8; 32],
+    sink: &mut W,
+) -> Result<(), WriteFault>
+    requires made { tree.now.conf ≡ conf.now }
+    requires stamped { stamp.now ≡ stamp_by conf.now tree.now.entries }
+    requires can_fail { (W.written sink.old).failed < 2 ^ 64 - 1 }
+    ensures writes { Writes result (W.written sink.old) (W.written sink.new) (index_text conf.now tree.now.entries) }
+{
+    let root = Path::root(alloc);
+    let Ok(mut text) = first_line(alloc, tree, conf, stamp) else {
+        return Err(WriteFault::OutOfMemory);
+    };
+    let Ok(entries) = ranked_entries(alloc, conf, tree, &root) else {
+        return Err(WriteFault::OutOfMemory);
+    };
+    let ranked = RankedEntries {
+        alloc,
+        tree,
+        conf,
+        entries: entries.as_slice(),
+    };
+    ranked.write_slots(sink, &mut text)?;
+    if put_end(&mut text).is_err() {
+        return Err(WriteFault::OutOfMemory);
+    }
+    pass_on(sink, &mut text)
+}

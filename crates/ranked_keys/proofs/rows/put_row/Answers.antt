@@ -1,0 +1,20 @@
+use Rattle.std.proofs.Common.{ℕ, List, [], ◌∷◌, ◌++◌, map, ap, ◌∙◌}
+use Rattle.index_text.specs.IndexTexts.{ended, key_line}
+use Rattle.ranked_keys.specs.RankedKeys.{Ranked}
+use Rattle.ranked_keys.specs.inner.Fronts.{under}
+use Rattle.ranked_keys.proofs.RowsInOrder.{row_is}
+use Rattle.ranked_keys.proofs.rows.put_row.Goals as goal
+
+pub returns-clause-text : goal.returns-clause-text
+returns-clause-text g c =
+    let first : Ranked = g.K.RankedKey.pair c.args.first.now in
+    let others : List Ranked = map g.K.RankedKey.pair c.args.others.now in
+    let ranks : List ℕ = c.take_ranks.new.ranks.items in (
+      ended (key_line (first.0, ranks)),
+      c.in_ok-put_line.ensures ∙ ap (λ (rs : List ℕ). c.args.out.now.items ++ ended (key_line (first.0, rs))) c.as_slice.ensures.value,
+      row_is first others (map g.K.RankedKey.pair c.in_ok-rest.rest.now) ranks
+          (c.in_ok-rest.ensures.parts
+          ∙ ap (λ (rs : List ℕ). under first.0 rs ++ others) (c.in_ok-push.ensures.items ∙ ap (λ (rs : List ℕ). rs ++ c.rank.result ∷ []) c.clear.ensures.items)
+          ∙ ap (λ (r : ℕ). (first.0, r) ∷ others) c.rank.ensures)
+          c.in_ok-rest.ensures.others,
+    )

@@ -1,0 +1,13 @@
+-- Ranks under one key, in front of others.
+use Rattle.std.specs.Prelude.{◌≡◌, ℕ, false, List, [], ◌∷◌, map, ⊤}
+use Rattle.std.specs.Str.{bytes_eq}
+use Rattle.ranked_keys.specs.RankedKeys.{Ranked}
+
+-- a key with each of these ranks
+abbrev pub under : List ℕ → List ℕ → List Ranked
+under key ranks = map (λ rank. (key, rank)) ranks
+
+-- the first one has another key, if there is one
+abbrev pub BeginsOtherwise : List ℕ → List Ranked → Type 0
+BeginsOtherwise key [] = ⊤
+BeginsOtherwise key (p ∷ ps) = bytes_eq key p.0 ≡ false

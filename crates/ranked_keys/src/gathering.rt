@@ -1,0 +1,99 @@
+//! The keys that normal forms give, in order.
+
+ghost use Rattle.std.specs.Prelude.{◌≡◌, ◌&&◌, ◌||◌, ◌<◌, ◌∷◌, [], ℕ, List, map, nat_eq, length, IfOk, IfSome, OnOk, MatchOption};
+ghost use Rattle.std.specs.List.{list_any};
+ghost use Rattle.std.specs.List.Sorted.{IsStrictlySortedBy};
+ghost use Rattle.std.specs.Str.{bytes_eq};
+ghost use Rattle.schema.specs.declared.slots.IndexKind.TheVariants.{Equality, Presence, Substrings};
+ghost use Rattle.index.specs.EntryKeys.{windows};
+ghost use Rattle.ranked_keys.specs.RankedKeys.{ranked_cmp, is_among, AreRanked};
+ghost use Rattle.ranked_keys.specs.Pairs.{norm_pairs, window_pairs};
+
+use crate::ranked_key::RankedKey;
+use crate::ranked_norm::RankedNorm;
+use crate::ranked_window::RankedWindow;
+use index::NumberedNorm;
+use std::alloc::{AllocError, Global};
+
+// the same in order, each once
+fn in_order<K: RankedKey>(keys: Vec<K>) -> Vec<K>
+    ensures rise { IsStrictlySortedBy ranked_cmp (map K.pair result.items) }
+    ensures same { (q : List ℕ) (n : ℕ) → is_among (map K.pair result.items) q n ≡ is_among (map K.pair keys.items) q n }
+{
+    let mut keys = keys;
+    keys.sort_unstable();
+    keys.dedup();
+    keys
+}
+
+// the first window of a text, and what has the others
+fn first_window(text: &[u8]) -> Option<([u8; 3], &[u8])>
+    ensures windows { MatchOption result (windows text.now ≡ []) (λ r. windows text.now ≡ r.0 ∷ windows r.1.now) }
+    ensures shorter { IfSome result (λ r. length r.1.now < length text.now) }
+{
+    match text {
+        [first, second, third, ..] => Some(([*first, *second, *third], &text[1..])),
+        _ => None,
+    }
+}
+
+// puts the windows of a text to others
+fn push_windows(all: &mut Vec<RankedWindow>, text: &[u8], rank: u32) -> Result<(), AllocError>
+    ensures { OnOk result ((q : List ℕ) (n : ℕ) → is_among (window_pairs all.new.items) q n ≡ (is_among (window_pairs all.old.items) q n || (nat_eq n rank && list_any (λ k. bytes_eq k q) (windows text.now)))) }
+{
+    let mut left = text;
+    while let Some(first) = first_window(left) {
+        let (window, rest) = first;
+        all.push(RankedWindow::of(window, rank))?;
+        left = rest;
+    }
+    Ok(())
+}
+
+/// The windows of normal forms, each with the number of the entry that has it as its rank, in order, each once.
+pub fn ranked_windows(
+    alloc: Global,
+    norms: &[NumberedNorm<'_>],
+) -> Result<Vec<RankedWindow>, AllocError>
+    ensures { IfOk result (λ keys. AreRanked Substrings norms.now (window_pairs keys.items)) }
+{
+    let mut all = Vec::new(alloc);
+    for numbered in norms {
+        push_windows(&mut all, numbered.norm, numbered.number)?;
+    }
+    Ok(in_order(all))
+}
+
+/// Normal forms as keys of equality, each with the number of the entry that has it as its rank, in order, each once.
+pub fn ranked_norms<'a>(
+    alloc: Global,
+    norms: &[NumberedNorm<'a>],
+) -> Result<Vec<RankedNorm<'a>>, AllocError>
+    ensures { IfOk result (λ keys. AreRanked Equality norms.now (norm_pairs keys.items)) }
+{
+    let mut all = Vec::with_capacity(alloc, norms.len())?;
+    for numbered in norms {
+        all.push(RankedNorm {
+            norm: numbered.norm,
+            rank: numbered.number,
+        })?;
+    }
+    Ok(in_order(all))
+}
+
+/// The empty key of presence, with the number of each entry that has a normal form as its rank, in order, each once.
+pub fn ranked_presence<'a>(
+    alloc: Global,
+    norms: &[NumberedNorm<'_>],
+) -> Result<Vec<RankedNorm<'a>>, AllocError>
+    ensures { IfOk result (λ keys. AreRanked Presence norms.now (norm_pairs keys.items)) }
+{
+    let mut all = Vec::with_capacity(alloc, norms.len())?;
+    for numbered in norms {
+        all.push(RankedNorm {
+            norm: b"",
+            rank: numbered.number,
+        })?;
+    }
+    Ok(in_order(all))
+}

@@ -1,0 +1,49 @@
+//! Rows of an index text.
+
+ghost use Rattle.std.specs.Prelude.{◌≡◌, ◌≤◌, ◌++◌, ◌∷◌, ℕ, List, map, length, IfOk};
+ghost use Rattle.ranked_keys.specs.RankedKeys.{rows_text};
+ghost use Rattle.ranked_keys.specs.inner.Fronts.{under, BeginsOtherwise};
+
+use crate::ranked_key::RankedKey;
+use std::alloc::{AllocError, Global};
+
+// puts the ranks of those in front that have the key of the first behind others, and hands out what is left
+fn take_ranks<'k, K: RankedKey>(
+    first: &K,
+    keys: &'k [K],
+    ranks: &mut Vec<u32>,
+) -> Result<&'k [K], AllocError>
+    ensures parts { IfOk result (λ rest. under (K.pair first.now).0 ranks.new.items ++ map K.pair rest.now ≡ under (K.pair first.now).0 ranks.old.items ++ map K.pair keys.now) }
+    ensures others { IfOk result (λ rest. BeginsOtherwise (K.pair first.now).0 (map K.pair rest.now)) }
+    ensures fewer { IfOk result (λ rest. length rest.now ≤ length keys.now) }
+{
+    let mut left = keys;
+    while let Some(parts) = left.split_first() {
+        let (next, rest) = parts;
+        if !next.has_key_of(first) {
+            return Ok(left);
+        }
+        ranks.push(next.rank())?;
+        left = rest;
+    }
+    Ok(left)
+}
+
+/// Puts the row of the first key at the end of a text: the line of that key with all its ranks. It hands out the keys of the other rows.
+/// The ranks are the caller's room, and what they were is forgotten. Where memory runs out, a beginning of the line may stand in the text.
+pub fn put_row<'k, K: RankedKey>(
+    alloc: Global,
+    first: &K,
+    others: &'k [K],
+    ranks: &mut Vec<u32>,
+    out: &mut Vec<u8>,
+) -> Result<&'k [K], AllocError>
+    ensures text { IfOk result (λ rest. (line : List ℕ) × (out.new.items ≡ out.old.items ++ line) × (rows_text (K.pair first.now ∷ map K.pair others.now) ≡ line ++ rows_text (map K.pair rest.now))) }
+    ensures fewer { IfOk result (λ rest. length rest.now ≤ length others.now) }
+{
+    ranks.clear();
+    ranks.push(first.rank())?;
+    let rest = take_ranks(first, others, ranks)?;
+    first.put_line(alloc, ranks.as_slice(), out)?;
+    Ok(rest)
+}
