@@ -151,12 +151,14 @@ fn run_and_store<F: Folder, S: Source, E: Sink>(
     ensures can_report { IfErr result (λ why. CanReport why (E.written err.new).failed) }
 {
     let tally = run_records(alloc, task, &mut database, folder, input, err)?;
+    // The program ends with its command, and that frees the entries at once.
     if task.dry_run {
-        // The program ends with its command, and that frees the entries at once.
         mem::forget(database);
         return Ok(Status::of_tally(tally));
     }
-    store_database(alloc, folder, task.db, database)?;
+    let stored = store_database(alloc, folder, task.db, &database);
+    mem::forget(database);
+    stored?;
     Ok(Status::of_tally(tally))
 }
 

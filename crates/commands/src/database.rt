@@ -13,7 +13,7 @@ use crate::folder::{FileText, Folder, FolderFault, LockFault};
 use crate::messages::CommandFault;
 use device::{Device, Sink, Source};
 use dir_conf::{ConfFault, read_conf};
-use directory::{Database, Directory, LoadFault, load_tree, write_dump};
+use directory::{Database, LoadFault, load_tree, write_dump};
 use ldif::WriteFault;
 use schema::Conf;
 use std::alloc::{AllocError, Global};
@@ -170,17 +170,4 @@ pub fn load_database<F: Folder>(
         Ok(tree) => Ok(Database { conf, tree }),
         Err(fault) => Err(fault_of(alloc, name.as_str(), fault)),
     }
-}
-
-/// The directory in the folder `db`: its entries, with their index.
-pub fn load_directory<F: Folder>(
-    alloc: Global,
-    folder: &F,
-    db: &str,
-) -> Result<Directory, CommandFault>
-    ensures err { IfErr result (LoadFails (F.files folder.now) db.now) }
-    ensures loaded { IfOk result (λ d. IsLoaded (F.files folder.now) db.now d.conf d.entries) }
-{
-    let Database { conf, tree } = load_database(alloc, folder, db)?;
-    Ok(Directory::from_tree(alloc, conf, tree)?)
 }

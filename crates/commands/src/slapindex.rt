@@ -4,7 +4,7 @@ ghost use Rattle.commands.specs.Worlds.{World};
 ghost use Rattle.commands.specs.Indexing.{IndexGoesThrough, IndexStops};
 ghost use Rattle.commands.specs.inner.Stopped.{HasEnded, HasEndedUnder};
 
-use crate::database::{load_directory, lock};
+use crate::database::{load_database, lock};
 use crate::folder::Folder;
 use crate::messages::{Status, Stop};
 use crate::storing::store_index;
@@ -22,10 +22,10 @@ fn make_index<F: Folder>(
         (record w { files = F.files folder.new }) result }
     ensures locking { F.locking folder.new ≡ F.locking folder.old }
 {
-    let dir = load_directory(alloc, folder, asked.db)?;
-    let stored = store_index(alloc, folder, asked.db, &dir);
+    let database = load_database(alloc, folder, asked.db)?;
+    let stored = store_index(alloc, folder, asked.db, &database);
     // The program ends with its command, and that frees the entries at once.
-    mem::forget(dir);
+    mem::forget(database);
     stored?;
     Ok(Status::Done)
 }

@@ -11,41 +11,47 @@ use crate::database::{path, store};
 use crate::folder::{FileText, Folder};
 use crate::messages::CommandFault;
 use device::Sink;
-use directory::{Database, Directory, stamp_of};
+use directory::{Database, stamp_of, write_index_of_entries, write_stamped_dump};
 use ldif::WriteFault;
 use std::alloc::Global;
-use std::mem;
 
-impl FileText for Directory {
-    /// The stamp of the directory.
+/// The dump of a database.
+#[derive(Clone, Copy, Drop)]
+struct StampedDump<'a> {
+    database: &'a Database,
+}
+
+impl FileText for StampedDump<'_> {
+    /// The stamp of the dump.
     type Answer = [u8; 32];
 
-    ghost text = { λ d. dump d.conf d.entries };
+    ghost text = { λ d. dump d.database.now.tree.conf d.database.now.tree.entries };
 
-    ghost answers = { λ d s. s ≡ stamp_by d.conf d.entries };
+    ghost answers = { λ d s. s ≡ stamp_by d.database.now.tree.conf d.database.now.tree.entries };
 
     fn write<W: Sink>(&self, alloc: Global, sink: &mut W) -> Result<[u8; 32], WriteFault> {
-        self.stamped_dump(alloc, sink)
+        write_stamped_dump(alloc, &self.database.tree, &self.database.conf, sink)
     }
 }
 
-/// The text of a directory's index.
+/// The text of the index of a database's entries.
 #[derive(Clone, Copy, Drop)]
 struct IndexText<'a> {
-    dir: &'a Directory,
+    database: &'a Database,
     stamp: &'a [u8; 32],
-    ghost is_stamp: { stamp.now ≡ stamp_by dir.now.conf dir.now.entries },
+    ghost is_stamp: { stamp.now ≡ stamp_by database.now.tree.conf database.now.tree.entries },
 }
 
 impl FileText for IndexText<'_> {
     type Answer = ();
 
-    ghost text = { λ t. index_text t.dir.now.conf t.dir.now.entries };
+    ghost text = { λ t. index_text t.database.now.tree.conf t.database.now.tree.entries };
 
     ghost answers = { λ _ _. ⊤ };
 
     fn write<W: Sink>(&self, alloc: Global, sink: &mut W) -> Result<(), WriteFault> {
-        self.dir.index_text_with(alloc, self.stamp, sink)
+        let Database { conf, tree } = self.database;
+        write_index_of_entries(alloc, tree, conf, self.stamp, sink)
     }
 }
 
@@ -67,70 +73,49 @@ pub fn store_in<F: Folder, T: FileText>(
     store(alloc, folder, path.as_str(), text)
 }
 
-/// Puts the text of a directory's index in place of the folder's index.txt, where its stamp is at hand.
+/// Puts the text of the index of these entries in place of the folder's index.txt, where the stamp of their dump is at hand.
 fn store_index_with<F: Folder>(
     alloc: Global,
     folder: &mut F,
     db: &str,
-    dir: &Directory,
+    database: &Database,
     stamp: &[u8; 32],
 ) -> Result<(), CommandFault>
-    requires { stamp.now ≡ stamp_by dir.now.conf dir.now.entries }
-    ensures ok { OnOk result (F.files folder.new ≡ with_files (F.files folder.old) (index_file db.now dir.now.conf dir.now.entries ∷ [])) }
-    ensures err { IfErr result (StoresPartly (index_file db.now dir.now.conf dir.now.entries ∷ []) (F.files folder.old) (F.files folder.new)) }
+    requires { stamp.now ≡ stamp_by database.now.tree.conf database.now.tree.entries }
+    ensures ok { OnOk result (F.files folder.new ≡ with_files (F.files folder.old) (index_file db.now database.now.tree.conf database.now.tree.entries ∷ [])) }
+    ensures err { IfErr result (StoresPartly (index_file db.now database.now.tree.conf database.now.tree.entries ∷ []) (F.files folder.old) (F.files folder.new)) }
     ensures locking { F.locking folder.new ≡ F.locking folder.old }
 {
-    store_in(alloc, folder, db, "index.txt", &IndexText { dir, stamp })
+    store_in(alloc, folder, db, "index.txt", &IndexText { database, stamp })
 }
 
-/// Puts the text of a directory's index in place of the folder's index.txt.
+/// Puts the text of the index of these entries in place of the folder's index.txt.
 #[tactic(auto, using(crate::proofs::StoredFiles::memory_fails))]
 pub fn store_index<F: Folder>(
     alloc: Global,
     folder: &mut F,
     db: &str,
-    dir: &Directory,
+    database: &Database,
 ) -> Result<(), CommandFault>
-    ensures ok { OnOk result (F.files folder.new ≡ with_files (F.files folder.old) (index_file db.now dir.now.conf dir.now.entries ∷ [])) }
-    ensures err { IfErr result (StoresPartly (index_file db.now dir.now.conf dir.now.entries ∷ []) (F.files folder.old) (F.files folder.new)) }
+    ensures ok { OnOk result (F.files folder.new ≡ with_files (F.files folder.old) (index_file db.now database.now.tree.conf database.now.tree.entries ∷ [])) }
+    ensures err { IfErr result (StoresPartly (index_file db.now database.now.tree.conf database.now.tree.entries ∷ []) (F.files folder.old) (F.files folder.new)) }
     ensures locking { F.locking folder.new ≡ F.locking folder.old }
 {
-    let stamp = stamp_of(alloc, dir.tree(), dir.conf())?;
-    store_index_with(alloc, folder, db, dir, &stamp)
+    let stamp = stamp_of(alloc, &database.tree, &database.conf)?;
+    store_index_with(alloc, folder, db, database, &stamp)
 }
 
-/// Puts the dump of a directory in place of the folder's data.ldif, and then the text of its index in place of index.txt.
-fn store_directory<F: Folder>(
-    alloc: Global,
-    folder: &mut F,
-    db: &str,
-    dir: &Directory,
-) -> Result<(), CommandFault>
-    ensures ok { OnOk result (F.files folder.new ≡ with_files (F.files folder.old) (kept_files db.now dir.now.conf dir.now.entries)) }
-    ensures err { IfErr result (StoresPartly (kept_files db.now dir.now.conf dir.now.entries) (F.files folder.old) (F.files folder.new)) }
-    ensures locking { F.locking folder.new ≡ F.locking folder.old }
-{
-    let stamp = store_in(alloc, folder, db, "data.ldif", dir)?;
-    store_index_with(alloc, folder, db, dir, &stamp)
-}
-
-/// Makes the index of these entries, and puts their dump in place of the folder's data.ldif, and then the text of the index in place of
-/// index.txt. Nothing is stored before the index is made.
-#[tactic(auto, using(crate::proofs::StoredFiles::memory_fails))]
+/// Puts the dump of these entries in place of the folder's data.ldif, and then the text of their index in place of index.txt.
 pub fn store_database<F: Folder>(
     alloc: Global,
     folder: &mut F,
     db: &str,
-    database: Database,
+    database: &Database,
 ) -> Result<(), CommandFault>
-    ensures ok { OnOk result (F.files folder.new ≡ with_files (F.files folder.old) (kept_files db.now database.tree.conf database.tree.entries)) }
-    ensures err { IfErr result (StoresPartly (kept_files db.now database.tree.conf database.tree.entries) (F.files folder.old) (F.files folder.new)) }
+    ensures ok { OnOk result (F.files folder.new ≡ with_files (F.files folder.old) (kept_files db.now database.now.tree.conf database.now.tree.entries)) }
+    ensures err { IfErr result (StoresPartly (kept_files db.now database.now.tree.conf database.now.tree.entries) (F.files folder.old) (F.files folder.new)) }
     ensures locking { F.locking folder.new ≡ F.locking folder.old }
 {
-    let Database { conf, tree } = database;
-    let dir = Directory::from_tree(alloc, conf, tree)?;
-    let stored = store_directory(alloc, folder, db, &dir);
-    // The program ends with its command, and that frees the entries at once.
-    mem::forget(dir);
-    stored
+    let stamp = store_in(alloc, folder, db, "data.ldif", &StampedDump { database })?;
+    store_index_with(alloc, folder, db, database, &stamp)
 }
