@@ -15,7 +15,7 @@ ghost use Rattle.commands.specs.Prints.{search_query, IsFoundText, ComesFirst, S
 ghost use Rattle.commands.specs.inner.IndexFiles.{said, IsTrue, HasLoaded};
 ghost use Rattle.commands.specs.inner.Refusals.{Refuses, RefusesOrBreaks};
 ghost use Rattle.commands.specs.inner.Printed.{HasPrinted};
-ghost use Rattle.commands.specs.inner.Views.{basis_of, basis_in};
+ghost use Rattle.commands.specs.inner.Views.{basis_of};
 ghost use Rattle.commands.specs.inner.Stopped.{CanReport, HasEnded};
 
 use crate::database::load_database;
@@ -25,7 +25,7 @@ use crate::index_file::{IndexFile, read_index, report_index};
 use crate::messages::{CommandFault, Status, Stop, report_fault};
 use command_line::SearchOptions;
 use device::Sink;
-use directory::{Database, Directory, Selection, search_with, write_found};
+use directory::{Database, Selection, search_tree, search_with, write_found};
 use filter::{Prepared, prepare};
 use filter_text::Filter;
 use id_sets::IdSet;
@@ -141,61 +141,29 @@ fn print_by_text<O: Sink>(
     }
 }
 
-/// Prints what is found in a directory, and answers whether there is more than may be printed.
-fn print_found<O: Sink>(
+/// Prints what is found by a test of each entry in scope, and answers whether there is more than may be printed.
+fn print_by_scan<O: Sink>(
     alloc: Global,
     asked: &SearchOptions<'_>,
     filter: &Filter,
-    dir: &Directory,
+    database: &Database,
     out: &mut O,
 ) -> Result<bool, CommandFault>
     requires { (O.written out.old).failed < 2 ^ 64 - 1 }
     ensures found { IfOk result (λ past. HasPrinted
-        (IsFoundText asked.now None (basis_in filter.now dir.now) past)
+        (IsFoundText asked.now None (basis_of filter.now database.now.tree) past)
         (O.written out.old) (O.written out.new)) }
-    ensures fault { IfErr result (RefusesOrBreaks (search_query asked.now) dir.now.conf dir.now.entries) }
+    ensures fault { IfErr result (RefusesOrBreaks (search_query asked.now) database.now.tree.conf database.now.tree.entries) }
     ensures partly { IfErr result (PrintsPartly (HasBegun
-        (λ text. (past : Bool) × IsFoundText asked.now None (basis_in filter.now dir.now) past text) None)
-        (O.written out.old) (O.written out.new)) }
-{
-    let wanted = wanted_by(alloc, asked, filter, dir.conf())?;
-    match dir.search(&wanted.base, asked.scope, &wanted.filter) {
-        Ok(hits) => print_hits(
-            alloc,
-            dir.tree(),
-            dir.conf(),
-            hits,
-            asked.limit,
-            &wanted.selection,
-            out,
-        ),
-        Err(refusal) => Err(refused(refusal, NAME)),
-    }
-}
-
-/// Prints what is found in the directory that these entries make, by an index that is made of them.
-fn print_anew<O: Sink>(
-    alloc: Global,
-    asked: &SearchOptions<'_>,
-    filter: &Filter,
-    database: Database,
-    out: &mut O,
-) -> Result<bool, CommandFault>
-    requires { (O.written out.old).failed < 2 ^ 64 - 1 }
-    ensures found { IfOk result (λ past. HasPrinted
-        (IsFoundText asked.now None (basis_of filter.now database.tree) past)
-        (O.written out.old) (O.written out.new)) }
-    ensures fault { IfErr result (RefusesOrBreaks (search_query asked.now) database.tree.conf database.tree.entries) }
-    ensures partly { IfErr result (PrintsPartly (HasBegun
-        (λ text. (past : Bool) × IsFoundText asked.now None (basis_of filter.now database.tree) past text) None)
+        (λ text. (past : Bool) × IsFoundText asked.now None (basis_of filter.now database.now.tree) past text) None)
         (O.written out.old) (O.written out.new)) }
 {
     let Database { conf, tree } = database;
-    let dir = Directory::from_tree(alloc, conf, tree)?;
-    let printed = print_found(alloc, asked, filter, &dir, out);
-    // The program ends with its command, and that frees the entries at once.
-    mem::forget(dir);
-    printed
+    let wanted = wanted_by(alloc, asked, filter, conf)?;
+    match search_tree(alloc, tree, &wanted.base, asked.scope, &wanted.filter) {
+        Ok(hits) => print_hits(alloc, tree, conf, hits, asked.limit, &wanted.selection, out),
+        Err(refusal) => Err(refused(refusal, NAME)),
+    }
 }
 
 /// What a search reads: the filter, and the directory with what index.txt says of it.
@@ -227,20 +195,20 @@ fn load<F: Folder>(
     })
 }
 
-/// Prints what is found by index.txt; where that can't be used, by an index that is made of the entries.
+/// Prints what is found by index.txt, or without it where it can't be used.
 fn print<O: Sink>(
     alloc: Global,
     asked: &SearchOptions<'_>,
-    loaded: Loaded,
+    loaded: &Loaded,
     out: &mut O,
 ) -> Result<bool, CommandFault>
     requires can_fail { (O.written out.old).failed < 2 ^ 64 - 1 }
-    requires is_true { IsTrue loaded.database.tree.conf loaded.database.tree.entries (said loaded.file) }
-    ensures found { IfOk result (λ past. HasPrinted (IsFoundText asked.now (said loaded.file) (basis_of loaded.filter loaded.database.tree) past)
+    requires is_true { IsTrue loaded.now.database.tree.conf loaded.now.database.tree.entries (said loaded.now.file) }
+    ensures found { IfOk result (λ past. HasPrinted (IsFoundText asked.now (said loaded.now.file) (basis_of loaded.now.filter loaded.now.database.tree) past)
         (O.written out.old) (O.written out.new)) }
-    ensures fault { IfErr result (RefusesOrBreaks (search_query asked.now) loaded.database.tree.conf loaded.database.tree.entries) }
+    ensures fault { IfErr result (RefusesOrBreaks (search_query asked.now) loaded.now.database.tree.conf loaded.now.database.tree.entries) }
     ensures partly { IfErr result (PrintsPartly (HasBegun
-        (λ text. (past : Bool) × IsFoundText asked.now (said loaded.file) (basis_of loaded.filter loaded.database.tree) past text) None)
+        (λ text. (past : Bool) × IsFoundText asked.now (said loaded.now.file) (basis_of loaded.now.filter loaded.now.database.tree) past text) None)
         (O.written out.old) (O.written out.new)) }
 {
     let Loaded {
@@ -249,21 +217,15 @@ fn print<O: Sink>(
         file,
     } = loaded;
     match file {
-        IndexFile::Read(stored) => {
-            let printed = print_by_text(alloc, asked, &filter, &database, &stored, out);
-            // The program ends with its command, and that frees the entries at once.
-            mem::forget(database);
-            mem::forget(stored);
-            printed
-        }
-        IndexFile::Faulty(_) => print_anew(alloc, asked, &filter, database, out),
-        IndexFile::Missing => print_anew(alloc, asked, &filter, database, out),
+        IndexFile::Read(stored) => print_by_text(alloc, asked, filter, database, stored, out),
+        IndexFile::Faulty(_) => print_by_scan(alloc, asked, filter, database, out),
+        IndexFile::Missing => print_by_scan(alloc, asked, filter, database, out),
     }
 }
 
 /// Prints the entries of the directory in a folder that are in scope of the base and that the filter is True of, with the attributes that
-/// are asked for (RFC 4511, 4.5.1). They are found by index.txt, if it is there and was written for these entries; if it is there and has a
-/// fault, that is reported on `err` first. Where more than the limit match, the first ones are printed, the code 4 sizeLimitExceeded is reported on
+/// are asked for (RFC 4511, 4.5.1). They are found by index.txt, if it is there and was written for these entries, and else by a test of each entry
+/// in scope; if it is there and has a fault, that is reported on `err` first. Where more than the limit match, the first ones are printed, the code 4 sizeLimitExceeded is reported on
 /// `err`, and it ends as `Refused`. It stops where the filter is none, the directory can't be loaded, index.txt can't be read, the base
 /// isn't there (its code is 32 noSuchObject then), or `out`, `err` or memory fails.
 pub fn search<F: Folder, O: Sink, E: Sink>(
@@ -282,7 +244,10 @@ pub fn search<F: Folder, O: Sink, E: Sink>(
 {
     let loaded = load(alloc, asked, folder)?;
     report_index(alloc, err, &loaded.file)?;
-    match print(alloc, asked, loaded, out) {
+    let printed = print(alloc, asked, &loaded, out);
+    // The program ends with its command, and that frees the entries at once.
+    mem::forget(loaded);
+    match printed {
         Ok(false) => Ok(Status::Done),
         Ok(true) => Ok(report_fault(alloc, err, &past_limit())),
         Err(fault) => Err(Stop::Fault(fault)),

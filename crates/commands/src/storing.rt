@@ -86,7 +86,13 @@ fn store_index_with<F: Folder>(
     ensures err { IfErr result (StoresPartly (index_file db.now database.now.tree.conf database.now.tree.entries ∷ []) (F.files folder.old) (F.files folder.new)) }
     ensures locking { F.locking folder.new ≡ F.locking folder.old }
 {
-    store_in(alloc, folder, db, "index.txt", &IndexText { database, stamp })
+    store_in(
+        alloc,
+        folder,
+        db,
+        "index.txt",
+        &IndexText { database, stamp },
+    )
 }
 
 /// Puts the text of the index of these entries in place of the folder's index.txt.

@@ -15,7 +15,7 @@ use device::Sink;
 use index::{Numbered, NumberedNorm, norms_for};
 use index_text::{put_end, put_slot};
 use ldif::WriteFault;
-use ranked_keys::{RankedKey, put_row, ranked_norms, ranked_presence, ranked_windows};
+use ranked_keys::{RankedKey, bytes_of, put_row, ranked_norms, ranked_presence, ranked_windows};
 use schema::{Conf, IndexKind, Path, Slot};
 use std::alloc::{AllocError, Global};
 use tree::Tree;
@@ -127,7 +127,13 @@ impl<'a> RankedEntries<'a> {
     {
         let alloc = self.alloc;
         match slot.kind {
-            IndexKind::Equality => write_sorted(alloc, sink, ranked_norms(alloc, norms), text),
+            IndexKind::Equality => {
+                let Ok(bytes) = bytes_of(alloc, norms) else {
+                    return Err(WriteFault::OutOfMemory);
+                };
+                let keys = ranked_norms(alloc, norms, bytes.as_slice());
+                write_sorted(alloc, sink, keys, text)
+            }
             IndexKind::Presence => write_sorted(alloc, sink, ranked_presence(alloc, norms), text),
             IndexKind::Substrings => write_sorted(alloc, sink, ranked_windows(alloc, norms), text),
         }

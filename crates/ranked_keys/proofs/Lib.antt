@@ -1,3 +1,3 @@
-pub mod Gathered
+pub mod NoWindow
 pub mod InOrder
 pub mod RowsInOrder

@@ -28,6 +28,10 @@ pub record AreRanked (kind : IndexKind) (ns : List NumberedNorm) (ps : List Rank
   pub rise : IsStrictlySortedBy ranked_cmp ps
   pub exact : (key : List ℕ) (rank : ℕ) → is_among ps key rank ≡ has_by kind ns key rank
 
+-- the bytes of normal forms, one behind the other
+abbrev pub joined : List NumberedNorm → List ℕ
+joined ns = flat_map (λ x. x.norm.now) ns
+
 -- one rank more in front, under the key of the first row or in a row of its own
 abbrev pub put_front : Ranked → List Row → List Row
 put_front p [] = (p.0, p.1 ∷ []) ∷ []

@@ -6,7 +6,7 @@ ghost use Rattle.std.specs.List.Sorted.{IsStrictlySortedBy};
 ghost use Rattle.std.specs.Str.{bytes_eq};
 ghost use Rattle.schema.specs.declared.slots.IndexKind.TheVariants.{Equality, Presence, Substrings};
 ghost use Rattle.index.specs.EntryKeys.{windows};
-ghost use Rattle.ranked_keys.specs.RankedKeys.{ranked_cmp, is_among, AreRanked};
+ghost use Rattle.ranked_keys.specs.RankedKeys.{joined, ranked_cmp, is_among, AreRanked};
 ghost use Rattle.ranked_keys.specs.Pairs.{norm_pairs, window_pairs};
 
 use crate::ranked_key::RankedKey;
@@ -64,19 +64,35 @@ pub fn ranked_windows(
     Ok(in_order(all))
 }
 
-/// Normal forms as keys of equality, each with the number of the entry that has it as its rank, in order, each once.
+/// The bytes of normal forms, one behind the other. Keys that lie there are found faster than where their entries lie.
+pub fn bytes_of(alloc: Global, norms: &[NumberedNorm<'_>]) -> Result<Vec<u8>, AllocError>
+    ensures { IfOk result (λ bytes. bytes.items ≡ joined norms.now) }
+{
+    let mut bytes = Vec::new(alloc);
+    for numbered in norms {
+        bytes.extend_from_slice(numbered.norm)?;
+    }
+    Ok(bytes)
+}
+
+/// Normal forms, whose bytes these are, as keys of equality, each with the number of the entry that has it as its rank, in order, each once.
 pub fn ranked_norms<'a>(
     alloc: Global,
-    norms: &[NumberedNorm<'a>],
+    norms: &[NumberedNorm<'_>],
+    bytes: &'a [u8],
 ) -> Result<Vec<RankedNorm<'a>>, AllocError>
+    requires { bytes.now ≡ joined norms.now }
     ensures { IfOk result (λ keys. AreRanked Equality norms.now (norm_pairs keys.items)) }
 {
     let mut all = Vec::with_capacity(alloc, norms.len())?;
+    let mut left = bytes;
     for numbered in norms {
+        let (norm, others) = left.split_at(numbered.norm.len());
         all.push(RankedNorm {
-            norm: numbered.norm,
+            norm,
             rank: numbered.number,
         })?;
+        left = others;
     }
     Ok(in_order(all))
 }

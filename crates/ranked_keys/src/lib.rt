@@ -7,7 +7,7 @@ mod ranked_norm;
 mod ranked_window;
 mod rows;
 
-pub use gathering::{ranked_norms, ranked_presence, ranked_windows};
+pub use gathering::{bytes_of, ranked_norms, ranked_presence, ranked_windows};
 pub use ranked_key::RankedKey;
 pub use ranked_norm::RankedNorm;
 pub use ranked_window::RankedWindow;

@@ -1,5 +1,5 @@
 -- index.txt as the parts of a search have it.
-use Rattle.std.specs.Prelude.{◌≡◌, Option, None, Some, Ok, Err, ⊤}
+use Rattle.std.specs.Prelude.{◌≡◌, Option, None, Some, Ok, Err}
 use Rattle.std.specs.Option.{option_copied}
 use Rattle.device.specs.Device.{Written, Broke}
 use Rattle.stored_index.specs.declared.fault.IndexFaultKind.{IndexFaultKind}

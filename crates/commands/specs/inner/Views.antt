@@ -1,9 +1,8 @@
--- Entries and directories as the definitions of commands see them.
+-- Entries as the definitions of commands see them.
 use Rattle.std.specs.Prelude.{Result}
 use Rattle.tree.specs.Trees.{Tree}
 use Rattle.filter_text.specs.Spells.{view}
 use Rattle.filter_text.specs.declared.filters.Filter.{Filter}
-use Rattle.directory.specs.Directories.{Directory}
 use Rattle.directory.specs.declared.runs.Tally.{Tally}
 use Rattle.directory.specs.declared.runs.RunFault.{RunFault}
 use Rattle.commands.specs.Queries.{Basis}
@@ -12,9 +11,6 @@ use Rattle.commands.specs.Changes.{Run}
 -- with a filter
 abbrev pub basis_of : Filter → Tree → Basis
 basis_of filter d = record { filter = view filter; conf = d.conf; entries = d.entries }
-
-abbrev pub basis_in : Filter → Directory → Basis
-basis_in filter d = record { filter = view filter; conf = d.conf; entries = d.entries }
 
 -- before and after a run, with what that answers
 abbrev pub run_of : Tree → Tree → Result Tally RunFault → Run

@@ -11,17 +11,17 @@ use Rattle.commands.proofs.searching.print.Goals as goal
 pub returns-in-Faulty-clause-found : goal.returns-in-Faulty-clause-found
 returns-in-Faulty-clause-found g c =
     let asked = c.args.asked.now in
-    let basis = basis_of c.args.loaded.filter c.args.loaded.database.tree in
-    let s = said c.args.loaded.file in
-    IfOk-weaker c.print_anew.result _ _
+    let basis = basis_of c.args.loaded.now.filter c.args.loaded.now.database.tree in
+    let s = said c.args.loaded.now.file in
+    IfOk-weaker c.print_by_scan.result _ _
     (λ past. printed_more (IsFoundText asked None basis past) (IsFoundText asked s basis past) (beside asked basis s c.in-Faulty.field-0 (ap said c.in-Faulty.is) past) _ _)
-    c.print_anew.ensures.found
+    c.print_by_scan.ensures.found
 
 pub returns-in-Faulty-clause-partly : goal.returns-in-Faulty-clause-partly
 returns-in-Faulty-clause-partly g c =
     let asked = c.args.asked.now in
-    let basis = basis_of c.args.loaded.filter c.args.loaded.database.tree in
-    let s = said c.args.loaded.file in
+    let basis = basis_of c.args.loaded.now.filter c.args.loaded.now.database.tree in
+    let s = said c.args.loaded.now.file in
     partly_more (λ text. (past : Bool) × IsFoundText asked None basis past text) (λ text. (past : Bool) × IsFoundText asked s basis past text)
     (λ text found. (found.0, beside asked basis s c.in-Faulty.field-0 (ap said c.in-Faulty.is) found.0 text found.1))
-    c.print_anew.result None _ _ c.print_anew.ensures.partly
+    c.print_by_scan.result None _ _ c.print_by_scan.ensures.partly

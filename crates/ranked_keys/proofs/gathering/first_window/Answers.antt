@@ -1,4 +1,4 @@
-use Rattle.ranked_keys.proofs.Gathered.{no_window}
+use Rattle.ranked_keys.proofs.NoWindow.{no_window}
 use Rattle.ranked_keys.proofs.gathering.first_window.Goals as goal
 
 pub returns-in_default-clause-windows : goal.returns-in_default-clause-windows
