@@ -22,20 +22,12 @@ use Rattle.index.specs.EntryKeys.{entry_keys, has_key}
 use Rattle.index.specs.TypeNorms.{has_for, AreNormsOf}
 use Rattle.index_text.specs.IndexTexts.{ended, key_line}
 use Rattle.ranked_keys.specs.RankedKeys.{Ranked, ranked_cmp, is_among, rows_of, rows_text, AreRanked}
-use Rattle.ranked_keys.proofs.RowsInOrder.{ranks_at, some_of, among_is, rows_are}
+use Rattle.ranked_keys.proofs.RowsInOrder.{and_true, and_false, ranks_at, some_of, among_is, rows_are}
 use Rattle.ranked_keys.proofs.RowsInOrder as sorted
 use Rattle.directory.specs.IndexTexts.{ranks_with, slot_rows, contents}
 use Rattle.directory.specs.inner.IndexRows.{keys_lines}
 use Rattle.directory.specs.inner.RankedEntries.{AreFrom}
 use Rattle.directory.proofs.IndexRows.{ranks_rise, find_each, any_key, is_T}
-
-and_true : (b : Bool) → b ≡ (b && true)
-and_true true = refl
-and_true false = refl
-
-and_false : (b c : Bool) → c ≡ ((b && false) || c)
-and_false true c = refl
-and_false false c = refl
 
 module _ (types : List AttributeType) (s : Slot) where
   abbrev has : List ℕ → EntryContent → Bool

@@ -30,11 +30,11 @@ abbrev pub some_of : List ℕ → Option (List ℕ)
 some_of [] = None
 some_of (r ∷ rs) = Some (r ∷ rs)
 
-and_true : (b : Bool) → b ≡ (b && true)
+pub and_true : (b : Bool) → b ≡ (b && true)
 and_true true = refl
 and_true false = refl
 
-and_false : (b c : Bool) → c ≡ ((b && false) || c)
+pub and_false : (b c : Bool) → c ≡ ((b && false) || c)
 and_false true c = refl
 and_false false c = refl
 

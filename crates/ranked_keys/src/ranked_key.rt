@@ -1,7 +1,8 @@
 //! Keys with a rank.
 
-ghost use Rattle.std.specs.Prelude.{◌≡◌, ◌++◌, OnOk};
+ghost use Rattle.std.specs.Prelude.{◌≡◌, ◌++◌, OnErr, OnOk};
 ghost use Rattle.std.specs.Str.{bytes_eq};
+ghost use Rattle.base.specs.Extends.{Extends};
 ghost use Rattle.index_text.specs.IndexTexts.{ended, key_line};
 ghost use Rattle.ranked_keys.specs.RankedKeys.{Ranked, ranked_cmp};
 
@@ -21,7 +22,8 @@ pub trait RankedKey: Ord + Copy + Drop {
 
     /// Puts the line of the key with these ranks at the end of a text. Where memory runs out, a beginning of the line may stand there.
     fn put_line(&self, alloc: Global, ranks: &[u32], out: &mut Vec<u8>) -> Result<(), AllocError>
-        ensures { OnOk result (out.new.items ≡ out.old.items ++ ended (key_line ((pair self.now).0, ranks.now))) };
+        ensures put { OnOk result (out.new.items ≡ out.old.items ++ ended (key_line ((pair self.now).0, ranks.now))) }
+        ensures kept { OnErr result (Extends out.old.items out.new.items) };
 
     ghost by_pair: { (p q : Self) → Self.cmp p q ≡ ranked_cmp (pair p) (pair q) };
 }

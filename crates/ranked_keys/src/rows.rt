@@ -1,6 +1,7 @@
 //! Rows of an index text.
 
-ghost use Rattle.std.specs.Prelude.{◌≡◌, ◌≤◌, ◌++◌, ◌∷◌, ℕ, List, map, length, IfOk};
+ghost use Rattle.std.specs.Prelude.{◌≡◌, ◌≤◌, ◌++◌, ◌∷◌, ℕ, List, map, length, IfOk, OnErr};
+ghost use Rattle.base.specs.Extends.{Extends};
 ghost use Rattle.ranked_keys.specs.RankedKeys.{rows_text};
 ghost use Rattle.ranked_keys.specs.inner.Fronts.{under, BeginsOtherwise};
 
@@ -40,6 +41,7 @@ pub fn put_row<'k, K: RankedKey>(
 ) -> Result<&'k [K], AllocError>
     ensures text { IfOk result (λ rest. (line : List ℕ) × (out.new.items ≡ out.old.items ++ line) × (rows_text (K.pair first.now ∷ map K.pair others.now) ≡ line ++ rows_text (map K.pair rest.now))) }
     ensures fewer { IfOk result (λ rest. length rest.now ≤ length others.now) }
+    ensures kept { OnErr result (Extends out.old.items out.new.items) }
 {
     ranks.clear();
     ranks.push(first.rank())?;

@@ -11,7 +11,7 @@ returns-clause-text g c =
     let others : List Ranked = map g.K.RankedKey.pair c.args.others.now in
     let ranks : List ℕ = c.take_ranks.new.ranks.items in (
       ended (key_line (first.0, ranks)),
-      c.in_ok-put_line.ensures ∙ ap (λ (rs : List ℕ). c.args.out.now.items ++ ended (key_line (first.0, rs))) c.as_slice.ensures.value,
+      c.in_ok-put_line.ensures.put ∙ ap (λ (rs : List ℕ). c.args.out.now.items ++ ended (key_line (first.0, rs))) c.as_slice.ensures.value,
       row_is first others (map g.K.RankedKey.pair c.in_ok-rest.rest.now) ranks
           (c.in_ok-rest.ensures.parts
           ∙ ap (λ (rs : List ℕ). under first.0 rs ++ others) (c.in_ok-push.ensures.items ∙ ap (λ (rs : List ℕ). rs ++ c.rank.result ∷ []) c.clear.ensures.items)
