@@ -1,6 +1,6 @@
 -- What the bytes of a packed path say of it: its length, its parent, and the paths that it begins.
 use Rattle.std.proofs.Common.{◌≡◌, ℕ, zero, suc, ◌+◌, ◌-◌, ◌<◌, ◌≤◌, ◌⊎◌, inl, inr, Bool, true, false, cond, List, [], ◌∷◌, ◌++◌, length, take, drop, get_or, refl, sym, ap, subst, ◌∙◌, arith, append_assoc, length-append}
-use Rattle.std.specs.Prelude.{◌==◌, ◌&&◌, nat_eq, count_by}
+use Rattle.std.specs.Prelude.{◌==◌, ◌&&◌, nat_eq, nat_lt, count_by}
 use Rattle.std.specs.List.{flat_map, sum_by, AllByRecursion, starts_with}
 use Rattle.std.specs.declared.cmp.Ordering.{Ordering}
 use Rattle.std.specs.declared.cmp.Ordering.TheVariants.{Less, Equal, Greater}
@@ -111,6 +111,25 @@ unfolding pack step_code pair_code type_code
 root_is_empty [] = refl
 root_is_empty ([] ∷ p) = ne_eqb (length (pack ([] ∷ p))) 0 (λ e. omega arith)
 root_is_empty ((q ∷ s) ∷ p) = ne_eqb (length (pack ((q ∷ s) ∷ p))) 0 (λ e. omega arith)
+
+-- of a path and one that it begins, the longer one has more bytes
+pub longer_packed : (p q : Path) → begins p q ≡ true → nat_lt (length (pack p)) (length (pack q)) ≡ nat_lt (length p) (length q)
+unfolding pack
+longer_packed [] [] h = refl
+longer_packed [] (y ∷ q) h = some (length (pack (y ∷ q))) (length q) (root_is_empty (y ∷ q))
+  where
+    some : (n m : ℕ) → (n == 0) ≡ false → nat_lt 0 n ≡ nat_lt 0 (suc m)
+    some n m h = grind (arith, nat_tests)
+longer_packed (x ∷ p) [] h = absurd cc
+longer_packed (x ∷ p) (y ∷ q) h =
+    let both = and_parts (is_eq (rdn_key_cmp x y)) (begins p q) h in
+    let same : x ≡ y = step_exact x y (exact_eq (rdn_key_cmp x y) both.0) in
+    (λ i. nat_lt (length-append (step_code x) (pack p) i) (length-append (step_code y) (pack q) i))
+    ∙ ap (λ s. nat_lt (length (step_code x) + length (pack p)) (length (step_code s) + length (pack q))) (sym same)
+    ∙ further (length (step_code x)) (length (pack p)) (length (pack q)) (length p) (length q) (longer_packed p q both.1)
+  where
+    further : (a m n k l : ℕ) → nat_lt m n ≡ nat_lt k l → nat_lt (a + m) (a + n) ≡ nat_lt (suc k) (suc l)
+    further a m n k l h = grind (arith, nat_tests)
 
 -- ---- the parent
 

@@ -22,3 +22,4 @@ pub mod Writable
 pub mod Planned
 pub mod ChangeExamples
 pub mod Followed
+mod LastUpTo

@@ -1,10 +1,6 @@
 -- Paths with the names of the entries there, kept for the entries below them.
-use Rattle.std.specs.Prelude.{◌≡◌, ℕ, Bool, ◌&&◌, nat_lt, List, [], ◌∷◌, length, Option, Some, None}
-use Rattle.paths.specs.Paths.{Path, begins}
-
--- whether the second path goes on from the first, by one step or more
-abbrev pub is_above : Path → Path → Bool
-is_above a p = nat_lt (length a) (length p) && begins a p
+use Rattle.std.specs.Prelude.{◌≡◌, ℕ, List, [], ◌∷◌, Option, Some, None}
+use Rattle.paths.specs.Paths.{Path}
 
 abbrev pub last_of : List (Path × List ℕ) → Option (Path × List ℕ)
 last_of [] = None
