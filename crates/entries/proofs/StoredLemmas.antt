@@ -1,12 +1,13 @@
 -- Stored attributes, and what they are without their normal forms.
-use Rattle.std.proofs.Common.{◌≡◌, ℕ, ◌<◌, true, false, cond, List, [], ◌∷◌, ◌++◌, length, refl, sym, ◌∙◌, ap, subst, Option, Some, None, nat_eq, Bor}
+use Rattle.std.proofs.Common.{◌≡◌, ℕ, ◌<◌, true, false, cond, List, [], ◌∷◌, ◌++◌, length, refl, sym, ◌∙◌, ap, subst, Option, Some, None, nat_eq, Bor, inl, inr}
 use Rattle.std.specs.Prelude.{unwrap_or, ◌||◌, is_some}
 use Rattle.std.specs.List.{AllByRecursion, list_any}
 use Rattle.std.specs.Option.{option_map, option_copied}
 use Rattle.std.specs.Map.{lookup, set_value}
 use Rattle.std.specs.Str.{bytes_eq}
-use Rattle.std.proofs.lemmas.Bool.{eqb-true}
+use Rattle.std.proofs.lemmas.Bool.{eqb-true, or_cases, or_left, or_right}
 use Rattle.std.proofs.lemmas.List.{map-append}
+use Rattle.std.proofs.lemmas.Slice.Eq.{bytes_eq-Decides}
 use Rattle.indexmap.specs.IndexMap.{insert_entry}
 use Rattle.values.specs.declared.types.AttributeType.{AttributeType}
 use Rattle.values.specs.Values.{Value}
@@ -108,6 +109,19 @@ module _ (types : List AttributeType) (t : ℕ) where
       ap (λ m. list_any (λ w. bytes_eq (norm_at types t w) m) (values_of (attributes_of es) t)) (sym is)
       ∙ ap (list_any (λ w. bytes_eq (norm_at types t w) n)) (values_raw es)
       ∙ sym (any_norm n (values_of es t) (normal_values es all.each))
+
+  any_written : (raw : List ℕ) (vs : List Value) → list_any (λ v. bytes_eq v.raw raw) vs ≡ true → has_equal types t raw (raws vs) ≡ true
+  any_written raw [] h = h
+  any_written raw (v ∷ vs) h = elim (or_cases (bytes_eq v.raw raw) (list_any (λ x. bytes_eq x.raw raw) vs) h) [
+    | inl here ↦
+        or_left (bytes_eq (norm_at types t v.raw) (norm_at types t raw)) (has_equal types t raw (raws vs))
+        ((bytes_eq-Decides (norm_at types t v.raw) (norm_at types t raw)).1 (ap (norm_at types t) ((bytes_eq-Decides v.raw raw).0 here)))
+    | inr later ↦ or_right (bytes_eq (norm_at types t v.raw) (norm_at types t raw)) (has_equal types t raw (raws vs)) (any_written raw vs later)
+  ]
+
+  -- what is written the same is equal
+  pub written_is_equal : (raw : List ℕ) (es : List EntryAttribute) → list_any (λ v. bytes_eq v.raw raw) (values_of es t) ≡ true → has_equal types t raw (values_of (attributes_of es) t) ≡ true
+  written_is_equal raw es h = ap (has_equal types t raw) (values_raw es) ∙ any_written raw (values_of es t) h
 
 pub copied_some : {X : Type 0} (r : Option (Bor X)) → is_some r ≡ is_some (option_copied r)
 copied_some None = refl

@@ -1,7 +1,8 @@
 //! The values of an RDN among an entry's attributes.
 
 ghost use Rattle.std.specs.Prelude.{◌≡◌, ◌<◌, true, IfOk, OnErr, OnOk, length};
-ghost use Rattle.std.specs.List.{AllByRecursion};
+ghost use Rattle.std.specs.List.{AllByRecursion, list_any};
+ghost use Rattle.std.specs.Str.{bytes_eq};
 ghost use Rattle.schema.specs.GoodRdns.{IsAva};
 ghost use Rattle.schema.specs.Values.{norm_at, is_valid_at};
 ghost use Rattle.entries.specs.Entries.{values_of, has_equal, with_ava, with_rdn, HasBegun};
@@ -32,6 +33,16 @@ pub(crate) fn valid_value(
     }
 }
 
+// whether a type has a value that is written so
+fn has_raw(attrs: &Attributes, t: TypeId, raw: &[u8]) -> bool
+    ensures { result ≡ list_any (λ v. bytes_eq v.raw raw.now) (values_of attrs.now.entries t) }
+{
+    match attrs.get(t) {
+        Some(values) => values.iter().any(|value| value.raw() == raw),
+        None => false,
+    }
+}
+
 fn add_ava(
     alloc: Global,
     conf: &Conf,
@@ -44,8 +55,13 @@ fn add_ava(
     ensures values { OnOk result (attributes_of attrs.new.entries ≡ with_ava conf.now.types ava.now (attributes_of attrs.old.entries)) }
     ensures err { OnErr result (attrs.new ≡ attrs.old) }
 {
-    let (t, raw) = ava;
-    let value = valid_value(alloc, conf, *t, raw.as_slice())?;
+    let (t, value) = ava;
+    let raw = value.as_slice();
+    // most entries have it among their lines
+    if has_raw(attrs, *t, raw) {
+        return Ok(());
+    }
+    let value = valid_value(alloc, conf, *t, raw)?;
     attrs.put(alloc, *t, value)?;
     Ok(())
 }
