@@ -21,6 +21,10 @@ needs_pair b = nat_lt b 32 || nat_le 127 b
 abbrev pub stands : Bool → Bool → ℕ → Bool
 stands first last b = may_stand b && not (b == space && (first || last)) && not (b == number_sign && first)
 
+-- wherever it is in a value
+abbrev pub always_stands : ℕ → Bool
+always_stands b = not (needs_pair b) && stands true true b
+
 -- how a byte of a value is written, by whether it is the first and the last
 unfoldable pub written : Bool → Bool → ℕ → List ℕ
 written first last b = if needs_pair b then backslash ∷ digit (b / 16) ∷ digit (b % 16) ∷ [] else (if stands first last b then b ∷ [] else backslash ∷ b ∷ [])

@@ -1,12 +1,12 @@
 //! Names are written.
 
 ghost use Rattle.std.specs.Prelude.{◌≡◌, ◌<◌, ◌∷◌, ◌++◌, map, true, IfOk, OnErr, OnOk};
-ghost use Rattle.std.specs.List.{flat_map, join_with_byte};
+ghost use Rattle.std.specs.List.{flat_map, join_with_byte, list_all};
 ghost use Rattle.std.specs.String.{string_bytes};
 ghost use Rattle.base.specs.Extends.{Extends};
 ghost use Rattle.dn.specs.Names.{is_name};
 ghost use Rattle.dn.specs.Spelling.{Spells};
-ghost use Rattle.dn.specs.Writing.{digit, needs_pair, stands, written, value_text, ava_text, rdn_text, text_of};
+ghost use Rattle.dn.specs.Writing.{digit, needs_pair, stands, always_stands, written, value_text, ava_text, rdn_text, text_of};
 
 use crate::avas::Ava;
 use crate::names::{Name, Rdn};
@@ -46,9 +46,21 @@ fn put_byte(out: &mut Vec<u8>, first: bool, last: bool, b: u8) -> Result<(), All
     out.extend_from_slice(&[b'\\', b])
 }
 
-/// Writes a value as it stands in a name (RFC 4514, section 2.4), behind what `out` has. Where memory runs out, a beginning of it may
-/// stand there.
-pub fn put_value(out: &mut Vec<u8>, value: &[u8]) -> Result<(), AllocError>
+// Whether a byte stands for itself wherever it is in a value.
+fn always_stands(b: u8) -> bool
+    ensures { result ≡ always_stands b }
+{
+    !needs_pair(b) && stands(true, true, b)
+}
+
+fn all_stand(value: &[u8]) -> bool
+    ensures { result ≡ list_all always_stands value.now }
+{
+    value.iter().all(|b| always_stands(*b))
+}
+
+// Writes it byte by byte.
+fn put_bytes(out: &mut Vec<u8>, value: &[u8]) -> Result<(), AllocError>
     ensures put { OnOk result (out.new.items ≡ out.old.items ++ value_text value.now) }
     ensures kept { OnErr result (Extends out.old.items out.new.items) }
 {
@@ -56,6 +68,19 @@ pub fn put_value(out: &mut Vec<u8>, value: &[u8]) -> Result<(), AllocError>
         put_byte(out, i == 0, i + 1 == value.len(), value[i])?;
     }
     Ok(())
+}
+
+/// Writes a value as it stands in a name (RFC 4514, section 2.4), behind what `out` has. Where memory runs out, a beginning of it may
+/// stand there.
+#[tactic(auto, using(crate::proofs::Writing::text_of_standing))]
+pub fn put_value(out: &mut Vec<u8>, value: &[u8]) -> Result<(), AllocError>
+    ensures put { OnOk result (out.new.items ≡ out.old.items ++ value_text value.now) }
+    ensures kept { OnErr result (Extends out.old.items out.new.items) }
+{
+    if all_stand(value) {
+        return out.extend_from_slice(value);
+    }
+    put_bytes(out, value)
 }
 
 fn put_ava(out: &mut Vec<u8>, ava: &Ava) -> Result<(), AllocError>

@@ -1,7 +1,7 @@
 use Rattle.std.proofs.Common.{◌≡◌, ◌++◌, drop, nat_eq}
 use Rattle.base.specs.Extends.{Extends}
 use Rattle.dn.specs.Writing.{value_text, text_from}
-use Rattle.dn.proofs.write.put_value.Given as goal
+use Rattle.dn.proofs.write.put_bytes.Given as goal
 
 abbrev pub invariant-loop-i : goal.invariant-loop-i
 invariant-loop-i l = record {

@@ -2,7 +2,7 @@ use Rattle.std.proofs.Common.{get_or, refl, sym, subst, ◌∙◌}
 use Rattle.base.specs.Extends.{Extends}
 use Rattle.base.proofs.Extended.{extends_put, extends_on}
 use Rattle.dn.proofs.Writing.{text_more, text_done}
-use Rattle.dn.proofs.write.put_value.Goals as goal
+use Rattle.dn.proofs.write.put_bytes.Goals as goal
 
 pub loop-i-preserved : goal.loop-i-preserved
 loop-i-preserved c = record {
