@@ -19,3 +19,4 @@ pub mod ValueFaults
 pub mod AvaFaults
 pub mod TextFaults
 pub mod FaultExamples
+pub mod Apart

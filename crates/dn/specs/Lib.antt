@@ -2,6 +2,7 @@ pub mod Names
 pub mod Spelling
 pub mod NameFaults
 pub mod Reading
+pub mod Apart
 pub mod Writing
 pub mod Gives
 pub mod Faults

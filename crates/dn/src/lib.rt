@@ -4,6 +4,7 @@
 #![tactic(auto)]
 
 mod avas;
+mod ends;
 mod faults;
 mod laws;
 mod names;
@@ -14,6 +15,7 @@ mod value;
 mod write;
 
 pub use avas::Ava;
+pub use ends::split_end;
 pub use faults::{NameFault, NameFaultKind};
 pub use laws::{
     faults_stand_where_reading_stops, spelled_names_are_read, texts_spell_one_name,

@@ -150,7 +150,7 @@ type_ok t = Ok t
 abbrev names_ok : names.Name → Result names.Name Code
 names_ok n = Ok n
 
-below_is : (types : List AttributeType) (ss rs : List TypedRdn) → below types ss (ss ++ rs) ≡ Ok rs
+pub below_is : (types : List AttributeType) (ss rs : List TypedRdn) → below types ss (ss ++ rs) ≡ Ok rs
 unfolding below
 below_is types [] rs = refl
 below_is types (s ∷ ss) rs =
@@ -214,7 +214,7 @@ module _ (bytes : HaveBytes) (conf : Conf) (c : IsConf conf) where
       ∙ avas_typed (earlier ++ p ∷ []) ps h.1 (subst (λ (r : TypedRdn). IsDistinct nat_eq (map type_in r)) (sym (append_assoc earlier (p ∷ []) ps)) apart)
       ∙ ap rdn_ok (append_assoc earlier (p ∷ []) ps)
 
-  rdns_typed : (done rs : List TypedRdn) → AllByRecursion (IsRdn conf.types) rs → rdns_from conf.types done (map (written_rdn conf.types) rs) ≡ Ok (done ++ rs)
+  pub rdns_typed : (done rs : List TypedRdn) → AllByRecursion (IsRdn conf.types) rs → rdns_from conf.types done (map (written_rdn conf.types) rs) ≡ Ok (done ++ rs)
   unfolding rdns_from
   rdns_typed done [] h = ap rdns_ok (sym (append-nil done))
   rdns_typed done (r ∷ rs) h =

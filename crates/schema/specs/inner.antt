@@ -2,3 +2,4 @@ pub mod Keys
 pub mod Classes
 pub mod Marks
 pub mod Settled
+pub mod Fronts

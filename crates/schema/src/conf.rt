@@ -1,16 +1,21 @@
 //! A configuration, and what it says of types, values and names.
 
 ghost use Rattle.std.specs.Prelude.{◌≡◌, ◌<◌, ◌≤◌, IfOk, IfSome, length, map, reverse};
+ghost use Rattle.dn.specs.Writing.{text_of};
+ghost use Rattle.schema.specs.Names.{written_rdn};
 ghost use Rattle.schema.specs.Rdns.{rdn_key_of};
 ghost use Rattle.schema.specs.Classes.{class_of};
+ghost use Rattle.schema.specs.Values.{normal_text};
 ghost use Rattle.values.specs.Types.{type_of, name_of, type_at};
 
 use crate::class_table::ClassTable;
+use crate::dn_values::normal_text;
 use crate::locate::path_of;
+use crate::names::rdns_text;
 use crate::object_class::ObjectClass;
 use crate::settled::{Settled, settle};
 use crate::slots::Slot;
-use base::Sequence;
+use base::{Bytes, Sequence};
 use paths::{Path, TypedRdn};
 use std::alloc::{AllocError, Global};
 use std::marker::Model;
@@ -24,6 +29,9 @@ pub struct Conf {
     slots: Sequence<Slot>,
     // what the suffix's RDNs come to, from the root of the tree down
     root: Path,
+    // the suffix as it is written, and its normal form as a value
+    suffix_text: Bytes,
+    suffix_norm: Bytes,
     classes: ClassTable,
     // what each class asks, with all of its superclasses
     settled: Sequence<Settled>,
@@ -32,14 +40,17 @@ pub struct Conf {
 impl Model for Conf {
     ghost use Rattle.std.specs.Prelude.{◌≡◌, map, reverse};
     ghost use Rattle.schema.specs.Conf.{Conf, IsConf};
+    ghost use Rattle.dn.specs.Writing.{text_of};
+    ghost use Rattle.schema.specs.Names.{written_rdn};
     ghost use Rattle.schema.specs.Rdns.{rdn_key_of};
+    ghost use Rattle.schema.specs.Values.{normal_text};
     ghost use Rattle.schema.specs.inner.Settled.{AreSettled};
 
     ghost Value = { Conf };
 
     ghost view = { λ c. record { types = c.types; suffix = c.suffix; slots = c.slots; classes = c.classes } };
 
-    ghost invariant = { λ c. (IsConf (record { types = c.types; suffix = c.suffix; slots = c.slots; classes = c.classes })) × (c.root ≡ map (rdn_key_of c.types) (reverse c.suffix)) × (AreSettled c.classes c.settled) };
+    ghost invariant = { λ c. (IsConf (record { types = c.types; suffix = c.suffix; slots = c.slots; classes = c.classes })) × (c.root ≡ map (rdn_key_of c.types) (reverse c.suffix)) × (AreSettled c.classes c.settled) × (c.suffix_text ≡ text_of (map (written_rdn c.types) c.suffix)) × (c.suffix_norm ≡ normal_text c.types c.suffix) };
 }
 
 impl Conf {
@@ -58,12 +69,16 @@ impl Conf {
         ensures { IfOk result (λ conf. conf ≡ record { types = types; suffix = suffix; slots = slots; classes = classes }) }
     {
         let root = path_of(alloc, &types, suffix.as_slice())?;
+        let suffix_text = rdns_text(alloc, &types, suffix.as_slice())?;
+        let suffix_norm = normal_text(alloc, &types, suffix.as_slice(), suffix_text.len())?;
         let settled = settle(alloc, classes.as_slice())?;
         Ok(Conf {
             types,
             suffix,
             slots,
             root,
+            suffix_text,
+            suffix_norm,
             classes,
             settled,
         })
@@ -133,6 +148,20 @@ impl Conf {
         ensures { result.now ≡ self.now.suffix }
     {
         self.suffix.as_slice()
+    }
+
+    /// The suffix as it is written: each type by the name that it is printed by, and values as the configuration spells them.
+    pub fn suffix_text(&self) -> &[u8]
+        ensures { result.now ≡ text_of (map (written_rdn self.now.types) self.now.suffix) }
+    {
+        self.suffix_text.as_slice()
+    }
+
+    /// The normal form of the suffix as a value of DN syntax.
+    pub(crate) fn suffix_norm(&self) -> &[u8]
+        ensures { result.now ≡ normal_text self.now.types self.now.suffix }
+    {
+        self.suffix_norm.as_slice()
     }
 
     /// What is indexed: each slot once, by the number of its type, and then by its kind: equality, presence, substrings.

@@ -4,15 +4,18 @@ ghost use Rattle.std.specs.Prelude.{◌≡◌, ◌∷◌, ◌++◌, IfOk, OnOk, 
 ghost use Rattle.std.specs.List.{flat_map, join_with_byte, AllByRecursion};
 ghost use Rattle.dn.specs.Writing.{ava_text, rdn_text};
 ghost use Rattle.matching.specs.Forms.{lower};
+ghost use Rattle.schema.specs.inner.Fronts.{normal_front};
 ghost use Rattle.schema.specs.inner.Keys.{AreKnown};
 ghost use Rattle.schema.specs.Gives.{Gives};
 ghost use Rattle.schema.specs.Values.{rdns_in, normal_ava, normal_avas, normal_rdn, normal_text, normal_name};
 
+use crate::conf::Conf;
 use crate::fault::PathFault;
 use crate::names::read_dn;
 use crate::rdns::{rdn_key_of, typed_rdns};
 use base::{Bytes, Sequence};
-use dn::put_value;
+use dn::{put_value, split_end, written_names_are_read};
+use matching::valid_values_are_bytes;
 use paths::TypedRdn;
 use std::alloc::{AllocError, Global};
 use values::{TypeId, TypeTable, norm_by};
@@ -127,8 +130,9 @@ fn put_rdns(
     }
 }
 
+/// The normal form of a name with these RDNs.
 #[tactic(auto, unfolding(crate::specs::Values::normal_text))]
-fn normal_text(
+pub(crate) fn normal_text(
     alloc: Global,
     types: &TypeTable,
     rdns: &[TypedRdn],
@@ -170,5 +174,56 @@ pub(crate) fn normal_name(
         Ok(rdns) => Ok(Some(normal_text(alloc, types, rdns.as_slice(), text.len())?)),
         Err(PathFault::Code(_)) => Ok(None),
         Err(PathFault::OutOfMemory) => Err(AllocError),
+    }
+}
+
+impl Conf {
+    // the normal form of RDNs, and behind it that of the suffix
+    fn normal_above_suffix(
+        &self,
+        alloc: Global,
+        rdns: &[TypedRdn],
+        room: usize,
+    ) -> Result<Bytes, AllocError>
+        requires { AllByRecursion (AreKnown self.now.types) rdns.now }
+        ensures { IfOk result (λ b. b ≡ normal_text self.now.types rdns.now ++ 44 ∷ normal_text self.now.types self.now.suffix) }
+    {
+        let suffix = self.suffix_norm();
+        let mut out = Vec::with_capacity(alloc, room.saturating_add(suffix.len()))?;
+        put_rdns(alloc, self.table(), &mut out, rdns)?;
+        out.push(b',')?;
+        out.extend_from_slice(suffix)?;
+        Ok(Bytes::from_vec(out))
+    }
+
+    // the normal form of a name of which the RDNs of the suffix are left out, or `None` where the others are no value
+    #[tactic(auto, unfolding(crate::specs::inner::Fronts::normal_front))]
+    fn normal_front(&self, alloc: Global, front: &[u8]) -> Result<Option<Bytes>, AllocError>
+        ensures { IfOk result (λ o. o ≡ normal_front self.now.types self.now.suffix front.now) }
+    {
+        let room = front.len().saturating_add(1);
+        match rdns_in(alloc, self.table(), front) {
+            Ok(rdns) => Ok(Some(self.normal_above_suffix(alloc, rdns.as_slice(), room)?)),
+            Err(PathFault::Code(_)) => Ok(None),
+            Err(PathFault::OutOfMemory) => Err(AllocError),
+        }
+    }
+
+    /// The normal form of the name that bytes spell, or `None` where they are no value of DN syntax.
+    pub(crate) fn normal_name(
+        &self,
+        alloc: Global,
+        text: &[u8],
+    ) -> Result<Option<Bytes>, AllocError>
+        ensures { IfOk result (λ o. o ≡ normal_name self.now.types text.now) }
+    {
+        self.rules_are_kept();
+        written_names_are_read();
+        valid_values_are_bytes();
+        // most names end as the suffix is written, whose normal form is known
+        match split_end(text, self.suffix_text()) {
+            Some(front) => self.normal_front(alloc, front),
+            None => normal_name(alloc, self.table(), text),
+        }
     }
 }

@@ -4,6 +4,7 @@ ghost use Rattle.std.specs.Prelude.{◌≡◌, ◌++◌, ◌∷◌, [], IfOk, ma
 ghost use Rattle.std.specs.List.{AllByRecursion};
 ghost use Rattle.schema.specs.Rdns.{rdn_key_of, typed, typed_rdn};
 ghost use Rattle.schema.specs.GoodRdns.{IsRdn};
+ghost use Rattle.schema.specs.inner.Fronts.{front_located};
 ghost use Rattle.schema.specs.inner.Keys.{AreKnown, KeysFit};
 ghost use Rattle.schema.specs.Conf.{below, place_of, located, path_of, path_of_name};
 ghost use Rattle.schema.specs.Gives.{Gives};
@@ -14,7 +15,8 @@ use crate::fault::PathFault;
 use crate::names::read_dn;
 use crate::rdns::{rdn_key_of, step_down, typed_rdn, typed_rdns};
 use base::Sequence;
-use dn::Name;
+use dn::{Name, split_end, written_names_are_read};
+use matching::valid_values_are_bytes;
 use paths::{Path, PathDraft, TypedRdn};
 use std::alloc::{AllocError, Global};
 use values::TypeTable;
@@ -96,15 +98,46 @@ impl Conf {
         self.below_suffix(alloc, typed)
     }
 
-    /// Where the name that bytes spell stands; `InvalidDnSyntax` where they spell none, else what `place_of` answers.
+    // where a name stands, of which the RDNs of the suffix are left out
+    #[tactic(auto, unfolding(crate::specs::inner::Fronts::front_located))]
+    fn locate_front(&self, alloc: Global, front: &[u8]) -> Result<Located, PathFault>
+        ensures rdns { Gives (λ l. l.rdns) result (front_located self.now.types front.now) }
+        ensures path { IfOk result (λ l. l.path ≡ path_of self.now l.rdns) }
+        ensures good { IfOk result (λ l. AllByRecursion (IsRdn self.now.types) l.rdns) }
+    {
+        let name = read_dn(alloc, front)?;
+        let TypedName { mut rdns, path } = typed(alloc, self.table(), &name)?;
+        rdns.reverse();
+        Ok(Located {
+            path,
+            rdns: Sequence::from_vec(rdns),
+        })
+    }
+
     #[tactic(auto, unfolding(crate::specs::Conf::located))]
-    pub fn locate(&self, alloc: Global, text: &[u8]) -> Result<Located, PathFault>
+    fn locate_whole(&self, alloc: Global, text: &[u8]) -> Result<Located, PathFault>
         ensures rdns { Gives (λ l. l.rdns) result (located self.now text.now) }
         ensures path { IfOk result (λ l. l.path ≡ path_of self.now l.rdns) }
         ensures good { IfOk result (λ l. AllByRecursion (IsRdn self.now.types) l.rdns) }
     {
         let name = read_dn(alloc, text)?;
         self.place_of(alloc, &name)
+    }
+
+    /// Where the name that bytes spell stands; `InvalidDnSyntax` where they spell none, else what `place_of` answers.
+    pub fn locate(&self, alloc: Global, text: &[u8]) -> Result<Located, PathFault>
+        ensures rdns { Gives (λ l. l.rdns) result (located self.now text.now) }
+        ensures path { IfOk result (λ l. l.path ≡ path_of self.now l.rdns) }
+        ensures good { IfOk result (λ l. AllByRecursion (IsRdn self.now.types) l.rdns) }
+    {
+        self.rules_are_kept();
+        written_names_are_read();
+        valid_values_are_bytes();
+        // most names end as the suffix is written, which need not be read each time
+        match split_end(text, self.suffix_text()) {
+            Some(front) => self.locate_front(alloc, front),
+            None => self.locate_whole(alloc, text),
+        }
     }
 
     /// The path of the entry with this name, or the code that `place_of` answers.

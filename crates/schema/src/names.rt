@@ -1,13 +1,12 @@
 //! Names as bytes, and RDNs as they are written (RFC 4514).
 
-ghost use Rattle.std.specs.Prelude.{◌≡◌, ◌<◌, ◌∷◌, ◌++◌, OnErr, OnOk, length};
-ghost use Rattle.std.specs.List.{flat_map, AllByRecursion};
+ghost use Rattle.std.specs.Prelude.{◌≡◌, ◌∷◌, ◌++◌, IfOk, OnErr, OnOk, map};
+ghost use Rattle.std.specs.List.{flat_map};
 ghost use Rattle.base.specs.Extends.{Extends};
 ghost use Rattle.dn.specs.Reading.{name_of};
-ghost use Rattle.dn.specs.Writing.{ava_text, rdn_text};
+ghost use Rattle.dn.specs.Writing.{ava_text, rdn_text, text_of};
 ghost use Rattle.schema.specs.GoodRdns.{IsRdn};
 ghost use Rattle.schema.specs.Names.{or_invalid, name_in, written_ava, written_rdn};
-ghost use Rattle.schema.specs.inner.Keys.{AreKnown};
 ghost use Rattle.schema.specs.Gives.{Gives};
 
 use crate::code::Code;
@@ -17,7 +16,7 @@ use base::Bytes;
 use dn::{Name, NameFault, put_value, read_name};
 use paths::TypedRdn;
 use std::alloc::{AllocError, Global};
-use values::TypeId;
+use values::{TypeId, TypeTable};
 
 fn read_text(alloc: Global, text: &str) -> Result<Name, PathFault>
     ensures { Gives (λ n. n) result (or_invalid (name_of text.now)) }
@@ -40,46 +39,79 @@ pub fn read_dn(alloc: Global, text: &[u8]) -> Result<Name, PathFault>
     }
 }
 
+fn put_ava(types: &TypeTable, out: &mut Vec<u8>, ava: &(TypeId, Bytes)) -> Result<(), AllocError>
+    ensures put { OnOk result (out.new.items ≡ out.old.items ++ ava_text (written_ava types.now ava.now)) }
+    ensures kept { OnErr result (Extends out.old.items out.new.items) }
+{
+    let (t, value) = ava;
+    out.extend_from_slice(types.printed_name(*t))?;
+    out.extend_from_slice(b"=")?;
+    put_value(out, value.as_slice())
+}
+
+// each AVA with a plus sign before it
+fn put_more_avas(
+    types: &TypeTable,
+    out: &mut Vec<u8>,
+    avas: &[(TypeId, Bytes)],
+) -> Result<(), AllocError>
+    ensures put { OnOk result (out.new.items ≡ out.old.items ++ flat_map (λ p. 43 ∷ ava_text (written_ava types.now p)) avas.now) }
+    ensures kept { OnErr result (Extends out.old.items out.new.items) }
+{
+    for ava in avas {
+        out.extend_from_slice(b"+")?;
+        put_ava(types, out, ava)?;
+    }
+    Ok(())
+}
+
+fn put_avas(
+    types: &TypeTable,
+    out: &mut Vec<u8>,
+    avas: &[(TypeId, Bytes)],
+) -> Result<(), AllocError>
+    ensures put { OnOk result (out.new.items ≡ out.old.items ++ rdn_text (written_rdn types.now avas.now)) }
+    ensures kept { OnErr result (Extends out.old.items out.new.items) }
+{
+    match avas {
+        [] => Ok(()),
+        [first, others @ ..] => {
+            put_ava(types, out, first)?;
+            put_more_avas(types, out, others)?;
+            Ok(())
+        }
+    }
+}
+
+// RDNs with a comma between each two
+fn put_rdns(types: &TypeTable, out: &mut Vec<u8>, rdns: &[TypedRdn]) -> Result<(), AllocError>
+    ensures { OnOk result (out.new.items ≡ out.old.items ++ text_of (map (written_rdn types.now) rdns.now)) }
+{
+    let [first, rest @ ..] = rdns else {
+        return Ok(());
+    };
+    put_avas(types, out, first.avas())?;
+    for rdn in rest {
+        out.push(b',')?;
+        put_avas(types, out, rdn.avas())?;
+    }
+    Ok(())
+}
+
+/// RDNs as they stand in a name: their types by the names that they are printed by.
+pub(crate) fn rdns_text(
+    alloc: Global,
+    types: &TypeTable,
+    rdns: &[TypedRdn],
+) -> Result<Bytes, AllocError>
+    ensures { IfOk result (λ t. t ≡ text_of (map (written_rdn types.now) rdns.now)) }
+{
+    let mut out = Vec::new(alloc);
+    put_rdns(types, &mut out, rdns)?;
+    Ok(Bytes::from_vec(out))
+}
+
 impl Conf {
-    fn put_ava(&self, out: &mut Vec<u8>, ava: &(TypeId, Bytes)) -> Result<(), AllocError>
-        requires { ava.now.0 < length self.now.types }
-        ensures put { OnOk result (out.new.items ≡ out.old.items ++ ava_text (written_ava self.now.types ava.now)) }
-        ensures kept { OnErr result (Extends out.old.items out.new.items) }
-    {
-        let (t, value) = ava;
-        out.extend_from_slice(self.name(*t))?;
-        out.extend_from_slice(b"=")?;
-        put_value(out, value.as_slice())
-    }
-
-    // each AVA with a plus sign before it
-    fn put_more_avas(&self, out: &mut Vec<u8>, avas: &[(TypeId, Bytes)]) -> Result<(), AllocError>
-        requires { AreKnown self.now.types avas.now }
-        ensures put { OnOk result (out.new.items ≡ out.old.items ++ flat_map (λ p. 43 ∷ ava_text (written_ava self.now.types p)) avas.now) }
-        ensures kept { OnErr result (Extends out.old.items out.new.items) }
-    {
-        for ava in avas {
-            out.extend_from_slice(b"+")?;
-            self.put_ava(out, ava)?;
-        }
-        Ok(())
-    }
-
-    fn put_avas(&self, out: &mut Vec<u8>, avas: &[(TypeId, Bytes)]) -> Result<(), AllocError>
-        requires { AreKnown self.now.types avas.now }
-        ensures put { OnOk result (out.new.items ≡ out.old.items ++ rdn_text (written_rdn self.now.types avas.now)) }
-        ensures kept { OnErr result (Extends out.old.items out.new.items) }
-    {
-        match avas {
-            [] => Ok(()),
-            [first, others @ ..] => {
-                self.put_ava(out, first)?;
-                self.put_more_avas(out, others)?;
-                Ok(())
-            }
-        }
-    }
-
     /// Writes an RDN as it stands in a name, behind what `out` has: its types by the names that they are printed by. Where memory runs
     /// out, a beginning of it may stand there.
     pub fn put_rdn(&self, out: &mut Vec<u8>, rdn: &TypedRdn) -> Result<(), AllocError>
@@ -87,6 +119,6 @@ impl Conf {
         ensures put { OnOk result (out.new.items ≡ out.old.items ++ rdn_text (written_rdn self.now.types rdn.now)) }
         ensures kept { OnErr result (Extends out.old.items out.new.items) }
     {
-        self.put_avas(out, rdn.avas())
+        put_avas(self.table(), out, rdn.avas())
     }
 }

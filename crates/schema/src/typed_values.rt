@@ -26,16 +26,6 @@ fn is_valid_by(
     }
 }
 
-// the value of a type that compares names, which takes names alone
-fn name_value(alloc: Global, types: &TypeTable, raw: &[u8]) -> Result<Value, ValueFault>
-    ensures { Makes result (is_some (normal_name types.now raw.now)) (λ v. v ≡ record { raw = raw.now; norm = unwrap_or (normal_name types.now raw.now) raw.now }) }
-{
-    match normal_name(alloc, types, raw)? {
-        Some(norm) => Ok(Value::joined(norm, raw)?),
-        None => Err(ValueFault::Invalid),
-    }
-}
-
 // the value under an equality rule
 fn value_with(
     alloc: Global,
@@ -72,6 +62,16 @@ fn are_valid_by(
 }
 
 impl Conf {
+    // the value of a type that compares names, which takes names alone
+    fn name_value(&self, alloc: Global, raw: &[u8]) -> Result<Value, ValueFault>
+        ensures { Makes result (is_some (normal_name self.now.types raw.now)) (λ v. v ≡ record { raw = raw.now; norm = unwrap_or (normal_name self.now.types raw.now) raw.now }) }
+    {
+        match self.normal_name(alloc, raw)? {
+            Some(norm) => Ok(Value::joined(norm, raw)?),
+            None => Err(ValueFault::Invalid),
+        }
+    }
+
     /// The pieces of a substring assertion (RFC 4511, 4.5.1.7.2) for values of a type that has a substrings rule; `front` and `back` say
     /// whether a star stands there. `Invalid` where a piece by itself is no value of the type's syntax.
     #[tactic(auto, unfolding(crate::specs::Values::is_valid_at))]
@@ -107,7 +107,7 @@ impl Conf {
         let kind = self.at(t);
         match (kind.syntax, kind.equality) {
             // read once for both
-            (TypeSyntax::Name, Some(EqualityRule::Name)) => name_value(alloc, self.table(), raw),
+            (TypeSyntax::Name, Some(EqualityRule::Name)) => self.name_value(alloc, raw),
             (syntax, equality) => {
                 if !is_valid_by(alloc, self.table(), syntax, raw)? {
                     return Err(ValueFault::Invalid);

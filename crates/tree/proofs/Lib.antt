@@ -16,7 +16,6 @@ pub mod TreeLemmas
 pub mod Children
 pub mod PlanLemmas
 pub mod NameLemmas
-pub mod PushedNames
 pub mod Above
 pub mod Writable
 pub mod Planned

@@ -1,7 +1,7 @@
 use Rattle.std.proofs.Common.{sym, subst}
 use Rattle.base.specs.Extends.{Extends}
 use Rattle.base.proofs.Extended.{extends_put, extends_on, on_err_too}
-use Rattle.schema.proofs.conf.Conf.put_more_avas.Goals as goal
+use Rattle.schema.proofs.names.put_more_avas.Goals as goal
 
 pub returns-in_err-put_ava-clause-kept : goal.returns-in_err-put_ava-clause-kept
 returns-in_err-put_ava-clause-kept c =
