@@ -1,6 +1,7 @@
 pub mod Colon
 pub mod Blocks
 pub mod ControlLines
+pub mod Ends
 pub mod Folds
 pub mod WrittenLines
 pub mod WrittenContents

@@ -69,7 +69,7 @@ pub clean_end : (xs : List ℕ) → list_all is_clean xs ≡ true → without_en
 clean_end [] h = refl
 clean_end (b ∷ bs) h = let a = and_parts (is_clean b) (list_all is_clean bs) h in ap (onto_text b) (clean_end bs a.1) ∙ onto_clean b bs (not_space b a.0)
 
-all_weaker : (p q : ℕ → Bool) → ((b : ℕ) → p b ≡ true → q b ≡ true) → (xs : List ℕ) → list_all p xs ≡ true → list_all q xs ≡ true
+pub all_weaker : (p q : ℕ → Bool) → ((b : ℕ) → p b ≡ true → q b ≡ true) → (xs : List ℕ) → list_all p xs ≡ true → list_all q xs ≡ true
 all_weaker p q f [] h = refl
 all_weaker p q f (x ∷ xs) h = let a = and_parts (p x) (list_all p xs) h in and_from (q x) (list_all q xs) (f x a.0) (all_weaker p q f xs a.1)
 

@@ -11,6 +11,14 @@ use Rattle.ldif_lines.specs.Folding.{folded}
 abbrev pub is_safe_byte : ℕ → Bool
 is_safe_byte b = nat_le 1 b && nat_le b 127 && not (b == line_feed) && not (b == carriage_return)
 
+-- ASCII from the space on, as most bytes of a value are; each of these is safe
+abbrev pub is_common_byte : ℕ → Bool
+is_common_byte b = nat_le 32 b && nat_le b 127
+
+-- neither a space, `:` or `<` in front nor a space at the end
+abbrev pub has_plain_ends : List ℕ → Bool
+has_plain_ends value = not (begins_with space value || begins_with colon value || begins_with less_than_sign value) && not (ends_with space value)
+
 -- whether a value may stand as it is: safe bytes, neither a space, `:` or `<` in front nor a space at the end
 unfoldable pub is_plain : List ℕ → Bool
 is_plain value =

@@ -1,6 +1,6 @@
 //! Lines that are written.
 
-ghost use Rattle.std.specs.Prelude.{◌≡◌, ◌<◌, ◌-◌, ◌^◌, ◌++◌, ◌∷◌, length, IfOk, OnErr, OnOk};
+ghost use Rattle.std.specs.Prelude.{◌≡◌, ◌<◌, ◌≤◌, ◌+◌, ◌-◌, ◌^◌, ◌++◌, ◌∷◌, length, IfOk, OnErr, OnOk, IsTrue};
 ghost use Rattle.std.specs.List.{list_all};
 ghost use Rattle.base64.specs.GeneralPurpose.{encode_of};
 ghost use Rattle.base64.specs.Engines.{standard};
@@ -8,7 +8,7 @@ ghost use Rattle.base.specs.Ascii.{line_feed, space};
 ghost use Rattle.base.specs.Extends.{Extends};
 ghost use Rattle.device.specs.Device.{Took, Broke};
 ghost use Rattle.ldif_lines.specs.Folding.{folded};
-ghost use Rattle.ldif.specs.Writing.{is_safe_byte, is_plain, line_text, written_line};
+ghost use Rattle.ldif.specs.Writing.{is_safe_byte, is_common_byte, has_plain_ends, is_plain, line_text, written_line};
 
 use base::{begins_with, ends_with};
 use base64::engine::general_purpose::STANDARD;
@@ -47,13 +47,79 @@ fn are_safe(value: &[u8]) -> bool
     safe
 }
 
-#[tactic(auto, unfolding(crate::specs::Writing::is_plain))]
+fn has_plain_ends(value: &[u8]) -> bool
+    ensures { result ≡ has_plain_ends value.now }
+{
+    !(begins_with(value, b' ') || begins_with(value, b':') || begins_with(value, b'<'))
+        && !ends_with(value, b' ')
+}
+
+#[tactic(auto, using(crate::proofs::Ends::plain_by_ends))]
 fn is_plain(value: &[u8]) -> bool
     ensures { result ≡ is_plain value.now }
 {
-    are_safe(value)
-        && !(begins_with(value, b' ') || begins_with(value, b':') || begins_with(value, b'<'))
-        && !ends_with(value, b' ')
+    are_safe(value) && has_plain_ends(value)
+}
+
+// A value with other bytes may be plain, too.
+#[tactic(auto, using(crate::proofs::Ends::surely))]
+fn is_surely_plain(value: &[u8]) -> bool
+    ensures { IsTrue result → IsTrue (is_plain value.now) }
+{
+    are_common(value) && has_plain_ends(value)
+}
+
+fn is_common_byte(b: u8) -> bool
+    ensures { result ≡ is_common_byte b }
+{
+    b' ' <= b && b <= 127
+}
+
+fn each_is_common(value: &[u8]) -> bool
+    ensures { result ≡ list_all is_common_byte value.now }
+{
+    let mut common = true;
+    for b in value {
+        common &= is_common_byte(*b);
+    }
+    common
+}
+
+// Of a fixed number of bytes, which are tested at once.
+#[inline(always)]
+fn block_is_common<const N: usize>(block: &[u8; N]) -> bool
+    ensures { result ≡ list_all is_common_byte block.now }
+{
+    let mut common = true;
+    for b in block {
+        common &= is_common_byte(*b);
+    }
+    common
+}
+
+// By the first N and the last N bytes, which may overlap.
+#[inline(always)]
+fn ends_are_common<const N: usize>(value: &[u8]) -> bool
+    requires small { N ≤ 32 }
+    requires all { length value.now ≤ N + N }
+    ensures { result ≡ list_all is_common_byte value.now }
+{
+    match (value.first_chunk::<N>(), value.last_chunk::<N>()) {
+        (Some(front), Some(back)) => block_is_common(front) & block_is_common(back),
+        _ => each_is_common(value),
+    }
+}
+
+fn are_common(value: &[u8]) -> bool
+    ensures { result ≡ list_all is_common_byte value.now }
+{
+    match value.len() {
+        4..=7 => ends_are_common::<4>(value),
+        8..=15 => ends_are_common::<8>(value),
+        16..=31 => ends_are_common::<16>(value),
+        32..=63 => ends_are_common::<32>(value),
+        _ => each_is_common(value),
+    }
 }
 
 // Kept apart, since most values are plain, and its tables would be laid out for them too.
@@ -137,6 +203,37 @@ fn put_some(alloc: Global, out: &mut Vec<u8>, name: &[u8], value: &[u8]) -> Resu
     put_folded(out, &text)
 }
 
+// Puts any line at the end. Where memory runs out, nothing is put.
+#[inline(never)]
+fn put_any(alloc: Global, out: &mut Vec<u8>, name: &[u8], value: &[u8]) -> Result<(), AllocError>
+    ensures put { OnOk result (out.new.items ≡ out.old.items ++ written_line name.now value.now) }
+    ensures kept { OnErr result (out.new.items ≡ out.old.items) }
+{
+    let before = out.len();
+    let put = put_some(alloc, out, name, value);
+    if put.is_err() {
+        out.truncate(before);
+    }
+    put
+}
+
+// The same of a line of one piece that has its value as it is.
+fn put_short(out: &mut Vec<u8>, name: &[u8], value: &[u8]) -> Result<(), AllocError>
+    requires one_piece { length name.now + length value.now ≤ 74 }
+    requires some { 0 < length value.now }
+    requires plain { IsTrue (is_plain value.now) }
+    ensures put { OnOk result (out.new.items ≡ out.old.items ++ written_line name.now value.now) }
+    ensures kept { OnErr result (out.new.items ≡ out.old.items) }
+{
+    out.reserve(name.len() + value.len() + 3)?;
+    out.extend_from_slice(name)?;
+    out.push_reserved(b':');
+    out.push_reserved(b' ');
+    out.extend_from_slice(value)?;
+    out.push_reserved(b'\n');
+    Ok(())
+}
+
 /// Puts the line of a name and a value at the end, as [`write_line`] writes it. Where memory runs out, nothing is put.
 pub fn put_line(
     alloc: Global,
@@ -147,12 +244,11 @@ pub fn put_line(
     ensures put { OnOk result (out.new.items ≡ out.old.items ++ written_line name.now value.now) }
     ensures kept { OnErr result (out.new.items ≡ out.old.items) }
 {
-    let before = out.len();
-    let put = put_some(alloc, out, name, value);
-    if put.is_err() {
-        out.truncate(before);
+    // As most lines are: the colon and the space stand in the piece, too.
+    if !value.is_empty() && name.len() + value.len() <= FIRST_PIECE - 2 && is_surely_plain(value) {
+        return put_short(out, name, value);
     }
-    put
+    put_any(alloc, out, name, value)
 }
 
 fn written_line(alloc: Global, name: &[u8], value: &[u8]) -> Result<Vec<u8>, AllocError>
