@@ -1,9 +1,12 @@
 -- The first colon of a line.
-use Rattle.std.proofs.Common.{◌≡◌, ℕ, zero, suc, ◌+◌, ◌<◌, Bool, true, false, not, cond, eqb, leb, ltb, List, [], ◌∷◌, ◌++◌, length, get_or, take, drop, Option, Some, None, Result, Ok, Err, refl, sym, ap, ◌∙◌, arith}
+use Rattle.std.proofs.Common.{◌≡◌, ℕ, zero, suc, ◌+◌, ◌*◌, ◌<◌, ◌≤◌, Bool, true, false, not, cond, eqb, leb, ltb, List, [], ◌∷◌, ◌++◌, length, map, get_or, take, drop, Option, Some, None, Result, Ok, Err, refl, sym, ap, subst, ◌∙◌, zero-add, arith}
 use Rattle.std.specs.List.{position, position_or_len, prefix_len, list_all}
 use Rattle.std.proofs.lemmas.Bool.{false_from_ne_true, lt-ltb, le-ltb, ne_eqb, and_parts, and_from, not-true, not_from_false}
 use Rattle.std.proofs.lemmas.List.{take_at, length-append}
 use Rattle.std.proofs.lemmas.List.Sums.{position_or_len_is}
+use Rattle.std.proofs.lemmas.Simd.{length-chunk, trailing_mask_l, run_in_chunk_fails, run_in_chunk_stops}
+use lib.Count.{count_trailing_zeros}
+use lib.Lanes.{chunk, mask_l}
 use Rattle.memchr.specs.Find.{IsFirstByte}
 use Rattle.ldif.specs.declared.fault.LdifFaultKind.{LdifFaultKind}
 use Rattle.ldif.specs.declared.fault.LdifFaultKind.TheVariants.{ColonMissing}
@@ -24,6 +27,37 @@ module _ (p : ℕ → Bool) (xs : List ℕ) where
   position_is (Some k) h =
       let place : position_or_len p xs ≡ k = position_or_len_is p xs k 0 (omega (arith, h.0.high)) (λ j lt. false_from_ne_true (p (get_or xs j 0)) (h.0.before j (omega arith) lt)) (λ lt. h.1) in
       sym (ap (λ (n : ℕ). placed n (ltb n (length xs))) place ∙ ap (placed k) (lt-ltb k (length xs) h.0.high))
+
+  -- ---- among the first 16 bytes, of which a mask has those that pass
+
+  some_step : (b : Bool) (n m l : ℕ) → 0 < cond b 1 0 + 2 * n → (0 < n → m < l) → cond (not b) (1 + m) 0 < suc l
+  some_step true n m l e f = omega arith
+  some_step false n m l e f = omega (arith, f (omega arith))
+
+  some_passes : (ys : List ℕ) → 0 < mask_l (map p ys) → prefix_len (λ y. not (p y)) ys < length ys
+  some_passes [] e = absurd (omega arith)
+  some_passes (y ∷ ys) e = some_step (p y) (mask_l (map p ys)) (prefix_len (λ z. not (p z)) ys) (length ys) e (some_passes ys)
+
+  module _ (found : ℕ) (is : found ≡ mask_l (map p (chunk 0 16 xs))) (room : 0 + 16 ≤ length xs) (some : 0 < found) where
+    abbrev at : ℕ
+    at = count_trailing_zeros 64 found
+
+    long : length (chunk 0 16 xs) ≡ 16
+    long = length-chunk 0 16 xs room
+
+    counted : at ≡ prefix_len (λ y. not (p y)) (chunk 0 16 xs)
+    counted = ap (count_trailing_zeros 64) is ∙ trailing_mask_l p 64 (chunk 0 16 xs) (omega (arith, long)) (omega (arith, is, some))
+
+    short : at < 16
+    short = omega (arith, counted, long, some_passes (chunk 0 16 xs) (omega (arith, is, some)))
+
+    pub near_within : at < length xs
+    near_within = omega (arith, short, room)
+
+    pub near_is : Some at ≡ position p xs
+    near_is =
+        let place : position_or_len p xs ≡ at = position_or_len_is p xs at 0 (omega (arith, near_within)) (λ k lt. run_in_chunk_fails p xs 0 16 at 0 room counted k (omega arith) (omega (arith, lt))) (λ lt. subst (λ (k : ℕ). p (get_or xs k 0) ≡ true) (zero-add at) (run_in_chunk_stops p xs 0 16 at 0 room counted short)) in
+        sym (ap (λ (n : ℕ). placed n (ltb n (length xs))) place ∙ ap (placed at) (lt-ltb at (length xs) near_within))
 
 -- ---- a name, a colon and the rest
 

@@ -1,9 +1,11 @@
 -- Spaces before and after a text.
-use Rattle.std.proofs.Common.{◌≡◌, ℕ, zero, suc, Bool, true, false, cond, eqb, List, [], ◌∷◌, ◌++◌, replicate, refl, sym, ap, ◌∙◌, append_assoc}
+use Rattle.std.proofs.Common.{◌≡◌, ℕ, zero, suc, Bool, true, false, cond, eqb, List, [], ◌∷◌, ◌++◌, replicate, Result, Ok, refl, sym, ap, ◌∙◌, append_assoc}
 use Rattle.std.proofs.lemmas.List.{append-nil}
 use Rattle.std.proofs.lemmas.Bool.{eqb-true}
 use Rattle.base.specs.Ends.{begins_with, without_front, without_end, onto_text, ends_with}
 use Rattle.ldif.specs.Forms.{IsTrimmed}
+use Rattle.ldif.specs.Line.{form_of}
+use Rattle.ldif.specs.declared.fault.LdifFaultKind.{LdifFaultKind}
 use Rattle.base.proofs.LastByte.{end_space}
 
 Front : ℕ → List ℕ → Bool → Type 0
@@ -34,6 +36,18 @@ end_is (b ∷ bs) =
 pub skip : (n : ℕ) (xs : List ℕ) → without_front (replicate n 32 ++ xs) ≡ without_front xs
 skip zero xs = refl
 skip (suc n) xs = skip n xs
+
+abbrev plain_form : List ℕ → Result (List ℕ) LdifFaultKind
+plain_form text = Ok text
+
+no_front : (xs : List ℕ) → begins_with 32 xs ≡ false → without_front xs ≡ xs
+no_front [] e = refl
+no_front (b ∷ bs) e = ap (λ (t : Bool). cond t (without_front bs) (b ∷ bs)) e
+
+-- one space and no further one
+pub one_space : (rest value : List ℕ) → rest ≡ 32 ∷ value → begins_with 32 value ≡ false → form_of rest ≡ Ok value
+unfolding form_of
+one_space rest value is none = ap form_of is ∙ ap (λ (xs : List ℕ). plain_form xs) (no_front value none)
 
 pub cut_end : (xs : List ℕ) (n : ℕ) → without_end (xs ++ replicate n 32) ≡ without_end xs
 cut_end xs zero = ap without_end (append-nil xs)

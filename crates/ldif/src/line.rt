@@ -1,17 +1,19 @@
 //! Value lines.
 
-ghost use Rattle.std.specs.Prelude.{◌≡◌, ◌<◌, List, ℕ, position, length, IfSome};
+ghost use Rattle.std.specs.Prelude.{◌≡◌, ◌<◌, List, ℕ, position, length, map, IfSome, Ok};
+ghost use Rattle.std.specs.Simd.Lanes.{mask_l};
 ghost use Rattle.ldif.specs.Gives.{Gives, GivesBy};
 ghost use Rattle.ldif.specs.LineValues.{bytes_in};
 ghost use Rattle.ldif.specs.Line.{decoded, form_of, is_colon, value_of, value_line};
 
 use crate::fault::{LdifFault, LdifFaultKind};
 use crate::value::{Attr, LineValue};
-use base::{Bytes, without_end, without_front};
+use base::{Bytes, begins_with, without_end, without_front};
 use base64::DecodeAllocError;
 use base64::engine::general_purpose::STANDARD;
 use memchr::memchr;
 use std::alloc::Global;
+use std::simd::prelude::*;
 
 // Kept apart, since most values are plain, and its tables would be laid out for them too.
 #[inline(never)]
@@ -41,11 +43,56 @@ pub fn form_of(alloc: Global, rest: &[u8]) -> Result<LineValue<'_>, LdifFault>
     }
 }
 
+// A bit for each byte that is a colon, the lowest for the first byte.
+fn colons(bytes: u8x16) -> u64
+    ensures { result ≡ mask_l (map is_colon bytes) }
+{
+    bytes.simd_eq(u8x16::splat(b':')).to_bitmask()
+}
+
+// In most lines it is one of the first 16 bytes.
 fn colon_in(line: &[u8]) -> Option<usize>
     ensures at { result ≡ position is_colon line.now }
     ensures within { IfSome result (λ at. at < length line.now) }
 {
+    if line.len() >= 16 {
+        let near = colons(u8x16::from_slice(line));
+        if near != 0 {
+            return Some(near.trailing_zeros() as usize);
+        }
+    }
     memchr(b':', line)
+}
+
+// The value behind one space, where no further one follows.
+fn plain_value(rest: &[u8]) -> Option<&[u8]>
+    ensures { IfSome result (λ value. form_of rest.now ≡ Ok value.now) }
+{
+    match rest.split_first() {
+        Some((b' ', value)) => {
+            if begins_with(value, b' ') {
+                return None;
+            }
+            Some(value)
+        }
+        _ => None,
+    }
+}
+
+// The name and the value of a line as most are: what `value_line` gives, without its many forms.
+#[tactic(auto, unfolding(crate::specs::Line::value_of, crate::specs::Line::value_line))]
+pub(crate) fn plain_line(line: &[u8]) -> Option<(&[u8], &[u8])>
+    ensures { IfSome result (λ parts. value_line line.now ≡ Ok (record { name = parts.0.now; value = parts.1.now })) }
+{
+    if begins_with(line, b' ') {
+        return None;
+    }
+    let at = colon_in(line)?;
+    if at == 0 {
+        return None;
+    }
+    let value = plain_value(&line[at + 1..])?;
+    Some((&line[..at], value))
 }
 
 #[tactic(auto, unfolding(crate::specs::Line::value_of))]

@@ -1,4 +1,4 @@
-use Rattle.std.proofs.Common.{List, Ok, sym, ap, ◌∙◌}
+use Rattle.std.proofs.Common.{List, [], ◌∷◌, ◌++◌, Ok, sym, ap, ◌∙◌}
 use Rattle.std.proofs.lemmas.Result.{err_from_is_err_and}
 use Rattle.ldif.specs.Gives.{fault_of}
 use Rattle.base.specs.Answers.{each}
@@ -12,8 +12,14 @@ walk-init c = ap (λ (front : List Attr). with_front front (each value_line c.ar
 
 pub walk-preserved : goal.walk-preserved
 walk-preserved c =
-    ap (λ (front : List Attr). with_front front (each value_line c.in-Some.after)) c.in_ok-push.ensures.items
+    ap (λ (front : List Attr). with_front front (each value_line c.in-Some.after)) c.in_ok-push-2.ensures.items
     ∙ on_cons value_line c.walk.rest c.in-Some.line.now c.in-Some.after c.walk.attrs.items c.in_ok-value_line.field-0 _ c.in-Some.ensures c.in_ok-value_line.ensures c.walk.invariant
+
+pub walk-preserved-in-Some-plain_line : goal.walk-preserved-in-Some-plain_line
+walk-preserved-in-Some-plain_line c =
+    let attr : Attr = record { name = c.in-Some-plain_line.name.now; value = c.in-Some-plain_line.value.now } in
+    ap (λ (front : List Attr). with_front front (each value_line c.in-Some.after)) (c.in_ok-push.ensures.items ∙ ap (λ (a : Attr). c.walk.attrs.items ++ a ∷ []) c.new.ensures)
+    ∙ on_cons value_line c.walk.rest c.in-Some.line.now c.in-Some.after c.walk.attrs.items attr _ c.in-Some.ensures c.in-Some-plain_line.ensures c.walk.invariant
 
 pub returns-in_err-value_line : goal.returns-in_err-value_line
 returns-in_err-value_line c =

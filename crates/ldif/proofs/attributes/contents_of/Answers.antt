@@ -1,4 +1,4 @@
-use Rattle.std.proofs.Common.{List, Ok, sym, ap, ◌∙◌}
+use Rattle.std.proofs.Common.{List, [], ◌∷◌, ◌++◌, Ok, sym, ap, ◌∙◌}
 use Rattle.std.proofs.lemmas.Result.{err_from_is_err_and}
 use Rattle.ldif.specs.Gives.{fault_of}
 use Rattle.base.specs.Answers.{each}
@@ -12,8 +12,14 @@ walk-init c = ap (λ (front : List Attr). with_front front (each content_line c.
 
 pub walk-preserved : goal.walk-preserved
 walk-preserved c =
-    ap (λ (front : List Attr). with_front front (each content_line c.in-Some.after)) c.in_ok-push.ensures.items
+    ap (λ (front : List Attr). with_front front (each content_line c.in-Some.after)) c.in_ok-push-2.ensures.items
     ∙ on_cons content_line c.walk.rest c.in-Some.line.now c.in-Some.after c.walk.attrs.items c.in_ok-content_line.field-0 _ c.in-Some.ensures c.in_ok-content_line.ensures c.walk.invariant
+
+pub walk-preserved-in-Some-plain_content : goal.walk-preserved-in-Some-plain_content
+walk-preserved-in-Some-plain_content c =
+    let attr : Attr = record { name = c.in-Some-plain_content.name.now; value = c.in-Some-plain_content.value.now } in
+    ap (λ (front : List Attr). with_front front (each content_line c.in-Some.after)) (c.in_ok-push.ensures.items ∙ ap (λ (a : Attr). c.walk.attrs.items ++ a ∷ []) c.new.ensures)
+    ∙ on_cons content_line c.walk.rest c.in-Some.line.now c.in-Some.after c.walk.attrs.items attr _ c.in-Some.ensures c.in-Some-plain_content.ensures c.walk.invariant
 
 pub returns-in_err-content_line : goal.returns-in_err-content_line
 returns-in_err-content_line c =
