@@ -1,5 +1,6 @@
 pub mod GapLoop
 pub mod Tidy
+pub mod Ends
 pub mod Again
 pub mod Texts
 pub mod Digits

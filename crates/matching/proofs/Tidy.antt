@@ -1,10 +1,10 @@
 -- A text in which no space is to go.
-use Rattle.std.proofs.Common.{◌≡◌, ℕ, Bool, true, false, not, ◌&&◌, cond, List, [], ◌∷◌, refl, sym, ap, ◌∙◌, arith}
+use Rattle.std.proofs.Common.{◌≡◌, ℕ, Bool, true, false, not, ◌&&◌, cond, List, [], ◌∷◌, length, ◌==◌, refl, sym, ap, ◌∙◌, arith}
 use Rattle.base.specs.Ends.{is_space, without_front, without_end, onto_text}
 use Rattle.matching.specs.Forms.{begins_with_space, one_spaces, tidy, lower}
 use Rattle.std.specs.List.{list_any}
 use Rattle.std.specs.Char.{is_ascii_uppercase, to_ascii_lowercase}
-use Rattle.std.proofs.lemmas.Bool.{or_parts}
+use Rattle.std.proofs.lemmas.Bool.{or_parts, ne_eqb}
 use Rattle.std.proofs.lemmas.Bool.Decides.{nat_tests}
 use Rattle.matching.specs.inner.Gaps.{is_tidy_after}
 
@@ -48,6 +48,22 @@ ends space (b ∷ c ∷ cs) h =
 
 pub is_tidy : (bs : List ℕ) → is_tidy_after true bs ≡ true → tidy bs ≡ bs
 is_tidy bs h = ap (λ (t : List ℕ). without_end (one_spaces t)) (front bs h) ∙ ap without_end (gaps true bs h) ∙ ends true bs h
+
+-- without spaces a text is tidy
+no_spaces : (bs : List ℕ) → list_any is_space bs ≡ false → is_tidy_after false bs ≡ true
+no_spaces [] h = refl
+no_spaces (b ∷ bs) h =
+    let o = or_parts (is_space b) (list_any is_space bs) h in
+    rw o.0 (no_spaces bs o.1)
+
+-- unless it is empty
+pub one_word : (bs : List ℕ) (empty : Bool) → list_any is_space bs ≡ false → empty ≡ (length bs == 0) → not empty ≡ is_tidy_after true bs
+one_word [] empty h is = ap not is
+one_word (b ∷ bs) empty h is =
+    let o = or_parts (is_space b) (list_any is_space bs) h in
+    let some : (length (b ∷ bs) == 0) ≡ false = ne_eqb (length (b ∷ bs)) 0 (λ e. omega (arith, e)) in
+    let tidy : is_tidy_after true (b ∷ bs) ≡ true = rw o.0 (no_spaces bs o.1) in
+    ap not (is ∙ some) ∙ sym tidy
 
 small : (b : ℕ) → is_ascii_uppercase b ≡ false → to_ascii_lowercase b ≡ b
 small b h = grind (arith, nat_tests)

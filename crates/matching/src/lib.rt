@@ -3,6 +3,7 @@
 //! The functions of `laws` do nothing: a call of one is made for what it states alone.
 #![tactic(auto)]
 
+mod byte_tests;
 mod family;
 mod integer;
 mod laws;

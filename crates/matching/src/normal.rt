@@ -6,6 +6,7 @@ ghost use Rattle.std.specs.Char.{is_ascii_uppercase};
 ghost use Rattle.matching.specs.Forms.{norm, tidy, lower, is_no_space, is_no_filler};
 ghost use Rattle.matching.specs.inner.Gaps.{with_gap, is_tidy_after};
 
+use crate::byte_tests::{Capital, Space, any};
 use crate::family::Family;
 use base::Bytes;
 use std::alloc::{AllocError, Global};
@@ -36,8 +37,8 @@ fn tidy_text(alloc: Global, bytes: &[u8]) -> Result<Vec<u8>, AllocError>
     Ok(out)
 }
 
-// whether there is something, without a space at the ends, and with one in each gap
-fn is_tidy(bytes: &[u8]) -> bool
+// whether a text is tidy, as below
+fn is_tidy_with_spaces(bytes: &[u8]) -> bool
     ensures { result ≡ is_tidy_after true bytes.now }
 {
     if bytes.is_empty() || bytes[0] == b' ' {
@@ -50,15 +51,15 @@ fn is_tidy(bytes: &[u8]) -> bool
     tidy && bytes[bytes.len() - 1] != b' '
 }
 
-// whether there is an ASCII capital
-fn has_capital(bytes: &[u8]) -> bool
-    ensures { result ≡ list_any is_ascii_uppercase bytes.now }
+// whether there is something, without a space at the ends, and with one in each gap
+fn is_tidy(bytes: &[u8]) -> bool
+    ensures { result ≡ is_tidy_after true bytes.now }
 {
-    let mut found = false;
-    for b in bytes {
-        found |= b.is_ascii_uppercase();
+    if any::<Space>(bytes) {
+        is_tidy_with_spaces(bytes)
+    } else {
+        !bytes.is_empty()
     }
-    found
 }
 
 /// How the normal form of a value differs from the value.
@@ -78,7 +79,7 @@ impl Form {
     fn of_case(bytes: &[u8]) -> Form
         ensures { Differs result bytes.now (lower bytes.now) }
     {
-        if has_capital(bytes) {
+        if any::<Capital>(bytes) {
             Form::LowerCase
         } else {
             Form::AsWritten

@@ -6,6 +6,7 @@ ghost use Rattle.std.specs.Str.{is_utf8};
 ghost use Rattle.matching.specs.Syntaxes.{is_byte, is_ascii, is_digit_or_space, is_oid_byte, is_boolean, is_valid};
 ghost use Rattle.matching.specs.Integers.{is_integer};
 
+use crate::byte_tests::{NotAscii, NotOid, any};
 use crate::integer::Integer;
 
 /// Which values an attribute type takes (RFC 4517, 3.3), where that can be told without knowing types. So DN isn't among these.
@@ -27,7 +28,7 @@ pub enum Syntax {
     Octet,
 }
 
-fn is_text(bytes: &[u8]) -> bool
+fn are_utf8(bytes: &[u8]) -> bool
     ensures { result ≡ is_utf8 bytes.now }
 {
     str::from_utf8(bytes).is_ok()
@@ -36,11 +37,14 @@ fn is_text(bytes: &[u8]) -> bool
 fn are_ascii(bytes: &[u8]) -> bool
     ensures { result ≡ list_all is_ascii bytes.now }
 {
-    let mut fit = true;
-    for b in bytes {
-        fit &= *b < 128;
-    }
-    fit
+    !any::<NotAscii>(bytes)
+}
+
+// most texts are ASCII, which is soon seen
+fn is_text(bytes: &[u8]) -> bool
+    ensures { result ≡ is_utf8 bytes.now }
+{
+    are_ascii(bytes) || are_utf8(bytes)
 }
 
 fn are_digits_or_spaces(bytes: &[u8]) -> bool
@@ -64,11 +68,7 @@ fn is_integer(bytes: &[u8]) -> bool
 fn are_oid_bytes(bytes: &[u8]) -> bool
     ensures { result ≡ list_all is_oid_byte bytes.now }
 {
-    let mut fit = true;
-    for b in bytes {
-        fit &= *b < 128 && *b != b' ';
-    }
-    fit
+    !any::<NotOid>(bytes)
 }
 
 // all bytes are: a contract sees them as numbers

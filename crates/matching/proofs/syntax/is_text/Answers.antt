@@ -1,6 +1,5 @@
-use Rattle.std.proofs.Common.{◌∙◌}
-use Rattle.matching.proofs.Texts.{text_test}
+use Rattle.matching.proofs.Texts.{ascii_is_text}
 use Rattle.matching.proofs.syntax.is_text.Goals as goal
 
-pub returns : goal.returns
-returns c = c.is_ok.ensures.value ∙ text_test c.from_utf8.result c.args.bytes.now _ _ c.from_utf8.ensures.cases
+pub returns-then-are_ascii : goal.returns-then-are_ascii
+returns-then-are_ascii c = ascii_is_text c.are_ascii.result c.args.bytes.now c.if-are_ascii.true c.are_ascii.ensures
