@@ -1,18 +1,19 @@
 -- Names with numbers, whose places stand in buckets.
-use Rattle.std.proofs.Common.{ap, ◌≡◌, ℕ, zero, suc, ◌<◌, ◌+◌, ◌-◌, ◌*◌, ◌%◌, bit_and, bit_or, Bool, true, false, List, [], ◌∷◌, ◌++◌, length, refl, sym, ◌∙◌, arith}
-use Rattle.std.specs.Prelude.{nat_eq, nat_lt, slice_set, ◌^◌, ◌==◌}
+use Rattle.std.proofs.Common.{ap, ◌≡◌, ℕ, zero, suc, ◌<◌, ◌+◌, ◌-◌, ◌*◌, ◌%◌, bit_and, bit_or, get_or, take, drop, ◌≤◌, cond, ◌&&◌, Bool, true, false, List, [], ◌∷◌, ◌++◌, length, refl, sym, ◌∙◌, arith}
+use Rattle.std.specs.Prelude.{nat_eq, nat_lt, nat_le, slice_set, ◌^◌, ◌==◌}
 use Rattle.std.specs.Char.{to_ascii_lowercase}
+use Rattle.std.specs.Int.{from_le_bytes, swap_bytes, w64}
 use Rattle.std.specs.List.{AllByRecursion, fold}
 use Rattle.std.proofs.lemmas.Bool.{agree_below_at, ltb-true}
 use Rattle.std.specs.Str.{str_eq_ignore_ascii_case, str_to_ascii_lowercase}
 use Rattle.std.proofs.lemmas.Bool.Decides.{nat_tests, Decides-eqb}
-use Rattle.std.proofs.Math.ListN.{get_or-append}
+use Rattle.std.proofs.Math.ListN.{get_or-append, get_or-map}
 use Rattle.std.proofs.Math.Seq.{get_or-append_seam}
-use Rattle.std.proofs.lemmas.List.{length-append, length-set, get_or-set_same, get_or-set_other, map-append}
+use Rattle.std.proofs.lemmas.List.{take-take, take_all, take-append-drop, length-drop, length-append, length-map, length-set, get_or-set_same, get_or-set_other, map-append}
 use Rattle.std.proofs.lemmas.Slice.Eq.{bytes_eq-Decides}
 use Rattle.values.specs.declared.name_index.NameEntry.{NameEntry}
 use Rattle.values.specs.Tables.{number_of, or_if}
-use Rattle.values.specs.inner.Buckets.{case_bit, key_with, key_of, bucket_of, bucket_at, no_entry, entry_at, entries_at, AreFound}
+use Rattle.values.specs.inner.Buckets.{case_bit, key_with, key_by_bytes, small_at, word_at, spread, key_by_words, key_of, bucket_of, bucket_at, no_entry, entry_at, entries_at, AreFound}
 use Rattle.values.proofs.Tables.{or_none, number_push}
 
 same_bit : (b : ℕ) → bit_or (to_ascii_lowercase b) case_bit ≡ bit_or b case_bit
@@ -26,12 +27,44 @@ in_lower_case : (key : ℕ) (name : List ℕ) → fold key_with key name ≡ fol
 in_lower_case key [] = refl
 in_lower_case key (b ∷ bs) = in_lower_case (key_with key b) bs ∙ (λ j. fold key_with ((key * 33 % 2 ^ 64 + sym (same_bit b) j) % 2 ^ 64) (str_to_ascii_lowercase bs))
 
+module _ (a b : List ℕ) (alike : str_to_ascii_lowercase a ≡ str_to_ascii_lowercase b) where
+  same_length : length a ≡ length b
+  same_length = sym (length-map a to_ascii_lowercase) ∙ ap length alike ∙ length-map b to_ascii_lowercase
+
+  same_byte : (at : ℕ) → small_at a at ≡ small_at b at
+  same_byte at = sym (in_small a) ∙ ap (λ (name : List ℕ). small_at name at) alike ∙ in_small b
+    where
+      in_small : (name : List ℕ) → small_at (str_to_ascii_lowercase name) at ≡ small_at name at
+      in_small name = ap (λ c. bit_or c case_bit) (get_or-map to_ascii_lowercase name at 0) ∙ same_bit (get_or name at 0)
+
+  same_word : (at : ℕ) → word_at a at ≡ word_at b at
+  unfolding word_at
+  same_word at = λ j. from_le_bytes w64 (same_byte at j ∷ same_byte (at + 1) j ∷ same_byte (at + 2) j ∷ same_byte (at + 3) j ∷ same_byte (at + 4) j ∷ same_byte (at + 5) j ∷ same_byte (at + 6) j ∷ same_byte (at + 7) j ∷ [])
+
+  same_words : key_by_words a ≡ key_by_words b
+  unfolding key_by_words
+  same_words =
+      let last : word_at a (length a - 8) ≡ word_at b (length b - 8) = same_word (length a - 8) ∙ ap (λ n. word_at b (n - 8)) same_length in
+      λ j. swap_bytes w64 ((same_word 0 j * spread % 2 ^ 64 + last j) % 2 ^ 64 * spread % 2 ^ 64)
+
+  same_bytes : key_by_bytes a ≡ key_by_bytes b
+  same_bytes = in_lower_case 0 a ∙ ap (fold key_with 0) alike ∙ sym (in_lower_case 0 b)
+
+  same_key : key_of a ≡ key_of b
+  unfolding key_of
+  same_key = λ j. cond (nat_le 8 (same_length j) && nat_le (same_length j) 16) (same_words j) (same_bytes j)
+
 -- names alike but for case have one key
 same_bucket : (count : ℕ) (a b : List ℕ) → str_eq_ignore_ascii_case a b ≡ true → bucket_of count a ≡ bucket_of count b
-unfolding key_of
 same_bucket count a b h =
-    let alike : str_to_ascii_lowercase a ≡ str_to_ascii_lowercase b = (bytes_eq-Decides (str_to_ascii_lowercase a) (str_to_ascii_lowercase b)).0 h in
-    ap (λ key. bit_and key (count - 1)) (in_lower_case 0 a ∙ ap (fold key_with 0) alike ∙ sym (in_lower_case 0 b))
+    ap (λ key. bit_and key (count - 1)) (same_key a b ((bytes_eq-Decides (str_to_ascii_lowercase a) (str_to_ascii_lowercase b)).0 h))
+
+-- names whose ends cover them are equal where these are
+pub equal_ends : (a b : List ℕ) (k from : ℕ) → from ≤ k → take k a ≡ take k b → take (length a - from) (drop from a) ≡ take (length b - from) (drop from b) → a ≡ b
+equal_ends a b k from le front back =
+    let begins : take from a ≡ take from b = sym (take-take from k a le) ∙ ap (take from) front ∙ take-take from k b le in
+    let all : (c : List ℕ) → take (length c - from) (drop from c) ≡ drop from c = λ c. take_all (length c - from) (drop from c) (omega (arith, length-drop from c)) in
+    sym (take-append-drop from a) ∙ (λ i. begins i ++ (sym (all a) ∙ back ∙ all b) i) ∙ take-append-drop from b
 
 -- ---- one entry more
 

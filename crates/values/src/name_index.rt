@@ -1,10 +1,10 @@
 //! Numbers that are found by a name.
 
-ghost use Rattle.std.specs.Prelude.{◌≡◌, ℕ, ◌<◌, ◌++◌, ◌∷◌, [], IfOk, OnOk, OnErr, length, slice_set};
+ghost use Rattle.std.specs.Prelude.{◌≡◌, ℕ, ◌+◌, ◌<◌, ◌≤◌, ◌++◌, ◌∷◌, [], IfOk, IsTrue, OnOk, OnErr, length, slice_set};
 ghost use Rattle.std.specs.List.{AllByRecursion};
 ghost use Rattle.std.specs.Str.{str_eq_ignore_ascii_case};
 ghost use Rattle.values.specs.Tables.{named, number_of};
-ghost use Rattle.values.specs.inner.Buckets.{bucket_of, key_of, bucket_at, entries_at};
+ghost use Rattle.values.specs.inner.Buckets.{bucket_of, key_of, key_by_words, key_by_bytes, word_at, small_at, bucket_at, entries_at};
 
 use base::{Bytes, Sequence};
 use std::alloc::{AllocError, Global};
@@ -12,6 +12,9 @@ use std::marker::Model;
 
 /// In ASCII a capital and its small letter differ in this bit.
 const CASE_BIT: u8 = 0x20;
+
+/// An odd number: of a product by it each byte depends on all those below.
+const SPREAD: u64 = 11_400_714_819_323_198_485;
 
 /// The buckets of an index, at most.
 const MOST_BUCKETS: usize = 1 << 24;
@@ -43,15 +46,67 @@ impl Model for NameIndex {
     ghost invariant = { λ x. AreFound x.entries.items x.buckets.items };
 }
 
-#[tactic(auto, unfolding(crate::specs::inner::Buckets::key_of))]
-fn key_of(name: &[u8]) -> u64
-    ensures { result ≡ key_of name.now }
+// a byte, the same in each ASCII case
+fn small_at(name: &[u8], at: usize) -> u8
+    requires { at < length name.now }
+    ensures { result ≡ small_at name.now at }
+{
+    name[at] | CASE_BIT
+}
+
+// the eight bytes from a place on
+#[tactic(auto, unfolding(crate::specs::inner::Buckets::word_at))]
+fn word_at(name: &[u8], at: usize) -> u64
+    requires { at + 8 ≤ length name.now }
+    ensures { result ≡ word_at name.now at }
+{
+    u64::from_le_bytes([
+        small_at(name, at),
+        small_at(name, at + 1),
+        small_at(name, at + 2),
+        small_at(name, at + 3),
+        small_at(name, at + 4),
+        small_at(name, at + 5),
+        small_at(name, at + 6),
+        small_at(name, at + 7),
+    ])
+}
+
+#[tactic(auto, unfolding(crate::specs::inner::Buckets::key_by_words))]
+fn key_by_words(name: &[u8]) -> u64
+    requires { 8 ≤ length name.now }
+    ensures { result ≡ key_by_words name.now }
+{
+    let first = word_at(name, 0);
+    let last = word_at(name, name.len() - 8);
+    let product = first
+        .wrapping_mul(SPREAD)
+        .wrapping_add(last)
+        .wrapping_mul(SPREAD);
+    // a bucket is told by the lowest bits
+    product.swap_bytes()
+}
+
+fn key_by_bytes(name: &[u8]) -> u64
+    ensures { result ≡ key_by_bytes name.now }
 {
     let mut key: u64 = 0;
     for b in name {
         key = key.wrapping_mul(33).wrapping_add((*b | CASE_BIT) as u64);
     }
     key
+}
+
+// two words have all bytes of most names
+#[tactic(auto, unfolding(crate::specs::inner::Buckets::key_of))]
+fn key_of(name: &[u8]) -> u64
+    ensures { result ≡ key_of name.now }
+{
+    if 8 <= name.len() && name.len() <= 16 {
+        key_by_words(name)
+    } else {
+        key_by_bytes(name)
+    }
 }
 
 fn bucket_of(count: usize, name: &[u8]) -> usize
@@ -62,11 +117,25 @@ fn bucket_of(count: usize, name: &[u8]) -> usize
     key_of(name) as usize & (count - 1)
 }
 
+// a comparison of so many bytes takes no loop
+fn are_equal(a: &[u8], b: &[u8]) -> bool
+    ensures { IsTrue result → a.now ≡ b.now }
+{
+    let len = a.len();
+    if len != b.len() {
+        return false;
+    }
+    if 8 <= len && len <= 16 {
+        return a[..8] == b[..8] && a[len - 8..] == b[len - 8..];
+    }
+    a == b
+}
+
 fn are_alike(a: &[u8], b: &[u8]) -> bool
     ensures { result ≡ str_eq_ignore_ascii_case a.now b.now }
 {
     // most names are written in one case
-    a == b || a.eq_ignore_ascii_case(b)
+    are_equal(a, b) || a.eq_ignore_ascii_case(b)
 }
 
 // the number of the first of these places at which this name stands

@@ -1,7 +1,0 @@
-use Rattle.std.proofs.Common.{◌≡◌, drop}
-use Rattle.std.specs.List.{fold}
-use Rattle.values.specs.inner.Buckets.{key_with, key_of}
-use Rattle.values.proofs.name_index.key_of.Given as goal
-
-abbrev pub invariant-loop-b : goal.invariant-loop-b
-invariant-loop-b l = fold key_with l.key (drop l.b-index l.name) ≡ key_of l.name
