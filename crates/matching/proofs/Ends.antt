@@ -1,7 +1,9 @@
 -- A test of a text by its two ends, which cover it.
-use Rattle.std.proofs.Common.{◌≡◌, ℕ, zero, suc, ◌≤◌, ◌-◌, ◌*◌, Bool, true, false, not, ◌||◌, ◌&&◌, List, [], ◌∷◌, take, drop, length, refl, ◌∙◌, arith}
+use Rattle.std.proofs.Common.{◌≡◌, ℕ, zero, suc, ◌≤◌, ◌<◌, ◌-◌, ◌*◌, Bool, true, false, not, ◌||◌, ◌&&◌, List, [], ◌∷◌, take, drop, length, refl, ◌∙◌, arith}
 use Rattle.std.specs.List.{list_any, list_all}
 use Rattle.std.proofs.lemmas.List.{take_all, length-drop}
+use Rattle.base.specs.Ends.{is_space}
+use Rattle.matching.specs.inner.Gaps.{has_wide_gap_after}
 
 absorbed : (p : ℕ → Bool) (xs : List ℕ) (k : ℕ) → (list_any p (take k xs) || list_any p xs) ≡ list_any p xs
 absorbed p xs zero = refl
@@ -23,12 +25,13 @@ covered p (x ∷ xs) (suc k) (suc j) le =
       | false ↦ covered p xs k j (omega (arith, le))
     ]
 
--- runs of one length at the ends
+-- what runs of one length at the ends are
+back_of : (xs : List ℕ) (len : ℕ) → take (length xs - (length xs - len)) (drop (length xs - len) xs) ≡ drop (length xs - len) xs
+back_of xs len = take_all (length xs - (length xs - len)) (drop (length xs - len) xs) (omega (arith, length-drop (length xs - len) xs))
+
 pub any_at_ends : (p : ℕ → Bool) (xs : List ℕ) (len : ℕ) → (len ≤ length xs) × (length xs ≤ 2 * len) → (list_any p (take len xs) || list_any p (take (length xs - (length xs - len)) (drop (length xs - len) xs))) ≡ list_any p xs
 any_at_ends p xs len h =
-    let from : ℕ = length xs - len in
-    (λ j. list_any p (take len xs) || list_any p (take_all (length xs - from) (drop from xs) (omega (arith, length-drop from xs, h.0)) j))
-    ∙ covered p xs len from (omega (arith, h.0, h.1))
+    (λ j. list_any p (take len xs) || list_any p (back_of xs len j)) ∙ covered p xs len (length xs - len) (omega (arith, h.0, h.1))
 
 -- none fails a test where all pass it
 pub none_fails : (p : ℕ → Bool) (xs : List ℕ) → not (list_any (λ x. not (p x)) xs) ≡ list_all p xs
@@ -38,3 +41,33 @@ none_fails p (x ∷ xs) =
       | true ↦ none_fails p xs
       | false ↦ refl
     ]
+
+-- ---- a space that follows a space
+
+gap_absorbed : (spaced : Bool) (xs : List ℕ) (k : ℕ) → (has_wide_gap_after spaced (take k xs) || has_wide_gap_after spaced xs) ≡ has_wide_gap_after spaced xs
+gap_absorbed spaced xs zero = refl
+gap_absorbed spaced [] (suc k) = refl
+gap_absorbed spaced (x ∷ xs) (suc k) =
+    elim (spaced && is_space x) as (λ b. ((b || has_wide_gap_after (is_space x) (take k xs)) || (b || has_wide_gap_after (is_space x) xs)) ≡ (b || has_wide_gap_after (is_space x) xs)) [
+      | true ↦ refl
+      | false ↦ gap_absorbed (is_space x) xs k
+    ]
+
+gap_covered : (spaced : Bool) (xs : List ℕ) (k j : ℕ) → j < k → (has_wide_gap_after spaced (take k xs) || has_wide_gap_after false (drop j xs)) ≡ has_wide_gap_after spaced xs
+gap_covered spaced xs zero j lt = absurd (omega (arith, lt))
+gap_covered spaced [] (suc k) zero lt = refl
+gap_covered spaced [] (suc k) (suc j) lt = refl
+gap_covered spaced (x ∷ xs) (suc k) zero lt =
+    elim (spaced && is_space x) as (λ b. ((b || has_wide_gap_after (is_space x) (take k xs)) || has_wide_gap_after (is_space x) xs) ≡ (b || has_wide_gap_after (is_space x) xs)) [
+      | true ↦ refl
+      | false ↦ gap_absorbed (is_space x) xs k
+    ]
+gap_covered spaced (x ∷ xs) (suc k) (suc j) lt =
+    elim (spaced && is_space x) as (λ b. ((b || has_wide_gap_after (is_space x) (take k xs)) || has_wide_gap_after false (drop j xs)) ≡ (b || has_wide_gap_after (is_space x) xs)) [
+      | true ↦ refl
+      | false ↦ gap_covered (is_space x) xs k j (omega (arith, lt))
+    ]
+
+pub gap_at_ends : (xs : List ℕ) (len : ℕ) → (len ≤ length xs) × (length xs < 2 * len) → (has_wide_gap_after false (take len xs) || has_wide_gap_after false (take (length xs - (length xs - len)) (drop (length xs - len) xs))) ≡ has_wide_gap_after false xs
+gap_at_ends xs len h =
+    (λ j. has_wide_gap_after false (take len xs) || has_wide_gap_after false (back_of xs len j)) ∙ gap_covered false xs len (length xs - len) (omega (arith, h.0, h.1))

@@ -12,6 +12,7 @@ mod order;
 mod spaces;
 mod substrings;
 mod syntax;
+mod wide_gaps;
 
 pub use family::Family;
 pub use laws::{integers_are_spelled, normal_forms_stay, valid_values_are_bytes};

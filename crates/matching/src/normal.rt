@@ -4,10 +4,11 @@ ghost use Rattle.std.specs.Prelude.{◌≡◌, ◌≢◌, [], true, IfOk, IsTrue
 ghost use Rattle.std.specs.List.{list_any};
 ghost use Rattle.std.specs.Char.{is_ascii_uppercase};
 ghost use Rattle.matching.specs.Forms.{norm, tidy, lower, is_no_space, is_no_filler};
-ghost use Rattle.matching.specs.inner.Gaps.{with_gap, is_tidy_after};
+ghost use Rattle.matching.specs.inner.Gaps.{with_gap};
 
 use crate::byte_tests::{Capital, Space, any};
 use crate::family::Family;
+use crate::wide_gaps::has_wide_gap;
 use base::Bytes;
 use std::alloc::{AllocError, Global};
 
@@ -37,28 +38,24 @@ fn tidy_text(alloc: Global, bytes: &[u8]) -> Result<Vec<u8>, AllocError>
     Ok(out)
 }
 
-// whether a text is tidy, as below
-fn is_tidy_with_spaces(bytes: &[u8]) -> bool
-    ensures { result ≡ is_tidy_after true bytes.now }
+// whether no space stands at an end or behind another
+fn has_single_spaces(bytes: &[u8]) -> bool
+    ensures { IsTrue result → tidy bytes.now ≡ bytes.now }
 {
-    if bytes.is_empty() || bytes[0] == b' ' {
+    if bytes.is_empty() || bytes[0] == b' ' || bytes[bytes.len() - 1] == b' ' {
         return false;
     }
-    let mut tidy = true;
-    for i in 1..bytes.len() {
-        tidy &= !((bytes[i - 1] == b' ') & (bytes[i] == b' '));
-    }
-    tidy && bytes[bytes.len() - 1] != b' '
+    !has_wide_gap(bytes)
 }
 
-// whether there is something, without a space at the ends, and with one in each gap
+// most texts have no space
 fn is_tidy(bytes: &[u8]) -> bool
-    ensures { result ≡ is_tidy_after true bytes.now }
+    ensures { IsTrue result → tidy bytes.now ≡ bytes.now }
 {
     if any::<Space>(bytes) {
-        is_tidy_with_spaces(bytes)
+        has_single_spaces(bytes)
     } else {
-        !bytes.is_empty()
+        true
     }
 }
 

@@ -1,5 +1,5 @@
 -- Spaces: a text that grows word by word, and a text that needs none taken away.
-use Rattle.std.specs.Prelude.{ℕ, Bool, true, false, not, ◌&&◌, if◌then◌else◌, List, [], ◌∷◌, ◌++◌}
+use Rattle.std.specs.Prelude.{ℕ, Bool, true, false, not, ◌&&◌, ◌||◌, if◌then◌else◌, List, [], ◌∷◌, ◌++◌}
 use Rattle.base.specs.Ascii.{space}
 use Rattle.base.specs.Ends.{is_space}
 
@@ -12,3 +12,8 @@ with_gap (o ∷ os) gap = if gap then (o ∷ os) ++ space ∷ [] else o ∷ os
 abbrev pub is_tidy_after : Bool → List ℕ → Bool
 is_tidy_after spaced [] = not spaced
 is_tidy_after spaced (b ∷ bs) = if is_space b then not spaced && is_tidy_after true bs else is_tidy_after false bs
+
+-- whether a space follows a space, where one may have come before
+abbrev pub has_wide_gap_after : Bool → List ℕ → Bool
+has_wide_gap_after spaced [] = false
+has_wide_gap_after spaced (b ∷ bs) = (spaced && is_space b) || has_wide_gap_after (is_space b) bs
