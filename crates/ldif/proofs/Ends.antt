@@ -1,35 +1,14 @@
 -- Values whose bytes are common.
-use Rattle.std.proofs.Common.{◌≡◌, ℕ, zero, suc, ◌≤◌, Bool, true, false, not, eqb, leb, ◌&&◌, ◌||◌, List, [], ◌∷◌, take, drop, refl, ap, ◌∙◌, arith}
+use Rattle.std.proofs.Common.{◌≡◌, ℕ, Bool, true, false, not, eqb, leb, ◌&&◌, ◌||◌, List, refl, ap, ◌∙◌, arith}
 use Rattle.std.specs.List.{list_all}
 use Rattle.std.proofs.lemmas.Bool.{leb-true, le-leb, ne_eqb, and_parts, and_from}
 use Rattle.base.specs.Ends.{begins_with, ends_with}
 use Rattle.ldif.specs.Writing.{is_safe_byte, is_common_byte, has_plain_ends, is_plain}
 use Rattle.ldif.proofs.WrittenLines.{all_weaker}
 
--- ---- what all elements of a list's two ends pass, which may overlap, all of it do
-
-twice : (t a b : Bool) → b ≡ (a && b) → (t && b) ≡ ((t && a) && (t && b))
-twice true a b e = e
-twice false a b e = refl
-
-beside : (t a b c : Bool) → c ≡ (a && b) → (t && c) ≡ ((t && a) && b)
-beside true a b c e = e
-beside false a b c e = refl
-
 and_assoc : (a b c : Bool) → (a && b && c) ≡ (a && (b && c))
 and_assoc true b c = refl
 and_assoc false b c = refl
-
-module _ (p : ℕ → Bool) where
-  pub overlap : (xs : List ℕ) (n m : ℕ) → m ≤ n → list_all p xs ≡ (list_all p (take n xs) && list_all p (drop m xs))
-  overlap [] zero zero le = refl
-  overlap [] (suc n) zero le = refl
-  overlap [] zero (suc m) le = refl
-  overlap [] (suc n) (suc m) le = refl
-  overlap (x ∷ xs) zero zero le = refl
-  overlap (x ∷ xs) zero (suc m) le = absurd (omega arith)
-  overlap (x ∷ xs) (suc n) zero le = twice (p x) (list_all p (take n xs)) (list_all p xs) (overlap xs n zero (omega arith))
-  overlap (x ∷ xs) (suc n) (suc m) le = beside (p x) (list_all p (take n xs)) (list_all p (drop m xs)) (list_all p xs) (overlap xs n m (omega arith))
 
 -- ---- common bytes are safe
 

@@ -12,6 +12,7 @@ ghost use Rattle.ldif.specs.Writing.{is_safe_byte, is_common_byte, has_plain_end
 
 use base::{begins_with, ends_with};
 use base64::engine::general_purpose::STANDARD;
+use byte_tests::{ByteTest, any_byte};
 use device::{Device, Sink, push_all};
 use std::alloc::{AllocError, Global};
 use thiserror::Error;
@@ -75,51 +76,24 @@ fn is_common_byte(b: u8) -> bool
     b' ' <= b && b <= 127
 }
 
-fn each_is_common(value: &[u8]) -> bool
-    ensures { result ≡ list_all is_common_byte value.now }
-{
-    let mut common = true;
-    for b in value {
-        common &= is_common_byte(*b);
-    }
-    common
-}
+/// Whether a byte is not common.
+struct Uncommon;
 
-// Of a fixed number of bytes, which are tested at once.
-#[inline(always)]
-fn block_is_common<const N: usize>(block: &[u8; N]) -> bool
-    ensures { result ≡ list_all is_common_byte block.now }
-{
-    let mut common = true;
-    for b in block {
-        common &= is_common_byte(*b);
-    }
-    common
-}
+impl ByteTest for Uncommon {
+    ghost use Rattle.std.specs.Prelude.{not};
+    ghost use Rattle.ldif.specs.Writing.{is_common_byte};
 
-// By the first N and the last N bytes, which may overlap.
-#[inline(always)]
-fn ends_are_common<const N: usize>(value: &[u8]) -> bool
-    requires small { N ≤ 32 }
-    requires all { length value.now ≤ N + N }
-    ensures { result ≡ list_all is_common_byte value.now }
-{
-    match (value.first_chunk::<N>(), value.last_chunk::<N>()) {
-        (Some(front), Some(back)) => block_is_common(front) & block_is_common(back),
-        _ => each_is_common(value),
+    ghost holds = { λ b. not (is_common_byte b) };
+
+    fn test(byte: u8) -> bool {
+        !is_common_byte(byte)
     }
 }
 
 fn are_common(value: &[u8]) -> bool
     ensures { result ≡ list_all is_common_byte value.now }
 {
-    match value.len() {
-        4..=7 => ends_are_common::<4>(value),
-        8..=15 => ends_are_common::<8>(value),
-        16..=31 => ends_are_common::<16>(value),
-        32..=63 => ends_are_common::<32>(value),
-        _ => each_is_common(value),
-    }
+    !any_byte::<Uncommon>(value)
 }
 
 // Kept apart, since most values are plain, and its tables would be laid out for them too.

@@ -3,7 +3,6 @@
 //! The functions of `laws` do nothing: a call of one is made for what it states alone.
 #![tactic(auto)]
 
-mod byte_tests;
 mod family;
 mod integer;
 mod laws;
@@ -12,6 +11,7 @@ mod order;
 mod spaces;
 mod substrings;
 mod syntax;
+mod tested_bytes;
 mod wide_gaps;
 
 pub use family::Family;

@@ -6,10 +6,11 @@ ghost use Rattle.std.specs.Char.{is_ascii_uppercase};
 ghost use Rattle.matching.specs.Forms.{norm, tidy, lower, is_no_space, is_no_filler};
 ghost use Rattle.matching.specs.inner.Gaps.{with_gap};
 
-use crate::byte_tests::{Capital, Space, any};
 use crate::family::Family;
+use crate::tested_bytes::{Capital, Space};
 use crate::wide_gaps::has_wide_gap;
 use base::Bytes;
+use byte_tests::any_byte;
 use std::alloc::{AllocError, Global};
 
 fn put_gap(out: &mut Vec<u8>, gap: bool) -> Result<(), AllocError>
@@ -52,7 +53,7 @@ fn has_single_spaces(bytes: &[u8]) -> bool
 fn is_tidy(bytes: &[u8]) -> bool
     ensures { IsTrue result → tidy bytes.now ≡ bytes.now }
 {
-    if any::<Space>(bytes) {
+    if any_byte::<Space>(bytes) {
         has_single_spaces(bytes)
     } else {
         true
@@ -76,7 +77,7 @@ impl Form {
     fn of_case(bytes: &[u8]) -> Form
         ensures { Differs result bytes.now (lower bytes.now) }
     {
-        if any::<Capital>(bytes) {
+        if any_byte::<Capital>(bytes) {
             Form::LowerCase
         } else {
             Form::AsWritten

@@ -6,8 +6,9 @@ ghost use Rattle.std.specs.Str.{is_utf8};
 ghost use Rattle.matching.specs.Syntaxes.{is_byte, is_ascii, is_digit_or_space, is_oid_byte, is_boolean, is_valid};
 ghost use Rattle.matching.specs.Integers.{is_integer};
 
-use crate::byte_tests::{NotAscii, NotOid, any};
 use crate::integer::Integer;
+use crate::tested_bytes::{NotAscii, NotOid};
+use byte_tests::any_byte;
 
 /// Which values an attribute type takes (RFC 4517, 3.3), where that can be told without knowing types. So DN isn't among these.
 #[derive(Clone, Copy, Debug, PartialEq, Eq)]
@@ -37,7 +38,7 @@ fn are_utf8(bytes: &[u8]) -> bool
 fn are_ascii(bytes: &[u8]) -> bool
     ensures { result ≡ list_all is_ascii bytes.now }
 {
-    !any::<NotAscii>(bytes)
+    !any_byte::<NotAscii>(bytes)
 }
 
 // most texts are ASCII, which is soon seen
@@ -68,7 +69,7 @@ fn is_integer(bytes: &[u8]) -> bool
 fn are_oid_bytes(bytes: &[u8]) -> bool
     ensures { result ≡ list_all is_oid_byte bytes.now }
 {
-    !any::<NotOid>(bytes)
+    !any_byte::<NotOid>(bytes)
 }
 
 // all bytes are: a contract sees them as numbers

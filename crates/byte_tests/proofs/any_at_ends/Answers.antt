@@ -1,6 +1,6 @@
 use Rattle.std.proofs.Common.{◌||◌, ◌∙◌}
-use Rattle.matching.proofs.Ends.{any_at_ends}
-use Rattle.matching.proofs.byte_tests.any_at_ends.Goals as goal
+use Rattle.byte_tests.proofs.Ends.{any_at_ends}
+use Rattle.byte_tests.proofs.any_at_ends.Goals as goal
 
 pub returns : goal.returns
 returns g c =
