@@ -1,5 +1,5 @@
 -- What the last path up to another one tells of it and of its parent.
-use Rattle.std.proofs.Common.{◌≡◌, ℕ, zero, suc, Bool, true, false, List, [], ◌∷◌, ◌++◌, ◌-◌, length, take, drop, refl, sym, ap, ◌∙◌, Some, None}
+use Rattle.std.proofs.Common.{◌≡◌, ℕ, zero, suc, Bool, true, false, List, [], ◌∷◌, ◌++◌, ◌-◌, length, take, drop, refl, sym, ap, ◌∙◌, Some}
 use Rattle.std.specs.Prelude.{◌&&◌, is_some, IsSome}
 use Rattle.std.specs.declared.cmp.Ordering.{Ordering}
 use Rattle.std.specs.declared.cmp.Ordering.TheVariants.{Less, Equal, Greater}
@@ -12,7 +12,7 @@ use Rattle.std.proofs.lemmas.Cmp.{tied_itself}
 use Rattle.paths.specs.Paths.{Path, rdn_key_cmp, path_cmp, begins, parent_of}
 use Rattle.schema.specs.Conf.{Conf}
 use Rattle.tree.specs.Directories.{Entries, IsDirectory}
-use Rattle.tree.specs.inner.LookUps.{IsLast, IsLastUpTo}
+use Rattle.tree.specs.inner.LookUps.{IsLastUpTo}
 use Rattle.tree.specs.inner.Trees.{numbers_of}
 use Rattle.tree.proofs.Ancestors.{closed}
 use Rattle.tree.proofs.Kept.{equal}
@@ -51,7 +51,7 @@ within_itself p = ap is_gt (tied_itself path_total p)
 parent_within : (p : Path) → is_gt (path_cmp (parent_of p) p) ≡ false
 parent_within p = le_within (path_cmp (parent_of p) p) (begun_from (parent_of p) p (begins_all (length p - 1) p))
 
-module _ (conf : Conf) (d : Entries) (h : IsDirectory conf d) (p q : Path) (k : IsLast d p q) where
+module _ (conf : Conf) (d : Entries) (h : IsDirectory conf d) (p q : Path) (k : IsLastUpTo d p q) where
   same_as : is_eq (path_cmp q p) ≡ true → q ≡ p
   same_as tie = path_exact q p (equal (path_cmp q p) tie)
 
@@ -96,32 +96,9 @@ module _ (d : Entries) (es : List (Path × ℕ)) (rising : IsRising es) (numbere
 
   -- a path that is there, and none up to p behind it
   pub is_last : (p q : Path) (n : ℕ) → lookup (is_at (path_cmp q)) es ≡ Some n → is_gt (path_cmp q p) ≡ false
-      → ((r : Path) → is_gt (path_cmp r p) ≡ false → IsSome (lookup (is_at (path_cmp r)) es) → is_lt (path_cmp q r) ≡ false) → IsLast d p q
+      → ((r : Path) → is_gt (path_cmp r p) ≡ false → IsSome (lookup (is_at (path_cmp r)) es) → is_lt (path_cmp q r) ≡ false) → IsLastUpTo d p q
   is_last p q n here within last = record {
     there = sym (found q) ∙ ap is_some here;
     within = within;
     last = λ r there le. last r le (found r ∙ there);
   }
-
-  pub none_up_to : (p : Path) → ((r : Path) → is_gt (path_cmp r p) ≡ false → lookup (is_at (path_cmp r)) es ≡ None) → IsLastUpTo d p None
-  none_up_to p none = λ r there. by (path_cmp r p) (λ le. sym (found r ∙ there) ∙ ap is_some (none r le))
-    where
-      by : (o : Ordering) → (is_gt o ≡ false → true ≡ false) → is_gt o ≡ true
-      by Less contradicts = sym (contradicts refl)
-      by Equal contradicts = sym (contradicts refl)
-      by Greater contradicts = refl
-
--- where nothing stands up to a path, neither it nor its parent is there
-module _ (d : Entries) (p : Path) (k : IsLastUpTo d p None) where
-  none_at : (r : Path) → is_gt (path_cmp r p) ≡ false → false ≡ finite.contains_key d r
-  none_at r within = by (finite.contains_key d r) refl
-    where
-      by : (there : Bool) → finite.contains_key d r ≡ there → false ≡ there
-      by true t = sym within ∙ k r t
-      by false t = refl
-
-  pub no_entry : false ≡ finite.contains_key d p
-  no_entry = none_at p (within_itself p)
-
-  pub no_parent : false ≡ finite.contains_key d (parent_of p)
-  no_parent = none_at (parent_of p) (parent_within p)
