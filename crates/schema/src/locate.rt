@@ -109,7 +109,8 @@ impl Conf {
         let TypedName { mut rdns, path } = typed(alloc, self.table(), &name)?;
         rdns.reverse();
         Ok(Located {
-            path,
+            // one that takes the room of its own bytes alone
+            path: path.copy(alloc)?,
             rdns: Sequence::from_vec(rdns),
         })
     }
