@@ -1,4 +1,6 @@
-use Rattle.std.proofs.Common.{◌∙◌, sym, ap}
+use Rattle.std.proofs.Common.{◌∷◌, ◌∙◌, sym, ap}
+use Rattle.std.proofs.lemmas.List.{append_cancel_right}
+use Rattle.dn.specs.Apart.{may_end}
 use Rattle.dn.specs.Reading.{name_of}
 use Rattle.dn.proofs.Apart.{apart, front_some}
 use Rattle.dn.proofs.ends.split_end.Goals as goal
@@ -9,3 +11,9 @@ returns-clause-read c = λ some.
 
 pub returns-clause-some : goal.returns-clause-some
 returns-clause-some c = front_some c.in_ok-front.front.now (sym c.may_end.ensures ∙ c.if-not-may_end.false)
+
+-- one front alone stands before the comma and the end
+pub returns-then-not-may_end-clause-none : goal.returns-then-not-may_end-clause-none
+returns-then-not-may_end-clause-none c = λ front is.
+    ap may_end (append_cancel_right front c.in_ok-front.front.now (44 ∷ c.args.end.now) (sym is ∙ c.in_ok-front.ensures))
+    ∙ sym c.may_end.ensures ∙ c.if-not-may_end.true
