@@ -8,6 +8,7 @@ mod EndLemmas
 mod SlotLemmas
 mod WholeLemmas
 mod NumberLaws
+mod NumberCuts
 mod KeyLaws
 mod OrderLaws
 mod RowLaws

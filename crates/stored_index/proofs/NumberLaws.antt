@@ -124,7 +124,7 @@ number_read n small =
 
 -- ---- what is a number has no other bytes than digits
 
-after_lacks : (c m : ℕ) (bs : List ℕ) (n : ℕ) → is_ascii_digit c ≡ false → number_after m bs ≡ Ok n → Lacks c bs
+pub after_lacks : (c m : ℕ) (bs : List ℕ) (n : ℕ) → is_ascii_digit c ≡ false → number_after m bs ≡ Ok n → Lacks c bs
 unfolding number_after
 after_lacks c m [] n other e = All-nil (λ b. is_byte c b ≡ false)
 after_lacks c m (b ∷ bs) n other e =

@@ -6,12 +6,9 @@ use Rattle.std.proofs.lemmas.Bool.{false_from_ne_true}
 use Rattle.std.proofs.lemmas.List.{append-nil}
 use Rattle.base.specs.Answers.{◌>>=◌, each}
 use Rattle.base.proofs.Each.{with_front}
-use Rattle.std.specs.Cmp.{nat_cmp_total}
-use Rattle.std.specs.FinSet as set
-use Rattle.std.specs.FinSet.{nat_cmp-IsAntisymmetric, from_list_push}
+use Rattle.id_sets.specs.Ascending.{AllAbove, IsAscending}
 use Rattle.stored_index.specs.KeyLines.{are_rising, are_within, are_in_order, ranks_in}
 use Rattle.stored_index.specs.Words.{number_in}
-use Rattle.index.specs.KeySets.{Members}
 use Rattle.stored_index.specs.declared.fault.IndexFaultKind.{IndexFaultKind}
 use Rattle.stored_index.specs.declared.fault.IndexFaultKind.TheVariants.{Order, Rank}
 
@@ -73,16 +70,29 @@ pub in_order_more : (key a : Bool) (ns : List ℕ) (least n : ℕ) → a ≡ are
 in_order_more true a ns least n e f = rw (e, f) (and_is (are_rising 0 ns) (nat_le (least_after 0 ns) n) ∙ sym (rising_more 0 ns n))
 in_order_more false a ns least n e f = rw e refl
 
-pub kept : (r new : Members) (a : Bool) (entries least rank : ℕ) (ns : List ℕ) → (a ≡ true → least ≤ entries → r ≡ set.from_list ns)
-    → (((a && nat_le least rank) && nat_lt rank entries) ≡ true → new ≡ set.insert r rank) → (a && nat_le least rank) ≡ true → rank + 1 ≤ entries
-    → new ≡ set.from_list (ns ++ rank ∷ [])
+pub kept : (r new : List ℕ) (a : Bool) (entries least rank : ℕ) (ns : List ℕ) → (a ≡ true → least ≤ entries → r ≡ ns)
+    → (((a && nat_le least rank) && nat_lt rank entries) ≡ true → new ≡ r ++ rank ∷ []) → (a && nat_le least rank) ≡ true → rank + 1 ≤ entries
+    → new ≡ ns ++ rank ∷ []
 kept r new a entries least rank ns so_far put rises fits =
     let parts = and_parts a (nat_le least rank) rises in
     let low : least ≤ rank = grind (arith, nat_tests, parts.1) in
     let small : nat_lt rank entries ≡ true = grind (arith, nat_tests) in
-    put (all_cons (a && nat_le least rank) (nat_lt rank entries) rises small)
-    ∙ ap (λ (s : Members). set.insert s rank) (so_far parts.0 (omega arith))
-    ∙ sym (from_list_push nat_cmp_total nat_cmp-IsAntisymmetric ns rank)
+    put (all_cons (a && nat_le least rank) (nat_lt rank entries) rises small) ∙ ap (λ (xs : List ℕ). xs ++ rank ∷ []) (so_far parts.0 (omega arith))
+
+above_all : (least low : ℕ) (ns : List ℕ) → low < least → are_rising least ns ≡ true → AllAbove low ns
+unfolding are_rising
+above_all least low [] lt rising = tt
+above_all least low (n ∷ ns) lt rising =
+    let here = first_true (nat_le least n) (are_rising (n + 1) ns) rising in
+    let le : least ≤ n = grind (arith, nat_tests, here.0) in
+    (omega arith, above_all (n + 1) low ns (omega arith) here.1)
+
+pub ascending : (least : ℕ) (ns : List ℕ) → are_rising least ns ≡ true → IsAscending ns
+unfolding are_rising
+ascending least [] rising = tt
+ascending least (n ∷ ns) rising =
+    let here = first_true (nat_le least n) (are_rising (n + 1) ns) rising in
+    (above_all (n + 1) n ns (omega arith) here.1, ascending (n + 1) ns here.1)
 
 pub bounded : (entries least : ℕ) (ns : List ℕ) → least ≤ entries → are_within entries ns ≡ true → least_after least ns ≤ entries
 bounded entries least [] le all = le
@@ -91,7 +101,7 @@ bounded entries least (n ∷ ns) le all =
     let here : n < entries = grind (arith, nat_tests, parts.0) in
     bounded entries (n + 1) ns (omega arith) parts.1
 
-rising_of : (key : Bool) (ns : List ℕ) → are_in_order key ns ≡ true → are_rising 0 ns ≡ true
+pub rising_of : (key : Bool) (ns : List ℕ) → are_in_order key ns ≡ true → are_rising 0 ns ≡ true
 rising_of true ns h = h
 rising_of false ns h = absurd (cc)
 

@@ -1,11 +1,14 @@
 //! Numbers in an index text.
 
-ghost use Rattle.std.specs.Prelude.{◌≡◌, ◌<◌, ◌≤◌, ◌^◌, IfOk, IfErr, length};
+ghost use Rattle.std.specs.Prelude.{◌≡◌, ◌<◌, ◌≤◌, ◌^◌, ◌∷◌, Ok, IfOk, IfErr, IfSome, length, take};
+ghost use Rattle.base.specs.Ascii.{space};
+ghost use Rattle.stored_index.specs.Cuts.{parts, parts_if};
 ghost use Rattle.stored_index.specs.Words.{has_number_form, number_after, number_in};
 ghost use Rattle.stored_index.specs.Gives.{Gives};
 ghost use Rattle.stored_index.specs.declared.fault.IndexFault.TheVariants.{Fault};
 ghost use Rattle.stored_index.specs.declared.fault.IndexFaultKind.TheVariants.{Form};
 
+use crate::cuts::cut;
 use crate::fault::{IndexFault, form};
 
 fn has_number_form(word: &[u8]) -> bool
@@ -47,4 +50,41 @@ pub(crate) fn number_in(word: &[u8]) -> Result<u64, IndexFault>
     } else {
         Err(form())
     }
+}
+
+// how many digits a text begins with, of ten at most, and the number that they write
+fn digits(text: &[u8]) -> (usize, u64)
+    ensures few { result.0 ≤ 10 }
+    ensures fits { result.0 ≤ length text.now }
+    ensures number { number_after 0 (take result.0 text.now) ≡ Ok result.1 }
+    ensures small { result.1 < 10 ^ 10 }
+{
+    let mut number: u64 = 0;
+    let mut at = 0;
+    while at < text.len() && at < 10 && text[at].is_ascii_digit() {
+        number = number * 10 + (text[at] - b'0') as u64;
+        at += 1;
+    }
+    (at, number)
+}
+
+/// The first word of a text, the number that it writes, and what stands behind the space that ends it. A word of a few digits is read in one
+/// pass.
+pub(crate) fn cut_number(text: &[u8]) -> (&[u8], Result<u64, IndexFault>, Option<&[u8]>)
+    ensures parts { parts space text.now ≡ result.0.now ∷ parts_if space result.2 }
+    ensures number { Gives (λ n. n) result.1 (number_in result.0.now) }
+    ensures small { IfOk result.1 (λ n. n < 10 ^ 10) }
+    ensures shorter { IfSome result.2 (λ rest. length rest.now < length text.now) }
+{
+    let (at, number) = digits(text);
+    let word = &text[..at];
+    if has_number_form(word) {
+        match text.get(at) {
+            None => return (word, Ok(number), None),
+            Some(b' ') => return (word, Ok(number), Some(&text[at + 1..])),
+            Some(_) => {}
+        }
+    }
+    let (word, rest) = cut(b' ', text);
+    (word, number_in(word), rest)
 }

@@ -1,32 +1,30 @@
 //! The ranks behind a key.
 
-ghost use Rattle.std.specs.Prelude.{◌≡◌, true, OnOk};
-ghost use Rattle.std.specs.FinSet as set;
+ghost use Rattle.std.specs.Prelude.{◌≡◌, ◌++◌, ◌∷◌, [], true, OnOk};
 ghost use Rattle.base.specs.Ascii.{space};
 ghost use Rattle.stored_index.specs.Cuts.{parts};
 ghost use Rattle.stored_index.specs.KeyLines.{ranks_in};
 ghost use Rattle.stored_index.specs.inner.Reads.{Reads, IsSetOf};
 
-use crate::cuts::cut;
 use crate::fault::{IndexFault, IndexFaultKind};
-use crate::numbers::number_in;
-use id_sets::{IdSet, ListSet};
+use crate::numbers::cut_number;
+use id_sets::ListSet;
 use std::alloc::{AllocError, Global};
 
-// adds a rank; one that is no u32 has no room
-fn add(ranks: &mut ListSet, rank: u64) -> Result<(), AllocError>
-    ensures { OnOk result (ranks.new ≡ set.insert ranks.old rank) }
+// puts a rank behind others; one that is no u32 has no room
+fn add(ranks: &mut Vec<u32>, rank: u64) -> Result<(), AllocError>
+    ensures { OnOk result (ranks.new.items ≡ ranks.old.items ++ rank ∷ []) }
 {
     let Ok(number) = u32::try_from(rank) else {
         return Err(AllocError);
     };
-    let _ = ranks.insert(number)?;
+    ranks.push(number)?;
     Ok(())
 }
 
-// adds a rank that is wanted
-fn keep(ranks: &mut ListSet, rank: u64, is_wanted: bool) -> Result<(), AllocError>
-    ensures { is_wanted ≡ true → OnOk result (ranks.new ≡ set.insert ranks.old rank) }
+// puts a rank that is wanted behind others
+fn keep(ranks: &mut Vec<u32>, rank: u64, is_wanted: bool) -> Result<(), AllocError>
+    ensures { is_wanted ≡ true → OnOk result (ranks.new.items ≡ ranks.old.items ++ rank ∷ []) }
 {
     if is_wanted {
         add(ranks, rank)?;
@@ -43,13 +41,13 @@ pub(crate) fn read_ranks(
 ) -> Result<ListSet, IndexFault>
     ensures { Reads IsSetOf result (ranks_in is_key_in_order entries (parts space text.now)) }
 {
-    let mut ranks = ListSet::new(alloc);
+    let mut ranks = Vec::new(alloc);
     let mut rest = Some(text);
     let mut is_in_order = is_key_in_order;
     let mut least: u64 = 0;
     while let Some(words) = rest {
-        let (word, next) = cut(b' ', words);
-        let rank = number_in(word)?;
+        let (_, number, next) = cut_number(words);
+        let rank = number?;
         is_in_order = is_in_order & (least <= rank);
         keep(&mut ranks, rank, is_in_order & (rank < entries as u64))?;
         least = rank + 1;
@@ -61,5 +59,5 @@ pub(crate) fn read_ranks(
     if least > entries as u64 {
         return Err(IndexFault::Fault(IndexFaultKind::Rank));
     }
-    Ok(ranks)
+    Ok(ListSet::of_list(ranks))
 }

@@ -3,7 +3,6 @@ use Rattle.base.proofs.Each.{with_front}
 use Rattle.base.specs.Answers.{each}
 use Rattle.base.specs.Ascii.{space}
 use Rattle.stored_index.specs.Cuts.{parts, parts_if}
-use Rattle.std.specs.FinSet as set
 use Rattle.stored_index.specs.Words.{number_in}
 use Rattle.stored_index.specs.KeyLines.{are_in_order}
 use Rattle.stored_index.proofs.RankLemmas.{least_after}
@@ -19,7 +18,7 @@ invariant-loop-rest l =
     (ns : List ℕ) × (with_front ns (each number_in (parts_if space l.rest)) ≡ each number_in (parts space l.text))
     × (l.is_in_order ≡ are_in_order l.is_key_in_order ns)
     × (l.least ≡ least_after 0 ns)
-    × (l.is_in_order ≡ true → l.least ≤ l.entries → l.ranks ≡ set.from_list ns)
+    × (l.is_in_order ≡ true → l.least ≤ l.entries → l.ranks.items ≡ ns)
 
 abbrev pub decreases-loop-rest : goal.decreases-loop-rest
 decreases-loop-rest l = left l.rest
