@@ -12,13 +12,18 @@ use Rattle.std.proofs.lemmas.Cmp.{tied_itself}
 use Rattle.paths.specs.Paths.{Path, rdn_key_cmp, path_cmp, begins, parent_of}
 use Rattle.schema.specs.Conf.{Conf}
 use Rattle.tree.specs.Directories.{Entries, IsDirectory}
-use Rattle.tree.specs.inner.LookUps.{IsLastUpTo}
 use Rattle.tree.specs.inner.Trees.{numbers_of}
 use Rattle.tree.proofs.Ancestors.{closed}
 use Rattle.tree.proofs.Kept.{equal}
 use Rattle.tree.proofs.Numbered.{IsRising, numbers_get}
 use Rattle.tree.proofs.Order.{rdn_key_total, path_total, path_exact, step_exact}
 use Rattle.tree.proofs.Stretch.{begun_from, not_again}
+
+-- an entry stands at q, which is not behind p, and none stands between the two
+pub record IsLastUpTo (d : Entries) (p q : Path) : Type 0 where
+  pub there : finite.contains_key d q ≡ true
+  pub within : is_gt (path_cmp q p) ≡ false
+  pub last : (r : Path) → finite.contains_key d r ≡ true → is_gt (path_cmp r p) ≡ false → is_lt (path_cmp q r) ≡ false
 
 begun : (a p : Path) → begins a p ≡ true → a ++ drop (length a) p ≡ p
 begun [] p h = refl

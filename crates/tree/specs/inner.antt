@@ -2,4 +2,3 @@ pub mod Above
 pub mod Trees
 pub mod Plans
 pub mod Moves
-pub mod LookUps

@@ -3,8 +3,7 @@ use Rattle.std.specs.Ordering.{is_le}
 use Rattle.std.specs.FinMap as finite
 use Rattle.paths.specs.Paths.{path_cmp}
 use Rattle.tree.specs.Trees.{Tree}
-use Rattle.tree.specs.inner.LookUps.{IsLastUpTo}
-use Rattle.tree.proofs.LastUpTo.{entry_is, parent_is, is_last, le_within}
+use Rattle.tree.proofs.LastUpTo.{IsLastUpTo, entry_is, parent_is, is_last, le_within}
 use Rattle.tree.proofs.tree.Tree.has_last_and_parent.Goals as goal
 
 last_up_to : (c : goal.After-parent_begins) → IsLastUpTo c.args.self.now.entries c.args.path.now c.in-Some.last.now
