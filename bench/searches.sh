@@ -1,10 +1,11 @@
 #!/bin/sh
 # Times search: searches.sh PROGRAM
 #
-# On 100,000 people, each in times of another command on the same folder: a filter of five items that finds none, and all entries
-# printed, in times of slapcat; the base alone, and the entries right below it, in times of loading (ldapmodify of an empty text, which
-# stores nothing). For each a line with its seconds, those of the other, and the first in times of the second: the best of five rounds,
-# in turn. The status is 1 where a search takes more times than the last column says.
+# On 100,000 people without an index.txt, each in times of another command on the same folder: a filter of five items that finds none, and
+# all entries printed, in times of slapcat; the base alone, and the entries right below it, in times of loading (ldapmodify of an empty
+# text, which stores nothing). For each a line with its seconds, those of the other, and the first in times of the second: the best of five
+# rounds, in turn. The status is 1 where a search takes more times than the last column says. Where there is an index.txt, each search
+# takes the stamp of the directory on top, which indexed_searches.py times.
 set -eu
 program=$(realpath "$1")
 here=$(dirname "$(realpath "$0")")
@@ -15,6 +16,7 @@ mkdir "$work/people"
 cp "$here/dir.conf" "$work/people"
 python3 "$here/people.py" 100000 > "$work/people.ldif"
 "$program" slapadd --db "$work/people" -l "$work/people.ldif"
+rm "$work/people/index.txt"
 : > "$work/nothing"
 
 python3 - "$program" "$work" <<'PYTHON'

@@ -1,6 +1,7 @@
 //! The attributes of an entry that is added.
 
-ghost use Rattle.std.specs.Prelude.{◌≡◌, ◌<◌, not, [], if◌then◌else◌, IfOk, OnOk, length};
+ghost use Rattle.std.specs.Prelude.{◌≡◌, ◌<◌, not, [], if◌then◌else◌, IfOk, IfSome, OnOk, length};
+ghost use Rattle.values.specs.Types.{type_of};
 ghost use Rattle.schema.specs.Values.{norm_at};
 ghost use Rattle.entries.specs.Entries.{values_of, push_value, is_barred, line_value, add_line, add_lines, has_class};
 ghost use Rattle.entries.specs.StoredEntries.{attributes_of, IsMade};
@@ -48,6 +49,8 @@ struct LineAdder<'a> {
     alloc: Global,
     conf: &'a Conf,
     mode: Mode,
+    // types that the lines may have, in this order
+    likely: &'a [TypeId],
 }
 
 impl LineAdder<'_> {
@@ -62,13 +65,31 @@ impl LineAdder<'_> {
         }
     }
 
-    // a line's type and value
-    fn line_value(&self, line: &Attr<'_>) -> Result<(TypeId, Value), Refusal>
+    // The type of the line that comes next, by its name. Mostly it is that of the line before, or the next one of those that are likely.
+    fn type_of(&self, attrs: &Attributes, name: &[u8]) -> Option<TypeId>
+        ensures place { result ≡ type_of self.now.conf.now.types name.now }
+        ensures known { IfSome result (λ t. t < length self.now.conf.now.types) }
+    {
+        if let [.., last] = attrs.types() {
+            if self.conf.is_printed_as(*last, name) {
+                return Some(*last);
+            }
+        }
+        if let Some(next) = self.likely.get(attrs.types().len()) {
+            if self.conf.is_printed_as(*next, name) {
+                return Some(*next);
+            }
+        }
+        self.conf.type_of(name)
+    }
+
+    // a line's type and value, behind attributes of the lines before
+    fn line_value(&self, attrs: &Attributes, line: &Attr<'_>) -> Result<(TypeId, Value), Refusal>
         ensures gives { Gives (λ x. (x.0, x.1.raw)) result (line_value self.now.mode self.now.conf.now.types line.now) }
         ensures known { IfOk result (λ x. x.0 < length self.now.conf.now.types) }
         ensures normal { IfOk result (λ x. x.1.norm ≡ norm_at self.now.conf.now.types x.0 x.1.raw) }
     {
-        let Some(t) = self.conf.type_of(line.name()) else {
+        let Some(t) = self.type_of(attrs, line.name()) else {
             return Err(Refusal::Code(Code::UndefinedAttributeType));
         };
         if self.is_barred(t) {
@@ -83,7 +104,7 @@ impl LineAdder<'_> {
         ensures made { OnOk result (IsMade self.now.conf.now.types attrs.new.entries) }
         ensures gives { Gives (λ _. attributes_of attrs.new.entries) result (add_line self.now.mode self.now.conf.now.types (attributes_of attrs.old.entries) line.now) }
     {
-        let (t, value) = self.line_value(line)?;
+        let (t, value) = self.line_value(attrs, line)?;
         if !attrs.put(self.alloc, t, value)? {
             return Err(Refusal::Code(Code::AttributeOrValueExists));
         }
@@ -103,7 +124,7 @@ impl LineAdder<'_> {
         ensures norms { OnOk result (AreNormsOf norms.new attrs.new.entries) }
         ensures gives { Gives (λ _. attributes_of attrs.new.entries) result (add_line self.now.mode self.now.conf.now.types (attributes_of attrs.old.entries) line.now) }
     {
-        let (t, value) = self.line_value(line)?;
+        let (t, value) = self.line_value(attrs, line)?;
         if !norms.insert((t, Bytes::from_slice(self.alloc, value.norm())?))? {
             return Err(Refusal::Code(Code::AttributeOrValueExists));
         }
@@ -137,17 +158,24 @@ impl LineAdder<'_> {
     }
 }
 
-/// The attributes that lines give, in order. The first line that is refused answers.
+/// The attributes that lines give, in order. The first line that is refused answers. Where the types of the lines are the `likely` ones, in
+/// this order, they are found sooner.
 pub fn attributes_of_lines(
     alloc: Global,
     conf: &Conf,
     mode: Mode,
     lines: &[Attr<'_>],
+    likely: &[TypeId],
 ) -> Result<Attributes, Refusal>
     ensures made { IfOk result (λ attrs. IsMade conf.now.types attrs.entries) }
     ensures gives { Gives (λ attrs. attributes_of attrs.entries) result (add_lines mode conf.now.types [] lines.now) }
 {
-    let adder = LineAdder { alloc, conf, mode };
+    let adder = LineAdder {
+        alloc,
+        conf,
+        mode,
+        likely,
+    };
     if lines.len() <= FEW_LINES {
         adder.attributes_of_few(lines)
     } else {

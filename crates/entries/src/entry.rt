@@ -1,9 +1,10 @@
 //! Entries.
 
 ghost use Rattle.std.specs.Prelude.{◌≡◌, IfOk};
+ghost use Rattle.std.specs.Map.{keys_of};
 
 use crate::kept_attributes::{Attributes, AttributesIter};
-use schema::TypedRdn;
+use schema::{TypeId, TypedRdn};
 use std::alloc::{AllocError, Global};
 use std::marker::Model;
 
@@ -45,6 +46,13 @@ impl Entry {
         ensures { result ≡ self.now.attrs }
     {
         self.attrs.iter()
+    }
+
+    /// The types of its attributes, in order.
+    pub fn types(&self) -> &[TypeId]
+        ensures { result.now ≡ keys_of self.now.attrs }
+    {
+        self.attrs.types()
     }
 
     /// Its attributes again.

@@ -69,6 +69,13 @@ impl Attributes {
         })
     }
 
+    /// The types, in order.
+    pub(crate) fn types(&self) -> &[TypeId]
+        ensures { result.now ≡ keys_of self.now.entries }
+    {
+        &self.types
+    }
+
     /// The values of a type, where it has any.
     pub(crate) fn get(&self, t: TypeId) -> Option<&Values>
         ensures { option_copied result ≡ lookup (nat_eq t) self.now.entries }

@@ -1,10 +1,12 @@
 //! What a configuration says of an attribute type.
 
-ghost use Rattle.std.specs.Prelude.{◌≡◌, ◌<◌, ◌↔◌, IsTrue, length};
-ghost use Rattle.values.specs.Types.{name_of, type_at};
+ghost use Rattle.std.specs.Prelude.{◌≡◌, ◌<◌, ◌↔◌, ◌&&◌, IsTrue, Some, length, nat_lt};
+ghost use Rattle.std.specs.Str.{bytes_eq};
+ghost use Rattle.values.specs.Types.{name_of, type_at, type_of};
 ghost use Rattle.schema.specs.Subtypes.{IsSubtype};
 
 use crate::conf::Conf;
+use crate::laws::printed_names_name_their_types;
 use values::{EqualityRule, TypeId};
 
 impl Conf {
@@ -14,6 +16,16 @@ impl Conf {
         ensures { result.now ≡ name_of self.now.types t }
     {
         self.at(t).printed_name()
+    }
+
+    /// Whether this is the number of a type that is printed by this name. So it is the one that the name names.
+    pub fn is_printed_as(&self, t: TypeId, name: &[u8]) -> bool
+        ensures test { result ≡ (nat_lt t (length self.now.types) && bytes_eq (name_of self.now.types t) name.now) }
+        ensures named { IsTrue result → type_of self.now.types name.now ≡ Some t }
+    {
+        self.rules_are_kept();
+        printed_names_name_their_types();
+        usize::from(t.number()) < self.types().len() && self.name(t) == name
     }
 
     /// How two values of a type are equal (RFC 4517, 4.2); without a rule, where their bytes are.
