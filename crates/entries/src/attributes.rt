@@ -70,20 +70,22 @@ impl LineAdder<'_> {
         ensures place { result ≡ type_of self.now.conf.now.types name.now }
         ensures known { IfSome result (λ t. t < length self.now.conf.now.types) }
     {
-        if let [.., last] = attrs.types() {
-            if self.conf.is_printed_as(*last, name) {
-                return Some(*last);
-            }
-        }
-        if let Some(next) = self.likely.get(attrs.types().len()) {
+        let types = attrs.types();
+        if let Some(next) = self.likely.get(types.len()) {
             if self.conf.is_printed_as(*next, name) {
                 return Some(*next);
+            }
+        }
+        if let [.., last] = types {
+            if self.conf.is_printed_as(*last, name) {
+                return Some(*last);
             }
         }
         self.conf.type_of(name)
     }
 
     // a line's type and value, behind attributes of the lines before
+    #[inline(always)]
     fn line_value(&self, attrs: &Attributes, line: &Attr<'_>) -> Result<(TypeId, Value), Refusal>
         ensures gives { Gives (λ x. (x.0, x.1.raw)) result (line_value self.now.mode self.now.conf.now.types line.now) }
         ensures known { IfOk result (λ x. x.0 < length self.now.conf.now.types) }

@@ -135,6 +135,7 @@ impl Value {
     }
 
     /// The value that is written so, where its type has an equality rule of this family, or none.
+    #[inline(always)]
     pub fn new(alloc: Global, equality: Option<Family>, raw: &[u8]) -> Result<Value, AllocError>
         ensures { IfOk result (λ v. v ≡ record { raw = raw.now; norm = norm_by equality raw.now }) }
     {
