@@ -1,7 +1,8 @@
 //! The texts of a case file, in which codes stand for bytes.
-ghost use Rattle.std.specs.Prelude.{◌<◌, IfSome};
+ghost use Rattle.std.specs.Prelude.{◌<◌};
 
 use crate::fault::CaseFault;
+use hex::FromHexError;
 use memory_folder::MemoryFiles;
 use sha2::{Digest, Sha256};
 use std::alloc::Global;
@@ -81,32 +82,12 @@ fn code_of(code: &str) -> Option<Piece<'_>> {
     }
 }
 
-fn digit(byte: u8) -> Option<u8>
-    ensures { IfSome result (λ d. d < 16) }
-{
-    match byte {
-        b'0'..=b'9' => Some(byte - b'0'),
-        b'a'..=b'f' => Some(byte - b'a' + 10),
-        b'A'..=b'F' => Some(byte - b'A' + 10),
-        _ => None,
+fn put_bytes(alloc: Global, digits: &str, into: &mut Vec<u8>) -> Result<(), CaseFault> {
+    match hex::decode(alloc, digits) {
+        Ok(bytes) => Ok(into.extend_from_slice(&bytes)?),
+        Err(FromHexError::OutOfMemory) => Err(CaseFault::OutOfMemory),
+        Err(_) => Err(CaseFault::Code),
     }
-}
-
-fn byte_of(pair: &[u8]) -> Option<u8> {
-    match pair {
-        [high, low] => Some(digit(*high)? * 16 + digit(*low)?),
-        _ => None,
-    }
-}
-
-fn put_bytes(digits: &str, into: &mut Vec<u8>) -> Result<(), CaseFault> {
-    for pair in digits.as_bytes().chunks(2) {
-        match byte_of(pair) {
-            Some(byte) => into.push(byte)?,
-            None => return Err(CaseFault::Code),
-        }
-    }
-    Ok(())
 }
 
 fn put_many(text: &str, count: u32, into: &mut Vec<u8>) -> Result<(), CaseFault> {
@@ -171,7 +152,7 @@ fn put_pieces(
     for piece in pieces {
         match piece {
             Piece::Plain(text) => into.extend_from_slice(text.as_bytes())?,
-            Piece::Bytes(digits) => put_bytes(digits, into)?,
+            Piece::Bytes(digits) => put_bytes(alloc, digits, into)?,
             Piece::Many(text, count) => put_many(text, *count, into)?,
             Piece::Numbers(_) | Piece::Number => put_number(alloc, known.number, into)?,
             Piece::Stamp(name) => put_stamp(alloc, name, known.files, into)?,

@@ -55,12 +55,8 @@ fn hex(b: u8) -> Option<u8>
     ensures value { result ≡ (if is_hex b then Some (hex b) else None) }
     ensures digit { IfSome result (λ d. d < 16) }
 {
-    match b {
-        b'0'..=b'9' => Some(b - b'0'),
-        b'A'..=b'F' => Some(b - b'A' + 10),
-        b'a'..=b'f' => Some(b - b'a' + 10),
-        _ => None,
-    }
+    let digit = char::from(b).to_digit(16)?;
+    Some(digit as u8)
 }
 
 fn raw_fault(b: u8) -> NameFaultKind

@@ -12,12 +12,8 @@ fn digit(byte: u8) -> Option<u8>
     ensures same { result ≡ digit_of byte }
     ensures small { IfSome result (λ d. d < 16) }
 {
-    match byte {
-        b'0'..=b'9' => Some(byte - b'0'),
-        b'A'..=b'F' => Some(byte - b'A' + 10),
-        b'a'..=b'f' => Some(byte - b'a' + 10),
-        _ => None,
-    }
+    let digit = char::from(byte).to_digit(16)?;
+    Some(digit as u8)
 }
 
 fn is_raw(byte: u8) -> bool

@@ -1,9 +1,8 @@
 -- What is wrong with the first line.
-use Rattle.std.proofs.Common.{◌≡◌, ℕ, ◌+◌, ◌*◌, ◌-◌, ◌⊎◌, inl, inr, ◌==◌, ◌&&◌, ◌||◌, Bool, true, false, cond, List, [], ◌∷◌, ◌++◌, length, decimal, None, Some, Result, Ok, Err, codes, refl, sym, ap, ◌∙◌, subst, arith}
+use Rattle.std.proofs.Common.{◌≡◌, ℕ, ◌⊎◌, inl, inr, ◌==◌, ◌&&◌, Bool, true, false, cond, List, [], ◌∷◌, ◌++◌, length, decimal, None, Some, Result, Ok, Err, codes, refl, sym, ap, ◌∙◌, subst, arith}
 use Rattle.std.proofs.lemmas.Bool.{eqb-true, and_parts, eq-eqb}
 use Rattle.std.proofs.lemmas.Slice.Eq.{bytes_eq-Decides}
 use Rattle.std.proofs.lemmas.List.Splits.{join_with_byte-slice_split}
-use Rattle.std.specs.Char.{is_ascii_digit}
 use Rattle.std.specs.List.{list_all, AllByRecursion}
 use Rattle.std.specs.Str.{bytes_eq}
 use Rattle.base.specs.Ascii.{space, line_feed}
@@ -15,13 +14,14 @@ use Rattle.schema.specs.Conf.{Conf}
 use Rattle.schema.specs.declared.slots.Slot.{Slot}
 use Rattle.index_text.specs.IndexTexts.{header_line}
 use Rattle.stored_index.specs.Cuts.{parts}
-use Rattle.stored_index.specs.Words.{is_small_hex_letter, hex_digit, bytes_in, number_in}
-use Rattle.stored_index.specs.Reading.{Head, is_hex_byte, is_stamp, has_head_form, head_with, head_of, head_in, is_current, if_current, current_head, slots_of, lines_in, rows_in}
+use Rattle.stored_index.specs.Words.{is_hex_byte, number_in}
+use Rattle.stored_index.specs.Reading.{Head, is_stamp, has_head_form, head_with, head_of, head_in, is_current, if_current, current_head, slots_of, lines_in, rows_in}
 use Rattle.stored_index.specs.FaultyLines.{Last, last_behind, IsLineFault, IsLaterFault, IsHead, IsIndexFault}
 use Rattle.stored_index.specs.Rows.{IsByte}
 use Rattle.stored_index.specs.declared.fault.IndexFaultKind.{IndexFaultKind}
 use Rattle.stored_index.specs.declared.fault.IndexFaultKind.TheVariants.{Header, Stale, Form, Order, Rank}
-use Rattle.stored_index.proofs.KeyLaws.{Text, text, bytes_write}
+use Rattle.stored_index.proofs.KeyLaws.{bytes_write}
+use Rattle.stored_index.proofs.KeyLemmas.{bytes_told}
 use Rattle.stored_index.proofs.NumberLaws.{Lacks, test_ok, number_writes}
 use Rattle.stored_index.proofs.RowFaults.{bind_err, is_err, test_err}
 use Rattle.stored_index.proofs.RowLaws.{parts_at}
@@ -35,30 +35,6 @@ abbrev Told : Type 0 → Type 0
 Told X = Result X IndexFaultKind
 
 -- ---- hexadecimal digits of 32 bytes
-
-hex_told : (b : ℕ) → is_hex_byte b ≡ true → (d : ℕ) × (hex_digit b ≡ Ok d)
-hex_told b e = by (is_ascii_digit b) (is_small_hex_letter b) (b - 48) (b - 97 + 10) e
-  where
-    by : (s t : Bool) (x y : ℕ) → (s || t) ≡ true → (d : ℕ) × (◌≡◌ {A = Told ℕ} (cond s (Ok x) (cond t (Ok y) (Err Form))) (Ok d))
-    by true t x y e = (x, refl)
-    by false true x y e = (y, refl)
-    by false false x y e = absurd cc
-
-bytes_told : (n : ℕ) (word : List ℕ) → length word ≡ 2 * n → list_all is_hex_byte word ≡ true → (bs : List ℕ) × (bytes_in word ≡ Ok bs)
-unfolding bytes_in
-bytes_told n [] e all = ([], refl)
-bytes_told n (b ∷ []) e all = absurd (omega arith)
-bytes_told n (high ∷ low ∷ rest) e all =
-    let first = and_parts (is_hex_byte high) (is_hex_byte low && list_all is_hex_byte rest) all in
-    let second = and_parts (is_hex_byte low) (list_all is_hex_byte rest) first.1 in
-    let h = hex_told high first.0 in
-    let l = hex_told low second.0 in
-    let more = bytes_told (n - 1) rest (omega arith) second.1 in (
-      (h.0 * 16 + l.0) ∷ more.0,
-      ap (λ (r : Told ℕ). (r >>= λ h. hex_digit low >>= λ l. Ok (h * 16 + l)) >>= λ b. bytes_in rest >>= λ bs. text (b ∷ bs)) h.1
-          ∙ ap (λ (r : Told ℕ). (r >>= λ l. Ok (h.0 * 16 + l)) >>= λ b. bytes_in rest >>= λ bs. text (b ∷ bs)) l.1
-          ∙ ap (λ (r : Text). r >>= λ bs. text ((h.0 * 16 + l.0) ∷ bs)) more.1,
-    )
 
 -- a stamp is the digits of 32 bytes
 stamp_told : (word : List ℕ) → is_stamp word ≡ true → (s : List ℕ) × (word ≡ encode_lower s) × (length s ≡ 32) × AllByRecursion IsByte s

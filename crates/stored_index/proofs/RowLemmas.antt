@@ -1,5 +1,5 @@
 -- A line of a key, word by word.
-use Rattle.std.proofs.Common.{◌≡◌, ℕ, List, ◌∷◌, ◌++◌, Option, Result, Ok, Err, refl, sym, ap, ◌∙◌}
+use Rattle.std.proofs.Common.{◌≡◌, ℕ, List, ◌∷◌, Option, Result, Ok, Err, sym, ap, ◌∙◌}
 use Rattle.base.specs.Ascii.{space}
 use Rattle.base.specs.Answers.{◌>>=◌}
 use Rattle.memchr.specs.Find.{is_byte}
@@ -7,7 +7,6 @@ use Rattle.index_text.specs.IndexTexts.{Row}
 use Rattle.stored_index.specs.Cuts.{parts}
 use Rattle.stored_index.specs.Words.{key_in}
 use Rattle.stored_index.specs.KeyLines.{is_above, ranks_in, row_of, row_in}
-use Rattle.stored_index.specs.inner.Adds.{Adds}
 use Rattle.stored_index.specs.declared.fault.IndexFaultKind.{IndexFaultKind}
 use Rattle.stored_index.proofs.CutLemmas.{split_cons}
 
@@ -40,7 +39,3 @@ module _ (before : Option (List ℕ)) (entries : ℕ) (word : List ℕ) where
     pub row_read : (key ranks : List ℕ) → key_in word ≡ Ok key → ranks_in (is_above before key) entries (parts space text) ≡ Ok ranks
         → row_of before entries (word ∷ parts space text) ≡ Ok (key, ranks)
     row_read key ranks e f = at_ranks key e ∙ ap (λ (r : Result (List ℕ) IndexFaultKind). r >>= λ rs. Ok (key, rs)) f
-
-pub what_was_added : {A : Type 0} (old new : List A) (said : Result (List A) IndexFaultKind) → Adds old new (Ok tt) said → (xs : List A) × (said ≡ Ok xs) × (new ≡ old ++ xs)
-what_was_added old new (Ok xs) h = (xs, refl, h)
-what_was_added old new (Err fault) h = absurd h

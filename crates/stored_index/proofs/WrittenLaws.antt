@@ -24,9 +24,9 @@ use Rattle.schema.specs.declared.slots.Slot.{Slot}
 use Rattle.schema.proofs.SlotOrder.{slots_total}
 use Rattle.index_text.specs.IndexTexts.{Row, Rows, ended, kind_name, header_line, slot_line, key_line, end_line, slot_text, index_text}
 use Rattle.stored_index.specs.Cuts.{parts}
-use Rattle.stored_index.specs.Words.{is_small_hex_letter, hex_digit, number_in}
+use Rattle.stored_index.specs.Words.{is_hex_byte, is_small_hex_letter, hex_digit, number_in}
 use Rattle.stored_index.specs.SlotLines.{kind_named, if_printed, slot_with, slot_of, slot_in, is_slot}
-use Rattle.stored_index.specs.Reading.{Head, is_hex_byte, is_stamp, head_with, head_of, head_in, if_current, current_head, ends_rows, rows_of, slot_rows, slots_of, rows_in}
+use Rattle.stored_index.specs.Reading.{Head, is_stamp, head_with, head_of, head_in, if_current, current_head, ends_rows, rows_of, slot_rows, slots_of, rows_in}
 use Rattle.stored_index.specs.Rows as good
 use Rattle.stored_index.specs.Rows.{IsByte, AreSlotRows, AreRows}
 use Rattle.stored_index.specs.declared.fault.IndexFaultKind.{IndexFaultKind}

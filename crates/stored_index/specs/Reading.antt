@@ -2,7 +2,6 @@
 use Rattle.std.specs.Prelude.{ℕ, ◌==◌, ◌&&◌, ◌||◌, Bool, true, false, if◌then◌else◌, List, [], ◌∷◌, length, Option, Some, None, Result, Ok, Err, codes}
 use Rattle.std.specs.List.{list_all, starts_with}
 use Rattle.std.specs.Str.{bytes_eq}
-use Rattle.std.specs.Char.{is_ascii_digit}
 use Rattle.std.specs.Prelude.{nat_eq}
 use Rattle.base.specs.Answers.{◌>>=◌}
 use Rattle.base.specs.Ascii.{space, line_feed}
@@ -12,7 +11,7 @@ use Rattle.schema.specs.Conf.{Conf}
 use Rattle.schema.specs.declared.slots.Slot.{Slot}
 use Rattle.index_text.specs.IndexTexts.{Row, Rows, end_line}
 use Rattle.stored_index.specs.Cuts.{parts}
-use Rattle.stored_index.specs.Words.{is_small_hex_letter, number_in}
+use Rattle.stored_index.specs.Words.{is_hex_byte, number_in}
 use Rattle.stored_index.specs.KeyLines.{row_in}
 use Rattle.stored_index.specs.SlotLines.{slot_in, is_slot, fault_at}
 use Rattle.stored_index.specs.declared.fault.IndexFaultKind.{IndexFaultKind}
@@ -23,9 +22,6 @@ use Rattle.stored_index.specs.declared.fault.IndexFaultKind.TheVariants.{Header,
 -- the stamp that a text was written for, and how many entries there were
 abbrev pub Head : Type 0
 Head = ℕ × List ℕ
-
-abbrev pub is_hex_byte : ℕ → Bool
-is_hex_byte b = is_ascii_digit b || is_small_hex_letter b
 
 -- 32 bytes in hexadecimal
 abbrev pub is_stamp : List ℕ → Bool

@@ -1,5 +1,5 @@
 -- The words of an index text: numbers and keys. Each is written in one way only.
-use Rattle.std.specs.Prelude.{ℕ, ◌+◌, ◌*◌, ◌-◌, ◌==◌, Bool, true, false, nat_lt, nat_le, if◌then◌else◌, List, [], ◌∷◌, length, Result, Ok, Err}
+use Rattle.std.specs.Prelude.{ℕ, ◌+◌, ◌*◌, ◌-◌, ◌==◌, ◌||◌, Bool, true, false, nat_lt, nat_le, if◌then◌else◌, List, [], ◌∷◌, length, Result, Ok, Err}
 use Rattle.std.specs.Str.{bytes_eq}
 use Rattle.std.specs.Char.{is_ascii_digit}
 use Rattle.base.specs.Answers.{◌>>=◌}
@@ -30,6 +30,9 @@ number_in word = if has_number_form word then number_after 0 word else Err Form
 
 abbrev pub is_small_hex_letter : ℕ → Bool
 is_small_hex_letter b = if nat_le 97 b then nat_le b 102 else false
+
+abbrev pub is_hex_byte : ℕ → Bool
+is_hex_byte b = is_ascii_digit b || is_small_hex_letter b
 
 abbrev pub hex_digit : ℕ → Result ℕ IndexFaultKind
 hex_digit b = if is_ascii_digit b then Ok (b - 48) else (if is_small_hex_letter b then Ok (b - 97 + 10) else Err Form)

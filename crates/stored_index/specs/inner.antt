@@ -1,3 +1,3 @@
-pub mod Adds
+pub mod HexFaults
 pub mod Reads
 pub mod Sorted

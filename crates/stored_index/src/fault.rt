@@ -5,6 +5,7 @@ ghost use Rattle.stored_index.specs.Faults.{fault_number, fault_text, fault_repo
 ghost use Rattle.stored_index.specs.declared.fault.IndexFault.TheVariants.{Fault, OutOfMemory};
 ghost use Rattle.stored_index.specs.declared.fault.IndexFaultKind.TheVariants.{Form};
 
+use hex::FromHexError;
 use std::alloc::{AllocError, AllocFailed};
 use std::error::Error;
 use std::fmt;
@@ -84,6 +85,21 @@ impl<T: Drop> From<AllocFailed<T>> for IndexFault {
 
     fn from(_e: AllocFailed<T>) -> IndexFault {
         IndexFault::OutOfMemory
+    }
+}
+
+impl From<FromHexError> for IndexFault {
+    ghost use Rattle.stored_index.specs.inner.HexFaults.{fault_by};
+
+    ghost from_gives = { λ error e. e ≡ fault_by error };
+
+    fn from(error: FromHexError) -> IndexFault {
+        match error {
+            FromHexError::OutOfMemory => IndexFault::OutOfMemory,
+            FromHexError::OddLength => form(),
+            FromHexError::InvalidStringLength => form(),
+            FromHexError::InvalidHexCharacter { .. } => form(),
+        }
     }
 }
 

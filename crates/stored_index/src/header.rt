@@ -1,24 +1,17 @@
 //! The first line.
 
 ghost use Rattle.std.specs.Prelude.{◌≡◌, IfOk, map};
-ghost use Rattle.std.specs.List.{list_all};
 ghost use Rattle.stored_index.specs.Gives.{Gives};
-ghost use Rattle.stored_index.specs.Reading.{is_hex_byte, is_stamp, has_head_form, head_of, head_in, is_current, if_current, current_head};
+ghost use Rattle.stored_index.specs.Reading.{is_stamp, has_head_form, head_of, head_in, is_current, if_current, current_head};
 ghost use Rattle.stored_index.specs.inner.Reads.{head_view};
 ghost use Rattle.stored_index.specs.declared.fault.IndexFault.TheVariants.{Fault};
 ghost use Rattle.stored_index.specs.declared.fault.IndexFaultKind.TheVariants.{Header};
 
 use crate::fault::{IndexFault, IndexFaultKind};
+use crate::keys::are_hex_bytes;
 use crate::numbers::number_in;
 use crate::words::words;
 use std::alloc::{AllocError, Global};
-
-fn are_hex_bytes(word: &[u8]) -> bool
-    ensures { result ≡ list_all is_hex_byte word.now }
-{
-    word.iter()
-        .all(|b| b.is_ascii_digit() || (b'a' <= *b && *b <= b'f'))
-}
 
 // 32 bytes in hexadecimal
 fn is_stamp(word: &[u8]) -> bool

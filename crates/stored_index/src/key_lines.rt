@@ -34,8 +34,7 @@ fn read_words(
 ) -> Result<(Bytes, ListSet), IndexFault>
     ensures { Reads IsKept result (row_of (option_copied before.entry) entries (word.now ∷ parts space words.now)) }
 {
-    let mut key = Vec::with_capacity(alloc, word.len() / 2)?;
-    read_key(word, &mut key)?;
+    let key = read_key(alloc, word)?;
     let is_in_order = is_above(before, key.as_slice());
     let ranks = read_ranks(alloc, words, is_in_order, entries)?;
     Ok((Bytes::from_vec(key), ranks))
