@@ -12,7 +12,7 @@ const GO_ON_HELP: &str = "Goes on after a refused record";
 
 const DRY_RUN_HELP: &str = "Writes no file";
 
-const OUTPUT_HELP: &str = "Is written, in place of standard output";
+const OUTPUT_HELP: &str = "The file that is written, in place of standard output";
 
 const BASE_HELP: &str = "The entry that the search begins at, in place of the suffix's";
 

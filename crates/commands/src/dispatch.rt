@@ -59,7 +59,7 @@ fn carry_out<F: Folder, S: Source, O: Sink, E: Sink>(
 
 /// Carries out the command that the words spell, the first being the program's name, and answers its exit status: 0, or 1
 /// where a record was refused or a search ended with a result code, 2 for a fault of the command line, of a filter or of dir.conf, 3 for
-/// one of a file, a stream or memory.
+/// a file, a data.ldif that doesn't load, a directory in use, a stream, or memory.
 pub fn command<W: AsStr, F: Folder, S: Source, O: Sink, E: Sink>(
     alloc: Global,
     words: &[W],

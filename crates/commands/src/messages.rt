@@ -27,7 +27,7 @@ pub enum Status {
     Refused,
     /// The command line, a filter or the configuration is at fault.
     Usage,
-    /// A file, a stream or memory failed, or the directory's own file doesn't load.
+    /// A file, a stream or memory failed, data.ldif doesn't load, or the directory is in use.
     Failed,
 }
 
@@ -206,7 +206,7 @@ pub fn report_text<W: Sink>(sink: &mut W, text: &str, status: Status) -> Status
 }
 
 /// Writes the line of a fault, and answers how the command ends: as the fault says, or `Failed` where the line can't be
-/// written.
+/// written, or where there is no memory for it and `out of memory` is written in its place.
 pub fn report_fault<E: Sink>(alloc: Global, err: &mut E, fault: &CommandFault) -> Status
     requires { (E.written err.old).failed < 2 ^ 64 - 1 }
     ensures status { (result ≡ status_of_fault fault.now) ⊎ (result ≡ Status.Failed) }

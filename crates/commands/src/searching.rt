@@ -224,10 +224,10 @@ fn print<O: Sink>(
 }
 
 /// Prints the entries of the directory in a folder that are in scope of the base and that the filter is True of, with the attributes that
-/// are asked for (RFC 4511, 4.5.1). They are found by index.txt, if it is there and was written for these entries, and else by a test of each entry
-/// in scope; if it is there and has a fault, that is reported on `err` first. Where more than the limit match, the first ones are printed, the code 4 sizeLimitExceeded is reported on
-/// `err`, and it ends as `Refused`. It stops where the filter is none, the directory can't be loaded, index.txt can't be read, the base
-/// isn't there (its code is 32 noSuchObject then), or `out`, `err` or memory fails.
+/// are asked for (RFC 4511, 4.5.1). They are found by index.txt, if it is there and was written for these entries, and else by a test of
+/// each entry in scope; if it is there and has a fault, that is reported on `err` first. Where more than the limit match, the first ones are
+/// printed, the code 4 sizeLimitExceeded is reported on `err`, and it ends as `Refused`. It stops where the text is no filter, the directory
+/// can't be loaded, index.txt can't be read, the base isn't there (its code is 32 noSuchObject then), or `out`, `err` or memory fails.
 pub fn search<F: Folder, O: Sink, E: Sink>(
     alloc: Global,
     asked: &SearchOptions<'_>,

@@ -161,7 +161,7 @@ fn load_and_put<F: Folder, O: Sink>(
 }
 
 /// Writes the directory in a folder to the file, or to `out`: all entries, or those at the base and below it that the filter is True of. It
-/// stops where the filter is none, the directory can't be loaded, the base isn't there (its code is 32 noSuchObject then), or what it
+/// stops where the text is no filter, the directory can't be loaded, the base isn't there (its code is 32 noSuchObject then), or what it
 /// writes to or memory fails.
 pub fn slapcat<F: Folder, O: Sink>(
     alloc: Global,

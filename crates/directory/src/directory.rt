@@ -103,7 +103,7 @@ impl Directory {
 
     /// The entries in scope of which the filter is True, in dump order (RFC 4511, 4.5.1). Of the entries in scope it tests those of which the
     /// filter may be True by what the index shows, and no other. The filter was prepared under the configuration of this directory.
-    /// `NoSuchObject` where the base isn't there.
+    /// `NoSuchObject` where the base isn't there, and else `OutOfMemory`.
     pub fn search<'a>(
         &'a self,
         base: &'a Path,

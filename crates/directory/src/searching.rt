@@ -52,7 +52,7 @@ pub fn search_tree<'a>(
 /// The entries of a tree in scope of which the filter is True, as far as it may be True by what postings show of their ranks, in dump order
 /// (RFC 4511, 4.5.1). A rank is an entry's place in the dump. Where each rank stands under exactly the keys of its entry, these are all
 /// entries in scope of which the filter is True. No entry is tested but those of which the filter may be True. The filter was prepared under
-/// the configuration that the tree was made with. `NoSuchObject` where the base isn't there.
+/// the configuration that the tree was made with. `NoSuchObject` where the base isn't there, and else `OutOfMemory`.
 pub fn search_with<'a, P: Postings>(
     alloc: Global,
     tree: &'a Tree,

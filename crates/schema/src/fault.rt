@@ -7,7 +7,7 @@ use thiserror::Error;
 /// Why a text names no place below the suffix.
 #[derive(Debug, Drop, Error)]
 pub enum PathFault {
-    #[error("the name has no path")]
+    #[error("{0}")]
     Code(Code),
     #[error("out of memory")]
     OutOfMemory,

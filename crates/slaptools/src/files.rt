@@ -4,9 +4,9 @@ ghost use Rattle.std.specs.Prelude.{None, IfOk, is_some};
 use commands::{FileText, Folder, FolderFault, LockFault};
 use device::{OfRead, OfWrite};
 use std::alloc::{AllocError, Global};
-use std::fs::{self, File, OpenFile, OpenOptions, TryLockError};
+use std::fs::{self, File, Metadata, OpenFile, OpenOptions, TryLockError};
 use std::io::{self, ErrorKind};
-use std::os::unix::fs::{MetadataExt, lchown};
+use std::os::unix::fs::{MetadataExt, OpenOptionsExt, lchown};
 use std::rt::Files as HostFiles;
 
 /// The files of the system.
@@ -16,6 +16,12 @@ pub struct Files<'r, R> {
     /// An open file whose lock is held for as long as it is open.
     locked: Option<File>,
 }
+
+/// Permission to read and write for the owner: what the next contents of a file have until they have those of the old one.
+const OWNER_ALONE: u32 = 0o600;
+
+/// Permission to read and write for everyone, less what the process may not give (umask).
+const EVERYONE: u32 = 0o666;
 
 /// The name that is reserved beside a file, for its next contents until they are whole.
 fn reserved(alloc: Global, name: &str) -> Result<String, AllocError> {
@@ -66,28 +72,30 @@ impl<'r, R: HostFiles<File = File> + AllocGlobal> Files<'r, R> {
         Ok(answer)
     }
 
-    /// Makes a file that is in nobody else's hands: what stands under this name goes, and a link is not followed.
-    fn make_anew(&self, name: &str) -> Result<File, FolderFault> {
+    /// Makes a file that is in nobody else's hands, with these permissions as far as the process may give them: what stands under this name
+    /// goes, and a link is not followed.
+    fn make_anew(&self, name: &str, mode: u32) -> Result<File, FolderFault> {
         let _ = fs::remove_file(self.rt, name);
         let mut how = OpenOptions::new();
-        how.write(true).create_new(true);
+        how.write(true).create_new(true).mode(mode);
         Ok(how.open(self.rt, name)?)
     }
 
-    /// Writes the next contents of a file, with its permissions and for its owner, and renames them over it. Whoever may not give a file
-    /// away keeps it.
+    /// Writes the next contents of a file, with the old one's permissions and for its owner, and renames them over it. Whoever may not give
+    /// a file away keeps it.
     fn fill<T: FileText>(
         &self,
         mut file: File,
         new: &str,
         name: &str,
+        old: Option<Metadata>,
         text: &T,
     ) -> Result<T::Answer, FolderFault>
         ensures { IfOk result (T.answers text.now) }
     {
-        if let Ok(found) = fs::metadata(self.rt, name) {
-            let _ = lchown(self.rt, new, Some(found.uid()), Some(found.gid()));
-            OpenFile::set_permissions(&file, found.permissions())?;
+        if let Some(old) = old {
+            let _ = lchown(self.rt, new, Some(old.uid()), Some(old.gid()));
+            OpenFile::set_permissions(&file, old.permissions())?;
         }
         let answer = text.write(self.rt.alloc(), &mut OfWrite::new(&mut file))?;
         file.sync_all()?;
@@ -111,8 +119,10 @@ impl<'r, R: HostFiles<File = File> + AllocGlobal> Files<'r, R> {
         ensures { IfOk result (T.answers text.now) }
     {
         let new = reserved(self.rt.alloc(), name)?;
-        let file = self.make_anew(new.as_str())?;
-        let replaced = self.fill(file, new.as_str(), name, text);
+        let old = fs::metadata(self.rt, name).ok();
+        let mode = if old.is_some() { OWNER_ALONE } else { EVERYONE };
+        let file = self.make_anew(new.as_str(), mode)?;
+        let replaced = self.fill(file, new.as_str(), name, old, text);
         match &replaced {
             Ok(_) => self.sync_folder(name),
             Err(_) => {

@@ -10,9 +10,9 @@ use Rattle.std.specs.declared.cmp.Ordering.TheVariants.{Less, Equal, Greater}
 use Rattle.std.specs.Cmp.{tied_itself}
 use Rattle.std.specs.Cmp.Lexicographic.{slice_cmp}
 use Rattle.std.specs.FinSet as set
-use Rattle.std.specs.List.Sorted.{IsStrictlySortedBy}
+use Rattle.std.specs.List.Sorted.{IsStrictlySortedBy, IsNonDecreasingBy}
 use Rattle.std.specs.Map.{keys_of, lookup}
-use Rattle.std.specs.Ordering.{nat_cmp, is_eq, ordering_reverse}
+use Rattle.std.specs.Ordering.{nat_cmp, is_eq, ordering_reverse, ordering_index}
 use Rattle.std.specs.Str.{bytes_eq}
 use Rattle.index.specs.KeySets.{Row, members_at}
 
@@ -101,3 +101,14 @@ found_at (row ∷ rows) d key (suc m) order lt e =
 
 pub the_members : (rows : List Row) (d : Row) (key : List ℕ) (m : ℕ) → AreInOrder rows → m < length rows → key_cmp (key_at rows m d) key ≡ Equal → (get_or rows m d).1 ≡ members_at rows key
 the_members rows d key m order lt tie = sym (ap members_of (found_at rows d key m order lt (same_from_tie (key_at rows m d) key tie)))
+
+-- how keys compare with the wanted one rises with their places
+pub rises : (rows : List Row) (order : AreInOrder rows) (key : List ℕ) → IsNonDecreasingBy (λ (row : Row). ordering_index (key_cmp row.0 key)) rows
+rises rows order key i j d le lt = by (key_cmp (key_at rows i d) key) (key_cmp (key_at rows j d) key) (less_before rows d order key i j le lt) (greater_behind rows d order key j i le lt)
+  where
+    by : (x y : Ordering) → (y ≡ Less → x ≡ Less) → (x ≡ Greater → y ≡ Greater) → ordering_index x ≤ ordering_index y
+    by Less y less greater = omega arith
+    by Equal Less less greater = absurd (let bad = less refl in cc)
+    by Equal Equal less greater = omega arith
+    by Equal Greater less greater = omega arith
+    by Greater y less greater = let e = greater refl in rw e (omega arith)

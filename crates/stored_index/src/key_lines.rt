@@ -10,8 +10,8 @@ use crate::cuts::cut;
 use crate::fault::{IndexFault, form};
 use crate::keys::read_key;
 use crate::ranks::read_ranks;
+use crate::row::Row;
 use base::Bytes;
-use id_sets::ListSet;
 use std::alloc::Global;
 
 // whether a key comes after the one before it, where there is one
@@ -31,13 +31,13 @@ fn read_words(
     words: &[u8],
     before: Option<&[u8]>,
     entries: usize,
-) -> Result<(Bytes, ListSet), IndexFault>
+) -> Result<Row, IndexFault>
     ensures { Reads IsKept result (row_of (option_copied before.entry) entries (word.now ∷ parts space words.now)) }
 {
     let key = read_key(alloc, word)?;
     let is_in_order = is_above(before, key.as_slice());
     let ranks = read_ranks(alloc, words, is_in_order, entries)?;
-    Ok((Bytes::from_vec(key), ranks))
+    Ok(Row::new(Bytes::from_vec(key), ranks))
 }
 
 /// A key with its ranks, as a line says them behind the line of another key, if there is one.
@@ -46,7 +46,7 @@ pub(crate) fn read_row(
     line: &[u8],
     before: Option<&[u8]>,
     entries: usize,
-) -> Result<(Bytes, ListSet), IndexFault>
+) -> Result<Row, IndexFault>
     ensures { Reads IsKept result (row_in (option_copied before.entry) entries line.now) }
 {
     let (word, words) = cut(b' ', line);

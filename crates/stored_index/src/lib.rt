@@ -12,6 +12,7 @@ mod laws;
 mod numbers;
 mod ranks;
 mod reading;
+mod row;
 mod row_lines;
 mod slot_lines;
 mod stored;

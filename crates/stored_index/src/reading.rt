@@ -13,10 +13,10 @@ ghost use Rattle.stored_index.specs.inner.Reads.{Reads, AreFirst, AreSlots};
 use crate::cuts::first_line;
 use crate::fault::{IndexFault, IndexFaultKind, form};
 use crate::header::check_header;
+use crate::row::Row;
 use crate::row_lines::read_rows;
 use crate::slot_lines::{fault_at, is_slot, slot_in};
-use base::{Bytes, Sequence};
-use id_sets::ListSet;
+use base::Sequence;
 use schema::{Conf, Slot};
 use std::alloc::Global;
 
@@ -28,7 +28,7 @@ fn read_slot<'a>(
     due: Slot,
     text: &'a [u8],
     entries: usize,
-) -> Result<(Sequence<(Bytes, ListSet)>, &'a [u8]), IndexFault>
+) -> Result<(Sequence<Row>, &'a [u8]), IndexFault>
     ensures { Reads AreFirst result (slot_rows conf.now.types entries before due (parts line_feed text.now)) }
 {
     match first_line(text) {
@@ -72,7 +72,7 @@ fn read_slots(
     conf: &Conf,
     text: &[u8],
     entries: usize,
-) -> Result<Sequence<Sequence<(Bytes, ListSet)>>, IndexFault>
+) -> Result<Sequence<Sequence<Row>>, IndexFault>
     ensures { Reads AreSlots result (slots_of conf.now.types entries None conf.now.slots (parts line_feed text.now)) }
 {
     let mut slots = Vec::new(alloc);
@@ -95,7 +95,7 @@ pub(crate) fn read_text(
     conf: &Conf,
     stamp: &[u8],
     entries: usize,
-) -> Result<Sequence<Sequence<(Bytes, ListSet)>>, IndexFault>
+) -> Result<Sequence<Sequence<Row>>, IndexFault>
     ensures { Reads AreSlots result (rows_in conf.now entries stamp.now text.now) }
 {
     match first_line(text) {

@@ -9,8 +9,8 @@ ghost use Rattle.stored_index.specs.inner.Reads.{Reads, AreFirst, last_key};
 use crate::cuts::first_line;
 use crate::fault::IndexFault;
 use crate::key_lines::read_row;
-use base::{Bytes, Sequence};
-use id_sets::ListSet;
+use crate::row::Row;
+use base::Sequence;
 use std::alloc::Global;
 
 /// Whether a line is that of a slot, or the last one.
@@ -21,11 +21,11 @@ pub(crate) fn ends_rows(line: &[u8]) -> bool
 }
 
 // the last key, if there is one
-fn last_key(rows: &[(Bytes, ListSet)]) -> Option<&[u8]>
+fn last_key(rows: &[Row]) -> Option<&[u8]>
     ensures { option_copied result ≡ last_key rows.now }
 {
     match rows {
-        [.., last] => Some(last.0.as_slice()),
+        [.., last] => Some(last.key()),
         [] => None,
     }
 }
@@ -35,7 +35,7 @@ pub(crate) fn read_rows<'a>(
     alloc: Global,
     text: &'a [u8],
     entries: usize,
-) -> Result<(Sequence<(Bytes, ListSet)>, &'a [u8]), IndexFault>
+) -> Result<(Sequence<Row>, &'a [u8]), IndexFault>
     ensures { Reads AreFirst result (rows_of None entries (parts line_feed text.now)) }
 {
     let mut rows = Vec::new(alloc);

@@ -14,12 +14,12 @@ ghost use Rattle.stored_index.specs.Stored.{index_in};
 
 use crate::fault::IndexFault;
 use crate::reading::read_text;
-use base::{Bytes, Sequence};
+use crate::row::Row;
+use base::Sequence;
 use id_sets::ListSet;
 use index::{Postings, SlotNumber};
 use schema::{Conf, IndexKind, Slot, TypeId};
 use std::alloc::Global;
-use std::cmp::Ordering;
 use std::marker::Model;
 use std::snapshot::Snapshot;
 
@@ -31,7 +31,7 @@ pub struct StoredIndex {
     // those of the configuration
     slots: Vec<Slot>,
     // the keys of each, with their ranks, in order
-    rows: Sequence<Sequence<(Bytes, ListSet)>>,
+    rows: Sequence<Sequence<Row>>,
 }
 
 impl Model for StoredIndex {
@@ -57,21 +57,14 @@ fn place_of(slots: &[Slot], wanted: &Slot) -> Option<usize>
 }
 
 // the ranks of a key, among keys in order
-fn ranks_of<'a>(rows: &'a [(Bytes, ListSet)], key: &[u8]) -> Option<&'a ListSet>
+fn ranks_of<'a>(rows: &'a [Row], key: &[u8]) -> Option<&'a ListSet>
     requires { IsStrictlySortedBy (slice_cmp nat_cmp) (keys_of rows.now) }
     ensures { MatchOption result (members_at rows.now key.now ≡ set.empty) (λ s. s.now ≡ members_at rows.now key.now) }
 {
-    let mut from = 0usize;
-    let mut to = rows.len();
-    while from < to {
-        let middle = from + (to - from) / 2;
-        match rows[middle].0.as_slice().cmp(key) {
-            Ordering::Less => from = middle + 1,
-            Ordering::Equal => return Some(&rows[middle].1),
-            Ordering::Greater => to = middle,
-        }
+    match rows.binary_search_by(|row| row.key().cmp(key)) {
+        Ok(place) => Some(rows[place].ranks()),
+        Err(_) => None,
     }
-    None
 }
 
 impl StoredIndex {

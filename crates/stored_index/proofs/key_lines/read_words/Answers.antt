@@ -37,5 +37,5 @@ returns c =
     let ranks = c.in_ok-ranks.ensures in (
       (key, ranks.0),
       row_read before c.args.entries c.args.word.now c.args.words.now key ranks.0 c.in_ok-key.ensures (sym (ap (λ (a : Bool). ranks_in a c.args.entries words) above) ∙ ranks.1),
-      λ i. (c.from_vec.ensures i, ranks.2 i),
+      c.new.ensures ∙ (λ i. (c.from_vec.ensures i, ranks.2 i)),
     )
