@@ -20,7 +20,7 @@ use crate::refusal::{Outcome, RecordRefusal};
 use device::Source;
 use ldif::{Mode, RawRecord, ReadFault, Reader};
 use schema::Conf;
-use std::alloc::Global;
+use std::alloc::{AllocError, Global};
 use tree::Tree;
 
 /// Why nothing was loaded.
@@ -31,6 +31,16 @@ pub enum LoadFault {
     OutOfMemory,
     /// The record that begins on this line is refused.
     Refused { line: u64, refusal: RecordRefusal },
+}
+
+impl From<AllocError> for LoadFault {
+    ghost use Rattle.directory.specs.declared.loading.LoadFault.TheVariants.{OutOfMemory};
+
+    ghost from_gives = { λ _ e. e ≡ OutOfMemory };
+
+    fn from(_: AllocError) -> LoadFault {
+        LoadFault::OutOfMemory
+    }
 }
 
 // one record
@@ -118,8 +128,5 @@ pub fn load<S: Source>(alloc: Global, conf: Conf, source: &mut S) -> Result<Dire
     ensures gave { GaveSome (S.seen source.old) (S.seen source.new) }
 {
     let tree = load_tree(alloc, &conf, source)?;
-    match Directory::from_tree(alloc, conf, tree) {
-        Ok(dir) => Ok(dir),
-        Err(_) => Err(LoadFault::OutOfMemory),
-    }
+    Ok(Directory::from_tree(alloc, conf, tree)?)
 }

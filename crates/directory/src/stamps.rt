@@ -9,7 +9,6 @@ ghost use Rattle.directory.specs.Dumps.{Writes, end_of};
 ghost use Rattle.directory.specs.IndexTexts.{stamp};
 ghost use Rattle.directory.specs.inner.Dumps.{WritesOn, entry_text};
 
-use crate::directory::Directory;
 use crate::dump::{PIECE, Printer, pass_on};
 use crate::selection::Selection;
 use device::{Nowhere, Sink};
@@ -115,16 +114,5 @@ pub fn stamp_of(alloc: Global, tree: &Tree, conf: &Conf) -> Result<[u8; 32], All
         Ok(stamp) => Ok(stamp),
         Err(WriteFault::OutOfMemory) => Err(AllocError),
         Err(WriteFault::Device) => unreachable!(),
-    }
-}
-
-impl Directory {
-    /// Writes the dump as `dump` does, and answers the stamp; each is made in the same pass.
-    pub fn stamped_dump<W: Sink>(&self, alloc: Global, sink: &mut W) -> Result<[u8; 32], WriteFault>
-        requires { (W.written sink.old).failed < 2 ^ 64 - 1 }
-        ensures writes { Writes (end_of result) (W.written sink.old) (W.written sink.new) (dump self.now.conf self.now.entries) }
-        ensures stamp { IfOk result (λ s. s ≡ stamp self.now.conf self.now.entries) }
-    {
-        write_stamped_dump(alloc, self.tree(), self.conf(), sink)
     }
 }
