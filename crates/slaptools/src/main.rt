@@ -2,10 +2,12 @@
 #![tactic(auto)]
 
 mod files;
+mod placeholders;
 
 use commands::{CommandFault, command, report_fault};
 use device::{OfRead, OfWrite};
 use files::Files;
+use placeholders::Placeholders;
 use std::env;
 use std::io::{self, ErrorKind};
 use std::process::ExitCode;
@@ -24,10 +26,32 @@ fn words_of(rt: &HostRuntime) -> Result<Vec<String>, CommandFault> {
     }
 }
 
+/// Nothing else may be opened before.
+fn placeholders_of(rt: &HostRuntime) -> Result<Placeholders, CommandFault> {
+    match Placeholders::open(rt) {
+        Ok(placeholders) => Ok(placeholders),
+        Err(_) => Err(CommandFault::cannot_read(rt.alloc(), "/")),
+    }
+}
+
+/// What the program has at its start.
+#[derive(Drop)]
+struct Start {
+    placeholders: Placeholders,
+    words: Vec<String>,
+}
+
+fn start_of(rt: &HostRuntime) -> Result<Start, CommandFault> {
+    Ok(Start {
+        placeholders: placeholders_of(rt)?,
+        words: words_of(rt)?,
+    })
+}
+
 fn main(rt: HostRuntime) -> ExitCode {
     let mut err = OfWrite::new(rt.stderr());
-    let words = match words_of(&rt) {
-        Ok(words) => words,
+    let start = match start_of(&rt) {
+        Ok(start) => start,
         Err(fault) => return ExitCode::from(report_fault(rt.alloc(), &mut err, &fault).number()),
     };
     let mut folder = Files::new(&rt);
@@ -35,7 +59,7 @@ fn main(rt: HostRuntime) -> ExitCode {
     let mut out = OfWrite::new(rt.stdout());
     ExitCode::from(command(
         rt.alloc(),
-        words.as_slice(),
+        start.words.as_slice(),
         &mut folder,
         &mut input,
         &mut out,
