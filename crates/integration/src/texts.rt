@@ -59,7 +59,7 @@ fn faults_have_their_texts(rt: HostRuntime) -> Result<(), Fail> {
     put_faults_of_names_and_values(rt.alloc(), &mut out)?;
     assert_eq!(rt;
         out.as_str(),
-        "the name has no path\nout of memory\nthe value is not valid for the type's syntax\nout of memory\n"
+        "32 noSuchObject\nout of memory\nthe value is not valid for the type's syntax\nout of memory\n"
     );
     out.clear();
     put_refusals(rt.alloc(), &mut out)?;
