@@ -65,12 +65,12 @@ def main(program, bench, people="100000"):
             print(f"{label:30}{took:8.3f} s{beside:8.3f} s{took / beside:7.2f}{bar:7}", flush=True)
             return took / beside > bar
 
-        missed |= compare("one uid", lambda: seconds([*search, one]), lambda: seconds([program, "slapcat", "--db", db]), 1.6)
+        missed |= compare("one uid", lambda: seconds([*search, one]), lambda: seconds([program, "slapcat", "--db", db]), 1.5)
         missed |= compare("one uid, without index.txt", without, lambda: seconds([program, "slapindex", "--db", db]), 1.0)
         missed |= compare("1,000 items", lambda: seconds([*search, many]), lambda: seconds([*search, one]), 1.3)
         times = peak_kb([*search, one], work / "peak") * 1024 / len(text)
-        print(f"{'peak memory of the LDIF':48}{times:9.2f}{6.0:7}")
-        missed |= times > 6
+        print(f"{'peak memory of the LDIF':48}{times:9.2f}{5.5:7}")
+        missed |= times > 5.5
         rows = subprocess.run([bench, db / "dir.conf", work / "people.ldif", one], stdout=subprocess.PIPE, check=True).stdout.decode()
         print(rows, end="")
         by_index, by_scan, tested = map(int, rows.splitlines()[1].split()[:3])

@@ -24,6 +24,7 @@ fn placeholder<R: HostFiles<File = File>>(rt: &R) -> io::Result<File> {
 }
 
 impl Placeholders {
+    /// Opens them. The error is that of `/dev/null`, where `/` can't be opened either.
     pub fn open<R: HostFiles<File = File>>(rt: &R) -> io::Result<Placeholders> {
         Ok(Placeholders {
             first: placeholder(rt)?,
