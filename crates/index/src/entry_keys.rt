@@ -54,14 +54,14 @@ fn next_window<'a>(norms: &mut Norms<'a>, text: &mut &'a [u8]) -> Option<&'a [u8
     if let Some(first) = first_window(*text) {
         let (window, rest) = first;
         *text = rest;
-        return Some(window);
+        return Some(window.as_slice());
     }
     while let Some(norm) = norms.next() {
         *text = norm;
         if let Some(first) = first_window(norm) {
             let (window, rest) = first;
             *text = rest;
-            return Some(window);
+            return Some(window.as_slice());
         }
     }
     None

@@ -7,13 +7,12 @@ ghost use Rattle.index.specs.EntryKeys.{windows};
 const WINDOW: usize = 3;
 
 /// The first window of a text, and what has the others. None where the text has no window.
-pub fn first_window(text: &[u8]) -> Option<(&[u8], &[u8])>
+pub fn first_window(text: &[u8]) -> Option<(&[u8; WINDOW], &[u8])>
     ensures windows { MatchOption result (windows text.now ≡ []) (λ r. windows text.now ≡ r.0.now ∷ windows r.1.now) }
     ensures shorter { IfSome result (λ r. length r.1.now < length text.now) }
 {
-    if text.len() < WINDOW {
-        None
-    } else {
-        Some((&text[..WINDOW], &text[1..]))
+    match text.first_chunk() {
+        Some(window) => Some((window, &text[1..])),
+        None => None,
     }
 }
