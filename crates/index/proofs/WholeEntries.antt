@@ -18,7 +18,7 @@ use Rattle.entries.specs.StoredEntries.{attributes_of, IsMade}
 use Rattle.index.specs.declared.slot_key.SlotKey.{SlotKey}
 use Rattle.index.specs.declared.type_norms.Numbered.{Numbered}
 use Rattle.index.specs.declared.type_norms.NumberedNorm.{NumberedNorm}
-use Rattle.index.specs.EntryKeys.{windows, gives_key, has_key, norms_under}
+use Rattle.index.specs.EntryKeys.{windows, gives_key, has_key}
 use Rattle.index.specs.KeySets.{Members, SetsByKey, members_in}
 use Rattle.index.specs.NumberedEntries.{has_among}
 use Rattle.index.specs.inner.SlotTests.{is_slot_that}

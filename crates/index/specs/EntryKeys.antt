@@ -27,6 +27,10 @@ windows (a ∷ []) = []
 windows (a ∷ b ∷ []) = []
 windows (a ∷ b ∷ c ∷ rest) = (a ∷ b ∷ c ∷ []) ∷ windows (b ∷ c ∷ rest)
 
+-- whether a key is a window of a text
+abbrev pub is_window : List ℕ → List ℕ → Bool
+is_window text key = list_any (λ k. bytes_eq k key) (windows text)
+
 -- one empty key where there is a value
 abbrev pub empty_key : List (List ℕ) → List (List ℕ)
 empty_key [] = []

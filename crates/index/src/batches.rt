@@ -1,13 +1,13 @@
 //! One number under several keys.
 
-ghost use Rattle.std.specs.Prelude.{◌≡◌, ◌<◌, ◌+◌, ◌==◌, ◌&&◌, true, false, length, if◌then◌else◌, Some, None, IfOk, OnOk, OnErr};
+ghost use Rattle.std.specs.Prelude.{◌≡◌, ◌<◌, ◌+◌, ◌==◌, ◌&&◌, false, length, if◌then◌else◌, Some, None, IfOk, OnOk, OnErr};
 ghost use Rattle.std.specs.List.{list_any, AllByRecursion, IsDistinct};
 ghost use Rattle.std.specs.Str.{bytes_eq};
 ghost use Rattle.std.specs.FinSet as set;
 ghost use Rattle.entries.specs.StoredEntries.{attributes_of, content_of, IsMade};
 ghost use Rattle.index.specs.EntryKeys.{slot_keys, edits};
 ghost use Rattle.index.specs.SlotKeys.{same_slot_key, is_among};
-ghost use Rattle.index.specs.Indexes.{members, Inserts, Removes, KeepsMembers, Forgets, IsNowhere};
+ghost use Rattle.index.specs.Indexes.{members, AllHave, Inserts, Removes, KeepsMembers, Forgets, IsNowhere};
 ghost use Rattle.index.specs.inner.Counts.{HaveNumber, KeepsOthers};
 
 use crate::entry_keys::EntryKeys;
@@ -30,7 +30,7 @@ impl Index {
         requires { AllByRecursion (λ p. p.slot.0 < length self.old.conf.slots) keys.now }
         ensures same_conf { self.new.conf ≡ self.old.conf }
         ensures members { Removes (λ p. is_among p keys.now) number self.old self.new }
-        ensures edits { IsDistinct same_slot_key keys.now → AllByRecursion (λ p. set.contains (members self.old p) number ≡ true) keys.now → self.new.edits ≡ self.old.edits + length keys.now }
+        ensures edits { IsDistinct same_slot_key keys.now → AllHave number self.old keys.now → self.new.edits ≡ self.old.edits + length keys.now }
     {
         for key in keys {
             let _ = self.remove(key.slot, key.key.as_slice(), number);

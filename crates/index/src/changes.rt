@@ -1,14 +1,14 @@
 //! The keys of an entry, and what a change of it changes of them.
 
-ghost use Rattle.std.specs.Prelude.{◌≡◌, take, IfOk, OnOk};
+ghost use Rattle.std.specs.Prelude.{◌≡◌, IfOk, OnOk};
 ghost use Rattle.std.specs.List.Sorted.{IsStrictlySortedBy};
 ghost use Rattle.std.specs.FinSet as set;
 ghost use Rattle.entries.specs.StoredEntries.{attributes_of, IsMade};
 ghost use Rattle.index.specs.SlotKeys.{slot_key_cmp};
 ghost use Rattle.index.specs.EntryKeys.{slot_keys};
-ghost use Rattle.index.specs.inner.SlotTests.{norms_in, is_only_in};
+ghost use Rattle.index.specs.inner.SlotTests.{HaveSameFront};
 ghost use Rattle.index.specs.KeyChanges.{AreChanges, IsMadeIn, content_in};
-ghost use Rattle.index.specs.inner.KeyLists.{IsWithKeys};
+ghost use Rattle.index.specs.inner.KeyLists.{IsWithDifference};
 
 use crate::distinct_keys::{keys_among, keys_behind};
 use crate::key_lists::push_missing;
@@ -29,7 +29,7 @@ pub struct KeyChanges {
 fn same_front(conf: &Conf, slot: &Slot, before: Option<&Entry>, after: Option<&Entry>) -> usize
     requires before { IsMadeIn conf.now.types before }
     requires after { IsMadeIn conf.now.types after }
-    ensures { take result (norms_in conf.now.types (content_in before.entry) slot.now.type_id) ≡ take result (norms_in conf.now.types (content_in after.entry) slot.now.type_id) }
+    ensures { HaveSameFront conf.now.types slot.now (content_in before.entry) (content_in after.entry) result }
 {
     match before {
         Some(one) => match after {
@@ -52,8 +52,8 @@ fn push_changes(
 ) -> Result<(), AllocError>
     requires before { IsMadeIn conf.now.types before }
     requires after { IsMadeIn conf.now.types after }
-    ensures came { OnOk result (IsWithKeys number.0 (is_only_in conf.now.types slot.now (content_in after.entry) (content_in before.entry)) found.old.came.items found.new.came.items) }
-    ensures gone { OnOk result (IsWithKeys number.0 (is_only_in conf.now.types slot.now (content_in before.entry) (content_in after.entry)) found.old.gone.items found.new.gone.items) }
+    ensures came { OnOk result (IsWithDifference conf.now.types number.0 slot.now after.entry before.entry found.old.came.items found.new.came.items) }
+    ensures gone { OnOk result (IsWithDifference conf.now.types number.0 slot.now before.entry after.entry found.old.gone.items found.new.gone.items) }
 {
     let front = same_front(conf, slot, before, after);
     let has = keys_behind(alloc, conf, after, slot, front)?;

@@ -1,15 +1,14 @@
 //! The keys of an entry under a slot, in order.
 
-ghost use Rattle.std.specs.Prelude.{◌≡◌, ◌&&◌, ◌||◌, ℕ, List, drop, map, IfOk, OnOk};
+ghost use Rattle.std.specs.Prelude.{◌≡◌, ◌&&◌, ◌||◌, ℕ, List, IfOk, OnOk};
 ghost use Rattle.std.specs.List.{list_any};
 ghost use Rattle.std.specs.List.Sorted.{IsStrictlySortedBy};
 ghost use Rattle.std.specs.Cmp.Lexicographic.{slice_cmp};
 ghost use Rattle.std.specs.Ordering.{nat_cmp};
 ghost use Rattle.std.specs.Str.{bytes_eq};
-ghost use Rattle.index.specs.EntryKeys.{gives_key};
 ghost use Rattle.index.specs.KeyChanges.{IsMadeIn, content_in};
-ghost use Rattle.index.specs.inner.KeyLists.{AreKeys};
-ghost use Rattle.index.specs.inner.SlotTests.{norms_in};
+ghost use Rattle.index.specs.inner.KeyLists.{is_listed, AreListed};
+ghost use Rattle.index.specs.inner.SlotTests.{has_under, has_behind};
 
 use crate::entry_keys::EntryKeys;
 use crate::key_lists::is_among;
@@ -22,7 +21,7 @@ const MANY: usize = 4096;
 
 // Leaves the keys in order, each once.
 fn tidy<'a>(keys: &mut Vec<&'a [u8]>)
-    ensures { AreKeys (λ q. list_any (λ k. bytes_eq k.now q) keys.old.items) (map (λ k. k.now) keys.new.items) }
+    ensures { AreListed (λ q. is_listed q keys.old.items) keys.new.items }
 {
     keys.sort_unstable();
     keys.dedup();
@@ -31,7 +30,7 @@ fn tidy<'a>(keys: &mut Vec<&'a [u8]>)
 // Leaves out keys that stand there twice where there are more than so many, and answers how many there may be next: the windows of a long
 // text are few.
 fn tidy_many<'a>(keys: &mut Vec<&'a [u8]>, most: usize) -> usize
-    ensures { (q : List ℕ) → list_any (λ k. bytes_eq k.now q) keys.new.items ≡ list_any (λ k. bytes_eq k.now q) keys.old.items }
+    ensures { (q : List ℕ) → is_listed q keys.new.items ≡ is_listed q keys.old.items }
 {
     if keys.len() <= most {
         return most;
@@ -42,7 +41,7 @@ fn tidy_many<'a>(keys: &mut Vec<&'a [u8]>, most: usize) -> usize
 
 // puts a key to others, and answers how many there may be next
 fn gather<'a>(keys: &mut Vec<&'a [u8]>, most: usize, key: &'a [u8]) -> Result<usize, AllocError>
-    ensures { OnOk result ((q : List ℕ) → list_any (λ k. bytes_eq k.now q) keys.new.items ≡ (list_any (λ k. bytes_eq k.now q) keys.old.items || bytes_eq key.now q)) }
+    ensures { OnOk result ((q : List ℕ) → is_listed q keys.new.items ≡ (is_listed q keys.old.items || bytes_eq key.now q)) }
 {
     let next = tidy_many(keys, most);
     keys.push(key)?;
@@ -57,7 +56,7 @@ fn gather_among<'a>(
     others: &[&[u8]],
 ) -> Result<usize, AllocError>
     requires { IsStrictlySortedBy (λ a b. slice_cmp nat_cmp a.now b.now) others.now }
-    ensures { OnOk result ((q : List ℕ) → list_any (λ k. bytes_eq k.now q) keys.new.items ≡ (list_any (λ k. bytes_eq k.now q) keys.old.items || (list_any (λ k. bytes_eq k.now key.now) others.now && bytes_eq key.now q))) }
+    ensures { OnOk result ((q : List ℕ) → is_listed q keys.new.items ≡ (is_listed q keys.old.items || (is_listed key.now others.now && bytes_eq key.now q))) }
 {
     if !is_among(others, &key) {
         return Ok(most);
@@ -67,7 +66,7 @@ fn gather_among<'a>(
 
 // the keys in order, each once
 fn sorted<'a>(alloc: Global, keys: EntryKeys<'a>) -> Result<Vec<&'a [u8]>, AllocError>
-    ensures { IfOk result (λ ks. AreKeys (λ q. list_any (λ k. bytes_eq k q) keys.entry) (map (λ k. k.now) ks.items)) }
+    ensures { IfOk result (λ ks. AreListed (λ q. list_any (λ k. bytes_eq k q) keys.entry) ks.items) }
 {
     let mut all = Vec::new(alloc);
     let mut most = MANY;
@@ -85,7 +84,7 @@ fn sorted_among<'a>(
     others: &[&[u8]],
 ) -> Result<Vec<&'a [u8]>, AllocError>
     requires { IsStrictlySortedBy (λ a b. slice_cmp nat_cmp a.now b.now) others.now }
-    ensures { IfOk result (λ ks. AreKeys (λ q. list_any (λ k. bytes_eq k q) keys.entry && list_any (λ k. bytes_eq k.now q) others.now) (map (λ k. k.now) ks.items)) }
+    ensures { IfOk result (λ ks. AreListed (λ q. list_any (λ k. bytes_eq k q) keys.entry && is_listed q others.now) ks.items) }
 {
     let mut found = Vec::new(alloc);
     if others.is_empty() {
@@ -108,7 +107,7 @@ pub(crate) fn keys_behind<'a>(
     front: usize,
 ) -> Result<Vec<&'a [u8]>, AllocError>
     requires { IsMadeIn conf.now.types stored }
-    ensures { IfOk result (λ ks. AreKeys (gives_key slot.now.kind (drop front (norms_in conf.now.types (content_in stored.entry) slot.now.type_id))) (map (λ k. k.now) ks.items)) }
+    ensures { IfOk result (λ ks. AreListed (has_behind conf.now.types slot.now front (content_in stored.entry)) ks.items) }
 {
     match stored {
         Some(entry) => sorted(alloc, EntryKeys::behind(conf, entry, slot, front)),
@@ -126,7 +125,7 @@ pub(crate) fn keys_among<'a>(
 ) -> Result<Vec<&'a [u8]>, AllocError>
     requires made { IsMadeIn conf.now.types stored }
     requires rise { IsStrictlySortedBy (λ a b. slice_cmp nat_cmp a.now b.now) others.now }
-    ensures { IfOk result (λ ks. AreKeys (λ q. gives_key slot.now.kind (norms_in conf.now.types (content_in stored.entry) slot.now.type_id) q && list_any (λ k. bytes_eq k.now q) others.now) (map (λ k. k.now) ks.items)) }
+    ensures { IfOk result (λ ks. AreListed (λ q. has_under conf.now.types slot.now (content_in stored.entry) q && is_listed q others.now) ks.items) }
 {
     match stored {
         Some(entry) => sorted_among(alloc, EntryKeys::of(conf, entry, slot), others),

@@ -1,18 +1,17 @@
 //! Indexes.
 
-ghost use Rattle.std.specs.Prelude.{◌≡◌, ◌<◌, ◌+◌, ℕ, List, not, length, slice_index_or, if◌then◌else◌, IfOk, OnOk, OnErr};
-ghost use Rattle.std.specs.List.{AllByRecursion, position};
+ghost use Rattle.std.specs.Prelude.{◌≡◌, ◌<◌, ◌+◌, ℕ, List, not, length, if◌then◌else◌, IfOk, OnOk, OnErr};
+ghost use Rattle.std.specs.List.{AllByRecursion};
 ghost use Rattle.std.specs.FinMap as finite;
 ghost use Rattle.std.specs.FinSet as set;
-ghost use Rattle.schema.specs.Slots.{same_slot};
 ghost use Rattle.index.specs.declared.slot_key.SlotKey as seen;
 ghost use Rattle.index.specs.KeySets.{members_in, AreRowsOf};
 ghost use Rattle.index.specs.SlotKeys.{slot_key, same_slot_key};
-ghost use Rattle.index.specs.Indexes.{members, sets_at, Inserts, Removes, KeepsMembers, Forgets};
+ghost use Rattle.index.specs.Indexes.{members, sets_in, sets_at, Inserts, Removes, KeepsMembers, Forgets};
 
 use crate::edit_count::EditCount;
 use crate::key_sets::{KeySets, Keys};
-use crate::postings::Postings;
+use crate::postings::{Postings, slot_number};
 use crate::slot_key::SlotNumber;
 use id_sets::KeySet;
 use schema::{Conf, IndexKind, Slot, TypeId};
@@ -60,18 +59,11 @@ fn no_keys(alloc: Global, count: usize) -> Result<Vec<KeySets>, AllocError>
 
 // takes a number from every key of each slot
 fn forget_in(sets: &mut [KeySets], number: u32)
-    ensures { (slot : ℕ) (key : List ℕ) → members_in (slice_index_or sets.new slot finite.empty) key ≡ set.remove (members_in (slice_index_or sets.old slot finite.empty) key) number }
+    ensures { (slot : ℕ) (key : List ℕ) → members_in (sets_in sets.new slot) key ≡ set.remove (members_in (sets_in sets.old slot) key) number }
 {
     for keys in sets.iter_mut() {
         keys.forget(number);
     }
-}
-
-// where a slot stands among others
-fn place_of(slots: &[Slot], wanted: &Slot) -> Option<usize>
-    ensures { result ≡ position (same_slot wanted.now) slots.now }
-{
-    slots.iter().position(|slot| wanted.cmp(slot).is_eq())
 }
 
 impl Index {
@@ -163,10 +155,7 @@ impl Postings for Index {
     ghost shown = { shown_by };
 
     fn slot(&self, type_id: TypeId, kind: IndexKind) -> Option<SlotNumber> {
-        match place_of(self.slots.as_slice(), &Slot { type_id, kind }) {
-            Some(place) => Some(SlotNumber(place)),
-            None => None,
-        }
+        slot_number(self.slots.as_slice(), type_id, kind)
     }
 
     fn lookup(&self, slot: SlotNumber, key: &[u8]) -> Option<&KeySet> {

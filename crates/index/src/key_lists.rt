@@ -1,12 +1,11 @@
 //! Lists of keys: those of one that another one hasn't.
 
 ghost use Rattle.std.specs.Prelude.{◌≡◌, ◌++◌, ◌∷◌, [], not, map, filter, OnOk};
-ghost use Rattle.std.specs.List.{list_any};
 ghost use Rattle.std.specs.List.Sorted.{IsStrictlySortedBy};
 ghost use Rattle.std.specs.Cmp.Lexicographic.{slice_cmp};
 ghost use Rattle.std.specs.Ordering.{nat_cmp};
-ghost use Rattle.std.specs.Str.{bytes_eq};
 ghost use Rattle.index.specs.SlotKeys.{slot_key};
+ghost use Rattle.index.specs.inner.KeyLists.{is_listed};
 
 use crate::slot_key::{SlotKey, SlotNumber};
 use base::Bytes;
@@ -15,7 +14,7 @@ use std::alloc::{AllocError, Global};
 /// Whether a key is one of those, which are in order.
 pub(crate) fn is_among(keys: &[&[u8]], key: &&[u8]) -> bool
     requires { IsStrictlySortedBy (λ a b. slice_cmp nat_cmp a.now b.now) keys.now }
-    ensures { result ≡ list_any (λ k. bytes_eq k.now key.now.now) keys.now }
+    ensures { result ≡ is_listed key.now.now keys.now }
 {
     keys.binary_search(key).is_ok()
 }
@@ -43,7 +42,7 @@ pub(crate) fn push_missing(
     found: &mut Vec<SlotKey>,
 ) -> Result<(), AllocError>
     requires { IsStrictlySortedBy (λ a b. slice_cmp nat_cmp a.now b.now) others.now }
-    ensures { OnOk result (found.new.items ≡ found.old.items ++ map (λ k. slot_key slot.0 k.now) (filter (λ k. not (list_any (λ o. bytes_eq o.now k.now) others.now)) keys.now)) }
+    ensures { OnOk result (found.new.items ≡ found.old.items ++ map (λ k. slot_key slot.0 k.now) (filter (λ k. not (is_listed k.now others.now)) keys.now)) }
 {
     for key in keys {
         if !is_among(others, key) {

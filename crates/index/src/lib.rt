@@ -28,7 +28,7 @@ pub use changes::{KeyChanges, key_changes, keys_of};
 pub use index::Index;
 pub use key_sets::Keys;
 pub use laws::keys_are_told;
-pub use postings::Postings;
+pub use postings::{Postings, slot_number};
 pub use slot_key::{SlotKey, SlotNumber};
 pub use type_norms::{Numbered, NumberedNorm, TypeNorms, norms_for};
 pub use windows::first_window;

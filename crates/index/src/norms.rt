@@ -1,11 +1,11 @@
 //! The normal forms of an entry's values.
 
-ghost use Rattle.std.specs.Prelude.{◌≡◌, ◌<◌, ◌++◌, [], if◌then◌else◌, take, drop, length};
+ghost use Rattle.std.specs.Prelude.{◌≡◌, ◌<◌, [], if◌then◌else◌, take, drop, length};
 ghost use Rattle.std.specs.List.{AllByRecursion};
 ghost use Rattle.std.specs.Map.Iter.{TakesFirst, deref};
 ghost use Rattle.entries.specs.StoredEntries.{IsMade, IsMadeAttribute};
 ghost use Rattle.schema.specs.Subtypes.{is_subtype};
-ghost use Rattle.index.specs.inner.StoredKeys.{norms_left, norms_of, stored_norms};
+ghost use Rattle.index.specs.inner.StoredKeys.{norms_left, norms_of, norms_to_come, stored_norms};
 
 use entries::{AttributesIter, Entry, Values};
 use schema::{Conf, TypeId};
@@ -25,14 +25,14 @@ pub(crate) struct Norms<'a> {
 }
 
 impl<'a> Model for Norms<'a> {
-    ghost use Rattle.std.specs.Prelude.{List, ℕ, ◌++◌};
+    ghost use Rattle.std.specs.Prelude.{List, ℕ};
     ghost use Rattle.std.specs.List.{AllByRecursion};
     ghost use Rattle.entries.specs.StoredEntries.{IsMadeAttribute};
-    ghost use Rattle.index.specs.inner.StoredKeys.{norms_left, stored_norms};
+    ghost use Rattle.index.specs.inner.StoredKeys.{norms_to_come};
 
     ghost Value = { List (List ℕ) };
 
-    ghost view = { λ n. norms_left n.values ++ stored_norms n.conf.now.types n.attrs n.above };
+    ghost view = { λ n. norms_to_come n.conf.now.types n.above n.values n.attrs };
 
     ghost invariant = { λ n. AllByRecursion (IsMadeAttribute n.conf.now.types) n.attrs };
 }
@@ -84,7 +84,7 @@ fn next_norm<'a>(
 ) -> Option<&'a [u8]>
     requires { AllByRecursion (IsMadeAttribute conf.now.types) attrs.old }
     ensures made { AllByRecursion (IsMadeAttribute conf.now.types) attrs.new }
-    ensures next { TakesFirst deref (norms_left values.old ++ stored_norms conf.now.types attrs.old above) result (norms_left values.new ++ stored_norms conf.now.types attrs.new above) }
+    ensures next { TakesFirst deref (norms_to_come conf.now.types above values.old attrs.old) result (norms_to_come conf.now.types above values.new attrs.new) }
 {
     if let Some(norm) = next_in(values) {
         return Some(norm);

@@ -3,11 +3,22 @@
 ghost use Rattle.std.specs.Prelude.{◌≡◌, MatchOption};
 ghost use Rattle.std.specs.Option.{option_map};
 ghost use Rattle.std.specs.FinSet as set;
-ghost use Rattle.index.specs.Postings.{Shown};
+ghost use Rattle.index.specs.Postings.{Shown, slot_in};
 
 use crate::slot_key::SlotNumber;
 use id_sets::IdSet;
-use schema::{IndexKind, TypeId};
+use schema::{IndexKind, Slot, TypeId};
+
+/// The number of the slot for a kind of index over the values of a type, where it is one of these.
+pub fn slot_number(slots: &[Slot], type_id: TypeId, kind: IndexKind) -> Option<SlotNumber>
+    ensures { option_map (λ s. s.0) result ≡ slot_in slots.now type_id kind }
+{
+    let wanted = Slot { type_id, kind };
+    slots
+        .iter()
+        .position(|slot| wanted.cmp(slot).is_eq())
+        .map(SlotNumber)
+}
 
 /// Numbers of entries under the keys of slots, as an index shows them.
 pub trait Postings {

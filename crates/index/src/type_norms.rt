@@ -1,11 +1,10 @@
 //! The normal forms of the values of a type, over many entries.
 
-ghost use Rattle.std.specs.Prelude.{◌≡◌, ◌&&◌, ◌||◌, ℕ, List, nat_eq, IfOk, IfSome, OnOk};
+ghost use Rattle.std.specs.Prelude.{◌≡◌, IfOk, IfSome, OnOk};
 ghost use Rattle.std.specs.List.{AllByRecursion};
 ghost use Rattle.entries.specs.StoredEntries.{IsMade};
-ghost use Rattle.schema.specs.declared.slots.IndexKind.{IndexKind as Kind};
-ghost use Rattle.index.specs.EntryKeys.{gives_key};
-ghost use Rattle.index.specs.TypeNorms.{has_by, AreNormsOf};
+ghost use Rattle.index.specs.TypeNorms.{AreNormsOf};
+ghost use Rattle.index.specs.inner.NormLists.{AddsNorms};
 
 use crate::norms::Norms;
 use entries::Entry;
@@ -39,7 +38,7 @@ fn push_norms<'a>(
     norms: Norms<'a>,
     number: u32,
 ) -> Result<(), AllocError>
-    ensures { OnOk result ((kind : Kind) (q : List ℕ) (n : ℕ) → has_by kind all.new.items q n ≡ (has_by kind all.old.items q n || (nat_eq n number && gives_key kind norms.entry q))) }
+    ensures { OnOk result (AddsNorms norms.entry number all.old.items all.new.items) }
 {
     for norm in norms {
         all.push(NumberedNorm { number, norm })?;

@@ -1,16 +1,14 @@
 //! Indexes of many entries, made slot by slot.
 
-ghost use Rattle.std.specs.Prelude.{◌≡◌, ◌&&◌, ◌||◌, ◌<◌, ℕ, List, [], ◌∷◌, nat_eq, length, IfOk, OnOk};
+ghost use Rattle.std.specs.Prelude.{◌≡◌, ℕ, [], ◌∷◌, IfOk, OnOk};
 ghost use Rattle.std.specs.FinSet as set;
-ghost use Rattle.std.specs.List.{list_any, AllByRecursion};
-ghost use Rattle.std.specs.Str.{bytes_eq};
+ghost use Rattle.std.specs.List.{AllByRecursion};
 ghost use Rattle.entries.specs.StoredEntries.{IsMade};
 ghost use Rattle.index.specs.declared.slot_key.SlotKey as seen;
-ghost use Rattle.index.specs.EntryKeys.{windows, gives_key};
-ghost use Rattle.index.specs.KeySets.{members_in};
+ghost use Rattle.index.specs.EntryKeys.{is_window, gives_key};
 ghost use Rattle.index.specs.Indexes.{members};
 ghost use Rattle.index.specs.NumberedEntries.{has_among};
-ghost use Rattle.index.specs.inner.SlotEntries.{IsSetOf, AreSetsOf};
+ghost use Rattle.index.specs.inner.SlotEntries.{PutsEach, IsSetOf, AreSetsOf};
 
 use crate::index::Index;
 use crate::key_sets::KeySets;
@@ -26,7 +24,7 @@ fn put_windows(
     text: &[u8],
     number: u32,
 ) -> Result<(), AllocError>
-    ensures { OnOk result ((q : List ℕ) (n : ℕ) → set.contains (members_in sets.new q) n ≡ (set.contains (members_in sets.old q) n || (nat_eq n number && list_any (λ k. bytes_eq k q) (windows text.now)))) }
+    ensures { OnOk result (PutsEach (is_window text.now) number sets.old sets.new) }
 {
     let mut left = text;
     while let Some(first) = first_window(left) {
@@ -44,7 +42,7 @@ fn put_norm(
     kind: IndexKind,
     numbered: &NumberedNorm<'_>,
 ) -> Result<(), AllocError>
-    ensures { OnOk result ((q : List ℕ) (n : ℕ) → set.contains (members_in sets.new q) n ≡ (set.contains (members_in sets.old q) n || (nat_eq n numbered.now.number && gives_key kind (numbered.now.norm.now ∷ []) q))) }
+    ensures { OnOk result (PutsEach (gives_key kind (numbered.now.norm.now ∷ [])) numbered.now.number sets.old sets.new) }
 {
     let NumberedNorm { number, norm } = *numbered;
     match kind {

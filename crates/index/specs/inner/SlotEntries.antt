@@ -1,5 +1,5 @@
 -- The keys under a slot, each with the numbers of the entries that have it.
-use Rattle.std.specs.Prelude.{◌≡◌, ℕ, List, [], ◌∷◌, ⊤}
+use Rattle.std.specs.Prelude.{◌≡◌, ℕ, Bool, ◌&&◌, ◌||◌, nat_eq, List, [], ◌∷◌, ⊤}
 use Rattle.std.specs.FinSet as set
 use Rattle.values.specs.declared.types.AttributeType.{AttributeType}
 use Rattle.schema.specs.declared.slots.IndexKind.{IndexKind}
@@ -8,6 +8,10 @@ use Rattle.index.specs.declared.type_norms.Numbered.{Numbered}
 use Rattle.index.specs.declared.type_norms.NumberedNorm.{NumberedNorm}
 use Rattle.index.specs.TypeNorms.{has_for, has_by}
 use Rattle.index.specs.KeySets.{SetsByKey, members_in}
+
+-- the number came under each key that passes the test, and each other key has the members that it had
+abbrev pub PutsEach : (List ℕ → Bool) → ℕ → SetsByKey → SetsByKey → Type 0
+PutsEach test number old new = (q : List ℕ) (n : ℕ) → set.contains (members_in new q) n ≡ (set.contains (members_in old q) n || (nat_eq n number && test q))
 
 -- the keys that these give, with their members
 abbrev pub IsSetOf : IndexKind → List NumberedNorm → SetsByKey → Type 0

@@ -1,5 +1,5 @@
 -- Whether an entry, or none, has a key under a slot.
-use Rattle.std.specs.Prelude.{ℕ, Bool, false, not, ◌&&◌, List, [], Option, Some, None}
+use Rattle.std.specs.Prelude.{◌≡◌, ℕ, Bool, false, not, ◌&&◌, List, [], take, drop, Option, Some, None}
 use Rattle.std.specs.List.{slice_get}
 use Rattle.values.specs.declared.types.AttributeType.{AttributeType}
 use Rattle.schema.specs.declared.slots.Slot.{Slot}
@@ -12,16 +12,28 @@ abbrev pub norms_in : List AttributeType → Option EntryContent → ℕ → Lis
 norms_in types None t = []
 norms_in types (Some e) t = norms_under types e.attrs t
 
+-- so many normal forms for a slot are the same in two entries, from the first on
+abbrev pub HaveSameFront : List AttributeType → Slot → Option EntryContent → Option EntryContent → ℕ → Type 0
+HaveSameFront types s a b count = take count (norms_in types a s.type_id) ≡ take count (norms_in types b s.type_id)
+
+-- whether the normal forms give a key under a slot
+abbrev pub has_under : List AttributeType → Slot → Option EntryContent → List ℕ → Bool
+has_under types s e key = gives_key s.kind (norms_in types e s.type_id) key
+
+-- whether the normal forms behind so many do
+abbrev pub has_behind : List AttributeType → Slot → ℕ → Option EntryContent → List ℕ → Bool
+has_behind types s front e key = gives_key s.kind (drop front (norms_in types e s.type_id)) key
+
 abbrev pub is_slot_that : (Slot → Bool) → Option Slot → Bool
 is_slot_that test None = false
 is_slot_that test (Some s) = test s
 
 abbrev pub has_slot_key : Conf → Option EntryContent → SlotKey → Bool
-has_slot_key conf e p = is_slot_that (λ s. gives_key s.kind (norms_in conf.types e s.type_id) p.key) (slice_get conf.slots p.slot.0)
+has_slot_key conf e p = is_slot_that (λ s. has_under conf.types s e p.key) (slice_get conf.slots p.slot.0)
 
 -- whether a slot's key is one of the first entry and none of the second
 abbrev pub is_only_in : List AttributeType → Slot → Option EntryContent → Option EntryContent → List ℕ → Bool
-is_only_in types s a b key = gives_key s.kind (norms_in types a s.type_id) key && not (gives_key s.kind (norms_in types b s.type_id) key)
+is_only_in types s a b key = has_under types s a key && not (has_under types s b key)
 
 -- the same, under any slot
 abbrev pub has_only : Conf → Option EntryContent → Option EntryContent → SlotKey → Bool

@@ -24,6 +24,10 @@ attribute_norms types t a = if is_subtype types a.0 t then norms_of a.1 else []
 abbrev pub stored_norms : List AttributeType → List EntryAttribute → ℕ → List (List ℕ)
 stored_norms types attrs t = flat_map (attribute_norms types t) attrs
 
+-- those of the attribute in hand, and of the attributes behind it
+abbrev pub norms_to_come : List AttributeType → ℕ → Option (List Value) → List EntryAttribute → List (List ℕ)
+norms_to_come types t values attrs = norms_left values ++ stored_norms types attrs t
+
 abbrev pub presence_left : Bool → List (List ℕ) → List (List ℕ)
 presence_left true norms = []
 presence_left false norms = empty_key norms

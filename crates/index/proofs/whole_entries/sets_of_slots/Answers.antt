@@ -1,4 +1,4 @@
-use Rattle.std.proofs.Common.{List, ap, subst, sym, ◌∙◌}
+use Rattle.std.proofs.Common.{List, subst}
 use Rattle.index.specs.declared.type_norms.NumberedNorm.{NumberedNorm}
 use Rattle.index.specs.inner.SlotEntries.{IsSetOf}
 use Rattle.index.proofs.WholeEntries.{sets_more}

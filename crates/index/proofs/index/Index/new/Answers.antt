@@ -1,4 +1,4 @@
-use Rattle.std.proofs.Common.{◌∙◌, List, get_or, ap, sym}
+use Rattle.std.proofs.Common.{◌∙◌, List, get_or, ap}
 use Rattle.std.specs.FinMap as finite
 use Rattle.std.proofs.lemmas.Result.{IfOk-weaker}
 use Rattle.index.specs.KeySets.{SetsByKey, members_in}

@@ -1,4 +1,4 @@
-use Rattle.std.proofs.Common.{◌∙◌, ◌≡◌, ℕ, List, length, get_or, ap, subst, sym}
+use Rattle.std.proofs.Common.{◌∙◌, List, length, get_or, ap, subst}
 use Rattle.std.proofs.lemmas.Result.{IfOk-weaker}
 use Rattle.std.specs.FinMap as finite
 use Rattle.std.specs.FinSet as set
