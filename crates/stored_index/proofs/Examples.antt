@@ -13,7 +13,7 @@ use Rattle.schema.specs.declared.slots.IndexKind.TheVariants.{Equality, Presence
 use Rattle.schema.specs.declared.slots.Slot.{Slot}
 use Rattle.index_text.specs.IndexTexts.{Rows, ended, index_text}
 use Rattle.stored_index.specs.KeyLines.{are_rising, ranks_in, row_in}
-use Rattle.stored_index.specs.Reading.{head_in, rows_of, slots_of, rows_in}
+use Rattle.stored_index.specs.Reading.{header_in, rows_of, slots_of, rows_in}
 use Rattle.stored_index.specs.SlotLines.{slot_in}
 use Rattle.stored_index.specs.Words.{number_after, number_in, bytes_in, key_in}
 use Rattle.stored_index.specs.declared.fault.IndexFaultKind.{IndexFaultKind}
@@ -21,7 +21,7 @@ use Rattle.stored_index.specs.declared.fault.IndexFaultKind.TheVariants as fault
 
 -- what a text is read by
 unfoldable on_texts : ⊤
-unfolding each encode_with type_of number_after number_in bytes_in key_in are_rising ranks_in row_in slot_in head_in rows_of slots_of rows_in index_text
+unfolding each encode_with type_of number_after number_in bytes_in key_in are_rising ranks_in row_in slot_in header_in rows_of slots_of rows_in index_text
 on_texts = tt
 
 -- ---- the configuration

@@ -20,20 +20,20 @@ use Rattle.index_text.specs.IndexTexts.{Rows, ended, header_line, slot_text, end
 use Rattle.stored_index.specs.Cuts.{parts}
 use Rattle.stored_index.specs.Words.{bytes_in}
 use Rattle.stored_index.specs.SlotLines.{is_passed}
-use Rattle.stored_index.specs.Reading.{Head, is_current, if_current, slots_of, rows_in}
+use Rattle.stored_index.specs.Reading.{HeaderContent, is_current, if_current, slots_of, rows_in}
 use Rattle.stored_index.specs.Rows as good
-use Rattle.stored_index.specs.FaultyLines.{IsKnown, IsLaterFault, IsHead, IsIndexFault}
+use Rattle.stored_index.specs.FaultyLines.{IsKnown, IsLaterFault, IsHeader, IsIndexFault}
 use Rattle.stored_index.specs.declared.fault.IndexFaultKind.{IndexFaultKind}
 use Rattle.stored_index.specs.declared.fault.IndexFaultKind.TheVariants.{Header, Stale, Form, Order, Rank}
 use Rattle.stored_index.proofs.FaultsStand.{AreOpen, later_stands}
-use Rattle.stored_index.proofs.HeadFaults.{fault_of_text}
+use Rattle.stored_index.proofs.HeaderFaults.{fault_of_text}
 use Rattle.stored_index.proofs.KeyLaws.{bytes_read}
 use Rattle.stored_index.proofs.OrderLaws.{all_weaker}
 use Rattle.stored_index.proofs.RowLaws.{parts_at}
 use Rattle.stored_index.proofs.SlotLemmas.{AllRows}
 use Rattle.stored_index.proofs.WholeLaws.{text_writes}
 use Rattle.stored_index.proofs.WholeLemmas.{opened}
-use Rattle.stored_index.proofs.WrittenLaws.{AreNamed, head_lacks, head_is_told}
+use Rattle.stored_index.proofs.WrittenLaws.{AreNamed, header_lacks, header_is_told}
 
 -- ---- slots in their order
 
@@ -60,30 +60,30 @@ same_digits s t one two e = same_ok s t (sym (bytes_read s one) ∙ ap bytes_in 
 
 -- ---- the whole
 
-module _ (conf : Conf) (named : AreNamed conf.types) (known : AllByRecursion (IsKnown conf.types) conf.slots) (order : IsStrictlySortedBy slot_cmp conf.slots) (entries : ℕ) (stamp : List ℕ) (own : IsHead entries stamp) (text : List ℕ) where
+module _ (conf : Conf) (named : AreNamed conf.types) (known : AllByRecursion (IsKnown conf.types) conf.slots) (order : IsStrictlySortedBy slot_cmp conf.slots) (entries : ℕ) (stamp : List ℕ) (own : IsHeader entries stamp) (text : List ℕ) where
   abbrev refused : IndexFaultKind → AllRows
   refused k = Err k
 
-  head_of_rows : (rows : Rows) → text ≡ index_text conf.types entries stamp rows → (rest : List ℕ) × (text ≡ header_line entries stamp ++ line_feed ∷ rest)
+  header_of_rows : (rows : Rows) → text ≡ index_text conf.types entries stamp rows → (rest : List ℕ) × (text ≡ header_line entries stamp ++ line_feed ∷ rest)
   unfolding index_text
-  head_of_rows rows is =
+  header_of_rows rows is =
       let rest = flat_map (slot_text conf.types) rows ++ ended end_line in
       (rest, is ∙ append_assoc (ended (header_line entries stamp)) (flat_map (slot_text conf.types) rows) (ended end_line) ∙ append_assoc (header_line entries stamp) (line_feed ∷ []) rest)
 
   header_stands : (r : AllRows) → rows_in conf entries stamp text ≡ r → IsIndexFault conf entries stamp text Header → r ≡ Err Header
   header_stands (Ok rows) e none =
-      let at = head_of_rows rows (text_writes conf entries stamp text rows e).written in
+      let at = header_of_rows rows (text_writes conf entries stamp text rows e).written in
       absurd (none entries stamp at.0 own at.1)
   header_stands (Err k) e none = elim (fault_of_text conf named entries stamp text k e) [
     | inl is ↦ ap refused is
     | inr f ↦ elim f [ inl g ↦ absurd (none g.1.0 g.1.1 g.1.2 g.1.3 g.1.4) | inr g ↦ absurd (none entries stamp g.0 own g.1) ]
   ]
 
-  behind : (n : ℕ) (s rest : List ℕ) → IsHead n s → text ≡ header_line n s ++ line_feed ∷ rest
-      → rows_in conf entries stamp text ≡ (if_current entries stamp (n, encode_lower s) >>= λ _. slots_of conf.types entries None conf.slots (parts line_feed rest))
-  behind n s rest head is =
-      opened conf entries stamp text (header_line n s) rest (ap (parts line_feed) is ∙ parts_at line_feed (header_line n s) rest refl (head_lacks n head.short s head.size head.bytes))
-      ∙ ap (λ (r : Result Head IndexFaultKind). (r >>= if_current entries stamp) >>= λ _. slots_of conf.types entries None conf.slots (parts line_feed rest)) (head_is_told n head.short s head.size head.bytes)
+  behind : (n : ℕ) (s rest : List ℕ) → IsHeader n s → text ≡ header_line n s ++ line_feed ∷ rest
+      → rows_in conf entries stamp text ≡ (if_current entries stamp (record { entries = n; stamp = encode_lower s }) >>= λ _. slots_of conf.types entries None conf.slots (parts line_feed rest))
+  behind n s rest header is =
+      opened conf entries stamp text (header_line n s) rest (ap (parts line_feed) is ∙ parts_at line_feed (header_line n s) rest refl (header_lacks n header.short s header.size header.bytes))
+      ∙ ap (λ (r : Result HeaderContent IndexFaultKind). (r >>= if_current entries stamp) >>= λ _. slots_of conf.types entries None conf.slots (parts line_feed rest)) (header_is_told n header.short s header.size header.bytes)
 
   abbrev well : Result (Unit {0}) IndexFaultKind
   well = Ok tt
@@ -94,11 +94,11 @@ module _ (conf : Conf) (named : AreNamed conf.types) (known : AllByRecursion (Is
   stale_stands : IsIndexFault conf entries stamp text Stale → rows_in conf entries stamp text ≡ Err Stale
   stale_stands f =
       behind f.0 f.1 f.2 f.3 f.4
-      ∙ ap (then_slots f.2) (false_from_ne_true (is_current entries stamp (f.0, encode_lower f.1)) (λ e.
+      ∙ ap (then_slots f.2) (false_from_ne_true (is_current entries stamp (record { entries = f.0; stamp = encode_lower f.1 })) (λ e.
       let both = and_parts (f.0 == entries) (bytes_eq (encode_lower f.1) (encode_lower stamp)) e in
       f.5 (eqb-true f.0 entries both.0) (same_digits f.1 stamp f.3.bytes own.bytes ((bytes_eq-Decides (encode_lower f.1) (encode_lower stamp)).0 both.1))))
 
-  its_own : is_current entries stamp (entries, encode_lower stamp) ≡ true
+  its_own : is_current entries stamp (record { entries = entries; stamp = encode_lower stamp }) ≡ true
   its_own = (λ i. eq-eqb entries entries refl i && bytes_eq (encode_lower stamp) (encode_lower stamp)) ∙ (bytes_eq-Decides (encode_lower stamp) (encode_lower stamp)).1 refl
 
   later_text_stands : (k : IndexFaultKind) (rest : List ℕ) → text ≡ header_line entries stamp ++ line_feed ∷ rest → IsLaterFault conf.types entries None conf.slots rest k → rows_in conf entries stamp text ≡ Err k

@@ -21,6 +21,6 @@ mod WrittenLaws
 mod Examples
 mod RowFaults
 mod TextFaults
-mod HeadFaults
+mod HeaderFaults
 mod FaultsStand
 mod FaultLaws

@@ -16,7 +16,7 @@ use Rattle.index_text.specs.IndexTexts.{Row, Rows, ended, header_line, slot_line
 use Rattle.stored_index.specs.Cuts.{parts}
 use Rattle.stored_index.specs.Words.{number_in}
 use Rattle.stored_index.specs.SlotLines.{slot_in, is_slot, fault_at}
-use Rattle.stored_index.specs.Reading.{Head, has_head_form, is_stamp, head_with, head_of, head_in, is_current, if_current, current_head, rows_of, is_nothing, end_of, slot_rows, slots_of, lines_in, rows_in}
+use Rattle.stored_index.specs.Reading.{HeaderContent, has_header_form, is_stamp, header_with, header_of, header_in, is_current, if_current, current_header, rows_of, is_nothing, end_of, slot_rows, slots_of, lines_in, rows_in}
 use Rattle.stored_index.specs.Rows.{AreSlotRows, AreRows, slot_of}
 use Rattle.stored_index.specs.declared.fault.IndexFaultKind.{IndexFaultKind}
 use Rattle.stored_index.specs.declared.fault.IndexFaultKind.TheVariants.{Header, Stale}
@@ -89,37 +89,42 @@ module _ (types : List AttributeType) where
 
 -- ---- the first line
 
-pub head_by : (count stamp : List ℕ) (r : Result ℕ IndexFaultKind) (h : Head) → number_in count ≡ r → head_with stamp r ≡ Ok h → (number_in count ≡ Ok h.0) × (stamp ≡ h.1)
-head_by count stamp (Ok n) h is e =
-    let same : (n, stamp) ≡ h = same_ok (n, stamp) h e in
-    (is ∙ ap (λ (h : Head). Ok h.0) same, ap (λ (h : Head). h.1) same)
-head_by count stamp (Err fault) h is e = absurd cc
+abbrev header : ℕ → List ℕ → HeaderContent
+header entries stamp = record { entries = entries; stamp = stamp }
 
-pub words_write : (words : List (List ℕ)) (h : Head) → head_of words ≡ Ok h → join_with_byte space words ≡ codes "slapindex 1 " ++ decimal h.0 ++ space ∷ h.1
+pub header_by : (count stamp : List ℕ) (r : Result ℕ IndexFaultKind) (h : HeaderContent) → number_in count ≡ r → header_with stamp r ≡ Ok h → (number_in count ≡ Ok h.entries) × (stamp ≡ h.stamp)
+header_by count stamp (Ok n) h is e =
+    (is ∙ ap (λ (h : HeaderContent). Ok h.entries) same, ap (λ (h : HeaderContent). h.stamp) same)
+  where
+    same : header n stamp ≡ h
+    same = same_ok (header n stamp) h e
+header_by count stamp (Err fault) h is e = absurd cc
+
+pub words_write : (words : List (List ℕ)) (h : HeaderContent) → header_of words ≡ Ok h → join_with_byte space words ≡ codes "slapindex 1 " ++ decimal h.entries ++ space ∷ h.stamp
 words_write [] h e = absurd cc
 words_write (name ∷ []) h e = absurd cc
 words_write (name ∷ version ∷ []) h e = absurd cc
 words_write (name ∷ version ∷ count ∷ []) h e = absurd cc
 words_write (name ∷ version ∷ count ∷ stamp ∷ []) h e =
-    let here = test_ok (has_head_form name version stamp) (head_with stamp (number_in count)) Header h e in
+    let here = test_ok (has_header_form name version stamp) (header_with stamp (number_in count)) Header h e in
     let form = and_parts (bytes_eq name (codes "slapindex")) (bytes_eq version (codes "1") && is_stamp stamp) here.0 in
     let form1 = and_parts (bytes_eq version (codes "1")) (is_stamp stamp) form.1 in
-    let both = head_by count stamp (number_in count) h refl here.1 in
+    let both = header_by count stamp (number_in count) h refl here.1 in
     let one = (bytes_eq-Decides name (codes "slapindex")).0 form.0 in
     let two = (bytes_eq-Decides version (codes "1")).0 form1.0 in
-    let three = (number_writes count h.0 both.0).0 in
+    let three = (number_writes count h.entries both.0).0 in
     λ i. one i ++ space ∷ (two i ++ space ∷ (three i ++ space ∷ both.1 i))
 words_write (name ∷ version ∷ count ∷ stamp ∷ more ∷ others) h e = absurd cc
 
-pub head_writes : (entries : ℕ) (stamp line : List ℕ) (u : Unit {0}) → current_head entries stamp line ≡ Ok u → line ≡ header_line entries stamp
-unfolding head_in
-head_writes entries stamp line u e =
-    let head = bind_ok (head_in line) (if_current entries stamp) u e in
-    let here = test_ok (is_current entries stamp head.0) ended_well Stale u head.2 in
-    let both = and_parts (head.0.0 == entries) (bytes_eq head.0.1 (encode_lower stamp)) here.0 in
+pub header_writes : (entries : ℕ) (stamp line : List ℕ) (u : Unit {0}) → current_header entries stamp line ≡ Ok u → line ≡ header_line entries stamp
+unfolding header_in
+header_writes entries stamp line u e =
+    let header = bind_ok (header_in line) (if_current entries stamp) u e in
+    let here = test_ok (is_current entries stamp header.0) ended_well Stale u header.2 in
+    let both = and_parts (header.0.entries == entries) (bytes_eq header.0.stamp (encode_lower stamp)) here.0 in
     sym (join_with_byte-slice_split space line)
-    ∙ words_write (parts space line) head.0 head.1
-    ∙ (λ i. codes "slapindex 1 " ++ decimal (eqb-true head.0.0 entries both.0 i) ++ space ∷ (bytes_eq-Decides head.0.1 (encode_lower stamp)).0 both.1 i)
+    ∙ words_write (parts space line) header.0 header.1
+    ∙ (λ i. codes "slapindex 1 " ++ decimal (eqb-true header.0.entries entries both.0 i) ++ space ∷ (bytes_eq-Decides header.0.stamp (encode_lower stamp)).0 both.1 i)
 
 -- ---- the whole
 
@@ -133,12 +138,12 @@ unfolding index_text
 lines_write conf entries stamp [] rows e = absurd cc
 lines_write conf entries stamp (line ∷ []) rows e = absurd cc
 lines_write conf entries stamp (line ∷ next ∷ more) rows e =
-    let head = bind_ok (current_head entries stamp line) (λ _. slots_of conf.types entries None conf.slots (next ∷ more)) rows e in
-    let slots = slots_write conf.types entries None conf.slots (next ∷ more) rows head.2 in
+    let header = bind_ok (current_header entries stamp line) (λ _. slots_of conf.types entries None conf.slots (next ∷ more)) rows e in
+    let slots = slots_write conf.types entries None conf.slots (next ∷ more) rows header.2 in
     record {
       rows_fit = record { slots = slots.slots; each = slots.each };
       written =
-          (λ i. head_writes entries stamp line head.0 head.1 i ++ line_feed ∷ slots.written i)
+          (λ i. header_writes entries stamp line header.0 header.1 i ++ line_feed ∷ slots.written i)
           ∙ sym (append_assoc (header_line entries stamp) (line_feed ∷ []) (flat_map (slot_text conf.types) rows ++ ended end_line))
           ∙ sym (append_assoc (ended (header_line entries stamp)) (flat_map (slot_text conf.types) rows) (ended end_line));
     }

@@ -5,7 +5,7 @@ use Rattle.base.specs.Answers.{◌>>=◌}
 use Rattle.memchr.specs.Find.{is_byte}
 use Rattle.schema.specs.Conf.{Conf}
 use Rattle.stored_index.specs.Cuts.{parts}
-use Rattle.stored_index.specs.Reading.{current_head, slots_of, lines_in, rows_in}
+use Rattle.stored_index.specs.Reading.{current_header, slots_of, lines_in, rows_in}
 use Rattle.stored_index.specs.declared.fault.IndexFaultKind.{IndexFaultKind}
 use Rattle.stored_index.specs.declared.fault.IndexFaultKind.TheVariants.{Header}
 use Rattle.stored_index.proofs.CutLemmas.{split_cons}
@@ -20,19 +20,19 @@ module _ (conf : Conf) (entries : ℕ) (stamp text : List ℕ) where
     abbrev others : AllRows
     others = slots_of conf.types entries None conf.slots (parts line_feed rest)
 
-    pub opened : rows_in conf entries stamp text ≡ (current_head entries stamp line >>= λ _. others)
+    pub opened : rows_in conf entries stamp text ≡ (current_header entries stamp line >>= λ _. others)
     unfolding rows_in
     opened =
         let s = split_cons (is_byte line_feed) rest in
         ap (lines_in conf entries stamp) cut
         ∙ ap (λ (ps : List (List ℕ)). lines_in conf entries stamp (line ∷ ps)) s.2
-        ∙ sym (ap (λ (ps : List (List ℕ)). current_head entries stamp line >>= λ _. slots_of conf.types entries None conf.slots ps) s.2)
+        ∙ sym (ap (λ (ps : List (List ℕ)). current_header entries stamp line >>= λ _. slots_of conf.types entries None conf.slots ps) s.2)
 
     abbrev then_others : Result (Unit {0}) IndexFaultKind → AllRows
     then_others r = r >>= λ _. others
 
-    pub no_head : (fault : IndexFaultKind) → current_head entries stamp line ≡ Err fault → rows_in conf entries stamp text ≡ Err fault
-    no_head fault e = opened ∙ ap then_others e
+    pub no_header : (fault : IndexFaultKind) → current_header entries stamp line ≡ Err fault → rows_in conf entries stamp text ≡ Err fault
+    no_header fault e = opened ∙ ap then_others e
 
-    pub behind_head : current_head entries stamp line ≡ Ok tt → rows_in conf entries stamp text ≡ others
-    behind_head e = opened ∙ ap then_others e
+    pub behind_header : current_header entries stamp line ≡ Ok tt → rows_in conf entries stamp text ≡ others
+    behind_header e = opened ∙ ap then_others e

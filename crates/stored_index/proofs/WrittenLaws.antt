@@ -26,7 +26,7 @@ use Rattle.index_text.specs.IndexTexts.{Row, Rows, ended, kind_name, header_line
 use Rattle.stored_index.specs.Cuts.{parts}
 use Rattle.stored_index.specs.Words.{is_hex_byte, is_small_hex_letter, hex_digit, number_in}
 use Rattle.stored_index.specs.SlotLines.{kind_named, if_printed, slot_with, slot_of, slot_in, is_slot}
-use Rattle.stored_index.specs.Reading.{Head, is_stamp, head_with, head_of, head_in, if_current, current_head, ends_rows, rows_of, slot_rows, slots_of, rows_in}
+use Rattle.stored_index.specs.Reading.{HeaderContent, is_stamp, header_with, header_of, header_in, if_current, current_header, ends_rows, rows_of, slot_rows, slots_of, rows_in}
 use Rattle.stored_index.specs.Rows as good
 use Rattle.stored_index.specs.Rows.{IsByte, AreSlotRows, AreRows}
 use Rattle.stored_index.specs.declared.fault.IndexFaultKind.{IndexFaultKind}
@@ -34,7 +34,7 @@ use Rattle.stored_index.specs.declared.fault.IndexFaultKind.TheVariants.{Form, H
 use Rattle.stored_index.proofs.CutLemmas.{split_cons, IsCons}
 use Rattle.stored_index.proofs.LineLemmas.{Found}
 use Rattle.stored_index.proofs.SlotLemmas.{AllRows, all_rows, is_due}
-use Rattle.stored_index.proofs.WholeLemmas.{behind_head}
+use Rattle.stored_index.proofs.WholeLemmas.{behind_header}
 use Rattle.stored_index.proofs.NumberLaws.{Lacks, number_read, decimal_lacks}
 use Rattle.stored_index.proofs.KeyLaws.{digit_read, hex_lacks}
 use Rattle.stored_index.proofs.OrderLaws.{AreAbove}
@@ -198,37 +198,37 @@ module _ (entries : ℕ) (few : entries < 10 ^ 10) (stamp : List ℕ) (size : le
   abbrev digits : List ℕ
   digits = encode_lower stamp
 
-  abbrev head : ℕ → Result Head IndexFaultKind
-  head count = Ok (count, digits)
+  abbrev header : ℕ → Result HeaderContent IndexFaultKind
+  header count = Ok (record { entries = count; stamp = digits })
 
   stamp_is : is_stamp digits ≡ true
   stamp_is =
       let count : length digits ≡ 64 = omega (arith, length-encode_with lower_digits stamp, size) in
       ap (λ (t : Bool). t && list_all is_hex_byte digits) (eq-eqb (length digits) 64 count) ∙ hex_bytes stamp bytes
 
-  head_parts : parts space (header_line entries stamp) ≡ codes "slapindex" ∷ codes "1" ∷ decimal entries ∷ digits ∷ []
-  head_parts =
+  header_parts : parts space (header_line entries stamp) ≡ codes "slapindex" ∷ codes "1" ∷ decimal entries ∷ digits ∷ []
+  header_parts =
       ap (λ (ws : List (List ℕ)). codes "slapindex" ∷ codes "1" ∷ ws)
       (parts_at space (decimal entries) digits refl (decimal_lacks space entries refl (omega arith)) ∙ ap (λ (ws : List (List ℕ)). decimal entries ∷ ws) (parts_word space digits (hex_lacks space stamp refl bytes)))
 
   abbrev ended_well : Result (Unit {0}) IndexFaultKind
   ended_well = Ok tt
 
-  pub head_is_told : head_in (header_line entries stamp) ≡ head entries
-  unfolding head_in
-  head_is_told =
-      ap head_of head_parts
-      ∙ ap (λ (t : Bool). cond t (head_with digits (number_in (decimal entries))) (Err Header)) stamp_is
-      ∙ ap (head_with digits) (number_read entries few)
+  pub header_is_told : header_in (header_line entries stamp) ≡ header entries
+  unfolding header_in
+  header_is_told =
+      ap header_of header_parts
+      ∙ ap (λ (t : Bool). cond t (header_with digits (number_in (decimal entries))) (Err Header)) stamp_is
+      ∙ ap (header_with digits) (number_read entries few)
 
-  head_is_read : current_head entries stamp (header_line entries stamp) ≡ Ok tt
-  head_is_read =
-      ap (λ (r : Result Head IndexFaultKind). r >>= if_current entries stamp) head_is_told
+  header_is_read : current_header entries stamp (header_line entries stamp) ≡ Ok tt
+  header_is_read =
+      ap (λ (r : Result HeaderContent IndexFaultKind). r >>= if_current entries stamp) header_is_told
       ∙ ap (λ (t : Bool). cond (t && bytes_eq digits digits) ended_well (Err Stale)) (eq-eqb entries entries refl)
       ∙ ap (λ (t : Bool). cond t ended_well (Err Stale)) (itself digits)
 
-  pub head_lacks : Lacks line_feed (header_line entries stamp)
-  head_lacks =
+  pub header_lacks : Lacks line_feed (header_line entries stamp)
+  header_lacks =
       lacks_append line_feed (codes "slapindex 1 ") (decimal entries ++ space ∷ digits) (lacks_by_test line_feed (other_than line_feed) refl (codes "slapindex 1 ") refl)
       (lacks_append line_feed (decimal entries) (space ∷ digits) (decimal_lacks line_feed entries refl (omega arith)) (lacks_cons line_feed space digits refl (hex_lacks line_feed stamp refl bytes)))
 
@@ -243,7 +243,7 @@ module _ (entries : ℕ) (few : entries < 10 ^ 10) (stamp : List ℕ) (size : le
       let rest = tail conf.types named rows in
       let line = header_line entries stamp in
       let there = known_rows conf.types rows (subst (AllByRecursion (IsKnown conf.types)) (sym fit.slots) known) in
-      behind_head conf entries stamp (index_text conf.types entries stamp rows) line rest
-      (ap (parts line_feed) (append_assoc (ended line) (flat_map (slot_text conf.types) rows) (ended end_line) ∙ append_assoc line (line_feed ∷ []) rest) ∙ parts_at line_feed line rest refl head_lacks) head_is_read
+      behind_header conf entries stamp (index_text conf.types entries stamp rows) line rest
+      (ap (parts line_feed) (append_assoc (ended line) (flat_map (slot_text conf.types) rows) (ended end_line) ∙ append_assoc line (line_feed ∷ []) rest) ∙ parts_at line_feed line rest refl header_lacks) header_is_read
       ∙ ap (λ (ss : List Slot). slots_of conf.types entries None ss (parts line_feed rest)) (sym fit.slots)
       ∙ slots_are_read conf.types named entries few None rows there fit.each

@@ -107,14 +107,14 @@ pub record IsLaterFault (types : List AttributeType) (entries : ℕ) (last : Las
 -- ---- the first line
 
 -- so many entries, and a stamp of 32 bytes
-pub record IsHead (n : ℕ) (s : List ℕ) : Type 0 where
+pub record IsHeader (n : ℕ) (s : List ℕ) : Type 0 where
   pub short : n < 10 ^ 10
   pub size : length s ≡ 32
   pub bytes : AllByRecursion IsByte s
 
 abbrev pub IsIndexFault : Conf → ℕ → List ℕ → List ℕ → IndexFaultKind → Type 0
-IsIndexFault conf entries stamp text Header = (n : ℕ) (s rest : List ℕ) → IsHead n s → text ≡ header_line n s ++ line_feed ∷ rest → ⊥
-IsIndexFault conf entries stamp text Stale = (n : ℕ) × (s : List ℕ) × (rest : List ℕ) × IsHead n s × (text ≡ header_line n s ++ line_feed ∷ rest) × (n ≡ entries → s ≡ stamp → ⊥)
+IsIndexFault conf entries stamp text Header = (n : ℕ) (s rest : List ℕ) → IsHeader n s → text ≡ header_line n s ++ line_feed ∷ rest → ⊥
+IsIndexFault conf entries stamp text Stale = (n : ℕ) × (s : List ℕ) × (rest : List ℕ) × IsHeader n s × (text ≡ header_line n s ++ line_feed ∷ rest) × (n ≡ entries → s ≡ stamp → ⊥)
 IsIndexFault conf entries stamp text Form = (rest : List ℕ) × (text ≡ header_line entries stamp ++ line_feed ∷ rest) × IsLaterFault conf.types entries None conf.slots rest Form
 IsIndexFault conf entries stamp text Order = (rest : List ℕ) × (text ≡ header_line entries stamp ++ line_feed ∷ rest) × IsLaterFault conf.types entries None conf.slots rest Order
 IsIndexFault conf entries stamp text Rank = (rest : List ℕ) × (text ≡ header_line entries stamp ++ line_feed ∷ rest) × IsLaterFault conf.types entries None conf.slots rest Rank

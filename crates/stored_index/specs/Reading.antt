@@ -19,40 +19,41 @@ use Rattle.stored_index.specs.declared.fault.IndexFaultKind.TheVariants.{Header,
 
 -- ---- the first line
 
--- the stamp that a text was written for, and how many entries there were
-abbrev pub Head : Type 0
-Head = ℕ × List ℕ
+-- how many entries there were, and the stamp of the dump that a text was written for, as digits
+pub record HeaderContent : Type 0 where
+  pub entries : ℕ
+  pub stamp : List ℕ
 
 -- 32 bytes in hexadecimal
 abbrev pub is_stamp : List ℕ → Bool
 is_stamp word = (length word == 64) && list_all is_hex_byte word
 
-abbrev pub has_head_form : List ℕ → List ℕ → List ℕ → Bool
-has_head_form name version stamp = bytes_eq name (codes "slapindex") && (bytes_eq version (codes "1") && is_stamp stamp)
+abbrev pub has_header_form : List ℕ → List ℕ → List ℕ → Bool
+has_header_form name version stamp = bytes_eq name (codes "slapindex") && (bytes_eq version (codes "1") && is_stamp stamp)
 
-abbrev pub head_with : List ℕ → Result ℕ IndexFaultKind → Result Head IndexFaultKind
-head_with stamp (Ok count) = Ok (count, stamp)
-head_with stamp (Err fault) = Err Header
+abbrev pub header_with : List ℕ → Result ℕ IndexFaultKind → Result HeaderContent IndexFaultKind
+header_with stamp (Ok count) = Ok (record { entries = count; stamp = stamp })
+header_with stamp (Err fault) = Err Header
 
-abbrev pub head_of : List (List ℕ) → Result Head IndexFaultKind
-head_of [] = Err Header
-head_of (name ∷ []) = Err Header
-head_of (name ∷ version ∷ []) = Err Header
-head_of (name ∷ version ∷ count ∷ []) = Err Header
-head_of (name ∷ version ∷ count ∷ stamp ∷ []) = if has_head_form name version stamp then head_with stamp (number_in count) else Err Header
-head_of (name ∷ version ∷ count ∷ stamp ∷ more ∷ others) = Err Header
+abbrev pub header_of : List (List ℕ) → Result HeaderContent IndexFaultKind
+header_of [] = Err Header
+header_of (name ∷ []) = Err Header
+header_of (name ∷ version ∷ []) = Err Header
+header_of (name ∷ version ∷ count ∷ []) = Err Header
+header_of (name ∷ version ∷ count ∷ stamp ∷ []) = if has_header_form name version stamp then header_with stamp (number_in count) else Err Header
+header_of (name ∷ version ∷ count ∷ stamp ∷ more ∷ others) = Err Header
 
-unfoldable pub head_in : List ℕ → Result Head IndexFaultKind
-head_in line = head_of (parts space line)
+unfoldable pub header_in : List ℕ → Result HeaderContent IndexFaultKind
+header_in line = header_of (parts space line)
 
-abbrev pub is_current : ℕ → List ℕ → Head → Bool
-is_current entries stamp head = (head.0 == entries) && bytes_eq head.1 (encode_lower stamp)
+abbrev pub is_current : ℕ → List ℕ → HeaderContent → Bool
+is_current entries stamp header = (header.entries == entries) && bytes_eq header.stamp (encode_lower stamp)
 
-abbrev pub if_current : ℕ → List ℕ → Head → Result (Unit {0}) IndexFaultKind
-if_current entries stamp head = if is_current entries stamp head then Ok tt else Err Stale
+abbrev pub if_current : ℕ → List ℕ → HeaderContent → Result (Unit {0}) IndexFaultKind
+if_current entries stamp header = if is_current entries stamp header then Ok tt else Err Stale
 
-abbrev pub current_head : ℕ → List ℕ → List ℕ → Result (Unit {0}) IndexFaultKind
-current_head entries stamp line = head_in line >>= if_current entries stamp
+abbrev pub current_header : ℕ → List ℕ → List ℕ → Result (Unit {0}) IndexFaultKind
+current_header entries stamp line = header_in line >>= if_current entries stamp
 
 -- ---- the others
 
@@ -93,7 +94,7 @@ slots_of types entries before (s ∷ due) lines = slot_rows types entries before
 abbrev pub lines_in : Conf → ℕ → List ℕ → List (List ℕ) → Result Rows IndexFaultKind
 lines_in conf entries stamp [] = Err Header
 lines_in conf entries stamp (line ∷ []) = Err Header
-lines_in conf entries stamp (line ∷ next ∷ more) = current_head entries stamp line >>= λ _. slots_of conf.types entries None conf.slots (next ∷ more)
+lines_in conf entries stamp (line ∷ next ∷ more) = current_header entries stamp line >>= λ _. slots_of conf.types entries None conf.slots (next ∷ more)
 
 -- the rows of an index under a configuration, of so many entries, whose dump has this stamp
 unfoldable pub rows_in : Conf → ℕ → List ℕ → List ℕ → Result Rows IndexFaultKind

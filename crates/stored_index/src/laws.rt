@@ -5,7 +5,7 @@ ghost use Rattle.std.specs.List.{AllByRecursion};
 ghost use Rattle.schema.specs.Conf.{Conf, IsConf};
 ghost use Rattle.index_text.specs.IndexTexts.{Rows, index_text};
 ghost use Rattle.stored_index.specs.Reading.{rows_in};
-ghost use Rattle.stored_index.specs.FaultyLines.{IsHead, IsIndexFault};
+ghost use Rattle.stored_index.specs.FaultyLines.{IsHeader, IsIndexFault};
 ghost use Rattle.stored_index.specs.Rows.{IsByte, AreRows};
 ghost use Rattle.stored_index.specs.declared.fault.IndexFaultKind.{IndexFaultKind};
 
@@ -34,7 +34,7 @@ pub fn faults_stand_at_lines()
 /// A text that has such a fault is refused with it, where a header can say how many entries there are and which stamp. So it has one such
 /// fault at most.
 pub fn texts_at_fault_are_refused()
-    ensures { (conf : Conf) (entries : ℕ) (stamp text : List ℕ) (kind : IndexFaultKind) → IsConf conf → IsHead entries stamp → IsIndexFault conf entries stamp text kind
+    ensures { (conf : Conf) (entries : ℕ) (stamp text : List ℕ) (kind : IndexFaultKind) → IsConf conf → IsHeader entries stamp → IsIndexFault conf entries stamp text kind
         → rows_in conf entries stamp text ≡ Err kind }
 {
     schema::printed_names_name_their_types();

@@ -1,13 +1,11 @@
 //! An index as its text says it.
 
 ghost use Rattle.std.specs.Prelude.{◌≡◌, MatchOption};
-ghost use Rattle.std.specs.List.{position};
 ghost use Rattle.std.specs.List.Sorted.{IsStrictlySortedBy};
 ghost use Rattle.std.specs.Cmp.Lexicographic.{slice_cmp};
 ghost use Rattle.std.specs.Ordering.{nat_cmp};
 ghost use Rattle.std.specs.Map.{keys_of};
 ghost use Rattle.std.specs.FinSet as set;
-ghost use Rattle.schema.specs.Slots.{same_slot};
 ghost use Rattle.index.specs.KeySets.{members_at};
 ghost use Rattle.stored_index.specs.Gives.{Gives};
 ghost use Rattle.stored_index.specs.Stored.{index_in};
@@ -17,7 +15,7 @@ use crate::reading::read_text;
 use crate::row::Row;
 use base::Sequence;
 use id_sets::ListSet;
-use index::{Postings, SlotNumber};
+use index::{Postings, SlotNumber, slot_number};
 use schema::{Conf, IndexKind, Slot, TypeId};
 use std::alloc::Global;
 use std::marker::Model;
@@ -47,13 +45,6 @@ impl Model for StoredIndex {
     ghost view = { λ x. record { conf = x.made.value; slots = x.rows } };
 
     ghost invariant = { λ x. (x.slots.items ≡ x.made.value.slots) × (AllByRecursion AreSorted x.rows) };
-}
-
-// where a slot stands among others
-fn place_of(slots: &[Slot], wanted: &Slot) -> Option<usize>
-    ensures { result ≡ position (same_slot wanted.now) slots.now }
-{
-    slots.iter().position(|slot| wanted.cmp(slot).is_eq())
 }
 
 // the ranks of a key, among keys in order
@@ -96,10 +87,7 @@ impl Postings for StoredIndex {
     ghost shown = { shown_by };
 
     fn slot(&self, type_id: TypeId, kind: IndexKind) -> Option<SlotNumber> {
-        match place_of(self.slots.as_slice(), &Slot { type_id, kind }) {
-            Some(place) => Some(SlotNumber(place)),
-            None => None,
-        }
+        slot_number(self.slots.as_slice(), type_id, kind)
     }
 
     fn lookup(&self, slot: SlotNumber, key: &[u8]) -> Option<&ListSet> {

@@ -7,11 +7,12 @@ use Rattle.base.specs.Ascii.{line_feed}
 use Rattle.stored_index.specs.Cuts.{parts}
 use Rattle.stored_index.specs.Gives.{fault_of}
 use Rattle.index.specs.KeySets as keys
-use Rattle.stored_index.specs.Reading.{Head}
+use Rattle.stored_index.specs.Reading.{HeaderContent}
 use Rattle.stored_index.specs.Stored.{kept_row, kept_rows, kept_slots}
 use Rattle.index_text.specs.IndexTexts.{Row, Rows}
 use Rattle.stored_index.specs.declared.fault.IndexFault.{IndexFault}
 use Rattle.stored_index.specs.declared.fault.IndexFaultKind.{IndexFaultKind}
+use Rattle.stored_index.specs.declared.header.Header.{Header}
 
 -- what was answered keeps what the definition says, unless memory ran out; a fault is the definition's
 abbrev pub Reads : {X Y : Type 0} → (Y → X → Type 0) → Result X IndexFault → Result Y IndexFaultKind → Type 0
@@ -35,8 +36,8 @@ AreFirst said found = AreKept said.0 found.0 × (parts line_feed found.1.now ≡
 abbrev pub AreSlots : Rows → List (List keys.Row) → Type 0
 AreSlots rows kept = kept ≡ kept_slots rows
 
-abbrev pub head_view : ℕ × Bor (List ℕ) → Head
-head_view head = (head.0, head.1.now)
+abbrev pub header_view : Header → HeaderContent
+header_view header = record { entries = header.entries; stamp = header.stamp.now }
 
 abbrev pub last_key : List keys.Row → Option (List ℕ)
 last_key [] = None

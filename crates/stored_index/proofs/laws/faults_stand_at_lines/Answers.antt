@@ -1,4 +1,4 @@
-use Rattle.stored_index.proofs.HeadFaults.{text_fault}
+use Rattle.stored_index.proofs.HeaderFaults.{text_fault}
 use Rattle.stored_index.proofs.laws.faults_stand_at_lines.Goals as goal
 
 pub returns : goal.returns

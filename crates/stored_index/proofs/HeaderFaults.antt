@@ -15,8 +15,8 @@ use Rattle.schema.specs.declared.slots.Slot.{Slot}
 use Rattle.index_text.specs.IndexTexts.{header_line}
 use Rattle.stored_index.specs.Cuts.{parts}
 use Rattle.stored_index.specs.Words.{is_hex_byte, number_in}
-use Rattle.stored_index.specs.Reading.{Head, is_stamp, has_head_form, head_with, head_of, head_in, is_current, if_current, current_head, slots_of, lines_in, rows_in}
-use Rattle.stored_index.specs.FaultyLines.{Last, last_behind, IsLineFault, IsLaterFault, IsHead, IsIndexFault}
+use Rattle.stored_index.specs.Reading.{HeaderContent, is_stamp, has_header_form, header_with, header_of, header_in, is_current, if_current, current_header, slots_of, lines_in, rows_in}
+use Rattle.stored_index.specs.FaultyLines.{Last, last_behind, IsLineFault, IsLaterFault, IsHeader, IsIndexFault}
 use Rattle.stored_index.specs.Rows.{IsByte}
 use Rattle.stored_index.specs.declared.fault.IndexFaultKind.{IndexFaultKind}
 use Rattle.stored_index.specs.declared.fault.IndexFaultKind.TheVariants.{Header, Stale, Form, Order, Rank}
@@ -27,9 +27,9 @@ use Rattle.stored_index.proofs.RowFaults.{bind_err, is_err, test_err}
 use Rattle.stored_index.proofs.RowLaws.{parts_at}
 use Rattle.stored_index.proofs.SlotLemmas.{AllRows}
 use Rattle.stored_index.proofs.TextFaults.{parts_lack, slots_fault}
-use Rattle.stored_index.proofs.WholeLaws.{text_of, head_by, words_write, head_writes}
+use Rattle.stored_index.proofs.WholeLaws.{text_of, header_by, words_write, header_writes}
 use Rattle.stored_index.proofs.WholeLemmas.{opened}
-use Rattle.stored_index.proofs.WrittenLaws.{AreNamed, head_lacks, head_is_told}
+use Rattle.stored_index.proofs.WrittenLaws.{AreNamed, header_lacks, header_is_told}
 
 abbrev Told : Type 0 → Type 0
 Told X = Result X IndexFaultKind
@@ -47,45 +47,45 @@ stamp_told word e =
 
 -- ---- the first line
 
-words_head : (words : List (List ℕ)) (h : Head) → head_of words ≡ Ok h → (s : List ℕ) × IsHead h.0 s × (h.1 ≡ encode_lower s)
-words_head [] h e = absurd cc
-words_head (name ∷ []) h e = absurd cc
-words_head (name ∷ version ∷ []) h e = absurd cc
-words_head (name ∷ version ∷ count ∷ []) h e = absurd cc
-words_head (name ∷ version ∷ count ∷ stamp ∷ []) h e =
-    let here = test_ok (has_head_form name version stamp) (head_with stamp (number_in count)) Header h e in
+words_header : (words : List (List ℕ)) (h : HeaderContent) → header_of words ≡ Ok h → (s : List ℕ) × IsHeader h.entries s × (h.stamp ≡ encode_lower s)
+words_header [] h e = absurd cc
+words_header (name ∷ []) h e = absurd cc
+words_header (name ∷ version ∷ []) h e = absurd cc
+words_header (name ∷ version ∷ count ∷ []) h e = absurd cc
+words_header (name ∷ version ∷ count ∷ stamp ∷ []) h e =
+    let here = test_ok (has_header_form name version stamp) (header_with stamp (number_in count)) Header h e in
     let form = and_parts (bytes_eq name (codes "slapindex")) (bytes_eq version (codes "1") && is_stamp stamp) here.0 in
     let form1 = and_parts (bytes_eq version (codes "1")) (is_stamp stamp) form.1 in
-    let both = head_by count stamp (number_in count) h refl here.1 in
+    let both = header_by count stamp (number_in count) h refl here.1 in
     let s = stamp_told stamp form1.1 in
-    (s.0, record { short = (number_writes count h.0 both.0).1; size = s.2; bytes = s.3 }, sym both.1 ∙ s.1)
-words_head (name ∷ version ∷ count ∷ stamp ∷ more ∷ others) h e = absurd cc
+    (s.0, record { short = (number_writes count h.entries both.0).1; size = s.2; bytes = s.3 }, sym both.1 ∙ s.1)
+words_header (name ∷ version ∷ count ∷ stamp ∷ more ∷ others) h e = absurd cc
 
-head_told : (line : List ℕ) (h : Head) → head_in line ≡ Ok h → (s : List ℕ) × IsHead h.0 s × (h.1 ≡ encode_lower s) × (line ≡ header_line h.0 s)
-unfolding head_in
-head_told line h e =
-    let s = words_head (parts space line) h e in
-    (s.0, s.1, s.2, sym (join_with_byte-slice_split space line) ∙ words_write (parts space line) h e ∙ (λ i. codes "slapindex 1 " ++ decimal h.0 ++ space ∷ s.2 i))
+header_told : (line : List ℕ) (h : HeaderContent) → header_in line ≡ Ok h → (s : List ℕ) × IsHeader h.entries s × (h.stamp ≡ encode_lower s) × (line ≡ header_line h.entries s)
+unfolding header_in
+header_told line h e =
+    let s = words_header (parts space line) h e in
+    (s.0, s.1, s.2, sym (join_with_byte-slice_split space line) ∙ words_write (parts space line) h e ∙ (λ i. codes "slapindex 1 " ++ decimal h.entries ++ space ∷ s.2 i))
 
-words_fail : (words : List (List ℕ)) (k : IndexFaultKind) → head_of words ≡ Err k → k ≡ Header
+words_fail : (words : List (List ℕ)) (k : IndexFaultKind) → header_of words ≡ Err k → k ≡ Header
 words_fail [] k e = is_err Header k e
 words_fail (name ∷ []) k e = is_err Header k e
 words_fail (name ∷ version ∷ []) k e = is_err Header k e
 words_fail (name ∷ version ∷ count ∷ []) k e = is_err Header k e
 words_fail (name ∷ version ∷ count ∷ stamp ∷ []) k e =
-    elim (test_err (has_head_form name version stamp) (head_with stamp (number_in count)) Header k e) [
+    elim (test_err (has_header_form name version stamp) (header_with stamp (number_in count)) Header k e) [
       | inl f ↦ by (number_in count) f
       | inr is ↦ is
     ]
   where
-    by : (r : Told ℕ) → head_with stamp r ≡ Err k → k ≡ Header
+    by : (r : Told ℕ) → header_with stamp r ≡ Err k → k ≡ Header
     by (Ok n) e = absurd cc
     by (Err f) e = is_err Header k e
 words_fail (name ∷ version ∷ count ∷ stamp ∷ more ∷ others) k e = is_err Header k e
 
-head_fails : (line : List ℕ) (k : IndexFaultKind) → head_in line ≡ Err k → k ≡ Header
-unfolding head_in
-head_fails line k e = words_fail (parts space line) k e
+header_fails : (line : List ℕ) (k : IndexFaultKind) → header_in line ≡ Err k → k ≡ Header
+unfolding header_in
+header_fails line k e = words_fail (parts space line) k e
 
 abbrev well : Told (Unit {0})
 well = Ok tt
@@ -127,19 +127,19 @@ module _ (conf : Conf) (named : AreNamed conf.types) (entries : ℕ) (stamp : Li
   abbrev pub Later : List ℕ → IndexFaultKind → Type 0
   Later text k = (rest : List ℕ) × (text ≡ header_line entries stamp ++ line_feed ∷ rest) × IsLaterFault conf.types entries None conf.slots rest k
 
-  abbrev pub StaleHead : List ℕ → Type 0
-  StaleHead text = (n : ℕ) × (s : List ℕ) × (rest : List ℕ) × IsHead n s × (text ≡ header_line n s ++ line_feed ∷ rest) × (n ≡ entries → s ≡ stamp → ⊥)
+  abbrev pub StaleHeader : List ℕ → Type 0
+  StaleHeader text = (n : ℕ) × (s : List ℕ) × (rest : List ℕ) × IsHeader n s × (text ≡ header_line n s ++ line_feed ∷ rest) × (n ≡ entries → s ≡ stamp → ⊥)
 
-  stale_head : (line rest : List ℕ) (h : Head) → head_in line ≡ Ok h → is_current entries stamp h ≡ false → StaleHead (line ++ line_feed ∷ rest)
-  stale_head line rest h e other =
-      let s = head_told line h e in (
-        h.0,
+  stale_header : (line rest : List ℕ) (h : HeaderContent) → header_in line ≡ Ok h → is_current entries stamp h ≡ false → StaleHeader (line ++ line_feed ∷ rest)
+  stale_header line rest h e other =
+      let s = header_told line h e in (
+        h.entries,
         s.0,
         rest,
         s.1,
         ap (λ (l : List ℕ). l ++ line_feed ∷ rest) s.3,
         λ count same.
-            let bad : true ≡ false = sym (current (h.0 == entries) (bytes_eq h.1 (encode_lower stamp)) (eq-eqb h.0 entries count) ((bytes_eq-Decides h.1 (encode_lower stamp)).1 (s.2 ∙ ap encode_lower same))) ∙ other in
+            let bad : true ≡ false = sym (current (h.entries == entries) (bytes_eq h.stamp (encode_lower stamp)) (eq-eqb h.entries entries count) ((bytes_eq-Decides h.stamp (encode_lower stamp)).1 (s.2 ∙ ap encode_lower same))) ∙ other in
             cc,
       )
     where
@@ -148,27 +148,27 @@ module _ (conf : Conf) (named : AreNamed conf.types) (entries : ℕ) (stamp : Li
 
   -- a header that can't be read, one that is stale, or a later line
   abbrev pub Fault : List ℕ → IndexFaultKind → Type 0
-  Fault text k = (k ≡ Header) ⊎ (((k ≡ Stale) × StaleHead text) ⊎ Later text k)
+  Fault text k = (k ≡ Header) ⊎ (((k ≡ Stale) × StaleHeader text) ⊎ Later text k)
 
   lines_fault : (lines : List (List ℕ)) (k : IndexFaultKind) → AllByRecursion (Lacks line_feed) lines → lines_in conf entries stamp lines ≡ Err k → Fault (text_of lines) k
   lines_fault [] k lack e = inl (is_err Header k e)
   lines_fault (line ∷ []) k lack e = inl (is_err Header k e)
   lines_fault (line ∷ next ∷ more) k lack e =
-      elim (bind_err (current_head entries stamp line) (λ _. others (next ∷ more)) k e) [
-        | inl f ↦ elim (bind_err (head_in line) (if_current entries stamp) k f) [
-          | inl g ↦ inl (head_fails line k g)
+      elim (bind_err (current_header entries stamp line) (λ _. others (next ∷ more)) k e) [
+        | inl f ↦ elim (bind_err (header_in line) (if_current entries stamp) k f) [
+          | inl g ↦ inl (header_fails line k g)
           | inr h ↦ inr (inl (stale_by (is_current entries stamp h.0) line (text_of (next ∷ more)) h.0 k h.1 refl h.2))
         ]
         | inr u ↦ inr (inr (
           text_of (next ∷ more),
-          ap (λ (l : List ℕ). l ++ line_feed ∷ text_of (next ∷ more)) (head_writes entries stamp line u.0 u.1),
+          ap (λ (l : List ℕ). l ++ line_feed ∷ text_of (next ∷ more)) (header_writes entries stamp line u.0 u.1),
           slots_fault conf.types named entries None conf.slots (next ∷ more) k tt lack.1 u.2,
         ))
       ]
     where
-      stale_by : (b : Bool) (line rest : List ℕ) (h : Head) (k : IndexFaultKind) → head_in line ≡ Ok h → is_current entries stamp h ≡ b → cond b well (Err Stale) ≡ Err k → (k ≡ Stale) × StaleHead (line ++ line_feed ∷ rest)
+      stale_by : (b : Bool) (line rest : List ℕ) (h : HeaderContent) (k : IndexFaultKind) → header_in line ≡ Ok h → is_current entries stamp h ≡ b → cond b well (Err Stale) ≡ Err k → (k ≡ Stale) × StaleHeader (line ++ line_feed ∷ rest)
       stale_by true line rest h k e is f = absurd cc
-      stale_by false line rest h k e is f = (is_err Stale k f, stale_head line rest h e is)
+      stale_by false line rest h k e is f = (is_err Stale k f, stale_header line rest h e is)
 
   module _ (text : List ℕ) where
     pub fault_of_text : (k : IndexFaultKind) → rows_in conf entries stamp text ≡ Err k → Fault text k
@@ -179,25 +179,25 @@ module _ (conf : Conf) (named : AreNamed conf.types) (entries : ℕ) (stamp : Li
     later k one two e = elim (fault_of_text k e) [ inl is ↦ absurd (one is) | inr f ↦ elim f [ inl g ↦ absurd (two g.0) | inr g ↦ g ] ]
 
     -- a text with a header is another's, or at fault later
-    has_head : (n : ℕ) (s rest : List ℕ) → IsHead n s → text ≡ header_line n s ++ line_feed ∷ rest → rows_in conf entries stamp text ≡ Err Header → ⊥
-    has_head n s rest head is e =
+    has_header : (n : ℕ) (s rest : List ℕ) → IsHeader n s → text ≡ header_line n s ++ line_feed ∷ rest → rows_in conf entries stamp text ≡ Err Header → ⊥
+    has_header n s rest header is e =
         let line = header_line n s in
-        let cut = ap (parts line_feed) is ∙ parts_at line_feed line rest refl (head_lacks n head.short s head.size head.bytes) in
-        let told = ap (λ (r : Told Head). r >>= if_current entries stamp) (head_is_told n head.short s head.size head.bytes) in
-        elim (bind_err (current_head entries stamp line) (λ _. others (parts line_feed rest)) Header (sym (behind entries stamp line rest cut) ∙ e)) [
-          | inl f ↦ no_header (is_current entries stamp (n, encode_lower s)) (sym told ∙ f)
+        let cut = ap (parts line_feed) is ∙ parts_at line_feed line rest refl (header_lacks n header.short s header.size header.bytes) in
+        let told = ap (λ (r : Told HeaderContent). r >>= if_current entries stamp) (header_is_told n header.short s header.size header.bytes) in
+        elim (bind_err (current_header entries stamp line) (λ _. others (parts line_feed rest)) Header (sym (behind entries stamp line rest cut) ∙ e)) [
+          | inl f ↦ not_header (is_current entries stamp (record { entries = n; stamp = encode_lower s })) (sym told ∙ f)
           | inr u ↦ never conf.types entries None conf.slots (text_of (parts line_feed rest)) Header (inl refl) (slots_fault conf.types named entries None conf.slots (parts line_feed rest) Header tt (parts_lack line_feed rest) u.2)
         ]
       where
-        no_header : (b : Bool) → cond b well (Err Stale) ≡ Err Header → ⊥
-        no_header true e = cc
-        no_header false e = cc
+        not_header : (b : Bool) → cond b well (Err Stale) ≡ Err Header → ⊥
+        not_header true e = cc
+        not_header false e = cc
 
-        behind : (entries : ℕ) (stamp line rest : List ℕ) → parts line_feed text ≡ line ∷ parts line_feed rest → rows_in conf entries stamp text ≡ (current_head entries stamp line >>= λ _. slots_of conf.types entries None conf.slots (parts line_feed rest))
+        behind : (entries : ℕ) (stamp line rest : List ℕ) → parts line_feed text ≡ line ∷ parts line_feed rest → rows_in conf entries stamp text ≡ (current_header entries stamp line >>= λ _. slots_of conf.types entries None conf.slots (parts line_feed rest))
         behind entries stamp line rest cut = opened conf entries stamp text line rest cut
 
     pub text_fault : (k : IndexFaultKind) → rows_in conf entries stamp text ≡ Err k → IsIndexFault conf entries stamp text k
-    text_fault Header e = λ n s rest head is. has_head n s rest head is e
+    text_fault Header e = λ n s rest header is. has_header n s rest header is e
     text_fault Stale e = elim (fault_of_text Stale e) [
       | inl bad ↦ absurd cc
       | inr f ↦ elim f [ inl g ↦ g.1 | inr g ↦ absurd (never conf.types entries None conf.slots g.0 Stale (inr refl) g.2) ]
