@@ -3,6 +3,7 @@
 use Rattle.std.specs.Prelude.{ℕ, Bool, true, false, not, List, [], ◌∷◌, Option, Some, None}
 use Rattle.std.specs.List.{list_any, list_all, flat_map}
 use Rattle.std.specs.FinSet.{contains}
+use Rattle.schema.specs.declared.slots.IndexKind.{IndexKind}
 use Rattle.schema.specs.declared.slots.IndexKind.TheVariants as kinds
 use Rattle.filter.specs.declared.assertion.Assertion.{Assertion}
 use Rattle.filter.specs.declared.assertion.Assertion.TheVariants.{Equality, GreaterOrEqual, LessOrEqual, Present, Substrings}
@@ -45,18 +46,34 @@ module _ (shown : Shown) (n : ℕ) where
   abbrev pub is_member : ℕ → List ℕ → Bool
   is_member slot key = contains (shown.members slot key) n
 
+  -- whether it is one of those under each window of a piece
+  abbrev pub has_piece : ℕ → List ℕ → Bool
+  has_piece slot piece = list_all (is_member slot) (windows piece)
+
   -- whether it is one of those under each window of the pieces
   abbrev pub has_windows : ℕ → List (List ℕ) → Bool
   has_windows slot pieces = list_all (is_member slot) (flat_map windows pieces)
 
+  -- of an item that is True of exactly the members of a key
+  abbrev pub key_sides : ℕ → IndexKind → List ℕ → Sides
+  key_sides t kind key = if_indexed (shown.slot_of t kind) (λ slot. exactly (is_member slot key))
+
+  -- of an item that is True only where there is a value
+  abbrev pub value_sides : ℕ → Sides
+  value_sides t = if_indexed (shown.slot_of t kinds.Presence) (λ slot. at_most (is_member slot []))
+
+  -- of an item that is True only of a value that has the pieces
+  abbrev pub pieces_sides : ℕ → List (List ℕ) → Sides
+  pieces_sides t pieces = if_indexed (shown.slot_of t kinds.Substrings) (λ slot. at_most (has_windows slot pieces))
+
   -- What an assertion about a type asks for, by a slot of that very type. Equality and presence have keys of their own. A value in an order is a
   -- value that is present, and one that pieces fit has their windows.
   abbrev pub assertion_sides : ℕ → Assertion → Sides
-  assertion_sides t (Equality value) = if_indexed (shown.slot_of t kinds.Equality) (λ slot. exactly (is_member slot value))
-  assertion_sides t Present = if_indexed (shown.slot_of t kinds.Presence) (λ slot. exactly (is_member slot []))
-  assertion_sides t (GreaterOrEqual family value) = if_indexed (shown.slot_of t kinds.Presence) (λ slot. at_most (is_member slot []))
-  assertion_sides t (LessOrEqual family value) = if_indexed (shown.slot_of t kinds.Presence) (λ slot. at_most (is_member slot []))
-  assertion_sides t (Substrings pieces) = if_indexed (shown.slot_of t kinds.Substrings) (λ slot. at_most (has_windows slot pieces.pieces))
+  assertion_sides t (Equality value) = key_sides t kinds.Equality value
+  assertion_sides t Present = key_sides t kinds.Presence []
+  assertion_sides t (GreaterOrEqual family value) = value_sides t
+  assertion_sides t (LessOrEqual family value) = value_sides t
+  assertion_sides t (Substrings pieces) = pieces_sides t pieces.pieces
 
   abbrev pub item_sides : PreparedItem → Sides
   item_sides Undefined = neither

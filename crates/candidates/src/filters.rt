@@ -1,12 +1,12 @@
 //! The candidates of a filter.
 
 ghost use Rattle.std.specs.Prelude.{◌≡◌, IfOk};
-ghost use Rattle.filter.specs.Prepared.{prepared_view};
+ghost use Rattle.filter.specs.Prepared.{prepared_view, prepared_views};
 ghost use Rattle.candidates.specs.Candidates.{may_be_true, may_be_false};
 ghost use Rattle.candidates.specs.Numbers.{HasExactly};
-ghost use Rattle.candidates.specs.Sides.{sides};
-ghost use Rattle.candidates.specs.inner.Held.{members_of};
-ghost use Rattle.candidates.specs.inner.OneSide.{on};
+ghost use Rattle.candidates.specs.Sides.{sides, sides_each};
+ghost use Rattle.candidates.specs.inner.Held.{HoldExactly};
+ghost use Rattle.candidates.specs.inner.OneSide.{on, all_or_one};
 
 use crate::held::{Held, all_or_none, both_or_either, owned_numbers};
 use crate::items::item_numbers;
@@ -26,36 +26,46 @@ pub struct Bracket<S> {
 
 // The numbers of the entries of which a filter may be what the side says. An And may be True where all of its operands may be, and False where
 // one of them may be; of an Or it is the other way round.
+#[cycle(operands)]
 fn numbers_on<'p, P: Postings>(
     alloc: Global,
     filter: &PreparedFilter,
     postings: &'p P,
     side: Side,
 ) -> Result<Numbers<Held<'p, P::Set>>, AllocError>
-    ensures { IfOk result (HasExactly (members_of P.Set.members) (λ n. on side (sides (P.shown postings.now) n (prepared_view filter.now)))) }
+    ensures { IfOk result (HoldExactly P.Set.members (λ n. on side (sides (P.shown postings.now) n (prepared_view filter.now)))) }
 {
     match filter {
         PreparedFilter::And(operands) => {
-            let all = side.is_may();
-            let mut numbers = all_or_none(postings, all);
-            for operand in operands {
-                let next = numbers_on(alloc, operand, postings, side)?;
-                numbers = both_or_either(alloc, all, numbers, next)?;
-            }
-            Ok(numbers)
+            let all = side.is_may_be_true();
+            operands_on(alloc, operands.as_slice(), postings, side, all)
         }
         PreparedFilter::Or(operands) => {
-            let all = !side.is_may();
-            let mut numbers = all_or_none(postings, all);
-            for operand in operands {
-                let next = numbers_on(alloc, operand, postings, side)?;
-                numbers = both_or_either(alloc, all, numbers, next)?;
-            }
-            Ok(numbers)
+            let all = !side.is_may_be_true();
+            operands_on(alloc, operands.as_slice(), postings, side, all)
         }
         PreparedFilter::Not(operand) => numbers_on(alloc, operand, postings, side.other()),
         PreparedFilter::Item(item) => item_numbers(alloc, item, postings, side),
     }
+}
+
+// The numbers of the entries of which all operands may be what the side says, or else one of them.
+#[cycle(operands)]
+fn operands_on<'p, P: Postings>(
+    alloc: Global,
+    operands: &[PreparedFilter],
+    postings: &'p P,
+    side: Side,
+    all: bool,
+) -> Result<Numbers<Held<'p, P::Set>>, AllocError>
+    ensures { IfOk result (HoldExactly P.Set.members (λ n. all_or_one all side (sides_each (P.shown postings.now) n (prepared_views operands.now)))) }
+{
+    let mut numbers = all_or_none(postings, all);
+    for operand in operands {
+        let next = numbers_on(alloc, operand, postings, side)?;
+        numbers = both_or_either(alloc, all, numbers, next)?;
+    }
+    Ok(numbers)
 }
 
 /// The candidates of a filter: of which entries it may be True, and of which it may be False, by what the postings show.
@@ -67,8 +77,8 @@ pub fn candidates<P: Postings>(
     ensures may { IfOk result (λ b. HasExactly P.Set.members (may_be_true (P.shown postings.now) filter.now) b.may) }
     ensures may_not { IfOk result (λ b. HasExactly P.Set.members (may_be_false (P.shown postings.now) filter.now) b.may_not) }
 {
-    let may = numbers_on(alloc, filter.root(), postings, Side::May)?;
-    let may_not = numbers_on(alloc, filter.root(), postings, Side::MayNot)?;
+    let may = numbers_on(alloc, filter.root(), postings, Side::MayBeTrue)?;
+    let may_not = numbers_on(alloc, filter.root(), postings, Side::MayBeFalse)?;
     Ok(Bracket {
         may: owned_numbers(alloc, may)?,
         may_not: owned_numbers(alloc, may_not)?,
@@ -83,6 +93,6 @@ pub fn may_match<P: Postings>(
 ) -> Result<Numbers<P::Set>, AllocError>
     ensures { IfOk result (HasExactly P.Set.members (may_be_true (P.shown postings.now) filter.now)) }
 {
-    let numbers = numbers_on(alloc, filter.root(), postings, Side::May)?;
+    let numbers = numbers_on(alloc, filter.root(), postings, Side::MayBeTrue)?;
     owned_numbers(alloc, numbers)
 }

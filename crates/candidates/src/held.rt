@@ -2,8 +2,8 @@
 
 ghost use Rattle.std.specs.Prelude.{◌≡◌, ◌&&◌, ◌||◌, not, ℕ, IfOk, MatchOption};
 ghost use Rattle.std.specs.FinSet as set;
-ghost use Rattle.candidates.specs.Numbers.{numbers_contain, HasExactly};
-ghost use Rattle.candidates.specs.inner.Held.{members_of, held_contains};
+ghost use Rattle.candidates.specs.Numbers.{HasExactly};
+ghost use Rattle.candidates.specs.inner.Held.{members_of, held_contains, hold, HoldExactly};
 ghost use Rattle.candidates.specs.inner.OneSide.{both_or_either};
 
 use crate::numbers::Numbers;
@@ -96,7 +96,7 @@ fn minus<'p, S: IdSet>(
 
 /// All numbers, or none. They count as lent by the postings, so that they can stand in for what these lend.
 pub(crate) fn all_or_none<'p, P: Postings>(_postings: &'p P, all: bool) -> Numbers<Held<'p, P::Set>>
-    ensures { HasExactly (members_of P.Set.members) (λ n. all) result }
+    ensures { HoldExactly P.Set.members (λ n. all) result }
 {
     if all {
         Numbers::AllBut(Held::Nothing)
@@ -111,8 +111,7 @@ pub(crate) fn meet_numbers<'p, S: IdSet>(
     left: Numbers<Held<'p, S>>,
     right: Numbers<Held<'p, S>>,
 ) -> Result<Numbers<Held<'p, S>>, AllocError>
-    ensures { IfOk result (HasExactly (members_of S.members) (λ n.
-        numbers_contain (members_of S.members) left.entry n && numbers_contain (members_of S.members) right.entry n)) }
+    ensures { IfOk result (HoldExactly S.members (λ n. hold S.members left.entry n && hold S.members right.entry n)) }
 {
     match left {
         Numbers::Only(a) => match right {
@@ -132,8 +131,7 @@ pub(crate) fn join_numbers<'p, S: IdSet>(
     left: Numbers<Held<'p, S>>,
     right: Numbers<Held<'p, S>>,
 ) -> Result<Numbers<Held<'p, S>>, AllocError>
-    ensures { IfOk result (HasExactly (members_of S.members) (λ n.
-        numbers_contain (members_of S.members) left.entry n || numbers_contain (members_of S.members) right.entry n)) }
+    ensures { IfOk result (HoldExactly S.members (λ n. hold S.members left.entry n || hold S.members right.entry n)) }
 {
     match left {
         Numbers::Only(a) => match right {
@@ -154,8 +152,7 @@ pub(crate) fn both_or_either<'p, S: IdSet>(
     left: Numbers<Held<'p, S>>,
     right: Numbers<Held<'p, S>>,
 ) -> Result<Numbers<Held<'p, S>>, AllocError>
-    ensures { IfOk result (HasExactly (members_of S.members) (λ n.
-        both_or_either both (numbers_contain (members_of S.members) left.entry n) (numbers_contain (members_of S.members) right.entry n))) }
+    ensures { IfOk result (HoldExactly S.members (λ n. both_or_either both (hold S.members left.entry n) (hold S.members right.entry n))) }
 {
     if both {
         meet_numbers(alloc, left, right)
@@ -169,7 +166,7 @@ pub(crate) fn owned_numbers<S: IdSet>(
     alloc: Global,
     numbers: Numbers<Held<S>>,
 ) -> Result<Numbers<S>, AllocError>
-    ensures { IfOk result (HasExactly S.members (λ n. numbers_contain (members_of S.members) numbers.entry n)) }
+    ensures { IfOk result (HasExactly S.members (λ n. hold S.members numbers.entry n)) }
 {
     match numbers {
         Numbers::Only(held) => Ok(Numbers::Only(into_owned(alloc, held)?)),

@@ -1,12 +1,8 @@
 //! The candidates of an item.
 
-ghost use Rattle.std.specs.Prelude.{◌≡◌, ◌&&◌, [], IfOk};
-ghost use Rattle.std.specs.List.{list_all};
-ghost use Rattle.schema.specs.declared.slots.IndexKind.TheVariants.{Presence, Substrings};
-ghost use Rattle.index.specs.EntryKeys.{windows};
-ghost use Rattle.candidates.specs.Numbers.{numbers_contain, HasExactly};
-ghost use Rattle.candidates.specs.Sides.{is_member, has_windows, exactly, at_most, if_indexed, assertion_sides, item_sides};
-ghost use Rattle.candidates.specs.inner.Held.{members_of};
+ghost use Rattle.std.specs.Prelude.{◌≡◌, ◌&&◌, IfOk};
+ghost use Rattle.candidates.specs.Sides.{has_windows, has_piece, key_sides, value_sides, pieces_sides, assertion_sides, item_sides};
+ghost use Rattle.candidates.specs.inner.Held.{members_of, hold, HoldExactly};
 ghost use Rattle.candidates.specs.inner.OneSide.{on};
 
 use crate::held::{Held, all_or_none, meet_numbers};
@@ -35,28 +31,26 @@ fn exactly<'p, P: Postings>(
     key: &[u8],
     side: Side,
 ) -> Numbers<Held<'p, P::Set>>
-    ensures { HasExactly (members_of P.Set.members) (λ n.
-        on side (if_indexed ((P.shown postings.now).slot_of t kind) (λ slot. exactly (is_member (P.shown postings.now) n slot key.now)))) result }
+    ensures { HoldExactly P.Set.members (λ n. on side (key_sides (P.shown postings.now) n t kind key.now)) result }
 {
     match postings.slot(t, kind) {
         None => all_or_none(postings, true),
         Some(slot) => match side {
-            Side::May => Numbers::Only(members(postings, slot, key)),
-            Side::MayNot => Numbers::AllBut(members(postings, slot, key)),
+            Side::MayBeTrue => Numbers::Only(members(postings, slot, key)),
+            Side::MayBeFalse => Numbers::AllBut(members(postings, slot, key)),
         },
     }
 }
 
 // where the item asks by an order: an entry of which it is True has a value, and one that has values need not be such an entry
 fn by_presence<'p, P: Postings>(postings: &'p P, t: TypeId, side: Side) -> Numbers<Held<'p, P::Set>>
-    ensures { HasExactly (members_of P.Set.members) (λ n.
-        on side (if_indexed ((P.shown postings.now).slot_of t Presence) (λ slot. at_most (is_member (P.shown postings.now) n slot [])))) result }
+    ensures { HoldExactly P.Set.members (λ n. on side (value_sides (P.shown postings.now) n t)) result }
 {
     match postings.slot(t, IndexKind::Presence) {
         None => all_or_none(postings, true),
         Some(slot) => match side {
-            Side::May => Numbers::Only(members(postings, slot, &[])),
-            Side::MayNot => all_or_none(postings, true),
+            Side::MayBeTrue => Numbers::Only(members(postings, slot, &[])),
+            Side::MayBeFalse => all_or_none(postings, true),
         },
     }
 }
@@ -69,8 +63,7 @@ fn with_windows<'p, P: Postings>(
     piece: &[u8],
     numbers: Numbers<Held<'p, P::Set>>,
 ) -> Result<Numbers<Held<'p, P::Set>>, AllocError>
-    ensures { IfOk result (HasExactly (members_of P.Set.members) (λ n.
-        numbers_contain (members_of P.Set.members) numbers.entry n && list_all (is_member (P.shown postings.now) n slot.0) (windows piece.now))) }
+    ensures { IfOk result (HoldExactly P.Set.members (λ n. hold P.Set.members numbers.entry n && has_piece (P.shown postings.now) n slot.0 piece.now)) }
 {
     let mut left = numbers;
     let mut rest = piece;
@@ -89,7 +82,7 @@ fn by_windows<'p, P: Postings>(
     slot: SlotNumber,
     pieces: &Pieces,
 ) -> Result<Numbers<Held<'p, P::Set>>, AllocError>
-    ensures { IfOk result (HasExactly (members_of P.Set.members) (λ n. has_windows (P.shown postings.now) n slot.0 pieces.now.pieces)) }
+    ensures { IfOk result (HoldExactly P.Set.members (λ n. has_windows (P.shown postings.now) n slot.0 pieces.now.pieces)) }
 {
     let mut left = all_or_none(postings, true);
     for piece in pieces.pieces.as_slice() {
@@ -106,14 +99,13 @@ fn by_pieces<'p, P: Postings>(
     pieces: &Pieces,
     side: Side,
 ) -> Result<Numbers<Held<'p, P::Set>>, AllocError>
-    ensures { IfOk result (HasExactly (members_of P.Set.members) (λ n.
-        on side (if_indexed ((P.shown postings.now).slot_of t Substrings) (λ slot. at_most (has_windows (P.shown postings.now) n slot pieces.now.pieces))))) }
+    ensures { IfOk result (HoldExactly P.Set.members (λ n. on side (pieces_sides (P.shown postings.now) n t pieces.now.pieces))) }
 {
     match postings.slot(t, IndexKind::Substrings) {
         None => Ok(all_or_none(postings, true)),
         Some(slot) => match side {
-            Side::May => by_windows(alloc, postings, slot, pieces),
-            Side::MayNot => Ok(all_or_none(postings, true)),
+            Side::MayBeTrue => by_windows(alloc, postings, slot, pieces),
+            Side::MayBeFalse => Ok(all_or_none(postings, true)),
         },
     }
 }
@@ -126,7 +118,7 @@ fn by_assertion<'p, P: Postings>(
     assertion: &Assertion,
     side: Side,
 ) -> Result<Numbers<Held<'p, P::Set>>, AllocError>
-    ensures { IfOk result (HasExactly (members_of P.Set.members) (λ n. on side (assertion_sides (P.shown postings.now) n t assertion.now))) }
+    ensures { IfOk result (HoldExactly P.Set.members (λ n. on side (assertion_sides (P.shown postings.now) n t assertion.now))) }
 {
     match assertion {
         Assertion::Equality(value) => {
@@ -147,7 +139,7 @@ pub(crate) fn item_numbers<'p, P: Postings>(
     postings: &'p P,
     side: Side,
 ) -> Result<Numbers<Held<'p, P::Set>>, AllocError>
-    ensures { IfOk result (HasExactly (members_of P.Set.members) (λ n. on side (item_sides (P.shown postings.now) n item.now))) }
+    ensures { IfOk result (HoldExactly P.Set.members (λ n. on side (item_sides (P.shown postings.now) n item.now))) }
 {
     match item {
         PreparedItem::Undefined => Ok(all_or_none(postings, false)),

@@ -1,18 +1,15 @@
 //! What candidates say of a filter's truth.
 
-ghost use Rattle.std.specs.Prelude.{◌≡◌, ℕ};
+ghost use Rattle.std.specs.Prelude.{ℕ};
 ghost use Rattle.std.specs.List.{AllByRecursion};
-ghost use Rattle.std.specs.FinSet as set;
 ghost use Rattle.schema.specs.Conf.{Conf, IsConf};
 ghost use Rattle.entries.specs.Entries.{Attributes, IsAttribute};
 ghost use Rattle.filter_text.specs.Spells.{FilterContent};
 ghost use Rattle.filter.specs.Filters.{truth};
 ghost use Rattle.filter.specs.Prepared.{prepared_filter};
-ghost use Rattle.index.specs.declared.slot_key.SlotKey.{SlotKey};
-ghost use Rattle.index.specs.EntryKeys.{slot_keys};
-ghost use Rattle.index.specs.Indexes.{Index, members};
+ghost use Rattle.index.specs.Indexes.{Index};
 ghost use Rattle.index.specs.Postings.{Shown, shown_by};
-ghost use Rattle.candidates.specs.Brackets.{Allows, Reflects};
+ghost use Rattle.candidates.specs.Brackets.{Allows, HasKeysOf, Reflects};
 ghost use Rattle.candidates.specs.Sides.{sides};
 
 /// Where postings show a number under exactly the keys of an entry, a filter that is True of the entry may be True by what they show, and
@@ -27,8 +24,7 @@ pub fn brackets_hold()
 
 /// An index that has a number under exactly the keys of an entry shows it so.
 pub fn indexes_reflect_entries()
-    ensures { (x : Index) (n : ℕ) (attrs : Attributes) → ((k : SlotKey) → set.contains (members x k) n ≡ set.contains (slot_keys x.conf attrs) k)
-        → Reflects (shown_by x) x.conf.types n attrs }
+    ensures { (x : Index) (n : ℕ) (attrs : Attributes) → HasKeysOf x n attrs → Reflects (shown_by x) x.conf.types n attrs }
 {
     index::keys_are_told();
 }

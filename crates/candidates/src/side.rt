@@ -1,22 +1,22 @@
 //! The two sides of a bracket.
 
 ghost use Rattle.std.specs.Prelude.{◌≡◌};
-ghost use Rattle.candidates.specs.inner.OneSide.{is_may, other};
+ghost use Rattle.candidates.specs.inner.OneSide.{is_may_be_true, other};
 
 /// What a filter may be of an entry: True, or False.
 #[derive(Clone, Copy, Debug)]
 pub(crate) enum Side {
-    May,
-    MayNot,
+    MayBeTrue,
+    MayBeFalse,
 }
 
 impl Side {
-    pub(crate) fn is_may(self) -> bool
-        ensures { result ≡ is_may self }
+    pub(crate) fn is_may_be_true(self) -> bool
+        ensures { result ≡ is_may_be_true self }
     {
         match self {
-            Side::May => true,
-            Side::MayNot => false,
+            Side::MayBeTrue => true,
+            Side::MayBeFalse => false,
         }
     }
 
@@ -24,8 +24,8 @@ impl Side {
         ensures { result ≡ other self }
     {
         match self {
-            Side::May => Side::MayNot,
-            Side::MayNot => Side::May,
+            Side::MayBeTrue => Side::MayBeFalse,
+            Side::MayBeFalse => Side::MayBeTrue,
         }
     }
 }
