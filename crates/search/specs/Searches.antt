@@ -1,5 +1,5 @@
 -- Search (RFC 4511, 4.5.1): what a filter finds.
-use Rattle.std.specs.Prelude.{ℕ, ◌+◌, Bool, ◌&&◌, List, [], ◌∷◌, length, filter, if◌then◌else◌}
+use Rattle.std.specs.Prelude.{◌≡◌, ℕ, ◌+◌, Bool, true, ◌&&◌, Some, List, [], ◌∷◌, length, filter, if◌then◌else◌}
 use Rattle.std.specs.FinMap as finite
 use Rattle.paths.specs.Paths.{Path}
 use Rattle.schema.specs.Conf.{Conf}
@@ -28,6 +28,10 @@ is_tested is_candidate scope base e = is_in_scope scope base e.0 && is_candidate
 -- the entries that are tested, and of which the filter is True, in dump order
 abbrev pub scan_among : Conf → Entries → (Path → Bool) → Path → Scope → FilterContent → List (Path × EntryContent)
 scan_among conf d is_candidate base scope f = filter (λ e. is_tested is_candidate scope base e && is_true (truth conf.types e.1.attrs f)) (finite.entries d)
+
+-- each entry of which the filter is True is a candidate
+abbrev pub Suffices : Conf → Entries → (Path → Bool) → FilterContent → Type 0
+Suffices conf d is_candidate f = (p : Path) (e : EntryContent) → finite.get d p ≡ Some e → is_true (truth conf.types e.attrs f) ≡ true → is_candidate p ≡ true
 
 -- how many entries are tested
 abbrev pub count_among : Entries → (Path → Bool) → Path → Scope → ℕ

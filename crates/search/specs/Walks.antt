@@ -7,7 +7,8 @@ use Rattle.values.specs.declared.types.AttributeType.{AttributeType}
 use Rattle.entries.specs.Entries.{EntryContent}
 use Rattle.entries.specs.StoredEntries.{Entry, content_of, attributes_of, entry_code}
 use Rattle.tree.specs.Trees.{path_code}
-use Rattle.filter_text.specs.Spells.{FilterContent}
+use Rattle.filter_text.specs.Spells.{FilterContent, view}
+use Rattle.filter.specs.Made.{Made}
 use Rattle.filter.specs.Truths.{is_true}
 use Rattle.filter.specs.Filters.{truth}
 use Rattle.search.specs.declared.scope.Scope.{Scope}
@@ -61,3 +62,7 @@ tested_in_all scope base n (e ∷ es) = if e.is_candidate && depth_fits scope ba
 -- the walk over entries that the base begins, where so many were tested before
 abbrev pub walk : List AttributeType → Scope → ℕ → FilterContent → ℕ → List MarkedEntry → Walk
 walk types scope base f n es = record { to_come = lent types scope base f n es; in_the_end = tested_in_all scope base n es; tested = n }
+
+-- the same, by a filter that is prepared
+abbrev pub walk_by : Made → Scope → ℕ → ℕ → List MarkedEntry → Walk
+walk_by filter scope base n es = walk filter.conf.types scope base (view filter.filter) n es

@@ -3,8 +3,7 @@
 ghost use Rattle.std.specs.Prelude.{◌≡◌, ◌+◌, ◌<◌, ◌^◌, length};
 ghost use Rattle.std.specs.List.{AllByRecursion};
 ghost use Rattle.entries.specs.StoredEntries.{IsMade};
-ghost use Rattle.filter_text.specs.Spells.{view};
-ghost use Rattle.search.specs.Walks.{walk, Steps};
+ghost use Rattle.search.specs.Walks.{walk_by, Steps};
 
 use crate::marked::MarkedEntries;
 use crate::scope::Scope;
@@ -29,14 +28,13 @@ impl<'a, S: IdSet> Model for Hits<'a, S> {
     ghost use Rattle.std.specs.Prelude.{◌+◌, ◌<◌, ◌^◌, length};
     ghost use Rattle.std.specs.List.{AllByRecursion};
     ghost use Rattle.entries.specs.StoredEntries.{IsMade};
-    ghost use Rattle.filter_text.specs.Spells.{view as seen};
-    ghost use Rattle.search.specs.Walks.{Walk, walk_code, walk};
+    ghost use Rattle.search.specs.Walks.{Walk, walk_code, walk_by};
 
     ghost Value = { Walk };
 
     ghost coded = { walk_code };
 
-    ghost view = { λ h. walk h.filter.now.conf.types h.scope h.base_depth (seen h.filter.now.filter) h.meter h.rest };
+    ghost view = { λ h. walk_by h.filter.now h.scope h.base_depth h.meter h.rest };
 
     ghost invariant = { λ h. AllByRecursion (λ e. IsMade h.filter.now.conf.types e.entry.attrs) h.rest × (h.meter + length h.rest < 2 ^ 64) };
 }
@@ -53,7 +51,7 @@ fn next_hit<'a, S: IdSet>(
     requires room { meter.old + length rest.old < 2 ^ 64 }
     ensures made { AllByRecursion (λ e. IsMade filter.now.conf.types e.entry.attrs) rest.new }
     ensures room { meter.new + length rest.new < 2 ^ 64 }
-    ensures steps { Steps (walk filter.now.conf.types scope base_depth (view filter.now.filter) meter.old rest.old) result (walk filter.now.conf.types scope base_depth (view filter.now.filter) meter.new rest.new) }
+    ensures steps { Steps (walk_by filter.now scope base_depth meter.old rest.old) result (walk_by filter.now scope base_depth meter.new rest.new) }
 {
     while let Some(found) = rest.next() {
         let (is_candidate, path, entry) = found;
@@ -77,7 +75,7 @@ impl<'a, S: IdSet> Hits<'a, S> {
     ) -> Hits<'a, S>
         requires made { AllByRecursion (λ e. IsMade filter.now.conf.types e.entry.attrs) rest }
         requires room { length rest < 2 ^ 64 }
-        ensures { result ≡ walk filter.now.conf.types scope base_depth (view filter.now.filter) 0 rest.entry }
+        ensures { result ≡ walk_by filter.now scope base_depth 0 rest.entry }
     {
         Hits {
             rest,

@@ -1,6 +1,6 @@
 //! What candidates do for a search, and what ranks are.
 
-ghost use Rattle.std.specs.Prelude.{◌≡◌, ℕ, Bool, true, Some};
+ghost use Rattle.std.specs.Prelude.{◌≡◌, ℕ, Bool, Some};
 ghost use Rattle.std.specs.List.{slice_get};
 ghost use Rattle.std.specs.FinMap as finite;
 ghost use Rattle.paths.specs.Paths.{Path};
@@ -8,17 +8,14 @@ ghost use Rattle.schema.specs.Conf.{Conf};
 ghost use Rattle.entries.specs.Entries.{EntryContent};
 ghost use Rattle.tree.specs.Directories.{Entries};
 ghost use Rattle.filter_text.specs.Spells.{FilterContent};
-ghost use Rattle.filter.specs.Truths.{is_true};
-ghost use Rattle.filter.specs.Filters.{truth};
 ghost use Rattle.search.specs.declared.scope.Scope.{Scope};
 ghost use Rattle.search.specs.Ranks.{rank_in};
-ghost use Rattle.search.specs.Searches.{scan, scan_among};
+ghost use Rattle.search.specs.Searches.{scan, Suffices, scan_among};
 
 /// Where each entry of which the filter is True is a candidate, a scan among the candidates finds what a scan of all entries finds.
 pub fn candidates_suffice()
     ensures { (conf : Conf) (d : Entries) (is_candidate : Path → Bool) (base : Path) (scope : Scope) (f : FilterContent)
-        → ((p : Path) (e : EntryContent) → finite.get d p ≡ Some e → is_true (truth conf.types e.attrs f) ≡ true → is_candidate p ≡ true)
-        → scan_among conf d is_candidate base scope f ≡ scan conf d base scope f }
+        → Suffices conf d is_candidate f → scan_among conf d is_candidate base scope f ≡ scan conf d base scope f }
 {}
 
 /// The rank of an entry is its place in the dump, from 0 on.

@@ -2,13 +2,13 @@
 
 ghost use Rattle.std.specs.Prelude.{◌≡◌, map, true, is_some, IfSome};
 ghost use Rattle.std.specs.FinMap as finite;
-ghost use Rattle.tree.specs.Trees.{number_at};
 ghost use Rattle.filter_text.specs.Spells.{view};
-ghost use Rattle.candidates.specs.Numbers.{numbers_contain};
 ghost use Rattle.search.specs.Ranks.{rank_in};
-ghost use Rattle.search.specs.Searches.{scan, count_in_scope, scan_among, counted_scan, count_among};
+ghost use Rattle.search.specs.Searches.{scan, count_in_scope, count_among};
+ghost use Rattle.search.specs.TreeSearches.{by_number, by_rank, found, counted_found};
 ghost use Rattle.search.specs.Walks.{seen, counted};
-ghost use Rattle.search.specs.inner.Marks.{number_by, first_rank};
+ghost use Rattle.search.specs.inner.Marks.{first_rank};
+ghost use Rattle.search.specs.inner.Numberings.{by_numbering};
 
 use crate::hits::Hits;
 use crate::marked::MarkedEntries;
@@ -36,12 +36,9 @@ fn search_from<'a, S: IdSet>(
     requires rank { rank ≡ first_rank numbering (rank_in tree.now.entries base.now) }
     ensures there { is_some result ≡ finite.contains_key tree.now.entries base.now }
     ensures start { IfSome result (λ h. h.tested ≡ 0) }
-    ensures steps { IfSome result (λ h. map counted h.to_come ≡ counted_scan tree.now.conf tree.now.entries
-        (λ p. numbers_contain S.members candidates (number_by numbering (number_at tree.now p) (rank_in tree.now.entries p))) base.now scope (view filter.now.filter)) }
-    ensures found { IfSome result (λ h. map seen h.to_come ≡ scan_among tree.now.conf tree.now.entries
-        (λ p. numbers_contain S.members candidates (number_by numbering (number_at tree.now p) (rank_in tree.now.entries p))) base.now scope (view filter.now.filter)) }
-    ensures tested { IfSome result (λ h. h.in_the_end ≡ count_among tree.now.entries
-        (λ p. numbers_contain S.members candidates (number_by numbering (number_at tree.now p) (rank_in tree.now.entries p))) base.now scope) }
+    ensures steps { IfSome result (λ h. map counted h.to_come ≡ counted_found tree.now (by_numbering S.members numbering candidates tree.now) base.now scope filter.now) }
+    ensures found { IfSome result (λ h. map seen h.to_come ≡ found tree.now (by_numbering S.members numbering candidates tree.now) base.now scope filter.now) }
+    ensures tested { IfSome result (λ h. h.in_the_end ≡ count_among tree.now.entries (by_numbering S.members numbering candidates tree.now) base.now scope) }
 {
     tree.entries_are_a_directory();
     tree.get(base)?;
@@ -61,12 +58,9 @@ pub fn search<'a, S: IdSet>(
     requires { filter.now.conf ≡ tree.now.conf }
     ensures there { is_some result ≡ finite.contains_key tree.now.entries base.now }
     ensures start { IfSome result (λ h. h.tested ≡ 0) }
-    ensures steps { IfSome result (λ h. map counted h.to_come ≡ counted_scan tree.now.conf tree.now.entries
-        (λ p. numbers_contain S.members candidates (number_at tree.now p)) base.now scope (view filter.now.filter)) }
-    ensures found { IfSome result (λ h. map seen h.to_come ≡ scan_among tree.now.conf tree.now.entries
-        (λ p. numbers_contain S.members candidates (number_at tree.now p)) base.now scope (view filter.now.filter)) }
-    ensures tested { IfSome result (λ h. h.in_the_end ≡ count_among tree.now.entries
-        (λ p. numbers_contain S.members candidates (number_at tree.now p)) base.now scope) }
+    ensures steps { IfSome result (λ h. map counted h.to_come ≡ counted_found tree.now (by_number S.members candidates tree.now) base.now scope filter.now) }
+    ensures found { IfSome result (λ h. map seen h.to_come ≡ found tree.now (by_number S.members candidates tree.now) base.now scope filter.now) }
+    ensures tested { IfSome result (λ h. h.in_the_end ≡ count_among tree.now.entries (by_number S.members candidates tree.now) base.now scope) }
 {
     search_from(tree, base, 0, scope, filter, Numbering::InTree, candidates)
 }
@@ -83,12 +77,9 @@ pub fn search_by_ranks<'a, S: IdSet>(
     requires { filter.now.conf ≡ tree.now.conf }
     ensures there { is_some result ≡ finite.contains_key tree.now.entries base.now }
     ensures start { IfSome result (λ h. h.tested ≡ 0) }
-    ensures steps { IfSome result (λ h. map counted h.to_come ≡ counted_scan tree.now.conf tree.now.entries
-        (λ p. numbers_contain S.members candidates (rank_in tree.now.entries p)) base.now scope (view filter.now.filter)) }
-    ensures found { IfSome result (λ h. map seen h.to_come ≡ scan_among tree.now.conf tree.now.entries
-        (λ p. numbers_contain S.members candidates (rank_in tree.now.entries p)) base.now scope (view filter.now.filter)) }
-    ensures tested { IfSome result (λ h. h.in_the_end ≡ count_among tree.now.entries
-        (λ p. numbers_contain S.members candidates (rank_in tree.now.entries p)) base.now scope) }
+    ensures steps { IfSome result (λ h. map counted h.to_come ≡ counted_found tree.now (by_rank S.members candidates tree.now) base.now scope filter.now) }
+    ensures found { IfSome result (λ h. map seen h.to_come ≡ found tree.now (by_rank S.members candidates tree.now) base.now scope filter.now) }
+    ensures tested { IfSome result (λ h. h.in_the_end ≡ count_among tree.now.entries (by_rank S.members candidates tree.now) base.now scope) }
 {
     let rank = rank_of(alloc, tree, base);
     search_from(
