@@ -1,3 +1,2 @@
-pub mod NoWindow
 pub mod InOrder
 pub mod RowsInOrder

@@ -1,5 +1,5 @@
 -- Keys, each with the rank of an entry that has it, and the rows of an index text that they come to.
-use Rattle.std.specs.Prelude.{◌≡◌, ℕ, Bool, ◌&&◌, nat_eq, List, [], ◌∷◌, if◌then◌else◌}
+use Rattle.std.specs.Prelude.{◌≡◌, ℕ, Bool, ◌&&◌, nat_eq, List, [], ◌∷◌, ◌++◌, if◌then◌else◌}
 use Rattle.std.specs.declared.cmp.Ordering.{Ordering}
 use Rattle.std.specs.Ordering.{nat_cmp, ordering_then}
 use Rattle.std.specs.Cmp.Lexicographic.{slice_cmp}
@@ -45,3 +45,7 @@ rows_of (p ∷ ps) = put_front p (rows_of ps)
 -- the lines of these rows
 abbrev pub rows_text : List Ranked → List ℕ
 rows_text ps = flat_map (λ row. ended (key_line row)) (rows_of ps)
+
+-- a line came at the end of a text, and with it the lines of the rows of some keys are those of all keys
+abbrev pub WritesRow : List Ranked → List Ranked → List ℕ → List ℕ → Type 0
+WritesRow all others old new = (line : List ℕ) × (new ≡ old ++ line) × (rows_text all ≡ line ++ rows_text others)

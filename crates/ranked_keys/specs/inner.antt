@@ -1,3 +1,4 @@
+pub mod AddedWindows
 pub mod Fronts
 pub mod WindowOrder
 pub mod Windows

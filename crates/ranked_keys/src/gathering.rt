@@ -1,18 +1,16 @@
 //! The keys that normal forms give, in order.
 
-ghost use Rattle.std.specs.Prelude.{◌≡◌, ◌&&◌, ◌||◌, ◌<◌, ◌∷◌, [], ℕ, List, map, nat_eq, length, IfOk, IfSome, OnOk, MatchOption};
-ghost use Rattle.std.specs.List.{list_any};
+ghost use Rattle.std.specs.Prelude.{◌≡◌, ℕ, List, map, IfOk, OnOk};
 ghost use Rattle.std.specs.List.Sorted.{IsStrictlySortedBy};
-ghost use Rattle.std.specs.Str.{bytes_eq};
 ghost use Rattle.schema.specs.declared.slots.IndexKind.TheVariants.{Equality, Presence, Substrings};
-ghost use Rattle.index.specs.EntryKeys.{windows};
 ghost use Rattle.ranked_keys.specs.RankedKeys.{joined, ranked_cmp, is_among, AreRanked};
 ghost use Rattle.ranked_keys.specs.Pairs.{norm_pairs, window_pairs};
+ghost use Rattle.ranked_keys.specs.inner.AddedWindows.{AddsWindows};
 
 use crate::ranked_key::RankedKey;
 use crate::ranked_norm::RankedNorm;
 use crate::ranked_window::RankedWindow;
-use index::NumberedNorm;
+use index::{NumberedNorm, first_window};
 use std::alloc::{AllocError, Global};
 
 // the same in order, each once
@@ -26,25 +24,14 @@ fn in_order<K: RankedKey>(keys: Vec<K>) -> Vec<K>
     keys
 }
 
-// the first window of a text, and what has the others
-fn first_window(text: &[u8]) -> Option<([u8; 3], &[u8])>
-    ensures windows { MatchOption result (windows text.now ≡ []) (λ r. windows text.now ≡ r.0 ∷ windows r.1.now) }
-    ensures shorter { IfSome result (λ r. length r.1.now < length text.now) }
-{
-    match text {
-        [first, second, third, ..] => Some(([*first, *second, *third], &text[1..])),
-        _ => None,
-    }
-}
-
 // puts the windows of a text to others
 fn push_windows(all: &mut Vec<RankedWindow>, text: &[u8], rank: u32) -> Result<(), AllocError>
-    ensures { OnOk result ((q : List ℕ) (n : ℕ) → is_among (window_pairs all.new.items) q n ≡ (is_among (window_pairs all.old.items) q n || (nat_eq n rank && list_any (λ k. bytes_eq k q) (windows text.now)))) }
+    ensures { OnOk result (AddsWindows text.now rank (window_pairs all.old.items) (window_pairs all.new.items)) }
 {
     let mut left = text;
     while let Some(first) = first_window(left) {
         let (window, rest) = first;
-        all.push(RankedWindow::of(window, rank))?;
+        all.push(RankedWindow::of(*window, rank))?;
         left = rest;
     }
     Ok(())

@@ -1,9 +1,9 @@
 //! Rows of an index text.
 
-ghost use Rattle.std.specs.Prelude.{◌≡◌, ◌≤◌, ◌++◌, ◌∷◌, ℕ, List, map, length, IfOk, OnErr};
+ghost use Rattle.std.specs.Prelude.{◌≤◌, ◌∷◌, map, length, IfOk, OnErr};
 ghost use Rattle.base.specs.Extends.{Extends};
-ghost use Rattle.ranked_keys.specs.RankedKeys.{rows_text};
-ghost use Rattle.ranked_keys.specs.inner.Fronts.{under, BeginsOtherwise};
+ghost use Rattle.ranked_keys.specs.RankedKeys.{WritesRow};
+ghost use Rattle.ranked_keys.specs.inner.Fronts.{MovesRanks, BeginsOtherwise};
 
 use crate::ranked_key::RankedKey;
 use std::alloc::{AllocError, Global};
@@ -14,7 +14,7 @@ fn take_ranks<'k, K: RankedKey>(
     keys: &'k [K],
     ranks: &mut Vec<u32>,
 ) -> Result<&'k [K], AllocError>
-    ensures parts { IfOk result (λ rest. under (K.pair first.now).0 ranks.new.items ++ map K.pair rest.now ≡ under (K.pair first.now).0 ranks.old.items ++ map K.pair keys.now) }
+    ensures parts { IfOk result (λ rest. MovesRanks (K.pair first.now).0 ranks.old.items ranks.new.items (map K.pair keys.now) (map K.pair rest.now)) }
     ensures others { IfOk result (λ rest. BeginsOtherwise (K.pair first.now).0 (map K.pair rest.now)) }
     ensures fewer { IfOk result (λ rest. length rest.now ≤ length keys.now) }
 {
@@ -39,7 +39,7 @@ pub fn put_row<'k, K: RankedKey>(
     ranks: &mut Vec<u32>,
     out: &mut Vec<u8>,
 ) -> Result<&'k [K], AllocError>
-    ensures text { IfOk result (λ rest. (line : List ℕ) × (out.new.items ≡ out.old.items ++ line) × (rows_text (K.pair first.now ∷ map K.pair others.now) ≡ line ++ rows_text (map K.pair rest.now))) }
+    ensures text { IfOk result (λ rest. WritesRow (K.pair first.now ∷ map K.pair others.now) (map K.pair rest.now) out.old.items out.new.items) }
     ensures fewer { IfOk result (λ rest. length rest.now ≤ length others.now) }
     ensures kept { OnErr result (Extends out.old.items out.new.items) }
 {
