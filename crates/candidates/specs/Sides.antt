@@ -54,15 +54,15 @@ module _ (shown : Shown) (n : ℕ) where
   abbrev pub has_windows : ℕ → List (List ℕ) → Bool
   has_windows slot pieces = list_all (is_member slot) (flat_map windows pieces)
 
-  -- of an item that is True of exactly the members of a key
+  -- what the slot says of an item that is True of exactly the members of a key
   abbrev pub key_sides : ℕ → IndexKind → List ℕ → Sides
   key_sides t kind key = if_indexed (shown.slot_of t kind) (λ slot. exactly (is_member slot key))
 
-  -- of an item that is True only where there is a value
+  -- the same of an item that is True only where there is a value
   abbrev pub value_sides : ℕ → Sides
   value_sides t = if_indexed (shown.slot_of t kinds.Presence) (λ slot. at_most (is_member slot []))
 
-  -- of an item that is True only of a value that has the pieces
+  -- the same of an item that is True only of a value that has the pieces
   abbrev pub pieces_sides : ℕ → List (List ℕ) → Sides
   pieces_sides t pieces = if_indexed (shown.slot_of t kinds.Substrings) (λ slot. at_most (has_windows slot pieces))
 

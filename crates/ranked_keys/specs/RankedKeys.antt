@@ -46,6 +46,6 @@ rows_of (p ∷ ps) = put_front p (rows_of ps)
 abbrev pub rows_text : List Ranked → List ℕ
 rows_text ps = flat_map (λ row. ended (key_line row)) (rows_of ps)
 
--- a line came at the end of a text, and with it the lines of the rows of some keys are those of all keys
+-- a text got one line: this line and those of the other keys' rows are the lines of all rows
 abbrev pub WritesRow : List Ranked → List Ranked → List ℕ → List ℕ → Type 0
 WritesRow all others old new = (line : List ℕ) × (new ≡ old ++ line) × (rows_text all ≡ line ++ rows_text others)
