@@ -9,6 +9,7 @@ ghost use Rattle.base.specs.Extends.{Extends};
 ghost use Rattle.device.specs.Device.{Took, Broke};
 ghost use Rattle.ldif_lines.specs.Folding.{folded};
 ghost use Rattle.ldif.specs.Writing.{is_safe_byte, is_common_byte, has_plain_ends, is_plain, line_text, written_line};
+ghost use Rattle.ldif.specs.declared.write.WriteFault.TheVariants as faults;
 
 use base::{begins_with, ends_with};
 use base64::engine::general_purpose::STANDARD;
@@ -30,6 +31,22 @@ pub enum WriteFault {
     Device,
     #[error("out of memory")]
     OutOfMemory,
+}
+
+impl From<AllocError> for WriteFault {
+    ghost from_gives = { λ _ e. e ≡ faults.OutOfMemory };
+
+    fn from(_e: AllocError) -> WriteFault {
+        WriteFault::OutOfMemory
+    }
+}
+
+impl From<Device> for WriteFault {
+    ghost from_gives = { λ _ e. e ≡ faults.Device };
+
+    fn from(_e: Device) -> WriteFault {
+        WriteFault::Device
+    }
 }
 
 fn is_safe_byte(b: u8) -> bool
@@ -250,11 +267,7 @@ pub fn write_line<W: Sink>(
     ensures device { result ≡ Err WriteFault.Device → Broke (W.written sink.old) (W.written sink.new) (written_line name.now value.now) }
     ensures memory { result ≡ Err WriteFault.OutOfMemory → W.written sink.new ≡ W.written sink.old }
 {
-    match written_line(alloc, name, value) {
-        Ok(line) => match push_all(sink, &line) {
-            Ok(()) => Ok(()),
-            Err(Device) => Err(WriteFault::Device),
-        },
-        Err(_) => Err(WriteFault::OutOfMemory),
-    }
+    let line = written_line(alloc, name, value)?;
+    push_all(sink, &line)?;
+    Ok(())
 }
