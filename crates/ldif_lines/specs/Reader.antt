@@ -46,6 +46,10 @@ next_is_first r = r.first
 abbrev pub next_number : {S : Type 0} {g : Ghosts S} → Reader S RecordDraft g → ℕ
 next_number r = r.count + 1
 
+-- Both stand at the same place of their text: the same line, the same bytes held, and the end met or not.
+abbrev pub AtSamePlace : {S : Type 0} {g : Ghosts S} → Reader S RecordDraft g → Reader S RecordDraft g → Type 0
+AtSamePlace r s = (next_number r ≡ next_number s) × (next_is_first r ≡ next_is_first s) × (unread r ≡ unread s) × (has_ended r ≡ has_ended s)
+
 -- the records that are still to come, where the bytes of the source are known
 unfoldable pub records_left : {S : Type 0} {g : Ghosts S} → (S → Seen) → Reader S RecordDraft g → Option (List RawRecord)
 records_left seen r = option_map (λ bytes. records_from r.first (r.count + 1) (unread r ++ bytes)) (seen r.source.now).left

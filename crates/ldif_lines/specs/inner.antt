@@ -1,4 +1,5 @@
 pub mod Cuts
+pub mod DraftSteps
 pub mod Drafts
 pub mod Examples
 pub mod Moves

@@ -34,8 +34,11 @@ pub struct RecordDraft {
 }
 
 impl RecordDraft {
+    ghost use Rattle.base.specs.Ascii.{line_feed};
     ghost use Rattle.ldif_lines.specs.inner.View.{draft_of, state_of};
-    ghost use Rattle.ldif_lines.specs.inner.States.{State, put, settle, gives, raw_of, next_state, HasNoFeed};
+    ghost use Rattle.ldif_lines.specs.inner.States.{State, settle, raw_of, next_state, HasNoFeed};
+    ghost use Rattle.ldif_lines.specs.inner.DraftSteps.{HasMore, EndsWithNone, EndsWithOne};
+    ghost use Rattle.ldif_lines.specs.inner.Moves.{GoesOn, EndsRecord};
 
     /// A record without lines, which is the text's first or not.
     pub fn new(alloc: Global, first: bool) -> Self
@@ -115,7 +118,7 @@ impl RecordDraft {
     /// Takes bytes of the line that has this number.
     fn put(&mut self, number: u64, bytes: &[u8]) -> Result<(), AllocError>
         requires some { 0 < length bytes.now }
-        ensures { OnOk result ((after_return : Bool) (count : ℕ) → number ≡ count + 1 → state_of self.new after_return count ≡ put (state_of self.old after_return count) bytes.now) }
+        ensures { OnOk result (HasMore self.old self.new number bytes.now) }
     {
         if !self.in_line {
             self.begin(number, bytes)?;
@@ -148,7 +151,7 @@ impl RecordDraft {
         bytes: &[u8],
     ) -> Result<bool, AllocError>
         requires { HasNoFeed bytes.now }
-        ensures { IfOk result (λ waits. (count : ℕ) → number ≡ count + 1 → (only : Bool) (rest : List ℕ) → gives only (state_of self.old after_return count) (bytes.now ++ rest) ≡ gives only (state_of self.new waits count) rest) }
+        ensures { IfOk result (λ waits. (count : ℕ) → number ≡ count + 1 → GoesOn (state_of self.old after_return count) bytes.now (state_of self.new waits count)) }
     {
         if bytes.is_empty() {
             return Ok(after_return);
@@ -164,8 +167,8 @@ impl RecordDraft {
 
     /// Takes the end of a line: whether a record ends there.
     pub fn end_line(&mut self) -> bool
-        ensures goes_on { result ≡ false → (after_return : Bool) (count : ℕ) (only : Bool) (rest : List ℕ) → gives only (state_of self.old after_return count) (10 ∷ rest) ≡ gives only (state_of self.new false (count + 1)) rest }
-        ensures ends { result ≡ true → (after_return : Bool) (count : ℕ) (only : Bool) (rest : List ℕ) → gives only (state_of self.old after_return count) (10 ∷ rest) ≡ raw_of (state_of self.new false (count + 1)) ∷ gives only (next_state (count + 1)) rest }
+        ensures goes_on { result ≡ false → (after_return : Bool) (count : ℕ) → GoesOn (state_of self.old after_return count) (line_feed ∷ []) (state_of self.new false (count + 1)) }
+        ensures ends { result ≡ true → (after_return : Bool) (count : ℕ) → EndsRecord (state_of self.old after_return count) (line_feed ∷ []) (state_of self.new false (count + 1)) }
     {
         if self.in_line {
             self.in_line = false;
@@ -180,9 +183,9 @@ impl RecordDraft {
 
     /// Takes the end of the text: whether a record ends there.
     pub fn finish(&mut self, number: u64, after_return: bool) -> Result<bool, AllocError>
-        ensures none { result ≡ Ok false → (count : ℕ) → (after_return ≡ true → number ≡ count + 1) → (gives false (state_of self.old after_return count) [] ≡ []) × (gives false (state_of self.new false count) [] ≡ []) }
+        ensures none { result ≡ Ok false → (count : ℕ) → (after_return ≡ true → number ≡ count + 1) → EndsWithNone self.old self.new after_return count }
         ensures empty { result ≡ Ok false → self.new.record.lines ≡ [] }
-        ensures some { result ≡ Ok true → (count : ℕ) → (after_return ≡ true → number ≡ count + 1) → gives false (state_of self.old after_return count) [] ≡ raw_of (state_of self.new false count) ∷ [] }
+        ensures some { result ≡ Ok true → (count : ℕ) → (after_return ≡ true → number ≡ count + 1) → EndsWithOne self.old self.new after_return count }
     {
         self.settle(number, after_return)?;
         if self.record.lines.is_empty() {

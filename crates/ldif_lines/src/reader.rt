@@ -7,8 +7,8 @@ ghost use Rattle.std.specs.List.{sum_by};
 ghost use Rattle.device.specs.Device.{GaveSome, PullFailed};
 ghost use Rattle.ldif_lines.specs.Records.{records};
 ghost use Rattle.ldif_lines.specs.View.{view};
-ghost use Rattle.ldif_lines.specs.inner.Moves.{Moved, Ended, Drained, Broken, PulledLate};
-ghost use Rattle.ldif_lines.specs.inner.States.{gives, raw_of, next_state};
+ghost use Rattle.ldif_lines.specs.inner.Moves.{Broken};
+ghost use Rattle.ldif_lines.specs.inner.States.{gives, raw_of};
 
 use crate::draft::RecordDraft;
 use crate::raw_record::RawRecord;
@@ -97,9 +97,9 @@ impl<S: Source, T: Drop> Drop for Reader<'_, S, T> {
 }
 
 impl<'a, S: Source> Reader<'a, S> {
-    ghost use Rattle.ldif_lines.specs.Reader.{Takes, IsEnd, source_of, loan_of, is_failed, has_ended, unread, next_is_first, next_number, lines_begun, records_left, bytes_left};
+    ghost use Rattle.ldif_lines.specs.Reader.{Takes, IsEnd, source_of, loan_of, is_failed, has_ended, unread, next_is_first, next_number, lines_begun, records_left, bytes_left, AtSamePlace};
     ghost use Rattle.ldif_lines.specs.Pulls.{closed_in, TakesBlock, TakesRest, Breaks};
-    ghost use Rattle.ldif_lines.specs.inner.ReaderStates.{state};
+    ghost use Rattle.ldif_lines.specs.inner.ReaderStates.{state, Moves, EndsItsBlock, Drains, HoldsPulled};
 
     /// A reader of the records of what is left of `source`.
     #[tactic(auto, unfolding(crate::specs::Reader::records_left, crate::specs::Reader::bytes_left))]
@@ -137,8 +137,8 @@ impl<'a, S: Source> Reader<'a, S> {
         ensures at_end { self.new.at_end ≡ self.old.at_end }
         ensures falls { OnOk result (self.old.at < self.new.at) }
         ensures end { self.new.end ≡ self.old.end }
-        ensures moved { result ≡ Ok false → Moved (S.seen (source_of self.old)) (S.seen (source_of self.new)) (unread self.old) (unread self.new) (state self.old) (state self.new) }
-        ensures ended { result ≡ Ok true → Ended (S.seen (source_of self.old)) (S.seen (source_of self.new)) (unread self.old) (unread self.new) (state self.old) (next_state self.new.count) (raw_of (state self.new)) }
+        ensures moved { result ≡ Ok false → Moves S.seen self.old self.new }
+        ensures ended { result ≡ Ok true → EndsItsBlock S.seen self.old self.new }
         ensures settled { result ≡ Ok true → self.new.after_return ≡ false }
     {
         let mut draft = mem::replace(&mut self.draft, RecordDraft::new(self.alloc, false));
@@ -164,8 +164,8 @@ impl<'a, S: Source> Reader<'a, S> {
         ensures first { self.new.first ≡ self.old.first }
         ensures failed { self.new.failed ≡ self.old.failed }
         ensures same { (state self.new ≡ state self.old) × (self.new.after_return ≡ self.old.after_return) × (self.new.count ≡ self.old.count) }
-        ensures moved { OnOk result (Moved (S.seen (source_of self.old)) (S.seen (source_of self.new)) (unread self.old) (unread self.new) (state self.old) (state self.new)) }
-        ensures some { result ≡ Ok true → (self.new.at < self.new.end) × ((S.seen (source_of self.new)).pulled ≡ (S.seen (source_of self.old)).pulled + (self.new.end - self.new.at)) }
+        ensures moved { OnOk result (Moves S.seen self.old self.new) }
+        ensures some { result ≡ Ok true → HoldsPulled S.seen self.old self.new }
         ensures fits { OnOk result ((S.seen (source_of self.new)).pulled < 2 ^ 64) }
         ensures more { result ≡ Ok true → self.new.at_end ≡ self.old.at_end }
         ensures ended { self.old.at_end ≡ true → source_of self.new ≡ source_of self.old }
@@ -209,9 +209,9 @@ impl<'a, S: Source> Reader<'a, S> {
     fn find(&mut self) -> Result<Found, ReadFault>
         requires { (S.seen (source_of self.old)).failed < 2 ^ 64 - 1 }
         ensures same_loan { loan_of self.new ≡ loan_of self.old }
-        ensures closed { result ≡ Ok Found.Closed → Ended (S.seen (source_of self.old)) (S.seen (source_of self.new)) (unread self.old) (unread self.new) (state self.old) (next_state self.new.count) (raw_of (state self.new)) }
-        ensures last { result ≡ Ok Found.Last → Drained (S.seen (source_of self.old)) (S.seen (source_of self.new)) (unread self.old) (unread self.new) (state self.old) (raw_of (state self.new) ∷ []) }
-        ensures nothing { result ≡ Ok Found.Nothing → Drained (S.seen (source_of self.old)) (S.seen (source_of self.new)) (unread self.old) (unread self.new) (state self.old) [] × (gives false (state self.new) [] ≡ []) × (lines_begun self.new ≡ []) }
+        ensures closed { result ≡ Ok Found.Closed → EndsItsBlock S.seen self.old self.new }
+        ensures last { result ≡ Ok Found.Last → Drains S.seen self.old self.new (raw_of (state self.new) ∷ []) }
+        ensures nothing { result ≡ Ok Found.Nothing → Drains S.seen self.old self.new [] × (gives false (state self.new) [] ≡ []) × (lines_begun self.new ≡ []) }
         ensures settled { OnOk result (self.new.after_return ≡ false) }
         ensures device { result ≡ Err ReadFault.Device → Broken (S.seen (source_of self.old)) (S.seen (source_of self.new)) (unread self.old) (state self.old) }
         ensures memory { result ≡ Err ReadFault.OutOfMemory → (S.seen (source_of self.new)).failed ≡ (S.seen (source_of self.old)).failed }
@@ -317,7 +317,7 @@ impl<'a, S: Source> Reader<'a, S> {
         ensures records { records_left S.seen self.new ≡ records_left S.seen self.old }
         ensures bytes { bytes_left S.seen self.new ≡ bytes_left S.seen self.old }
         ensures failed { is_failed self.new ≡ is_failed self.old }
-        ensures place { (next_number self.new ≡ next_number self.old) × (next_is_first self.new ≡ next_is_first self.old) × (unread self.new ≡ unread self.old) × (has_ended self.new ≡ has_ended self.old) }
+        ensures place { AtSamePlace self.new self.old }
         ensures begun { lines_begun self.new ≡ lines_begun self.old }
     {
         self.draft.reuse(record);

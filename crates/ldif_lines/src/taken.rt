@@ -2,8 +2,7 @@
 
 ghost use Rattle.std.specs.Prelude.{◌≡◌, ◌<◌, ◌≤◌, ◌-◌, ◌+◌, ◌^◌, true, false, length, take, IfOk};
 ghost use Rattle.ldif_lines.specs.inner.View.{state_of};
-ghost use Rattle.ldif_lines.specs.inner.Moves.{GoesOn, EndsAt};
-ghost use Rattle.ldif_lines.specs.inner.States.{raw_of, next_state};
+ghost use Rattle.ldif_lines.specs.inner.Moves.{GoesOn, EndsBlock};
 
 use crate::draft::RecordDraft;
 use memchr::memchr;
@@ -35,7 +34,7 @@ fn take_line(
     ensures counted { IfOk result (λ t. t.count ≤ count + t.len) }
     ensures waits { IfOk result (λ t. t.after_return ≡ true → t.count < count + t.len) }
     ensures moved { IfOk result (λ t. t.ended ≡ false → GoesOn (state_of draft.old after_return count) (take t.len bytes.now) (state_of draft.new t.after_return t.count)) }
-    ensures ended { IfOk result (λ t. t.ended ≡ true → EndsAt (state_of draft.old after_return count) (take t.len bytes.now) (raw_of (state_of draft.new t.after_return t.count)) (next_state t.count)) }
+    ensures ended { IfOk result (λ t. t.ended ≡ true → EndsBlock (state_of draft.old after_return count) (take t.len bytes.now) (state_of draft.new t.after_return t.count)) }
     ensures settled { IfOk result (λ t. t.ended ≡ true → t.after_return ≡ false) }
 {
     match memchr(b'\n', bytes) {
@@ -76,7 +75,7 @@ pub fn take_lines(
     ensures counted { IfOk result (λ t. t.count ≤ count + t.len) }
     ensures waits { IfOk result (λ t. t.after_return ≡ true → t.count < count + t.len) }
     ensures moved { IfOk result (λ t. t.ended ≡ false → GoesOn (state_of draft.old after_return count) (take t.len bytes.now) (state_of draft.new t.after_return t.count)) }
-    ensures ended { IfOk result (λ t. t.ended ≡ true → EndsAt (state_of draft.old after_return count) (take t.len bytes.now) (raw_of (state_of draft.new t.after_return t.count)) (next_state t.count)) }
+    ensures ended { IfOk result (λ t. t.ended ≡ true → EndsBlock (state_of draft.old after_return count) (take t.len bytes.now) (state_of draft.new t.after_return t.count)) }
     ensures settled { IfOk result (λ t. t.ended ≡ true → t.after_return ≡ false) }
 {
     let mut all = Taken {

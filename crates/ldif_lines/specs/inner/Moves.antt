@@ -4,11 +4,15 @@ use Rattle.std.specs.Io.KnownBytes.{IsAtEnd}
 use Rattle.base.specs.Ascii.{line_feed}
 use Rattle.device.specs.Device.{Seen, Pulled}
 use Rattle.ldif_lines.specs.Records.{RawRecord}
-use Rattle.ldif_lines.specs.inner.States.{State, gives}
+use Rattle.ldif_lines.specs.inner.States.{State, gives, raw_of, next_state}
 
 -- These bytes were taken: what follows them gives the same.
 abbrev pub GoesOn : State → List ℕ → State → Type 0
 GoesOn s text t = (only : Bool) (rest : List ℕ) → gives only s (text ++ rest) ≡ gives only t rest
+
+-- These bytes end the record that is read: what follows them gives this record, and then those after it.
+abbrev pub EndsRecord : State → List ℕ → State → Type 0
+EndsRecord s text t = (only : Bool) (rest : List ℕ) → gives only s (text ++ rest) ≡ raw_of t ∷ gives only (next_state t.count) rest
 
 -- A reader pulled some bytes and took some: what it holds unread, and the state of its record.
 pub record Moved (a b : Seen) (unread left : List ℕ) (s t : State) : Type 0 where
@@ -25,6 +29,10 @@ pub record EndsAt (s : State) (text : List ℕ) (r : RawRecord) (t : State) : Ty
   pub bytes : text ≡ eaten ++ line_feed ∷ []
   pub before : gives true s eaten ≡ []
   pub ends : (only : Bool) (rest : List ℕ) → gives only s (text ++ rest) ≡ r ∷ gives only t rest
+
+-- The same, where the record is the one that this state is in.
+abbrev pub EndsBlock : State → List ℕ → State → Type 0
+EndsBlock s text t = EndsAt s text (raw_of t) (next_state t.count)
 
 -- It took bytes up to the end of a record's block.
 pub record Ended (a b : Seen) (unread left : List ℕ) (s t : State) (r : RawRecord) : Type 0 where

@@ -1,7 +1,6 @@
-use Rattle.std.proofs.Common.{◌≡◌, ◌<◌, ◌≤◌, ◌+◌, ◌-◌, ◌++◌, ℕ, Bool, List, true, false, length, take}
+use Rattle.std.proofs.Common.{◌≡◌, ◌<◌, ◌≤◌, ◌+◌, ◌-◌, true, false, length, take}
 use Rattle.ldif_lines.specs.inner.View.{state_of}
-use Rattle.ldif_lines.specs.inner.Moves.{GoesOn, EndsAt}
-use Rattle.ldif_lines.specs.inner.States.{raw_of, next_state}
+use Rattle.ldif_lines.specs.inner.Moves.{GoesOn, EndsBlock}
 use Rattle.ldif_lines.proofs.taken.take_lines.Given as goal
 
 abbrev pub invariant-lines : goal.invariant-lines
@@ -11,7 +10,7 @@ invariant-lines l = record {
   counted : l.all.count ≤ l.count + l.all.len;
   waits : 0 < l.all.len → l.all.after_return ≡ true → l.all.count < l.count + l.all.len;
   moved : l.all.ended ≡ false → GoesOn (state_of l.fn.draft l.after_return l.count) (take l.all.len l.bytes) (state_of l.draft l.all.after_return l.all.count);
-  ended : l.all.ended ≡ true → EndsAt (state_of l.fn.draft l.after_return l.count) (take l.all.len l.bytes) (raw_of (state_of l.draft l.all.after_return l.all.count)) (next_state l.all.count);
+  ended : l.all.ended ≡ true → EndsBlock (state_of l.fn.draft l.after_return l.count) (take l.all.len l.bytes) (state_of l.draft l.all.after_return l.all.count);
   settled : l.all.ended ≡ true → l.all.after_return ≡ false;
 }
 
