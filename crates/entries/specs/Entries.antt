@@ -84,6 +84,10 @@ pub record IsGood (conf : Conf) (e : EntryContent) : Type 0 where
   pub rdn : IsRdn conf.types e.rdn
   pub rdn_there : AllByRecursion (λ p. has_equal conf.types p.0 p.1 (values_of e.attrs p.0) ≡ true) e.rdn
 
+-- such an entry, with this RDN
+abbrev pub IsGoodWith : Conf → TypedRdn → EntryContent → Type 0
+IsGoodWith conf rdn e = IsGood conf e × (e.rdn ≡ rdn)
+
 -- ---- an entry as lines
 
 abbrev pub attribute_lines : List AttributeType → Attribute → List Attr

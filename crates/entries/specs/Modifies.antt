@@ -127,10 +127,14 @@ has_ava types rdn p = list_any (λ q. nat_eq p.0 q.0 && are_equal types p.0 q.1 
 abbrev pub without_ava : List AttributeType → Ava → Attributes → Attributes
 without_ava types p attrs = set_values attrs p.0 (without_value types p.0 (values_of attrs p.0) p.1)
 
+-- the value of an AVA goes, unless the new RDN has it
+abbrev pub without_old_ava : List AttributeType → TypedRdn → Ava → Attributes → Attributes
+without_old_ava types new p attrs = if has_ava types new p then attrs else without_ava types p attrs
+
 -- the old RDN's values go, but for those that the new one has
 unfoldable pub without_rdn : List AttributeType → TypedRdn → TypedRdn → Attributes → Attributes
 without_rdn types new [] attrs = attrs
-without_rdn types new (p ∷ ps) attrs = without_rdn types new ps (if has_ava types new p then attrs else without_ava types p attrs)
+without_rdn types new (p ∷ ps) attrs = without_rdn types new ps (without_old_ava types new p attrs)
 
 -- the new RDN's values come, and the old one's go where that is asked for
 abbrev pub renamed_attrs : List AttributeType → EntryContent → TypedRdn → Bool → Attributes

@@ -4,8 +4,8 @@ ghost use Rattle.std.specs.Prelude.{◌≡◌, ◌<◌, ◌&&◌, true, false, I
 ghost use Rattle.std.specs.List.{list_all, AllByRecursion};
 ghost use Rattle.schema.specs.Superclasses.{lineage};
 ghost use Rattle.entries.specs.Entries.{values_of};
-ghost use Rattle.entries.specs.EntryClasses.{has_type, defines_classes, are_classes, named_classes, has_required, fits_classes, has_its_classes};
-ghost use Rattle.entries.specs.inner.ClassChecks.{has_all_required, is_allowed_by, may_have, may_have_all};
+ghost use Rattle.entries.specs.EntryClasses.{has_type, defines_classes, has_required, fits_classes, has_its_classes};
+ghost use Rattle.entries.specs.inner.ClassChecks.{FindsClasses, fits_each, has_all_required, is_allowed_by, may_have, may_have_all};
 ghost use Rattle.entries.specs.StoredEntries.{attributes_of, raws, IsMade};
 
 use crate::attributes::has_class;
@@ -24,7 +24,7 @@ fn named_classes(
     conf: &Conf,
     values: &Values,
 ) -> Result<Option<ClassNumbers>, AllocError>
-    ensures named { IfOk result (λ found. MatchOption found (are_classes conf.now.classes (raws values.now) ≡ false) (λ cs. (are_classes conf.now.classes (raws values.now) ≡ true) × (cs.items ≡ named_classes conf.now.classes (raws values.now)))) }
+    ensures named { IfOk result (λ found. FindsClasses found (λ cs. cs.items) conf.now.classes (raws values.now)) }
     ensures known { IfOk result (λ found. MatchOption found Unit (λ cs. AllByRecursion (λ c. c < length conf.now.classes) cs.items)) }
 {
     let mut classes = SmallVec::new(alloc);
@@ -43,7 +43,7 @@ fn own_classes(
     conf: &Conf,
     attrs: &Attributes,
 ) -> Result<Option<ClassNumbers>, AllocError>
-    ensures named { IfOk result (λ found. MatchOption found (are_classes conf.now.classes (raws (values_of attrs.now.entries 0)) ≡ false) (λ cs. (are_classes conf.now.classes (raws (values_of attrs.now.entries 0)) ≡ true) × (cs.items ≡ named_classes conf.now.classes (raws (values_of attrs.now.entries 0))))) }
+    ensures named { IfOk result (λ found. FindsClasses found (λ cs. cs.items) conf.now.classes (raws (values_of attrs.now.entries 0))) }
     ensures known { IfOk result (λ found. MatchOption found Unit (λ cs. AllByRecursion (λ c. c < length conf.now.classes) cs.items)) }
 {
     match attrs.get(TypeId::OBJECT_CLASS) {
@@ -121,7 +121,7 @@ fn may_have_all(conf: &Conf, named: &[usize], attrs: &Attributes) -> bool
 fn fits_each(conf: &Conf, named: &[usize], attrs: &Attributes) -> bool
     requires classes { AllByRecursion (λ c. c < length conf.now.classes) named.now }
     requires made { IsMade conf.now.types attrs.now.entries }
-    ensures { result ≡ (has_all_required conf.now.classes (attributes_of attrs.now.entries) named.now && may_have_all conf.now named.now (attributes_of attrs.now.entries)) }
+    ensures { result ≡ fits_each conf.now named.now (attributes_of attrs.now.entries) }
 {
     has_all_required(conf, named, attrs) && may_have_all(conf, named, attrs)
 }

@@ -5,7 +5,7 @@ ghost use Rattle.ldif.specs.declared.record.Mod.{Mod};
 ghost use Rattle.schema.specs.Conf.{Conf, IsConf};
 ghost use Rattle.schema.specs.Rdns.{TypedRdn};
 ghost use Rattle.schema.specs.GoodRdns.{IsRdn};
-ghost use Rattle.entries.specs.Entries.{Attributes, EntryContent, IsGood};
+ghost use Rattle.entries.specs.Entries.{Attributes, EntryContent, IsGood, IsGoodWith};
 ghost use Rattle.entries.specs.EntryClasses.{fits_classes, FitsClasses};
 ghost use Rattle.entries.specs.Modifies.{modify_entry, rename_entry, changed_to};
 
@@ -18,10 +18,10 @@ pub fn classes_are_kept()
 
 /// A modify leaves an entry that a directory can have, with its RDN.
 pub fn modifying_keeps_an_entry()
-    ensures { (conf : Conf) (e out : EntryContent) (mods : List Mod) → IsGood conf e → modify_entry conf e mods ≡ changed_to out → IsGood conf out × (out.rdn ≡ e.rdn) }
+    ensures { (conf : Conf) (e out : EntryContent) (mods : List Mod) → IsGood conf e → modify_entry conf e mods ≡ changed_to out → IsGoodWith conf e.rdn out }
 {}
 
 /// Another RDN leaves an entry that a directory can have.
 pub fn renaming_keeps_an_entry()
-    ensures { (conf : Conf) (e out : EntryContent) (new : TypedRdn) (delete_old : Bool) → IsGood conf e → IsRdn conf.types new → rename_entry conf e new delete_old ≡ changed_to out → IsGood conf out × (out.rdn ≡ new) }
+    ensures { (conf : Conf) (e out : EntryContent) (new : TypedRdn) (delete_old : Bool) → IsGood conf e → IsRdn conf.types new → rename_entry conf e new delete_old ≡ changed_to out → IsGoodWith conf new out }
 {}

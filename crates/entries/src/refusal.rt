@@ -8,7 +8,7 @@ use thiserror::Error;
 #[derive(Debug, Drop, Error)]
 pub enum Refusal {
     /// The result code of the first check that fails.
-    #[error("the operation is refused")]
+    #[error("{0}")]
     Code(Code),
     #[error("out of memory")]
     OutOfMemory,

@@ -5,7 +5,7 @@ ghost use Rattle.std.specs.List.{AllByRecursion, list_any};
 ghost use Rattle.std.specs.Str.{bytes_eq};
 ghost use Rattle.schema.specs.GoodRdns.{IsAva, IsRdn};
 ghost use Rattle.schema.specs.Values.{norm_at};
-ghost use Rattle.entries.specs.Modifies.{has_ava, without_ava, without_rdn, rename_entry};
+ghost use Rattle.entries.specs.Modifies.{without_old_ava, without_rdn, rename_entry};
 ghost use Rattle.entries.specs.StoredEntries.{attributes_of, content_of, IsMade};
 ghost use Rattle.entries.specs.Gives.{Gives};
 
@@ -68,7 +68,7 @@ fn remove_ava(
     requires new { AllByRecursion (IsAva conf.now.types) new.now }
     requires ava { IsAva conf.now.types ava.now }
     ensures made { OnOk result (IsMade conf.now.types attrs.new.entries) }
-    ensures values { OnOk result (attributes_of attrs.new.entries ≡ (if has_ava conf.now.types new.now ava.now then attributes_of attrs.old.entries else without_ava conf.now.types ava.now (attributes_of attrs.old.entries))) }
+    ensures values { OnOk result (attributes_of attrs.new.entries ≡ without_old_ava conf.now.types new.now ava.now (attributes_of attrs.old.entries)) }
 {
     let (t, raw) = ava;
     let value = valid_value(alloc, conf, *t, raw.as_slice())?;

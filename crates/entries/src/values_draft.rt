@@ -6,7 +6,7 @@ ghost use Rattle.std.specs.Cmp.Lexicographic.{slice_cmp};
 ghost use Rattle.std.specs.Ordering.{nat_cmp};
 ghost use Rattle.entries.specs.Modifies.{has_values};
 ghost use Rattle.values.specs.Norms.{has_norm, but_norm};
-ghost use Rattle.entries.specs.inner.ValuesDrafts.{is_from, left_from, KeepsPlaces, AreAllLeft};
+ghost use Rattle.entries.specs.inner.ValuesDrafts.{put_if, is_from, left_from, KeepsPlaces, AreAllLeft};
 
 use base::Bytes;
 use schema::Value;
@@ -94,7 +94,7 @@ fn first_places(alloc: Global, values: &Values) -> Result<Places, AllocError>
 // Puts a value last, unless an equal one is there, and tells whether it did.
 fn push_new(alloc: Global, values: &mut Values, value: Value) -> Result<bool, AllocError>
     ensures is_new { IfOk result (λ put. put ≡ not (has_norm value.norm values.old)) }
-    ensures values { IfOk result (λ put. values.new ≡ (if put then values.old ++ value ∷ [] else values.old)) }
+    ensures values { IfOk result (λ put. values.new ≡ put_if put values.old value) }
 {
     if values.has_norm(value.norm()) {
         return Ok(false);
@@ -113,7 +113,7 @@ fn push_last(
     requires { KeepsPlaces places.old values.old }
     ensures places { OnOk result (KeepsPlaces places.new values.new) }
     ensures is_new { IfOk result (λ put. put ≡ not (has_norm value.norm (left_from places.old.since 0 values.old))) }
-    ensures values { IfOk result (λ put. left_from places.new.since 0 values.new ≡ (if put then left_from places.old.since 0 values.old ++ value ∷ [] else left_from places.old.since 0 values.old)) }
+    ensures values { IfOk result (λ put. left_from places.new.since 0 values.new ≡ put_if put (left_from places.old.since 0 values.old) value) }
 {
     let key = Bytes::from_slice(alloc, value.norm())?;
     if places.since.contains_key(&key) {
@@ -227,7 +227,7 @@ impl ValuesDraft {
     /// Puts a value last, unless an equal one is there, and tells whether it did.
     pub(crate) fn push(&mut self, alloc: Global, value: Value) -> Result<bool, AllocError>
         ensures is_new { IfOk result (λ put. put ≡ not (has_norm value.norm self.old)) }
-        ensures values { IfOk result (λ put. self.new ≡ (if put then self.old ++ value ∷ [] else self.old)) }
+        ensures values { IfOk result (λ put. self.new ≡ put_if put self.old value) }
     {
         self.search(alloc)?;
         // the places come back, unless memory runs out

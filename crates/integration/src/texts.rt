@@ -63,6 +63,6 @@ fn faults_have_their_texts(rt: HostRuntime) -> Result<(), Fail> {
     );
     out.clear();
     put_refusals(rt.alloc(), &mut out)?;
-    assert_eq!(rt; out.as_str(), "the operation is refused\nout of memory\n");
+    assert_eq!(rt; out.as_str(), "32 noSuchObject\nout of memory\n");
     Ok(())
 }

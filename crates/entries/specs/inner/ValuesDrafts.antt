@@ -1,5 +1,5 @@
 -- Values of an attribute that change, with a map that tells which of them are left.
-use Rattle.std.specs.Prelude.{◌≡◌, ℕ, ◌+◌, Bool, false, List, [], ◌∷◌, nat_eq, nat_le, is_some, IsTrue, length, Option, Some, None, if◌then◌else◌}
+use Rattle.std.specs.Prelude.{◌≡◌, ℕ, ◌+◌, Bool, false, List, [], ◌∷◌, ◌++◌, nat_eq, nat_le, is_some, IsTrue, length, Option, Some, None, if◌then◌else◌}
 use Rattle.std.specs.BTreeMap.{BTreeMap, get}
 use Rattle.std.specs.Cmp.Lexicographic.{slice_cmp}
 use Rattle.std.specs.Ordering.{nat_cmp}
@@ -31,6 +31,10 @@ left_from since place (v ∷ vs) = if is_left since place v then v ∷ left_from
 abbrev pub left_of : Option Places → List Value → List Value
 left_of None vs = vs
 left_of (Some places) vs = left_from places.since 0 vs
+
+-- values with one more behind them, if it was put
+abbrev pub put_if : Bool → List Value → Value → List Value
+put_if put vs v = if put then vs ++ v ∷ [] else vs
 
 -- the map has the normal form of each value that is left, and no other
 pub record AreLeft (since : Since) (vs : List Value) : Type 0 where
