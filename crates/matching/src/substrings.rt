@@ -4,7 +4,7 @@ ghost use Rattle.std.specs.Prelude.{◌≡◌, ◌≢◌, ◌↔◌, ◌++◌, L
 ghost use Rattle.memchr.specs.Find.{OccursAt, Nowhere};
 ghost use Rattle.matching.specs.Forms.{lower};
 ghost use Rattle.matching.specs.Substrings.{Fits, cut_front, cut_end, tidy_piece, piece_norm, piece_norms};
-ghost use Rattle.matching.specs.inner.Places.{InOrder, FollowsFirst};
+ghost use Rattle.matching.specs.inner.Places.{InOrder, OccursNowhere, FollowsFirst};
 
 use crate::family::Family;
 use crate::normal::normal_form;
@@ -124,7 +124,7 @@ fn ends_in(text: &[u8], piece: &[u8]) -> bool
 
 // what follows the first place of a piece
 fn after_first<'a>(text: &'a [u8], piece: &[u8]) -> Option<&'a [u8]>
-    ensures { MatchOption result (Nowhere (OccursAt text.entry.now piece.now) 0 (length text.entry.now + 1)) (λ rest. FollowsFirst text.entry.now piece.now rest.now) }
+    ensures { MatchOption result (OccursNowhere text.entry.now piece.now) (λ rest. FollowsFirst text.entry.now piece.now rest.now) }
 {
     let at = memmem::find(text, piece)?;
     Some(text.split_at(at + piece.len()).1)
