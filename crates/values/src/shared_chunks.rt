@@ -1,9 +1,9 @@
 //! Chunks of values that copies of an attribute share.
 
 ghost use Rattle.std.specs.Prelude.{◌≡◌, ◌++◌, [], OnOk, OnErr, IfOk, IfErr};
-ghost use Rattle.std.specs.List.{flat_map};
 ghost use Rattle.std.specs.Slice.Iter.{iter_rest};
 ghost use Rattle.values.specs.Norms.{has_norm, but_norm};
+ghost use Rattle.values.specs.inner.Chunks.{values_in_chunks};
 
 use crate::value::Value;
 use std::alloc::{AllocError, AllocFailed, Global};
@@ -81,7 +81,7 @@ fn push_others(
     chunk: &Rc<Chunk>,
     norm: &[u8],
 ) -> Result<(), AllocError>
-    ensures { OnOk result (flat_map (λ r. r.value.items) chunks.new.items ≡ flat_map (λ r. r.value.items) chunks.old.items ++ but_norm norm.now chunk.now.value.items) }
+    ensures { OnOk result (values_in_chunks chunks.new.items ≡ values_in_chunks chunks.old.items ++ but_norm norm.now chunk.now.value.items) }
 {
     if !is_among(chunk.as_ref(), norm) {
         chunks.push(chunk.clone()?)?;
@@ -144,7 +144,7 @@ impl SharedChunks {
 
     /// Chunk by chunk.
     pub(crate) fn iter(&self) -> Iter<'_, Rc<Chunk>>
-        ensures { flat_map (λ r. r.value.items) (iter_rest result) ≡ self.now }
+        ensures { values_in_chunks (iter_rest result) ≡ self.now }
     {
         self.chunks.as_slice().iter()
     }
