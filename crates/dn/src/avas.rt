@@ -37,7 +37,7 @@ fn type_len(text: &[u8]) -> usize
 
 /// A type, which may be empty, and what follows it.
 pub(crate) fn split_type(text: &[u8]) -> (&[u8], &[u8])
-    ensures ty_text { result.0.now ≡ type_in text.now }
+    ensures type_text { result.0.now ≡ type_in text.now }
     ensures rest { result.1.now ≡ after_type text.now }
     ensures bytes { list_all is_type_byte result.0.now ≡ true }
 {
@@ -85,50 +85,50 @@ impl MadeWith<Global> for Ava {
 impl Ava {
     /// The AVA of this type and this value; None where the text is no type. A type is one or more letters, digits, `-`, `_`
     /// and `.`, which takes in all names and OIDs of types (RFC 4512, 1.4); a value is any bytes.
-    pub fn new(alloc: Global, ty_text: &[u8], value: &[u8]) -> Result<Option<Ava>, AllocError>
-        ensures { IfOk result (λ ava. ava ≡ (if is_type ty_text.now then Some (ty_text.now, value.now) else None)) }
+    pub fn new(alloc: Global, type_text: &[u8], value: &[u8]) -> Result<Option<Ava>, AllocError>
+        ensures { IfOk result (λ ava. ava ≡ (if is_type type_text.now then Some (type_text.now, value.now) else None)) }
     {
-        if !is_type(ty_text) {
+        if !is_type(type_text) {
             return Ok(None);
         }
-        Ok(Some(Ava::of_type(alloc, ty_text, value)?))
+        Ok(Some(Ava::of_type(alloc, type_text, value)?))
     }
 
-    pub(crate) fn of_type(alloc: Global, ty_text: &[u8], value: &[u8]) -> Result<Ava, AllocError>
-        requires { is_type ty_text.now ≡ true }
-        ensures same { IfOk result (λ ava. ava ≡ (ty_text.now, value.now)) }
+    pub(crate) fn of_type(alloc: Global, type_text: &[u8], value: &[u8]) -> Result<Ava, AllocError>
+        requires { is_type type_text.now ≡ true }
+        ensures same { IfOk result (λ ava. ava ≡ (type_text.now, value.now)) }
         ensures good { IfOk result (λ ava. is_ava ava ≡ true) }
     {
-        let text = AvaText::of_ava(alloc, ty_text, value)?;
-        Ok(Ava::of_text(text, ty_text, value))
+        let text = AvaText::of_ava(alloc, type_text, value)?;
+        Ok(Ava::of_text(text, type_text, value))
     }
 
     /// The AVA that stands at the front of a text, where it is short: it ends there, and spaces may stand round the equals sign.
     #[inline(always)]
-    pub(crate) fn short(text: &[u8], end: usize, ty_text: &[u8], value: &[u8]) -> Option<Ava>
-        requires ty_text { is_type ty_text.now ≡ true }
-        requires text { EndsAt text.now ty_text.now value.now end }
-        ensures same { IfSome result (λ ava. ava ≡ (ty_text.now, value.now)) }
+    pub(crate) fn short(text: &[u8], end: usize, type_text: &[u8], value: &[u8]) -> Option<Ava>
+        requires type_text { is_type type_text.now ≡ true }
+        requires text { EndsAt text.now type_text.now value.now end }
+        ensures same { IfSome result (λ ava. ava ≡ (type_text.now, value.now)) }
         ensures good { IfSome result (λ ava. is_ava ava ≡ true) }
     {
-        let text = AvaText::of_few(text, end, ty_text, value)?;
-        Some(Ava::of_text(text, ty_text, value))
+        let text = AvaText::of_few(text, end, type_text, value)?;
+        Some(Ava::of_text(text, type_text, value))
     }
 
     #[inline(always)]
-    fn of_text(text: AvaText, ty_text: &[u8], value: &[u8]) -> Ava
-        requires ty_text { is_type ty_text.now ≡ true }
-        requires text { text ≡ ty_text.now ++ 61 ∷ value.now }
-        ensures same { result ≡ (ty_text.now, value.now) }
+    fn of_text(text: AvaText, type_text: &[u8], value: &[u8]) -> Ava
+        requires type_text { is_type type_text.now ≡ true }
+        requires text { text ≡ type_text.now ++ 61 ∷ value.now }
+        ensures same { result ≡ (type_text.now, value.now) }
         ensures good { is_ava result ≡ true }
     {
-        let _ = ty_text;
+        let _ = type_text;
         in_range(value);
         Ava { text }
     }
 
     /// The type's text.
-    pub fn ty_text(&self) -> &[u8]
+    pub fn type_text(&self) -> &[u8]
         ensures { result.now ≡ self.now.0 }
     {
         split_type(self.text.as_slice()).0
@@ -148,6 +148,6 @@ impl Ava {
         ensures { result ≡ is_ava self.now }
     {
         in_range(self.value());
-        is_type(self.ty_text())
+        is_type(self.type_text())
     }
 }

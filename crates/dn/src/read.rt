@@ -34,13 +34,13 @@ fn skip(text: &[u8]) -> &[u8]
 }
 
 /// What follows the equals sign that is due behind a type.
-fn after_equals<'a>(ty_text: &[u8], rest: &'a [u8]) -> Result<&'a [u8], NameFault>
-    ensures rest { Gives (λ r. r.now) result (after_equals ty_text.now rest.now) }
-    ensures some { OnOk result (not (length ty_text.now == 0) ≡ true) }
+fn after_equals<'a>(type_text: &[u8], rest: &'a [u8]) -> Result<&'a [u8], NameFault>
+    ensures rest { Gives (λ r. r.now) result (after_equals type_text.now rest.now) }
+    ensures some { OnOk result (not (length type_text.now == 0) ≡ true) }
 {
     match rest {
         [first, value @ ..] if *first == b'=' => {
-            if ty_text.is_empty() {
+            if type_text.is_empty() {
                 Err(NameFault::Fault(NameFaultKind::TypeMissing))
             } else {
                 Ok(value)
@@ -54,24 +54,24 @@ fn after_equals<'a>(ty_text: &[u8], rest: &'a [u8]) -> Result<&'a [u8], NameFaul
 #[derive(Clone, Copy)]
 struct Start<'a> {
     text: &'a [u8],
-    ty_text: &'a [u8],
+    type_text: &'a [u8],
     rest: &'a [u8],
 }
 
 /// The AVA at the front of a text as far as its value.
 #[inline(always)]
 fn start_in(text: &[u8]) -> Result<Start<'_>, NameFault>
-    ensures exact { IfOk result (λ s. first_ava text.now ≡ ava_from s.ty_text.now s.rest.now) }
+    ensures exact { IfOk result (λ s. first_ava text.now ≡ ava_from s.type_text.now s.rest.now) }
     ensures err { IfErr result (λ e. Fails (fault_of e) (first_ava text.now)) }
-    ensures ty_text { IfOk result (λ s. is_type s.ty_text.now ≡ true) }
-    ensures text { IfOk result (λ s. Starts s.text.now s.ty_text.now s.rest.now) }
+    ensures type_text { IfOk result (λ s. is_type s.type_text.now ≡ true) }
+    ensures text { IfOk result (λ s. Starts s.text.now s.type_text.now s.rest.now) }
 {
     let text = skip(text);
-    let (ty_text, rest) = split_type(text);
-    let rest = skip(after_equals(ty_text, skip(rest))?);
+    let (type_text, rest) = split_type(text);
+    let rest = skip(after_equals(type_text, skip(rest))?);
     Ok(Start {
         text,
-        ty_text,
+        type_text,
         rest,
     })
 }
@@ -79,14 +79,14 @@ fn start_in(text: &[u8]) -> Result<Start<'_>, NameFault>
 /// The AVA with this value, where it is short.
 #[inline(always)]
 fn short_ava(start: Start<'_>, plain: Plain<'_>) -> Option<Ava>
-    requires ty_text { is_type start.ty_text.now ≡ true }
-    requires text { Starts start.text.now start.ty_text.now start.rest.now }
+    requires type_text { is_type start.type_text.now ≡ true }
+    requires text { Starts start.text.now start.type_text.now start.rest.now }
     requires value { start.rest.now ≡ plain.value.now ++ plain.after.now }
-    ensures same { IfSome result (λ ava. ava ≡ (start.entry.ty_text.now, plain.entry.value.now)) }
+    ensures same { IfSome result (λ ava. ava ≡ (start.entry.type_text.now, plain.entry.value.now)) }
     ensures good { IfSome result (λ ava. is_ava ava ≡ true) }
 {
     let end = start.text.len() - plain.after.len();
-    Ava::short(start.text, end, start.ty_text, plain.value)
+    Ava::short(start.text, end, start.type_text, plain.value)
 }
 
 /// The AVA at the front of a text, where it is short and spelled without an escape, and what stands behind it.
@@ -106,14 +106,14 @@ fn short_in(text: &[u8]) -> Option<(Ava, &[u8])>
 /// An AVA with a value up to the first separator that is not escaped, and what stands from there on.
 #[inline(always)]
 fn escaped_ava<'a>(alloc: Global, start: Start<'a>) -> Result<(Ava, &'a [u8]), NameFault>
-    requires { is_type start.ty_text.now ≡ true }
-    ensures exact { Gives (λ r. (r.0, r.1.now)) result (ava_from start.entry.ty_text.now start.entry.rest.now) }
+    requires { is_type start.type_text.now ≡ true }
+    ensures exact { Gives (λ r. (r.0, r.1.now)) result (ava_from start.entry.type_text.now start.entry.rest.now) }
     ensures good { IfOk result (λ r. is_ava r.0 ≡ true) }
 {
     let (piece, behind) = split_piece(start.rest);
     let value = value_of(alloc, piece)?;
     Ok((
-        Ava::of_type(alloc, start.ty_text, value.as_slice())?,
+        Ava::of_type(alloc, start.type_text, value.as_slice())?,
         behind,
     ))
 }
@@ -125,14 +125,14 @@ fn ava_of<'a>(
     start: Start<'a>,
     plain: Option<Plain<'a>>,
 ) -> Result<(Ava, &'a [u8]), NameFault>
-    requires ty_text { is_type start.ty_text.now ≡ true }
+    requires type_text { is_type start.type_text.now ≡ true }
     requires plain { IfSome plain (λ p. first_value start.rest.now ≡ Ok (p.value.now, p.behind.now)) }
-    ensures exact { Gives (λ r. (r.0, r.1.now)) result (ava_from start.entry.ty_text.now start.entry.rest.now) }
+    ensures exact { Gives (λ r. (r.0, r.1.now)) result (ava_from start.entry.type_text.now start.entry.rest.now) }
     ensures good { IfOk result (λ r. is_ava r.0 ≡ true) }
 {
     match plain {
         Some(plain) => Ok((
-            Ava::of_type(alloc, start.ty_text, plain.value)?,
+            Ava::of_type(alloc, start.type_text, plain.value)?,
             plain.behind,
         )),
         None => escaped_ava(alloc, start),

@@ -81,15 +81,19 @@ impl AvaText {
     }
 
     /// A type, an equals sign and a value.
-    pub(crate) fn of_ava(alloc: Global, ty_text: &[u8], value: &[u8]) -> Result<AvaText, AllocError>
-        ensures { IfOk result (λ text. text ≡ ty_text.now ++ 61 ∷ value.now) }
+    pub(crate) fn of_ava(
+        alloc: Global,
+        type_text: &[u8],
+        value: &[u8],
+    ) -> Result<AvaText, AllocError>
+        ensures { IfOk result (λ text. text ≡ type_text.now ++ 61 ∷ value.now) }
     {
-        let len = ty_text.len() + 1 + value.len();
+        let len = type_text.len() + 1 + value.len();
         if len <= FEW {
-            return Ok(AvaText::few(joined(ty_text, value), len));
+            return Ok(AvaText::few(joined(type_text, value), len));
         }
         let mut bytes = Vec::with_capacity(alloc, len)?;
-        bytes.extend_from_slice(ty_text)?;
+        bytes.extend_from_slice(type_text)?;
         bytes.push(b'=')?;
         bytes.extend_from_slice(value)?;
         Ok(AvaText::many(bytes))
@@ -97,42 +101,42 @@ impl AvaText {
 
     /// The same, where a few bytes suffice, of a text that goes on behind the value.
     #[inline(always)]
-    pub(crate) fn of_few(text: &[u8], end: usize, ty_text: &[u8], value: &[u8]) -> Option<AvaText>
-        requires { EndsAt text.now ty_text.now value.now end }
-        ensures { IfSome result (λ text. text ≡ ty_text.now ++ 61 ∷ value.now) }
+    pub(crate) fn of_few(text: &[u8], end: usize, type_text: &[u8], value: &[u8]) -> Option<AvaText>
+        requires { EndsAt text.now type_text.now value.now end }
+        ensures { IfSome result (λ text. text ≡ type_text.now ++ 61 ∷ value.now) }
     {
-        let len = ty_text.len() + 1 + value.len();
+        let len = type_text.len() + 1 + value.len();
         if len > FEW {
             return None;
         }
-        Some(AvaText::few(few_of(text, end, ty_text, value), len))
+        Some(AvaText::few(few_of(text, end, type_text, value), len))
     }
 }
 
 // Most AVAs are written without spaces round the equals sign: then a piece of a fixed length is copied.
 #[inline(always)]
-fn few_of(text: &[u8], end: usize, ty_text: &[u8], value: &[u8]) -> [u8; FEW]
-    requires few { length ty_text.now + 1 + length value.now ≤ 24 }
-    requires text { EndsAt text.now ty_text.now value.now end }
-    ensures { take (length ty_text.now + 1 + length value.now) result ≡ ty_text.now ++ 61 ∷ value.now }
+fn few_of(text: &[u8], end: usize, type_text: &[u8], value: &[u8]) -> [u8; FEW]
+    requires few { length type_text.now + 1 + length value.now ≤ 24 }
+    requires text { EndsAt text.now type_text.now value.now end }
+    ensures { take (length type_text.now + 1 + length value.now) result ≡ type_text.now ++ 61 ∷ value.now }
 {
-    if end == ty_text.len() + 1 + value.len() {
+    if end == type_text.len() + 1 + value.len() {
         if let Some(chunk) = text.first_chunk::<FEW>() {
             return *chunk;
         }
     }
-    joined(ty_text, value)
+    joined(type_text, value)
 }
 
 #[inline(never)]
-fn joined(ty_text: &[u8], value: &[u8]) -> [u8; FEW]
-    requires { length ty_text.now + 1 + length value.now ≤ 24 }
-    ensures { take (length ty_text.now + 1 + length value.now) result ≡ ty_text.now ++ 61 ∷ value.now }
+fn joined(type_text: &[u8], value: &[u8]) -> [u8; FEW]
+    requires { length type_text.now + 1 + length value.now ≤ 24 }
+    ensures { take (length type_text.now + 1 + length value.now) result ≡ type_text.now ++ 61 ∷ value.now }
 {
     let mut bytes = [0; FEW];
-    let value_at = ty_text.len() + 1;
-    bytes[..ty_text.len()].copy_from_slice(ty_text);
-    bytes[ty_text.len()] = b'=';
+    let value_at = type_text.len() + 1;
+    bytes[..type_text.len()].copy_from_slice(type_text);
+    bytes[type_text.len()] = b'=';
     bytes[value_at..value_at + value.len()].copy_from_slice(value);
     bytes
 }

@@ -86,7 +86,7 @@ pub fn put_value(out: &mut Vec<u8>, value: &[u8]) -> Result<(), AllocError>
 fn put_ava(out: &mut Vec<u8>, ava: &Ava) -> Result<(), AllocError>
     ensures { OnOk result (out.new.items ≡ out.old.items ++ ava_text ava.now) }
 {
-    out.extend_from_slice(ava.ty_text())?;
+    out.extend_from_slice(ava.type_text())?;
     out.extend_from_slice(b"=")?;
     put_value(out, ava.value())
 }

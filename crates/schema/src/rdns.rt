@@ -39,7 +39,7 @@ fn ava_type(types: &TypeTable, earlier: &[(TypeId, Bytes)], ava: &Ava) -> Result
     ensures gives { result ≡ ava_type types.now earlier.now ava.now }
     ensures known { IfOk result (λ t. t < length types.now) }
 {
-    let Some(t) = types.type_of(ava.ty_text()) else {
+    let Some(t) = types.type_of(ava.type_text()) else {
         return Err(Code::InvalidDnSyntax);
     };
     let kind = types.at(t);

@@ -17,7 +17,7 @@ returns-in_default-after_plus-clause-ok c =
     let start = c.in_ok-start.start in
     let behind = c.in-Some.plain.behind.now in
     let ava = c.in-Some-short_ava.ava in
-    let read = c.in_ok-start.ensures.exact ∙ ava_read start.ty_text.now start.rest.now c.in-Some.plain.value.now behind ava c.in-Some.ensures.read c.in-Some-short_ava.ensures.same in
+    let read = c.in_ok-start.ensures.exact ∙ ava_read start.type_text.now start.rest.now c.in-Some.plain.value.now behind ava c.in-Some.ensures.read c.in-Some-short_ava.ensures.same in
     let one = one_plain c.args.text.now ava behind read c.in_default-after_plus.ensures.none in
     (c.one.result, one ∙ ap (λ (ps : Rdn). before behind ps) (sym c.one.ensures), c.in_ok-push.ensures.ok)
 
@@ -27,7 +27,7 @@ returns-then-not-begins_with_plus-clause-ok c =
     let behind = c.in-Some.plain.behind.now in
     let end = c.in-Some-short_in.end.now in
     let ava = c.in-Some-short_ava.ava in
-    let read = c.in_ok-start.ensures.exact ∙ ava_read start.ty_text.now start.rest.now c.in-Some.plain.value.now behind ava c.in-Some.ensures.read c.in-Some-short_ava.ensures.same in
+    let read = c.in_ok-start.ensures.exact ∙ ava_read start.type_text.now start.rest.now c.in-Some.plain.value.now behind ava c.in-Some.ensures.read c.in-Some-short_ava.ensures.same in
     let two = two_plain c.args.text.now ava behind c.in-Some-after_plus.more.now c.in-Some-short_in.second end read c.in-Some-after_plus.ensures.some c.in-Some-short_in.ensures.exact (sym c.begins_with_plus.ensures ∙ c.if-not-begins_with_plus.true) in
     (c.two.result, two ∙ ap (λ (ps : Rdn). before end ps) (sym c.two.ensures), c.in_ok-push-2.ensures.ok)
 

@@ -3,4 +3,4 @@ use Rattle.dn.proofs.Joined.{put_in}
 use Rattle.dn.proofs.text.joined.Goals as goal
 
 pub returns : goal.returns
-returns c = rw (c.copy_from_slice.ensures.after, c.copy_from_slice-2.ensures.after) (put_in c.args.ty_text.now c.args.value.now _ _ (omega (arith, c.requires)))
+returns c = rw (c.copy_from_slice.ensures.after, c.copy_from_slice-2.ensures.after) (put_in c.args.type_text.now c.args.value.now _ _ (omega (arith, c.requires)))

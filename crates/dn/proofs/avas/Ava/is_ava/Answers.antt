@@ -6,4 +6,4 @@ use Rattle.dn.proofs.avas.Ava.is_ava.Goals as goal
 
 pub returns : goal.returns
 returns c =
-    type_suffices c.args.self.now c.is_type.result (c.is_type.ensures ∙ ap is_type c.ty_text.ensures) (sym (ap (list_all is_byte) c.value.ensures) ∙ c.in_range.ensures.in_range)
+    type_suffices c.args.self.now c.is_type.result (c.is_type.ensures ∙ ap is_type c.type_text.ensures) (sym (ap (list_all is_byte) c.value.ensures) ∙ c.in_range.ensures.in_range)
