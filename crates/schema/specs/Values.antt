@@ -14,7 +14,7 @@ use Rattle.values.specs.declared.types.EqualityRule.{EqualityRule}
 use Rattle.values.specs.declared.types.EqualityRule.TheVariants as rules
 use Rattle.values.specs.Types as attribute_types
 use Rattle.values.specs.Types.{type_at}
-use Rattle.values.specs.Values.{norm_by}
+use Rattle.values.specs.Values.{Value, norm_by}
 use Rattle.dn.specs.Names as names
 use Rattle.dn.specs.Writing.{text_of}
 use Rattle.paths.specs.Paths.{Pair, RdnKey}
@@ -59,6 +59,10 @@ is_valid_by types (type_syntaxes.Plain syntax) v = is_valid syntax v
 
 unfoldable pub is_valid_at : List AttributeType → ℕ → List ℕ → Bool
 is_valid_at types t v = is_valid_by types (type_at types t).syntax v
+
+-- a name as a value, with its normal form
+abbrev pub name_value : List AttributeType → List ℕ → Value
+name_value types raw = record { raw = raw; norm = unwrap_or (normal_name types raw) raw }
 
 -- without an equality rule a normal form is the bytes
 abbrev pub norm_with : List AttributeType → Option EqualityRule → List ℕ → List ℕ

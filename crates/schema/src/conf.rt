@@ -38,19 +38,14 @@ pub struct Conf {
 }
 
 impl Model for Conf {
-    ghost use Rattle.std.specs.Prelude.{◌≡◌, map, reverse};
-    ghost use Rattle.schema.specs.Conf.{Conf, IsConf};
-    ghost use Rattle.dn.specs.Writing.{text_of};
-    ghost use Rattle.schema.specs.Names.{written_rdn};
-    ghost use Rattle.schema.specs.Rdns.{rdn_key_of};
-    ghost use Rattle.schema.specs.Values.{normal_text};
-    ghost use Rattle.schema.specs.inner.Settled.{AreSettled};
+    ghost use Rattle.schema.specs.Conf.{Conf};
+    ghost use Rattle.schema.specs.inner.Confs.{Keeps};
 
     ghost Value = { Conf };
 
     ghost view = { λ c. record { types = c.types; suffix = c.suffix; slots = c.slots; classes = c.classes } };
 
-    ghost invariant = { λ c. (IsConf (record { types = c.types; suffix = c.suffix; slots = c.slots; classes = c.classes })) × (c.root ≡ map (rdn_key_of c.types) (reverse c.suffix)) × (AreSettled c.classes c.settled) × (c.suffix_text ≡ text_of (map (written_rdn c.types) c.suffix)) × (c.suffix_norm ≡ normal_text c.types c.suffix) };
+    ghost invariant = { λ c. Keeps (record { types = c.types; suffix = c.suffix; slots = c.slots; classes = c.classes }) c.root c.settled c.suffix_text c.suffix_norm };
 }
 
 impl Conf {

@@ -2,8 +2,8 @@
 
 ghost use Rattle.std.specs.Prelude.{◌≡◌, ◌||◌, ◌<◌, ℕ, IfOk, length, nat_eq};
 ghost use Rattle.std.specs.List.{list_any, AllByRecursion};
-ghost use Rattle.schema.specs.Superclasses.{has_number, is_listed};
-ghost use Rattle.schema.specs.inner.Settled.{settled_at, AreOrdered, AreSettled, IsSettledBy};
+ghost use Rattle.schema.specs.Superclasses.{has_number};
+ghost use Rattle.schema.specs.inner.Settled.{settled_at, is_required_by, is_named_by, AreOrdered, AreSettled, IsSettledBy};
 
 use crate::object_class::ObjectClass;
 use crate::type_set::TypeSet;
@@ -33,7 +33,7 @@ fn at(settled: &[Settled], class: usize) -> &Settled
 
 fn required_by(alloc: Global, class: &ObjectClass, above: &[Settled]) -> Result<TypeSet, AllocError>
     requires { AllByRecursion (λ s. s < length above.now) class.now.superiors }
-    ensures { IfOk result (λ set. (t : ℕ) → has_number set t ≡ (has_number class.now.must t || list_any (λ s. has_number (settled_at above.now s).required t) class.now.superiors)) }
+    ensures { IfOk result (λ set. (t : ℕ) → has_number set t ≡ is_required_by above.now class.now t) }
 {
     let mut set = TypeSet::new(alloc).with_all(class.must.as_slice())?;
     for superior in class.superiors.as_slice() {
@@ -44,7 +44,7 @@ fn required_by(alloc: Global, class: &ObjectClass, above: &[Settled]) -> Result<
 
 fn allowed_by(alloc: Global, class: &ObjectClass, above: &[Settled]) -> Result<TypeSet, AllocError>
     requires { AllByRecursion (λ s. s < length above.now) class.now.superiors }
-    ensures { IfOk result (λ set. (t : ℕ) → has_number set t ≡ (is_listed class.now t || list_any (λ s. has_number (settled_at above.now s).allowed t) class.now.superiors)) }
+    ensures { IfOk result (λ set. (t : ℕ) → has_number set t ≡ is_named_by above.now class.now t) }
 {
     let own = TypeSet::new(alloc).with_all(class.may.as_slice())?;
     let mut set = own.with_all(class.must.as_slice())?;

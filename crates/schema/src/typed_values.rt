@@ -1,10 +1,11 @@
 //! Values of attribute types under a configuration.
 
-ghost use Rattle.std.specs.Prelude.{◌≡◌, ◌<◌, IfOk, is_some, length, map, true, unwrap_or};
+ghost use Rattle.std.specs.Prelude.{◌≡◌, ◌<◌, IfOk, is_some, length, map, true};
 ghost use Rattle.std.specs.List.{list_all};
+ghost use Rattle.std.specs.Map.Iter.{deref};
 ghost use Rattle.values.specs.Types.{type_at};
 ghost use Rattle.schema.specs.Gives.{Makes};
-ghost use Rattle.schema.specs.Values.{normal_name, norm_with, is_valid_by, is_valid_at, norm_at, pieces_of};
+ghost use Rattle.schema.specs.Values.{normal_name, name_value, norm_with, is_valid_by, is_valid_at, norm_at, pieces_of};
 
 use crate::conf::Conf;
 use crate::dn_values::normal_name;
@@ -51,7 +52,7 @@ fn are_valid_by(
     syntax: TypeSyntax,
     texts: &[&[u8]],
 ) -> Result<bool, AllocError>
-    ensures { IfOk result (λ b. b ≡ list_all (is_valid_by types.now syntax) (map (λ text. text.now) texts.now)) }
+    ensures { IfOk result (λ b. b ≡ list_all (is_valid_by types.now syntax) (map deref texts.now)) }
 {
     for text in texts {
         if !is_valid_by(alloc, types, syntax, text)? {
@@ -64,7 +65,7 @@ fn are_valid_by(
 impl Conf {
     // the value of a type that compares names, which takes names alone
     fn name_value(&self, alloc: Global, raw: &[u8]) -> Result<Value, ValueFault>
-        ensures { Makes result (is_some (normal_name self.now.types raw.now)) (λ v. v ≡ record { raw = raw.now; norm = unwrap_or (normal_name self.now.types raw.now) raw.now }) }
+        ensures { Makes result (is_some (normal_name self.now.types raw.now)) (λ v. v ≡ name_value self.now.types raw.now) }
     {
         match self.normal_name(alloc, raw)? {
             Some(norm) => Ok(Value::joined(norm, raw)?),
@@ -85,7 +86,7 @@ impl Conf {
     ) -> Result<Pieces, ValueFault>
         requires known { t < length self.now.types }
         requires rule { (type_at self.now.types t).has_substrings ≡ true }
-        ensures { Makes result (list_all (is_valid_at self.now.types t) (map (λ text. text.now) texts.now)) (λ p. p ≡ pieces_of self.now.types t front back (map (λ text. text.now) texts.now)) }
+        ensures { Makes result (list_all (is_valid_at self.now.types t) (map deref texts.now)) (λ p. p ≡ pieces_of self.now.types t front back (map deref texts.now)) }
     {
         self.rules_are_kept();
         let kind = self.at(t);
