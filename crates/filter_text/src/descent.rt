@@ -1,6 +1,6 @@
 //! Filters within a text, read by descent.
-ghost use Rattle.std.specs.Prelude.{◌≡◌, ℕ, ◌<◌, ◌≤◌, List, length, ◌++◌, IfOk, IfErr, MatchResult};
-ghost use Rattle.filter_text.specs.inner.Begins.{IsMemory, Faulty};
+ghost use Rattle.std.specs.Prelude.{◌≡◌, ℕ, ◌<◌, ◌≤◌, List, length, ◌++◌, IfOk, IfErr};
+ghost use Rattle.filter_text.specs.inner.Begins.{IsRead, Faulty};
 ghost use Rattle.filter_text.specs.Runs.{Closed};
 ghost use Rattle.filter_text.specs.Spells.{FilterContent, FilterContents, view, views, IsFilter, IsFilterComp, IsSpacedList, SomeFilter, SomeFilterComp, SomeSpacedList};
 
@@ -15,8 +15,7 @@ use std::alloc::Global;
 pub fn filter_at(alloc: Global, bytes: &[u8]) -> Result<(Filter, &[u8]), Fault>
     ensures shorter { IfOk result (λ x. length x.1.now < length bytes.now) }
     ensures found { IfOk result (λ x. (text : List ℕ) × IsFilter (view x.0) text × (bytes.now ≡ text ++ x.1.now)) }
-    ensures only { (f : FilterContent) (text more : List ℕ) → IsFilter f text → bytes.now ≡ text ++ more
-        → MatchResult result (λ x. (view x.0 ≡ f) × (x.1.now ≡ more)) IsMemory }
+    ensures only { (f : FilterContent) (text more : List ℕ) → IsFilter f text → IsRead view f bytes.now text more result }
     ensures front { IfErr result (Faulty SomeFilter bytes.now) }
 {
     let Some(inside) = after(bytes, b'(') else {
@@ -34,8 +33,7 @@ pub fn filter_at(alloc: Global, bytes: &[u8]) -> Result<(Filter, &[u8]), Fault>
 pub fn comp_at(alloc: Global, bytes: &[u8]) -> Result<(Filter, &[u8]), Fault>
     ensures no_longer { IfOk result (λ x. length x.1.now ≤ length bytes.now) }
     ensures found { IfOk result (λ x. (text : List ℕ) × IsFilterComp (view x.0) text × (bytes.now ≡ text ++ x.1.now)) }
-    ensures only { (f : FilterContent) (text more : List ℕ) → IsFilterComp f text → Closed more → bytes.now ≡ text ++ more
-        → MatchResult result (λ x. (view x.0 ≡ f) × (x.1.now ≡ more)) IsMemory }
+    ensures only { (f : FilterContent) (text more : List ℕ) → IsFilterComp f text → Closed more → IsRead view f bytes.now text more result }
     ensures front { IfErr result (Faulty SomeFilterComp bytes.now) }
 {
     if let Some(list) = after(bytes, b'&') {
@@ -64,8 +62,7 @@ pub fn comp_at(alloc: Global, bytes: &[u8]) -> Result<(Filter, &[u8]), Fault>
 fn list_at(alloc: Global, bytes: &[u8]) -> Result<(Vec<Filter>, &[u8]), Fault>
     ensures no_longer { IfOk result (λ x. length x.1.now ≤ length bytes.now) }
     ensures found { IfOk result (λ x. (text : List ℕ) × IsSpacedList (views x.0.items) text × (bytes.now ≡ text ++ x.1.now)) }
-    ensures only { (fs : FilterContents) (text more : List ℕ) → IsSpacedList fs text → Closed more → bytes.now ≡ text ++ more
-        → MatchResult result (λ x. (views x.0.items ≡ fs) × (x.1.now ≡ more)) IsMemory }
+    ensures only { (fs : FilterContents) (text more : List ℕ) → IsSpacedList fs text → Closed more → IsRead (λ x. views x.items) fs bytes.now text more result }
     ensures front { IfErr result (Faulty SomeSpacedList bytes.now) }
 {
     let mut operands = Vec::new(alloc);
