@@ -103,6 +103,12 @@ pub record IsDefinition {F : Type 0} (IsField : F → List Token → Type 0) (te
   pub oid_is : IsOid oid
   pub fields_are : AreFields IsField fields tokens
 
+-- texts with the same OID and the same fields, in orders that may stand for each other, are read alike
+abbrev pub FieldsStandInAnyOrder : {F D : Type 0} → (F → List Token → Type 0) → (List F → List F → Type 0) → (List ℕ → D) → Type 0
+FieldsStandInAnyOrder {F} IsField AreMoved read =
+    (text other oid : List ℕ) (fields others : List F) → IsDefinition IsField text oid fields → IsDefinition IsField other oid others
+    → AreMoved fields others → read text ≡ read other
+
 -- no two fields have the same word, in any case
 abbrev pub AreApart : {F : Type 0} → (F → List ℕ) → List F → Type 0
 AreApart word_of fields = (word : List ℕ) → count_by (λ field. is_word word (word_of field)) fields ≤ 1

@@ -12,9 +12,7 @@ ghost use Rattle.definitions.specs.TypeDefinitions.{type_definition_of};
 ghost use Rattle.definitions.specs.TypeGrammar.{IsTypeField, SpellsType, AreTypeFieldsMoved};
 ghost use Rattle.definitions.specs.ClassDefinitions.{class_definition_of};
 ghost use Rattle.definitions.specs.ClassGrammar.{IsClassField, SpellsClass, AreClassFieldsMoved};
-ghost use Rattle.definitions.specs.Grammar.{IsDefinition};
-ghost use Rattle.definitions.specs.declared.type_field.TypeField.{TypeField};
-ghost use Rattle.definitions.specs.declared.class_definition.ClassField.{ClassField};
+ghost use Rattle.definitions.specs.Grammar.{FieldsStandInAnyOrder};
 
 /// A type that a text defines has a numeric OID, and names that types may have.
 pub fn defined_types_have_names()
@@ -37,8 +35,8 @@ pub fn spelled_classes_are_read()
 /// Fields may stand in any order: where two texts have the same OID and the same fields, they are read alike. Extensions are listed
 /// in the order in which they stand, so among themselves they keep it.
 pub fn fields_stand_in_any_order()
-    ensures types { (text other oid : List ℕ) (fields others : List TypeField) → IsDefinition IsTypeField text oid fields → IsDefinition IsTypeField other oid others → AreTypeFieldsMoved fields others → type_definition_of text ≡ type_definition_of other }
-    ensures classes { (text other oid : List ℕ) (fields others : List ClassField) → IsDefinition IsClassField text oid fields → IsDefinition IsClassField other oid others → AreClassFieldsMoved fields others → class_definition_of text ≡ class_definition_of other }
+    ensures types { FieldsStandInAnyOrder IsTypeField AreTypeFieldsMoved type_definition_of }
+    ensures classes { FieldsStandInAnyOrder IsClassField AreClassFieldsMoved class_definition_of }
 {}
 
 /// The lines of a text are those that stand there: each stands between ends of lines, with the lines that it goes on on.
