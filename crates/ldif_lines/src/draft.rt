@@ -34,11 +34,10 @@ pub struct RecordDraft {
 }
 
 impl RecordDraft {
-    ghost use Rattle.base.specs.Ascii.{line_feed};
     ghost use Rattle.ldif_lines.specs.inner.View.{draft_of, state_of};
     ghost use Rattle.ldif_lines.specs.inner.States.{State, settle, raw_of, next_state, HasNoFeed};
-    ghost use Rattle.ldif_lines.specs.inner.DraftSteps.{HasMore, EndsWithNone, EndsWithOne};
-    ghost use Rattle.ldif_lines.specs.inner.Moves.{GoesOn, EndsRecord};
+    ghost use Rattle.ldif_lines.specs.inner.DraftSteps.{HasMore, GoesOnBehindLine, EndsWithLine, EndsWithNone, EndsWithOne};
+    ghost use Rattle.ldif_lines.specs.inner.Moves.{GoesOn};
 
     /// A record without lines, which is the text's first or not.
     pub fn new(alloc: Global, first: bool) -> Self
@@ -167,8 +166,8 @@ impl RecordDraft {
 
     /// Takes the end of a line: whether a record ends there.
     pub fn end_line(&mut self) -> bool
-        ensures goes_on { result ≡ false → (after_return : Bool) (count : ℕ) → GoesOn (state_of self.old after_return count) (line_feed ∷ []) (state_of self.new false (count + 1)) }
-        ensures ends { result ≡ true → (after_return : Bool) (count : ℕ) → EndsRecord (state_of self.old after_return count) (line_feed ∷ []) (state_of self.new false (count + 1)) }
+        ensures goes_on { result ≡ false → GoesOnBehindLine self.old self.new }
+        ensures ends { result ≡ true → EndsWithLine self.old self.new }
     {
         if self.in_line {
             self.in_line = false;

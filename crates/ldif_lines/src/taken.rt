@@ -1,7 +1,7 @@
 //! Lines of a piece, the last of them perhaps not whole.
 
 ghost use Rattle.std.specs.Prelude.{◌≡◌, ◌<◌, ◌≤◌, ◌-◌, ◌+◌, ◌^◌, true, false, length, take, IfOk};
-ghost use Rattle.ldif_lines.specs.inner.View.{state_of};
+ghost use Rattle.ldif_lines.specs.inner.View.{state_of, state_behind};
 ghost use Rattle.ldif_lines.specs.inner.Moves.{GoesOn, EndsBlock};
 
 use crate::draft::RecordDraft;
@@ -33,8 +33,8 @@ fn take_line(
     ensures within { IfOk result (λ t. t.len ≤ length bytes.now) }
     ensures counted { IfOk result (λ t. t.count ≤ count + t.len) }
     ensures waits { IfOk result (λ t. t.after_return ≡ true → t.count < count + t.len) }
-    ensures moved { IfOk result (λ t. t.ended ≡ false → GoesOn (state_of draft.old after_return count) (take t.len bytes.now) (state_of draft.new t.after_return t.count)) }
-    ensures ended { IfOk result (λ t. t.ended ≡ true → EndsBlock (state_of draft.old after_return count) (take t.len bytes.now) (state_of draft.new t.after_return t.count)) }
+    ensures moved { IfOk result (λ t. t.ended ≡ false → GoesOn (state_of draft.old after_return count) (take t.len bytes.now) (state_behind draft.new t)) }
+    ensures ended { IfOk result (λ t. t.ended ≡ true → EndsBlock (state_of draft.old after_return count) (take t.len bytes.now) (state_behind draft.new t)) }
     ensures settled { IfOk result (λ t. t.ended ≡ true → t.after_return ≡ false) }
 {
     match memchr(b'\n', bytes) {
@@ -74,8 +74,8 @@ pub fn take_lines(
     ensures within { IfOk result (λ t. t.len ≤ length bytes.now) }
     ensures counted { IfOk result (λ t. t.count ≤ count + t.len) }
     ensures waits { IfOk result (λ t. t.after_return ≡ true → t.count < count + t.len) }
-    ensures moved { IfOk result (λ t. t.ended ≡ false → GoesOn (state_of draft.old after_return count) (take t.len bytes.now) (state_of draft.new t.after_return t.count)) }
-    ensures ended { IfOk result (λ t. t.ended ≡ true → EndsBlock (state_of draft.old after_return count) (take t.len bytes.now) (state_of draft.new t.after_return t.count)) }
+    ensures moved { IfOk result (λ t. t.ended ≡ false → GoesOn (state_of draft.old after_return count) (take t.len bytes.now) (state_behind draft.new t)) }
+    ensures ended { IfOk result (λ t. t.ended ≡ true → EndsBlock (state_of draft.old after_return count) (take t.len bytes.now) (state_behind draft.new t)) }
     ensures settled { IfOk result (λ t. t.ended ≡ true → t.after_return ≡ false) }
 {
     let mut all = Taken {
