@@ -5,14 +5,13 @@ ghost use Rattle.std.specs.FinMap as finite;
 ghost use Rattle.ldif.specs.Attrs.{Attr};
 ghost use Rattle.ldif.specs.Contents.{IsWritableContent};
 ghost use Rattle.ldif.specs.declared.record.Mode.{Mode};
-ghost use Rattle.ldif.specs.declared.record.Mode.TheVariants as modes;
 ghost use Rattle.paths.specs.Paths.{Path};
 ghost use Rattle.schema.specs.Conf.{Conf, IsConf};
 ghost use Rattle.entries.specs.Entries.{EntryContent};
 ghost use Rattle.tree.specs.Directories.{Entries, IsDirectory, record_at};
 ghost use Rattle.tree.specs.Changes.{Change, Move, changed, allowed, MayStand, MayMove, IsMoved};
 ghost use Rattle.tree.specs.Trees.{has_child};
-ghost use Rattle.tree.specs.Adds.{add, added, MayCome};
+ghost use Rattle.tree.specs.Adds.{add, MayCome, LoadsAs};
 
 /// The empty map is a directory.
 pub fn empty_is_a_directory()
@@ -48,7 +47,7 @@ pub fn moving_takes_all_along()
 
 /// Loading what an entry is written as gives that entry again, wherever it may come.
 pub fn an_entry_adds_itself()
-    ensures { (conf : Conf) (d m : Entries) (p : Path) (e : EntryContent) → IsConf conf → IsDirectory conf d → finite.get d p ≡ Some e → MayCome m p → add conf modes.Content m (record_at conf d p e).dn (record_at conf d p e).attrs ≡ added p e }
+    ensures { (conf : Conf) (d m : Entries) (p : Path) (e : EntryContent) → IsConf conf → IsDirectory conf d → finite.get d p ≡ Some e → MayCome m p → LoadsAs conf m (record_at conf d p e) p e }
 {
     schema::printed_names_name_their_types();
     schema::written_names_are_located();
