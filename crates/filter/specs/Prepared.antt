@@ -2,9 +2,10 @@
 use Rattle.std.specs.Prelude.{ℕ, Bool, true, not, ◌&&◌, ◌||◌, ◌==◌, List, [], ◌∷◌, map, Option, Some, None, if◌then◌else◌}
 use Rattle.std.specs.List.{list_any, list_all}
 use Rattle.std.specs.Str.{bytes_eq}
+use Rattle.matching.specs.declared.family.Family.{Family}
 use Rattle.values.specs.declared.types.AttributeType.{AttributeType}
 use Rattle.values.specs.Types.{type_at, has_equality}
-use Rattle.schema.specs.Values.{is_valid_at, norm_at}
+use Rattle.schema.specs.Values.{is_valid_at, norm_at, pieces_of}
 use Rattle.entries.specs.StoredEntries.{EntryAttribute}
 use Rattle.filter_text.specs.declared.items.Item as written
 use Rattle.filter_text.specs.declared.items.Item.TheVariants as items
@@ -21,7 +22,7 @@ use Rattle.filter.specs.declared.prepared_filter.PreparedFilter.TheFolds.{fold-P
 use Rattle.filter.specs.Truths.{and_of, or_of, opposite}
 use Rattle.filter.specs.Orders.{comes_before}
 use Rattle.schema.specs.Subtypes.{subtypes}
-use Rattle.filter.specs.Items.{item_type, item_pieces, texts_of, contains, order_of, true_or_false}
+use Rattle.filter.specs.Items.{item_type, is_star, texts_of, contains, order_of, true_or_false}
 
 -- ---- items
 
@@ -29,14 +30,33 @@ use Rattle.filter.specs.Items.{item_type, item_pieces, texts_of, contains, order
 abbrev pub only_if : {X : Type 0} → Bool → X → Option X
 only_if b x = if b then Some x else None
 
+-- what an item asks with a value, where the type has the rule that is needed and the value is valid
+
+abbrev pub equality_assertion : List AttributeType → ℕ → List ℕ → Option Assertion
+equality_assertion types t value = only_if (has_equality types t && is_valid_at types t value) (Equality (norm_at types t value))
+
+abbrev pub bound_of : List AttributeType → ℕ → List ℕ → Option (Family × List ℕ)
+bound_of types t value = only_if ((type_at types t).is_ordered && is_valid_at types t value) (order_of types t, norm_at types t value)
+
+abbrev pub at_least_assertion : List AttributeType → ℕ → List ℕ → Option Assertion
+at_least_assertion types t value = only_if ((type_at types t).is_ordered && is_valid_at types t value) (GreaterOrEqual (order_of types t) (norm_at types t value))
+
+abbrev pub at_most_assertion : List AttributeType → ℕ → List ℕ → Option Assertion
+at_most_assertion types t value = only_if ((type_at types t).is_ordered && is_valid_at types t value) (LessOrEqual (order_of types t) (norm_at types t value))
+
+-- and with pieces; the flags say whether a star stands before the first, and behind the last
+abbrev pub substrings_assertion : List AttributeType → ℕ → Bool → Bool → List (List ℕ) → Option Assertion
+substrings_assertion types t front back texts =
+    only_if ((type_at types t).has_substrings && list_all (is_valid_at types t) texts) (Substrings (pieces_of types t front back texts))
+
 -- what an item asks of normal forms of values of the type, where it can be told
 abbrev pub assertion_of : List AttributeType → ℕ → written.Item → Option Assertion
-assertion_of types t (items.Equality attribute value) = only_if (has_equality types t && is_valid_at types t value) (Equality (norm_at types t value))
-assertion_of types t (items.Approx attribute value) = only_if (has_equality types t && is_valid_at types t value) (Equality (norm_at types t value))
-assertion_of types t (items.GreaterOrEqual attribute value) = only_if ((type_at types t).is_ordered && is_valid_at types t value) (GreaterOrEqual (order_of types t) (norm_at types t value))
-assertion_of types t (items.LessOrEqual attribute value) = only_if ((type_at types t).is_ordered && is_valid_at types t value) (LessOrEqual (order_of types t) (norm_at types t value))
+assertion_of types t (items.Equality attribute value) = equality_assertion types t value
+assertion_of types t (items.Approx attribute value) = equality_assertion types t value
+assertion_of types t (items.GreaterOrEqual attribute value) = at_least_assertion types t value
+assertion_of types t (items.LessOrEqual attribute value) = at_most_assertion types t value
 assertion_of types t (items.Present attribute) = Some Present
-assertion_of types t (items.Substrings attribute initial any last) = only_if ((type_at types t).has_substrings && list_all (is_valid_at types t) (texts_of initial any last)) (Substrings (item_pieces types t initial any last))
+assertion_of types t (items.Substrings attribute initial any last) = substrings_assertion types t (is_star initial) (is_star last) (texts_of initial any last)
 assertion_of types t (items.Extensible attribute words value) = None
 
 abbrev pub prepared_with : List AttributeType → ℕ → Option Assertion → PreparedItem

@@ -1,14 +1,11 @@
 //! Settling items under a configuration.
 
-ghost use Rattle.std.specs.Prelude.{◌≡◌, ◌<◌, ◌++◌, ◌&&◌, IfOk, IfSome, OnOk, length, map};
-ghost use Rattle.std.specs.List.{list_all};
+ghost use Rattle.std.specs.Prelude.{◌≡◌, ◌<◌, ◌++◌, IfOk, IfSome, OnOk, length, map};
 ghost use Rattle.std.specs.Option.{option_map};
-ghost use Rattle.schema.specs.Values.{is_valid_at, norm_at, pieces_of};
-ghost use Rattle.values.specs.Types.{type_at, has_equality};
+ghost use Rattle.schema.specs.Values.{is_valid_at, norm_at};
 ghost use Rattle.filter.specs.Items.{attribute_of, item_type, one_or_none, order_of, texts_of};
 ghost use Rattle.schema.specs.Subtypes.{subtypes};
-ghost use Rattle.filter.specs.Prepared.{only_if, assertion_of, prepared_item};
-ghost use Rattle.filter.specs.declared.assertion.Assertion.TheVariants.{Equality, GreaterOrEqual, LessOrEqual, Substrings};
+ghost use Rattle.filter.specs.Prepared.{only_if, equality_assertion, bound_of, at_least_assertion, at_most_assertion, substrings_assertion, assertion_of, prepared_item};
 
 use crate::assertion::Assertion;
 use crate::prepared_item::PreparedItem;
@@ -42,7 +39,7 @@ fn equality(
     value: &[u8],
 ) -> Result<Option<Assertion>, AllocError>
     requires { t < length conf.now.types }
-    ensures { IfOk result (λ a. a ≡ only_if (has_equality conf.now.types t && is_valid_at conf.now.types t value.now) (Equality (norm_at conf.now.types t value.now))) }
+    ensures { IfOk result (λ a. a ≡ equality_assertion conf.now.types t value.now) }
 {
     if conf.equality_rule(t).is_none() {
         return Ok(None);
@@ -61,7 +58,7 @@ fn bound(
     value: &[u8],
 ) -> Result<Option<(Family, Bytes)>, AllocError>
     requires { t < length conf.now.types }
-    ensures { IfOk result (λ b. b ≡ only_if ((type_at conf.now.types t).is_ordered && is_valid_at conf.now.types t value.now) (order_of conf.now.types t, norm_at conf.now.types t value.now)) }
+    ensures { IfOk result (λ b. b ≡ bound_of conf.now.types t value.now) }
 {
     if !conf.has_order(t) {
         return Ok(None);
@@ -91,7 +88,7 @@ fn at_least(
     value: &[u8],
 ) -> Result<Option<Assertion>, AllocError>
     requires { t < length conf.now.types }
-    ensures { IfOk result (λ a. a ≡ only_if ((type_at conf.now.types t).is_ordered && is_valid_at conf.now.types t value.now) (GreaterOrEqual (order_of conf.now.types t) (norm_at conf.now.types t value.now))) }
+    ensures { IfOk result (λ a. a ≡ at_least_assertion conf.now.types t value.now) }
 {
     match bound(alloc, conf, t, value)? {
         Some((family, value)) => Ok(Some(Assertion::GreaterOrEqual { family, value })),
@@ -106,7 +103,7 @@ fn at_most(
     value: &[u8],
 ) -> Result<Option<Assertion>, AllocError>
     requires { t < length conf.now.types }
-    ensures { IfOk result (λ a. a ≡ only_if ((type_at conf.now.types t).is_ordered && is_valid_at conf.now.types t value.now) (LessOrEqual (order_of conf.now.types t) (norm_at conf.now.types t value.now))) }
+    ensures { IfOk result (λ a. a ≡ at_most_assertion conf.now.types t value.now) }
 {
     match bound(alloc, conf, t, value)? {
         Some((family, value)) => Ok(Some(Assertion::LessOrEqual { family, value })),
@@ -151,7 +148,7 @@ fn substrings(
     back: bool,
 ) -> Result<Option<Assertion>, AllocError>
     requires { t < length conf.now.types }
-    ensures { IfOk result (λ a. a ≡ only_if ((type_at conf.now.types t).has_substrings && list_all (is_valid_at conf.now.types t) (map (λ x. x.now) texts.now)) (Substrings (pieces_of conf.now.types t front back (map (λ x. x.now) texts.now)))) }
+    ensures { IfOk result (λ a. a ≡ substrings_assertion conf.now.types t front back (map (λ x. x.now) texts.now)) }
 {
     if !conf.has_sub(t) {
         return Ok(None);
