@@ -96,6 +96,9 @@ pub record Defined : Type 0 where
   pub types : List AttributeType
   pub classes : List ObjectClass
 
+abbrev pub types_and_classes : List AttributeType → List ObjectClass → Defined
+types_and_classes types classes = record { types = types; classes = classes }
+
 abbrev pub built_in : Defined
 built_in = record { types = object_class ∷ []; classes = top ∷ extensible_object ∷ [] }
 

@@ -7,3 +7,4 @@ pub mod Configurations
 pub mod FaultyLines
 pub mod Inherited
 pub mod Reads
+pub mod inner

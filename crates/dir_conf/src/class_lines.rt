@@ -5,7 +5,7 @@ ghost use Rattle.std.specs.List.{list_any};
 ghost use Rattle.base.specs.Answers.{each};
 ghost use Rattle.definitions.specs.ClassDefinitions.{class_definition_of};
 ghost use Rattle.schema.specs.Classes.{is_class, top, extensible_object};
-ghost use Rattle.dir_conf.specs.Configurations.{shares_class_name, is_class_taken, class_named, kind_with, class_with, class_placed};
+ghost use Rattle.dir_conf.specs.Configurations.{types_and_classes, shares_class_name, is_class_taken, class_named, kind_with, class_with, class_placed};
 ghost use Rattle.dir_conf.specs.NamesInLines.{type_named};
 ghost use Rattle.dir_conf.specs.Reads.{Reads};
 
@@ -137,7 +137,7 @@ fn class_with(
     line: u64,
     definition: ClassDefinition,
 ) -> Result<ObjectClass, ConfFault>
-    ensures { Reads (λ c. c) result (class_with (record { types = types.now; classes = classes.now }) line definition) }
+    ensures { Reads (λ c. c) result (class_with (types_and_classes types.now classes.now) line definition) }
 {
     let superiors = classes_named(alloc, classes, line, definition.superiors.as_slice())?;
     let must = types_named(alloc, types, line, definition.must.as_slice())?;
@@ -162,7 +162,7 @@ fn place_class(
     line: u64,
     definition: ClassDefinition,
 ) -> Result<ClassTable, ConfFault>
-    ensures { Reads (λ t. record { types = types.now; classes = t }) result (class_placed (record { types = types.now; classes = classes }) line (Some definition)) }
+    ensures { Reads (types_and_classes types.now) result (class_placed (types_and_classes types.now classes) line (Some definition)) }
 {
     if is_built_in(definition.element.oid.as_slice()) {
         return Ok(classes);
@@ -183,7 +183,7 @@ pub(crate) fn define_class(
     line: u64,
     text: &[u8],
 ) -> Result<ClassTable, ConfFault>
-    ensures { Reads (λ t. record { types = types.now; classes = t }) result (class_placed (record { types = types.now; classes = classes }) line (class_definition_of text.now)) }
+    ensures { Reads (types_and_classes types.now) result (class_placed (types_and_classes types.now classes) line (class_definition_of text.now)) }
 {
     match read_class_definition(alloc, text) {
         Ok(definition) => place_class(alloc, types, classes, line, definition),

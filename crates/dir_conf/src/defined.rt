@@ -4,6 +4,7 @@ ghost use Rattle.std.specs.Prelude.{◌≡◌, IfOk};
 ghost use Rattle.definitions.specs.Lines.{begins_blank};
 ghost use Rattle.dir_conf.specs.Configurations.{built_in, definition_line, defined_by};
 ghost use Rattle.dir_conf.specs.Reads.{Reads};
+ghost use Rattle.dir_conf.specs.inner.Views.{defined_view};
 
 use crate::class_lines::{define_class, extensible_object, top};
 use crate::conf_fault::{ConfFault, ConfFaultKind};
@@ -31,7 +32,7 @@ fn begins_blank(text: &[u8]) -> bool
 // a line of the first pass
 #[tactic(auto, unfolding(crate::specs::Configurations::definition_line))]
 fn read_definition_line(alloc: Global, known: Defined, line: &Line) -> Result<Defined, ConfFault>
-    ensures { Reads (λ d. record { types = d.types; classes = d.classes }) result (definition_line (record { types = known.types; classes = known.classes }) line.now) }
+    ensures { Reads defined_view result (definition_line (defined_view known) line.now) }
 {
     let text = line.text.as_slice();
     if says_nothing(text) {
@@ -76,7 +77,7 @@ fn built_in_types(alloc: Global, names: usize) -> Result<TypeTable, AllocError>
 
 /// The types and classes that the lines define, after those that are built in. `names` is how many names of each are expected.
 pub(crate) fn defined_by(alloc: Global, names: usize, lines: &[Line]) -> Result<Defined, ConfFault>
-    ensures { Reads (λ d. record { types = d.types; classes = d.classes }) result (defined_by built_in lines.now) }
+    ensures { Reads defined_view result (defined_by built_in lines.now) }
 {
     let mut known = Defined {
         types: built_in_types(alloc, names)?,

@@ -2,6 +2,7 @@
 
 ghost use Rattle.dir_conf.specs.Configurations.{later_line, found_in, none_found};
 ghost use Rattle.dir_conf.specs.Reads.{Reads};
+ghost use Rattle.dir_conf.specs.inner.Views.{found_view};
 
 use crate::conf_fault::{ConfFault, ConfFaultKind};
 use crate::conf_lines::{fault, is_first, says_nothing};
@@ -28,7 +29,7 @@ fn read_later_line(
     found: &mut Found,
     line: &Line,
 ) -> Result<(), ConfFault>
-    ensures { Reads (λ _. record { suffix = found.new.suffix; slots = found.new.slots.items }) result (later_line types.now (record { suffix = found.old.suffix; slots = found.old.slots.items }) line.now) }
+    ensures { Reads (λ _. found_view found.new) result (later_line types.now (found_view found.old) line.now) }
 {
     let text = line.text.as_slice();
     if says_nothing(text) {
@@ -51,7 +52,7 @@ fn read_later_line(
 
 /// The suffix and the slots that the lines say.
 pub(crate) fn found_in(alloc: Global, types: &TypeTable, lines: &[Line]) -> Result<Found, ConfFault>
-    ensures { Reads (λ f. record { suffix = f.suffix; slots = f.slots.items }) result (found_in types.now none_found lines.now) }
+    ensures { Reads found_view result (found_in types.now none_found lines.now) }
 {
     let mut found = Found {
         suffix: None,

@@ -5,6 +5,7 @@ use Rattle.dir_conf.specs.Configurations.{built_in, definition_line, defined_by}
 use Rattle.base.specs.Answers.{Fails}
 use Rattle.dir_conf.specs.Reads.{fault_at}
 use Rattle.base.proofs.Through.{goes_on, ends, is_done}
+use Rattle.dir_conf.specs.inner.Views.{defined_view}
 use Rattle.dir_conf.proofs.defined.defined_by.Goals as goal
 
 pub loop-line-init : goal.loop-line-init
@@ -12,17 +13,17 @@ loop-line-init c = λ j. defined_by (record { types = c.in_ok-built_in_types.ens
 
 pub loop-line-preserved : goal.loop-line-preserved
 loop-line-preserved c =
-    goes_on definition_line c.args.lines.now c.loop-line.line-index c.line-item.result (record { types = c.loop-line.known.types; classes = c.loop-line.known.classes })
-    (record { types = c.in_ok-known.known.types; classes = c.in_ok-known.known.classes }) (defined_by built_in c.args.lines.now) c.loop-line-test.true
-    (ap (λ (l : Line). definition_line (record { types = c.loop-line.known.types; classes = c.loop-line.known.classes }) l) (sym c.line-item.is) ∙ c.in_ok-known.ensures) c.loop-line.invariant
+    goes_on definition_line c.args.lines.now c.loop-line.line-index c.line-item.result (defined_view c.loop-line.known)
+    (defined_view c.in_ok-known.known) (defined_by built_in c.args.lines.now) c.loop-line-test.true
+    (ap (λ (l : Line). definition_line (defined_view c.loop-line.known) l) (sym c.line-item.is) ∙ c.in_ok-known.ensures) c.loop-line.invariant
 
 pub returns-in_err-known : goal.returns-in_err-known
 returns-in_err-known c =
     let p = err_from_is_err_and c.from_residual-in_err-known.result c.from_residual-in_err-known.ensures.1 in
     rw (p.1, p.2)
-    (ends definition_line c.args.lines.now c.loop-line.line-index c.line-item.result (record { types = c.loop-line.known.types; classes = c.loop-line.known.classes }) (fault_at c.in_err-known.field-0.0) (defined_by built_in c.args.lines.now) c.loop-line-test.true
-    (subst (λ (l : Line). Fails (fault_at c.in_err-known.field-0.0) (definition_line (record { types = c.loop-line.known.types; classes = c.loop-line.known.classes }) l)) c.line-item.is c.in_err-known.ensures) c.loop-line.invariant)
+    (ends definition_line c.args.lines.now c.loop-line.line-index c.line-item.result (defined_view c.loop-line.known) (fault_at c.in_err-known.field-0.0) (defined_by built_in c.args.lines.now) c.loop-line-test.true
+    (subst (λ (l : Line). Fails (fault_at c.in_err-known.field-0.0) (definition_line (defined_view c.loop-line.known) l)) c.line-item.is c.in_err-known.ensures) c.loop-line.invariant)
 
 pub returns : goal.returns
 returns c =
-    is_done definition_line c.args.lines.now c.loop-line.line-index (record { types = c.loop-line.known.types; classes = c.loop-line.known.classes }) (defined_by built_in c.args.lines.now) c.loop-line-test.false c.loop-line.invariant
+    is_done definition_line c.args.lines.now c.loop-line.line-index (defined_view c.loop-line.known) (defined_by built_in c.args.lines.now) c.loop-line-test.false c.loop-line.invariant
