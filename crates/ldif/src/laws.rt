@@ -11,7 +11,7 @@ ghost use Rattle.ldif.specs.declared.record.Mode.TheVariants.{Content};
 ghost use Rattle.ldif.specs.declared.record.Record.{Record};
 ghost use Rattle.ldif.specs.LineFaults.{IsLineFault};
 ghost use Rattle.ldif.specs.Forms.{IsValueLine, IsRecord};
-ghost use Rattle.ldif.specs.Places.{Place, start, IsStep, IsWay};
+ghost use Rattle.ldif.specs.Places.{Place, start, IsStep, IsWay, LeadToAPlace, BeginARecord};
 ghost use Rattle.ldif.specs.RecordFaults.{IsFaultHere, IsRecordFault};
 ghost use Rattle.ldif.specs.Reading.{reading};
 ghost use Rattle.ldif.specs.Line.{value_line};
@@ -66,8 +66,8 @@ pub fn record_faults_have_places()
 /// from a place and has a fault there.
 pub fn places_stand_in_records()
     ensures begin { (mode : Mode) (first : Bool) (lines : List (List ℕ)) (place : Place) → AllByRecursion IsBytes lines → IsWay mode (start first) lines place
-        → (more : List (List ℕ)) × (found : Record) × IsRecord mode first (lines ++ more) found }
+        → BeginARecord mode first lines }
     ensures led { (mode : Mode) (first : Bool) (lines more : List (List ℕ)) (found : Record) → AllByRecursion IsBytes lines
-        → IsRecord mode first (lines ++ more) found → (place : Place) × IsWay mode (start first) lines place }
+        → IsRecord mode first (lines ++ more) found → LeadToAPlace mode first lines }
     ensures apart { (mode : Mode) (place next : Place) (line : List ℕ) (fault : LdifFaultKind) → IsBytes line → IsStep mode place line next → IsFaultHere place line fault → ⊥ }
 {}
