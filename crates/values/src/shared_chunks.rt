@@ -3,7 +3,7 @@
 ghost use Rattle.std.specs.Prelude.{◌≡◌, ◌++◌, [], OnOk, OnErr, IfOk, IfErr};
 ghost use Rattle.std.specs.Slice.Iter.{iter_rest};
 ghost use Rattle.values.specs.Norms.{has_norm, but_norm};
-ghost use Rattle.values.specs.inner.Chunks.{values_in_chunks};
+ghost use Rattle.values.specs.inner.Chunks.{chunk_values};
 
 use crate::value::Value;
 use std::alloc::{AllocError, AllocFailed, Global};
@@ -81,7 +81,7 @@ fn push_others(
     chunk: &Rc<Chunk>,
     norm: &[u8],
 ) -> Result<(), AllocError>
-    ensures { OnOk result (values_in_chunks chunks.new.items ≡ values_in_chunks chunks.old.items ++ but_norm norm.now chunk.now.value.items) }
+    ensures { OnOk result (chunk_values chunks.new.items ≡ chunk_values chunks.old.items ++ but_norm norm.now chunk.now.value.items) }
 {
     if !is_among(chunk.as_ref(), norm) {
         chunks.push(chunk.clone()?)?;
@@ -144,7 +144,7 @@ impl SharedChunks {
 
     /// Chunk by chunk.
     pub(crate) fn iter(&self) -> Iter<'_, Rc<Chunk>>
-        ensures { values_in_chunks (iter_rest result) ≡ self.now }
+        ensures { chunk_values (iter_rest result) ≡ self.now }
     {
         self.chunks.as_slice().iter()
     }

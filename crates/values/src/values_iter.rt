@@ -3,7 +3,7 @@
 ghost use Rattle.std.specs.Prelude.{◌++◌, ◌≡◌};
 ghost use Rattle.std.specs.Slice.Iter.{iter_rest};
 ghost use Rattle.std.specs.Map.Iter.{TakesFirst, deref};
-ghost use Rattle.values.specs.inner.Chunks.{values_in_chunks};
+ghost use Rattle.values.specs.inner.Chunks.{chunk_values};
 
 use crate::shared_chunks::Chunk;
 use crate::value::Value;
@@ -37,7 +37,7 @@ fn next_in_chunks<'a>(
     chunk: &mut Iter<'a, Value>,
     chunks: &mut Iter<'a, Rc<Chunk>>,
 ) -> Option<&'a Value>
-    ensures { TakesFirst deref (iter_rest chunk.old ++ values_in_chunks (iter_rest chunks.old)) result (iter_rest chunk.new ++ values_in_chunks (iter_rest chunks.new)) }
+    ensures { TakesFirst deref (iter_rest chunk.old ++ chunk_values (iter_rest chunks.old)) result (iter_rest chunk.new ++ chunk_values (iter_rest chunks.new)) }
 {
     if let Some(value) = chunk.next() {
         return Some(value);
@@ -64,7 +64,7 @@ impl<'a> ValuesIter<'a> {
 
     // The values of some chunks, and those behind them.
     pub(crate) fn of_chunks(chunks: Iter<'a, Rc<Chunk>>, last: &'a Chunk) -> ValuesIter<'a>
-        ensures { result ≡ values_in_chunks (iter_rest chunks.entry) ++ last.now.items }
+        ensures { result ≡ chunk_values (iter_rest chunks.entry) ++ last.now.items }
     {
         let (none, last) = last.as_slice().split_at(0);
         ValuesIter {

@@ -6,5 +6,5 @@ use Rattle.std.specs.declared.rc.Rc.{Rc}
 use Rattle.values.specs.Values.{Value}
 
 -- all values of these chunks, in order
-abbrev pub values_in_chunks : {A B : Type 0} → List (Rc (Vec Value A) B) → List Value
-values_in_chunks chunks = flat_map (λ r. r.value.items) chunks
+abbrev pub chunk_values : {A B : Type 0} → List (Rc (Vec Value A) B) → List Value
+chunk_values chunks = flat_map (λ r. r.value.items) chunks
