@@ -96,6 +96,7 @@ pub record Defined : Type 0 where
   pub types : List AttributeType
   pub classes : List ObjectClass
 
+-- these types and these classes
 abbrev pub types_and_classes : List AttributeType → List ObjectClass → Defined
 types_and_classes types classes = record { types = types; classes = classes }
 

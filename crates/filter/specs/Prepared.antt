@@ -30,21 +30,24 @@ use Rattle.filter.specs.Items.{item_type, is_star, texts_of, contains, order_of,
 abbrev pub only_if : {X : Type 0} → Bool → X → Option X
 only_if b x = if b then Some x else None
 
--- what an item asks with a value, where the type has the rule that is needed and the value is valid
-
+-- what is asked of values that equal this one, where the type has an equality rule and the value is valid
 abbrev pub equality_assertion : List AttributeType → ℕ → List ℕ → Option Assertion
 equality_assertion types t value = only_if (has_equality types t && is_valid_at types t value) (Equality (norm_at types t value))
 
+-- a value that is valid, with the family in whose order it stands, where the type has an ordering rule
 abbrev pub bound_of : List AttributeType → ℕ → List ℕ → Option (Family × List ℕ)
 bound_of types t value = only_if ((type_at types t).is_ordered && is_valid_at types t value) (order_of types t, norm_at types t value)
 
+-- what is asked of values that aren't below such a value
 abbrev pub at_least_assertion : List AttributeType → ℕ → List ℕ → Option Assertion
 at_least_assertion types t value = only_if ((type_at types t).is_ordered && is_valid_at types t value) (GreaterOrEqual (order_of types t) (norm_at types t value))
 
+-- and of values that aren't above it
 abbrev pub at_most_assertion : List AttributeType → ℕ → List ℕ → Option Assertion
 at_most_assertion types t value = only_if ((type_at types t).is_ordered && is_valid_at types t value) (LessOrEqual (order_of types t) (norm_at types t value))
 
--- and with pieces; the flags say whether a star stands before the first, and behind the last
+-- what is asked of values with these pieces, where the type has a substrings rule and each piece is valid; front and back say whether
+-- a star stands there
 abbrev pub substrings_assertion : List AttributeType → ℕ → Bool → Bool → List (List ℕ) → Option Assertion
 substrings_assertion types t front back texts =
     only_if ((type_at types t).has_substrings && list_all (is_valid_at types t) texts) (Substrings (pieces_of types t front back texts))
