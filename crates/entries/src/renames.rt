@@ -1,6 +1,6 @@
 //! What another RDN makes of an entry (RFC 4511, 4.9).
 
-ghost use Rattle.std.specs.Prelude.{◌≡◌, ◌&&◌, nat_eq, OnOk, IfOk, if◌then◌else◌};
+ghost use Rattle.std.specs.Prelude.{◌≡◌, ◌&&◌, nat_eq, OnOk, IfOk};
 ghost use Rattle.std.specs.List.{AllByRecursion, list_any};
 ghost use Rattle.std.specs.Str.{bytes_eq};
 ghost use Rattle.schema.specs.GoodRdns.{IsAva, IsRdn};

@@ -1,6 +1,6 @@
 //! A record that is read up to some place.
 
-ghost use Rattle.std.specs.Prelude.{◌≡◌, ◌<◌, ◌≤◌, ◌-◌, ◌+◌, ◌^◌, ◌∷◌, ◌++◌, [], ℕ, List, Bool, true, false, length, OnOk, IfOk, Ok, All, ◌==◌, take};
+ghost use Rattle.std.specs.Prelude.{◌≡◌, ◌<◌, ◌≤◌, ◌-◌, ◌+◌, ◌^◌, [], ℕ, true, false, length, OnOk, IfOk, Ok, All, ◌==◌, take};
 ghost use Rattle.ldif_lines.specs.inner.Drafts.{add, append_last};
 ghost use Rattle.ldif_lines.specs.View.{view};
 ghost use Rattle.ldif_lines.specs.inner.States.{ends_with_return};

@@ -1,7 +1,6 @@
 //! Substring assertions.
 
-ghost use Rattle.std.specs.Prelude.{◌≡◌, ◌≢◌, ◌↔◌, ◌++◌, List, ℕ, IsTrue, IfOk, MatchOption, map, length, ◌+◌};
-ghost use Rattle.memchr.specs.Find.{OccursAt, Nowhere};
+ghost use Rattle.std.specs.Prelude.{◌≡◌, ◌≢◌, ◌↔◌, ◌++◌, List, ℕ, IsTrue, IfOk, MatchOption, map};
 ghost use Rattle.matching.specs.Forms.{lower};
 ghost use Rattle.matching.specs.Substrings.{Fits, cut_front, cut_end, tidy_piece, piece_norm, piece_norms};
 ghost use Rattle.matching.specs.inner.Places.{InOrder, OccursNowhere, FollowsFirst};
