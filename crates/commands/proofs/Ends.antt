@@ -99,6 +99,6 @@ printed_so IsText wanted text so (Err f) a b is took = tt
 
 -- what is found by an index, for a filter that was prepared under the configuration of the tree
 pub by_index : (made : Made) (conf : Conf) (t : Tree) (f : Filter) (x : Stored) (base : Path) (scope : Scope) → made ≡ record { conf = conf; filter = f } → t.conf ≡ conf
-    → scan_among t.conf t.entries (may_by_rank (shown_by x) made t.entries) base scope (view made.filter) ≡ found_by (Some (Ok x)) t.conf t.entries base scope (view f)
+    → scan_among t.conf t.entries (may_by_rank (shown_by x) made t) base scope (view made.filter) ≡ found_by (Some (Ok x)) t.conf t.entries base scope (view f)
 by_index made conf t f x base scope same same_conf =
-    ap (λ (m : Made). scan_among t.conf t.entries (may_by_rank (shown_by x) m t.entries) base scope (view m.filter)) (same ∙ ap (λ (k : Conf). record { conf = k; filter = f }) (sym same_conf))
+    ap (λ (m : Made). scan_among t.conf t.entries (may_by_rank (shown_by x) m t) base scope (view m.filter)) (same ∙ ap (λ (k : Conf). record { conf = k; filter = f }) (sym same_conf))

@@ -10,7 +10,7 @@ use Rattle.tree.specs.Directories.{Entries}
 use Rattle.search.specs.Searches.{scan}
 use Rattle.stored_index.specs.declared.fault.IndexFaultKind.{IndexFaultKind}
 use Rattle.directory.specs.Selections.{Selection}
-use Rattle.directory.specs.Found.{found_text, up_to, goes_past}
+use Rattle.directory.specs.Found.{limited_text, goes_past}
 use Rattle.directory.specs.IndexTexts.{index_text}
 use Rattle.directory.specs.Runs.{dump}
 use Rattle.command_line.specs.declared.request.CatOptions.{CatOptions}
@@ -104,9 +104,13 @@ pub record IsFoundText (asked : SearchOptions) (said : Said) (basis : Basis) (pa
   pub there : finite.contains_key basis.entries base ≡ true
   pub selects : IsSelection basis.conf (map (λ w. w.now) asked.attributes.items) selection
   pub past_is : past ≡ goes_past asked.limit (found_by said basis.conf basis.entries base asked.scope basis.filter)
-  pub text_is : text ≡ found_text basis.conf basis.entries selection (up_to asked.limit (found_by said basis.conf basis.entries base asked.scope basis.filter))
+  pub text_is : text ≡ limited_text basis.conf basis.entries selection asked.limit (found_by said basis.conf basis.entries base asked.scope basis.filter)
   pub whole : said ≡ said_by basis.conf basis.entries (Some (index_text basis.conf basis.entries))
       → found_by said basis.conf basis.entries base asked.scope basis.filter ≡ scan basis.conf basis.entries base asked.scope basis.filter
+
+-- with more behind it or without
+abbrev pub MayBeFound : SearchOptions → Said → Basis → List ℕ → Type 0
+MayBeFound asked said basis text = (past : Bool) × IsFoundText asked said basis past text
 
 -- that of the directory that was loaded, with its index.txt
 abbrev pub SearchText : SearchOptions → Option Files → Said → Bool → List ℕ → Type 0

@@ -4,14 +4,14 @@ ghost use Rattle.std.specs.Option.{option_copied};
 ghost use Rattle.device.specs.Device.{Took};
 ghost use Rattle.schema.specs.declared.code.Code.TheVariants.{SizeLimitExceeded};
 ghost use Rattle.search.specs.Walks.{seen};
-ghost use Rattle.directory.specs.Found.{AreThere, found_text, up_to, goes_past};
+ghost use Rattle.directory.specs.Found.{AreThere, limited_text, goes_past};
 ghost use Rattle.commands.specs.Asked.{base_of, IsBase, IsSelection};
 ghost use Rattle.commands.specs.Failures.{FailsToWrite};
 ghost use Rattle.commands.specs.Worlds.{World};
 ghost use Rattle.commands.specs.Messages.{code_text, fault_text};
 ghost use Rattle.commands.specs.Statuses.{status_of_fault};
 ghost use Rattle.commands.specs.Queries.{IsBegun, HasBegun, PrintsPartly, StopsWith};
-ghost use Rattle.commands.specs.Prints.{search_query, IsFoundText, ComesFirst, SearchGoesThrough, SearchStops};
+ghost use Rattle.commands.specs.Prints.{search_query, IsFoundText, MayBeFound, ComesFirst, SearchGoesThrough, SearchStops};
 ghost use Rattle.commands.specs.inner.IndexFiles.{said, IsTrue, HasLoaded};
 ghost use Rattle.commands.specs.inner.Refusals.{Refuses, RefusesOrBreaks};
 ghost use Rattle.commands.specs.inner.Printed.{HasPrinted};
@@ -95,10 +95,10 @@ fn print_hits<S: IdSet, O: Sink>(
     requires there { AreThere tree.now.entries (map seen hits.to_come) }
     ensures past { IfOk result (λ past. past ≡ goes_past limit (map seen hits.entry.to_come)) }
     ensures printed { OnOk result (Took (O.written out.old) (O.written out.new)
-        (found_text tree.now.conf tree.now.entries selection.now (up_to limit (map seen hits.entry.to_come)))) }
+        (limited_text tree.now.conf tree.now.entries selection.now limit (map seen hits.entry.to_come))) }
     ensures fault { IfErr result (FailsToWrite (codes "output")) }
     ensures begun { IfErr result (λ f. IsBegun f (O.written out.old) (O.written out.new)
-        (found_text tree.now.conf tree.now.entries selection.now (up_to limit (map seen hits.entry.to_come)))) }
+        (limited_text tree.now.conf tree.now.entries selection.now limit (map seen hits.entry.to_come))) }
 {
     match write_found(alloc, tree, conf, out, hits, limit, selection) {
         Ok(past) => Ok(past),
@@ -122,8 +122,7 @@ fn print_by_text<O: Sink>(
         (O.written out.old) (O.written out.new)) }
     ensures fault { IfErr result (RefusesOrBreaks (search_query asked.now) database.now.tree.conf database.now.tree.entries) }
     ensures partly { IfErr result (PrintsPartly (HasBegun
-        (λ text. (past : Bool) × IsFoundText asked.now (Some (Ok stored.now)) (basis_of filter.now database.now.tree) past text) None)
-        (O.written out.old) (O.written out.new)) }
+        (MayBeFound asked.now (Some (Ok stored.now)) (basis_of filter.now database.now.tree)) None) (O.written out.old) (O.written out.new)) }
 {
     let Database { conf, tree } = database;
     conf.rules_are_kept();
@@ -155,8 +154,7 @@ fn print_by_scan<O: Sink>(
         (O.written out.old) (O.written out.new)) }
     ensures fault { IfErr result (RefusesOrBreaks (search_query asked.now) database.now.tree.conf database.now.tree.entries) }
     ensures partly { IfErr result (PrintsPartly (HasBegun
-        (λ text. (past : Bool) × IsFoundText asked.now None (basis_of filter.now database.now.tree) past text) None)
-        (O.written out.old) (O.written out.new)) }
+        (MayBeFound asked.now None (basis_of filter.now database.now.tree)) None) (O.written out.old) (O.written out.new)) }
 {
     let Database { conf, tree } = database;
     let wanted = wanted_by(alloc, asked, filter, conf)?;
@@ -208,7 +206,7 @@ fn print<O: Sink>(
         (O.written out.old) (O.written out.new)) }
     ensures fault { IfErr result (RefusesOrBreaks (search_query asked.now) loaded.now.database.tree.conf loaded.now.database.tree.entries) }
     ensures partly { IfErr result (PrintsPartly (HasBegun
-        (λ text. (past : Bool) × IsFoundText asked.now (said loaded.now.file) (basis_of loaded.now.filter loaded.now.database.tree) past text) None)
+        (MayBeFound asked.now (said loaded.now.file) (basis_of loaded.now.filter loaded.now.database.tree)) None)
         (O.written out.old) (O.written out.new)) }
 {
     let Loaded {

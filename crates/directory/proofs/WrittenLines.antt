@@ -1,6 +1,6 @@
 -- Lines that are put behind a text, which is handed on where it is long.
-use Rattle.std.proofs.Common.{◌≡◌, ℕ, ◌+◌, ◌<◌, false, List, ◌∷◌, ◌++◌, length, get_or, drop, sym, ap, ◌∙◌, append_assoc}
-use Rattle.std.specs.Prelude.{Result, Ok, Err, OnOk, is_err}
+use Rattle.std.proofs.Common.{◌≡◌, ℕ, ◌+◌, ◌<◌, List, ◌∷◌, ◌++◌, length, get_or, drop, sym, ap, ◌∙◌, append_assoc}
+use Rattle.std.specs.Prelude.{Err}
 use Rattle.std.proofs.lemmas.List.{drop_more}
 use Rattle.device.specs.Device.{Written}
 use Rattle.ldif.specs.declared.write.WriteFault.{WriteFault}
@@ -37,10 +37,6 @@ longer a b whole rest more all is h = record {
 -- a fault in the beginning of a text
 pub stopped_early : (a b : Written) (whole more all : List ℕ) → all ≡ whole ++ more → (e : WriteFault) → Writes (Err e) a b whole → Writes (Err e) a b all
 stopped_early a b whole more all is e k = pieces.stops a a b all all (pieces.begins a all) e whole more is k
-
-pub where_ok : {T E : Type 0} (r : Result T E) (P : Type 0) → OnOk r P → is_err r ≡ false → P
-where_ok (Ok x) P h is = h
-where_ok (Err e) P h is = absurd cc
 
 -- ---- the lines of an index text
 

@@ -35,6 +35,10 @@ abbrev pub goes_past : {A : Type 0} → Option ℕ → List A → Bool
 goes_past None xs = false
 goes_past (Some n) xs = nat_lt n (length xs)
 
+-- the text of these first ones
+abbrev pub limited_text : Conf → Entries → Selection → Option ℕ → List (Path × EntryContent) → List ℕ
+limited_text conf d s limit es = found_text conf d s (up_to limit es)
+
 -- the bytes were written, and the answer is this; or as many were written as came before the fault
 pub record Answers (past wanted : Bool) (a b : Written) (bytes : List ℕ) : Type 0 where
   pub past_is : past ≡ wanted

@@ -4,6 +4,7 @@ use Rattle.std.specs.List.{fold, flat_map}
 use Rattle.std.specs.FinMap as finite
 use Rattle.ldif_lines.specs.Records as lines
 use Rattle.ldif_lines.specs.Records.{RawRecord}
+use Rattle.ldif_lines.specs.declared.raw_record.RawRecord as raws
 use Rattle.ldif.specs.declared.fault.LdifFaultKind.{LdifFaultKind}
 use Rattle.ldif.specs.declared.record.Record.{Record}
 use Rattle.ldif.specs.declared.record.Record.TheVariants as records
@@ -52,6 +53,10 @@ of_change d empty (Err code) = (d, outcomes.Refused (refusals.Code code))
 unfoldable pub outcome : Conf → Mode → Entries → Result Record LdifFaultKind → Entries × Outcome
 outcome conf mode d (Ok r) = of_change d (is_empty r) (apply conf mode d r)
 outcome conf mode d (Err fault) = (d, outcomes.Refused (refusals.Fault fault))
+
+-- what comes of a record as it stands in a text
+abbrev pub outcome_of : Conf → Mode → Entries → raws.RawRecord → Entries × Outcome
+outcome_of conf mode d raw = outcome conf mode d (reading mode raw.first raw.lines)
 
 -- a refused record ends the run, unless it goes on
 abbrev pub counted : Bool → State → ℕ → Entries → Outcome → State

@@ -15,10 +15,15 @@ use Rattle.tree.specs.Trees.{Tree, number_at}
 use Rattle.entries.specs.declared.refusal.Refusal.{Refusal}
 use Rattle.entries.specs.declared.refusal.Refusal.TheVariants.{Code, OutOfMemory}
 use Rattle.filter.specs.Made.{Made}
-use Rattle.index.specs.Postings.{Shown, slot_in}
+use Rattle.index.specs.Indexes.{Index}
+use Rattle.index.specs.Postings.{Shown, slot_in, shown_by}
 use Rattle.candidates.specs.Brackets.{Reflects}
 use Rattle.candidates.specs.Candidates.{may_be_true}
+use Rattle.search.specs.declared.scope.Scope.{Scope}
 use Rattle.search.specs.Ranks.{rank_in}
+use Rattle.search.specs.Searches.{count_among}
+use Rattle.search.specs.TreeSearches.{counted_found}
+use Rattle.directory.specs.Indexes.{IsIndexOf}
 use Rattle.directory.specs.IndexTexts.{ranks_with, contents}
 
 -- why a search finds nothing: its base isn't there, or memory ran out
@@ -33,8 +38,20 @@ abbrev pub may_by_number : Shown → Made → Tree → Path → Bool
 may_by_number shown f t p = may_be_true shown f (number_at t p)
 
 -- the same by what they show of its rank
-abbrev pub may_by_rank : Shown → Made → Entries → Path → Bool
-may_by_rank shown f d p = may_be_true shown f (rank_in d p)
+abbrev pub may_by_rank : Shown → Made → Tree → Path → Bool
+may_by_rank shown f t p = may_be_true shown f (rank_in t.entries p)
+
+-- ---- what a search by an index that is kept tells
+
+-- By what any index of a tree shows, these are the entries that are found, each with how many are tested up to it.
+abbrev pub AreSteps : Conf → Tree → Made → Path → Scope → List (ℕ × (Path × EntryContent)) → Type 0
+AreSteps conf t f base scope steps = (x : Index) → IsIndexOf conf t.entries t.numbers x → steps ≡ counted_found t (may_by_number (shown_by x) f t) base scope f
+
+-- so many entries are tested
+abbrev pub IsTestCount : Conf → Tree → Made → Path → Scope → ℕ → Type 0
+IsTestCount conf t f base scope count = (x : Index) → IsIndexOf conf t.entries t.numbers x → count ≡ count_among t.entries (may_by_number (shown_by x) f t) base scope
+
+-- ---- what postings show of a dump
 
 -- Under each slot that postings show, the rank of each entry stands under exactly the keys that the entry has.
 pub record ReflectsDump (shown : Shown) (types : List AttributeType) (d : Entries) : Type 0 where

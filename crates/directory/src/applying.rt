@@ -13,7 +13,7 @@ ghost use Rattle.index.specs.KeyChanges.{IsMadeIn, content_in};
 ghost use Rattle.directory.specs.Indexes.{IsIndexOf, edits_of, record_edits};
 ghost use Rattle.schema.specs.declared.code.Code.{Code};
 ghost use Rattle.directory.specs.RunEdits.{read_edits};
-ghost use Rattle.directory.specs.Runs.{is_empty, outcome};
+ghost use Rattle.directory.specs.Runs.{is_empty, outcome_of};
 
 use crate::refusal::{Outcome, RecordRefusal};
 use entries::{Entry, Refusal};
@@ -182,7 +182,7 @@ pub(crate) fn carry_out(
     ensures same_conf { tree.new.conf ≡ tree.old.conf }
     ensures indexed { IsIndexOf conf.now tree.new.entries tree.new.numbers index.new }
     ensures edits { OnOk result (index.new.edits ≡ index.old.edits + read_edits conf.now mode tree.old.entries (reading mode raw.now.first raw.now.lines)) }
-    ensures outcome { IfOk result (λ o. outcome conf.now mode tree.old.entries (reading mode raw.now.first raw.now.lines) ≡ (tree.new.entries, o)) }
+    ensures outcome { IfOk result (λ o. outcome_of conf.now mode tree.old.entries raw.now ≡ (tree.new.entries, o)) }
     ensures err { OnErr result (tree.new ≡ tree.old) }
 {
     let asked = match read_record(alloc, raw, mode) {
@@ -208,7 +208,7 @@ pub(crate) fn carry_out_alone(
 ) -> Result<Outcome, AllocError>
     requires { tree.old.conf ≡ conf.now }
     ensures same_conf { tree.new.conf ≡ tree.old.conf }
-    ensures outcome { IfOk result (λ o. outcome tree.old.conf mode tree.old.entries (reading mode raw.now.first raw.now.lines) ≡ (tree.new.entries, o)) }
+    ensures outcome { IfOk result (λ o. outcome_of tree.old.conf mode tree.old.entries raw.now ≡ (tree.new.entries, o)) }
     ensures err { OnErr result (tree.new ≡ tree.old) }
 {
     let asked = match read_record(alloc, raw, mode) {

@@ -5,14 +5,12 @@ ghost use Rattle.std.specs.FinMap as finite;
 ghost use Rattle.tree.specs.Operations.{apply};
 ghost use Rattle.entries.specs.Gives.{Gives};
 ghost use Rattle.filter_text.specs.Spells.{view};
-ghost use Rattle.index.specs.Indexes as indexes;
-ghost use Rattle.index.specs.Postings.{shown_by};
-ghost use Rattle.search.specs.Searches.{scan, counted_scan, count_among};
+ghost use Rattle.search.specs.Searches.{scan};
 ghost use Rattle.search.specs.Walks.{seen, counted};
 ghost use Rattle.directory.specs.Directories.{tree_of};
 ghost use Rattle.directory.specs.Found.{AreThere};
 ghost use Rattle.directory.specs.Indexes.{IsIndexOf, record_edits};
-ghost use Rattle.directory.specs.Searches.{IsRefused, may_by_number};
+ghost use Rattle.directory.specs.Searches.{IsRefused, AreSteps, IsTestCount};
 ghost use Rattle.schema.specs.declared.code.Code.{Code};
 ghost use Rattle.directory.specs.RunEdits.{read_edits};
 
@@ -114,11 +112,9 @@ impl Directory {
         ensures there { IfOk result (λ h. finite.contains_key self.now.entries base.now ≡ true) }
         ensures refused { IfErr result (IsRefused self.now.entries base.now) }
         ensures start { IfOk result (λ h. h.tested ≡ 0) }
-        ensures steps { (x : indexes.Index) → IsIndexOf self.now.conf self.now.entries self.now.numbers x → IfOk result (λ h. map counted h.to_come ≡ counted_scan self.now.conf self.now.entries
-            (may_by_number (shown_by x) filter.now (tree_of self.now)) base.now scope (view filter.now.filter)) }
+        ensures steps { IfOk result (λ h. AreSteps self.now.conf (tree_of self.now) filter.now base.now scope (map counted h.to_come)) }
         ensures found { IfOk result (λ h. map seen h.to_come ≡ scan self.now.conf self.now.entries base.now scope (view filter.now.filter)) }
-        ensures tested { (x : indexes.Index) → IsIndexOf self.now.conf self.now.entries self.now.numbers x → IfOk result (λ h. h.in_the_end ≡ count_among self.now.entries
-            (may_by_number (shown_by x) filter.now (tree_of self.now)) base.now scope) }
+        ensures tested { IfOk result (λ h. IsTestCount self.now.conf (tree_of self.now) filter.now base.now scope h.in_the_end) }
         ensures entries { IfOk result (λ h. AreThere self.now.entries (map seen h.to_come)) }
     {
         search_with_index(

@@ -6,7 +6,7 @@ ghost use Rattle.ldif.specs.Writing.{written_line};
 ghost use Rattle.entries.specs.StoredEntries.{content_of};
 ghost use Rattle.directory.specs.Runs.{dump, LoadsBack};
 ghost use Rattle.directory.specs.Dumps.{Writes};
-ghost use Rattle.directory.specs.inner.Dumps.{WritesOn, AreKnown, values_text, attribute_text, selected_text, entry_text};
+ghost use Rattle.directory.specs.inner.Dumps.{WritesOn, AreKnown, values_text, attribute_text, selected_text, entry_text, tree_entry_text};
 
 use crate::directory::Directory;
 use crate::laws::loading_a_dump;
@@ -94,13 +94,9 @@ pub(crate) fn pass_on<W: Sink>(sink: &mut W, text: &mut Vec<u8>) -> Result<(), W
     ensures writes { Writes result (W.written sink.old) (W.written sink.new) text.old.items }
     ensures empty { OnOk result (text.new.items ≡ []) }
 {
-    match push_all(sink, text.as_slice()) {
-        Ok(()) => {
-            text.clear();
-            Ok(())
-        }
-        Err(Device) => Err(WriteFault::Device),
-    }
+    push_all(sink, text.as_slice())?;
+    text.clear();
+    Ok(())
 }
 
 // hands on a text that is long
@@ -163,15 +159,10 @@ impl Printer<'_> {
         requires names { names.old ≡ self.now.tree.now }
         requires there { finite.get self.now.tree.now.entries found.0.now ≡ Some (content_of found.1.now) }
         ensures names { names.new ≡ self.now.tree.now }
-        ensures writes { WritesOn result (W.written sink.old) (W.written sink.new) (text.old.items ++ entry_text self.now.tree.now.conf self.now.tree.now.entries selection.now (found.entry.0.now, found.entry.1.now)) text.new.items }
+        ensures writes { WritesOn result (W.written sink.old) (W.written sink.new) (text.old.items ++ tree_entry_text self.now.tree.now selection.now found.entry) text.new.items }
     {
         let (path, entry) = found;
-        if self
-            .put_record(names, selection, path, entry, text)
-            .is_err()
-        {
-            return Err(WriteFault::OutOfMemory);
-        }
+        self.put_record(names, selection, path, entry, text)?;
         pass_on_long(sink, text)
     }
 }

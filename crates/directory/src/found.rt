@@ -2,7 +2,7 @@
 
 ghost use Rattle.std.specs.Prelude.{◌≡◌, ◌<◌, ◌-◌, ◌^◌, false, map};
 ghost use Rattle.search.specs.Walks.{seen};
-ghost use Rattle.directory.specs.Found.{AreThere, found_text, up_to, goes_past, WritesFound};
+ghost use Rattle.directory.specs.Found.{AreThere, limited_text, goes_past, WritesFound};
 ghost use Rattle.directory.specs.inner.Found.{is_used_up, one_fewer};
 
 use crate::dump::{Printer, pass_on};
@@ -50,7 +50,8 @@ pub fn write_found<W: Sink, S: IdSet>(
     requires made { tree.now.conf ≡ conf.now }
     requires can_fail { (W.written sink.old).failed < 2 ^ 64 - 1 }
     requires there { AreThere tree.now.entries (map seen hits.to_come) }
-    ensures { WritesFound result (goes_past limit hits.entry.to_come) (W.written sink.old) (W.written sink.new) (found_text tree.now.conf tree.now.entries selection.now (up_to limit (map seen hits.entry.to_come))) }
+    ensures { WritesFound result (goes_past limit hits.entry.to_come) (W.written sink.old) (W.written sink.new)
+        (limited_text tree.now.conf tree.now.entries selection.now limit (map seen hits.entry.to_come)) }
 {
     let printer = Printer { alloc, tree, conf };
     let mut names = Names::new(alloc, tree, conf);

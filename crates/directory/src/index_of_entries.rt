@@ -59,9 +59,7 @@ fn write_row<'k, K: RankedKey, W: Sink>(
     ensures err { IfErr result (λ e. Writes (Err e) (W.written sink.old) (W.written sink.new) (text.old.items ++ rows_text (map K.pair (first.now ∷ others.now)))) }
     ensures fewer { IfOk result (λ rest. length rest.now ≤ length others.now) }
 {
-    let Ok(rest) = put_row(alloc, first, others, ranks, text) else {
-        return Err(WriteFault::OutOfMemory);
-    };
+    let rest = put_row(alloc, first, others, ranks, text)?;
     pass_on_long(sink, text)?;
     Ok(rest)
 }
@@ -83,22 +81,6 @@ fn write_rows<K: RankedKey, W: Sink>(
         left = write_row(alloc, sink, first, others, &mut ranks, text)?;
     }
     Ok(())
-}
-
-// the same of keys that were asked for
-fn write_sorted<K: RankedKey, W: Sink>(
-    alloc: Global,
-    sink: &mut W,
-    keys: Result<Vec<K>, AllocError>,
-    text: &mut Vec<u8>,
-) -> Result<(), WriteFault>
-    requires { (W.written sink.old).failed < 2 ^ 64 - 1 }
-    ensures { (lines : List ℕ) → IfOk keys (λ ks. rows_text (map K.pair ks.items) ≡ lines) → WritesOn result (W.written sink.old) (W.written sink.new) (text.old.items ++ lines) text.new.items }
-{
-    match keys {
-        Ok(keys) => write_rows(alloc, sink, keys.as_slice(), text),
-        Err(AllocError) => Err(WriteFault::OutOfMemory),
-    }
 }
 
 /// The entries of a tree in the order of its dump, each with its rank as its number, and the configuration that the tree was made with.
@@ -128,14 +110,18 @@ impl<'a> RankedEntries<'a> {
         let alloc = self.alloc;
         match slot.kind {
             IndexKind::Equality => {
-                let Ok(bytes) = bytes_of(alloc, norms) else {
-                    return Err(WriteFault::OutOfMemory);
-                };
-                let keys = ranked_norms(alloc, norms, bytes.as_slice());
-                write_sorted(alloc, sink, keys, text)
+                let bytes = bytes_of(alloc, norms)?;
+                let keys = ranked_norms(alloc, norms, bytes.as_slice())?;
+                write_rows(alloc, sink, keys.as_slice(), text)
             }
-            IndexKind::Presence => write_sorted(alloc, sink, ranked_presence(alloc, norms), text),
-            IndexKind::Substrings => write_sorted(alloc, sink, ranked_windows(alloc, norms), text),
+            IndexKind::Presence => {
+                let keys = ranked_presence(alloc, norms)?;
+                write_rows(alloc, sink, keys.as_slice(), text)
+            }
+            IndexKind::Substrings => {
+                let keys = ranked_windows(alloc, norms)?;
+                write_rows(alloc, sink, keys.as_slice(), text)
+            }
         }
     }
 
@@ -153,9 +139,7 @@ impl<'a> RankedEntries<'a> {
         requires norms { AreNormsOf self.now.conf.now.types self.now.entries.now slot.now.type_id norms.now }
         ensures { WritesOn result (W.written sink.old) (W.written sink.new) (text.old.items ++ slot_lines self.now.conf.now self.now.tree.now.entries slot.now) text.new.items }
     {
-        if put_slot(text, self.conf, slot).is_err() {
-            return Err(WriteFault::OutOfMemory);
-        }
+        put_slot(text, self.conf, slot)?;
         self.write_keys(sink, slot, norms, text)
     }
 
@@ -168,10 +152,7 @@ impl<'a> RankedEntries<'a> {
         self.conf.rules_are_kept();
         let mut kept = None;
         for slot in self.conf.slots() {
-            let Ok(of_type) = norms_for(self.alloc, self.conf, kept, slot.type_id, self.entries)
-            else {
-                return Err(WriteFault::OutOfMemory);
-            };
+            let of_type = norms_for(self.alloc, self.conf, kept, slot.type_id, self.entries)?;
             self.write_slot(sink, slot, of_type.norms.as_slice(), text)?;
             kept = Some(of_type);
         }
@@ -195,12 +176,8 @@ pub fn write_index_of_entries<W: Sink>(
     ensures writes { Writes result (W.written sink.old) (W.written sink.new) (index_text conf.now tree.now.entries) }
 {
     let root = Path::root(alloc);
-    let Ok(mut text) = first_line(alloc, tree, conf, stamp) else {
-        return Err(WriteFault::OutOfMemory);
-    };
-    let Ok(entries) = ranked_entries(alloc, conf, tree, &root) else {
-        return Err(WriteFault::OutOfMemory);
-    };
+    let mut text = first_line(alloc, tree, conf, stamp)?;
+    let entries = ranked_entries(alloc, conf, tree, &root)?;
     let ranked = RankedEntries {
         alloc,
         tree,
@@ -208,8 +185,6 @@ pub fn write_index_of_entries<W: Sink>(
         entries: entries.as_slice(),
     };
     ranked.write_slots(sink, &mut text)?;
-    if put_end(&mut text).is_err() {
-        return Err(WriteFault::OutOfMemory);
-    }
+    put_end(&mut text)?;
     pass_on(sink, &mut text)
 }

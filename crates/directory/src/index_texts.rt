@@ -47,9 +47,7 @@ fn write_row<W: Sink>(
     ensures { WritesOn result (W.written sink.old) (W.written sink.new) (text.old.items ++ row_text ranks.now (row.entry.0.now, row.entry.1.now.members)) text.new.items }
 {
     let (key, members) = row;
-    if put_row(alloc, ranks, key, members, text).is_err() {
-        return Err(WriteFault::OutOfMemory);
-    }
+    put_row(alloc, ranks, key, members, text)?;
     pass_on_long(sink, text)
 }
 
@@ -98,9 +96,7 @@ impl Listing<'_> {
         self.tree.entries_are_a_directory();
         self.tree.entries_are_numbered();
         self.conf.rules_are_kept();
-        if put_slot(text, self.conf, slot).is_err() {
-            return Err(WriteFault::OutOfMemory);
-        }
+        put_slot(text, self.conf, slot)?;
         let keys = self.index.keys(SlotNumber(place));
         write_rows(self.alloc, sink, self.ranks, keys, text)
     }
@@ -150,12 +146,8 @@ pub fn write_index_text<W: Sink>(
     requires can_fail { (W.written sink.old).failed < 2 ^ 64 - 1 }
     ensures writes { Writes result (W.written sink.old) (W.written sink.new) (index_text conf.now tree.now.entries) }
 {
-    let Ok(mut text) = first_line(alloc, tree, conf, stamp) else {
-        return Err(WriteFault::OutOfMemory);
-    };
-    let Ok(ranks) = ranks_by_number(alloc, tree) else {
-        return Err(WriteFault::OutOfMemory);
-    };
+    let mut text = first_line(alloc, tree, conf, stamp)?;
+    let ranks = ranks_by_number(alloc, tree)?;
     let listing = Listing {
         alloc,
         tree,
@@ -164,9 +156,7 @@ pub fn write_index_text<W: Sink>(
         ranks: ranks.as_slice(),
     };
     listing.write_slots(sink, &mut text)?;
-    if put_end(&mut text).is_err() {
-        return Err(WriteFault::OutOfMemory);
-    }
+    put_end(&mut text)?;
     pass_on(sink, &mut text)
 }
 
@@ -178,9 +168,7 @@ impl Directory {
         requires { (W.written sink.old).failed < 2 ^ 64 - 1 }
         ensures { Writes result (W.written sink.old) (W.written sink.new) (index_text self.now.conf self.now.entries) }
     {
-        let Ok(stamp) = stamp_of(alloc, self.tree(), self.conf()) else {
-            return Err(WriteFault::OutOfMemory);
-        };
+        let stamp = stamp_of(alloc, self.tree(), self.conf())?;
         self.index_text_with(alloc, &stamp, sink)
     }
 

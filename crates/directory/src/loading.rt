@@ -4,10 +4,9 @@ ghost use Rattle.std.specs.Prelude.{◌≡◌, ◌<◌, ◌-◌, ◌^◌, false,
 ghost use Rattle.std.specs.FinMap as finite;
 ghost use Rattle.device.specs.Device.{GaveSome};
 ghost use Rattle.ldif.specs.declared.record.Mode.TheVariants.{Content};
-ghost use Rattle.ldif.specs.Reading.{reading};
 ghost use Rattle.ldif_lines.specs.Records.{records, closed_records};
 ghost use Rattle.ldif_lines.specs.Reader.{source_of, loan_of, is_failed, records_left};
-ghost use Rattle.directory.specs.Runs.{outcome, LoadsRecords};
+ghost use Rattle.directory.specs.Runs.{outcome_of, LoadsRecords};
 ghost use Rattle.directory.specs.Folds.{Over};
 ghost use Rattle.directory.specs.Loading.{StopsAt, PullFailures};
 ghost use Rattle.directory.specs.FailedReads.{LoadedUpTo};
@@ -52,16 +51,15 @@ fn load_record(
 ) -> Result<(), LoadFault>
     requires { tree.old.conf ≡ conf.now }
     ensures same_conf { tree.new.conf ≡ tree.old.conf }
-    ensures loaded { OnOk result (IsLoaded (outcome tree.old.conf Content tree.old.entries (reading Content raw.now.first raw.now.lines)) tree.new.entries) }
-    ensures refused { IfErr result (λ f. Explains f raw.now.line (outcome tree.old.conf Content tree.old.entries (reading Content raw.now.first raw.now.lines))) }
+    ensures loaded { OnOk result (IsLoaded (outcome_of tree.old.conf Content tree.old.entries raw.now) tree.new.entries) }
+    ensures refused { IfErr result (λ f. Explains f raw.now.line (outcome_of tree.old.conf Content tree.old.entries raw.now)) }
 {
-    match carry_out_alone(alloc, tree, conf, raw, Mode::Content) {
-        Ok(Outcome::Refused(refusal)) => Err(LoadFault::Refused {
+    match carry_out_alone(alloc, tree, conf, raw, Mode::Content)? {
+        Outcome::Refused(refusal) => Err(LoadFault::Refused {
             line: raw.line,
             refusal,
         }),
-        Ok(_) => Ok(()),
-        Err(_) => Err(LoadFault::OutOfMemory),
+        Outcome::Nothing | Outcome::Accepted => Ok(()),
     }
 }
 

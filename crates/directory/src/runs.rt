@@ -4,7 +4,7 @@ ghost use Rattle.std.specs.Prelude.{◌≡◌, ◌<◌, ◌≤◌, ◌+◌, ◌-
 ghost use Rattle.device.specs.Device.{Took, Broke, GaveSome};
 ghost use Rattle.ldif_lines.specs.Records.{records, closed_records};
 ghost use Rattle.ldif.specs.Reading.{reading};
-ghost use Rattle.directory.specs.Runs.{outcome};
+ghost use Rattle.directory.specs.Runs.{outcome_of};
 ghost use Rattle.directory.specs.Reports.{report_line};
 ghost use Rattle.directory.specs.Faults.{Failures};
 ghost use Rattle.directory.specs.Folds.{Runs};
@@ -50,13 +50,9 @@ fn write_report<W: Sink>(
     ensures device { result ≡ Err WriteFault.Device → Broke (W.written sink.old) (W.written sink.new) (report_line (line, refusal)) }
     ensures memory { result ≡ Err WriteFault.OutOfMemory → W.written sink.new ≡ W.written sink.old }
 {
-    match report_line(alloc, line, refusal) {
-        Ok(text) => match push_all(sink, text.as_bytes()) {
-            Ok(()) => Ok(()),
-            Err(Device) => Err(WriteFault::Device),
-        },
-        Err(_) => Err(WriteFault::OutOfMemory),
-    }
+    let text = report_line(alloc, line, refusal)?;
+    push_all(sink, text.as_bytes())?;
+    Ok(())
 }
 
 // one record; it answers whether the run has ended
@@ -72,9 +68,11 @@ fn take_record<T: Target, W: Sink>(
     requires can_fail { (W.written sink.old).failed < 2 ^ 64 - 1 }
     requires room { tally.old.accepted + tally.old.refused < 2 ^ 64 - 1 }
     ensures same_conf { T.conf target.new ≡ T.conf target.old }
-    ensures taken { IfOk result (λ ended. IsTaken (outcome (T.conf target.old) mode (T.entries target.old) (reading mode raw.now.first raw.now.lines)) go_on raw.now.line (T.entries target.new) tally.old tally.new (W.written sink.old) (W.written sink.new) ended) }
+    ensures taken { IfOk result (λ ended. IsTaken (outcome_of (T.conf target.old) mode (T.entries target.old) raw.now) go_on raw.now.line
+        (T.entries target.new) tally.old tally.new (W.written sink.old) (W.written sink.new) ended) }
     ensures edits { RiseBy (T.count_edits (T.conf target.old) mode (T.entries target.old) (reading mode raw.now.first raw.now.lines)) result (T.edits target.old) (T.edits target.new) }
-    ensures broken { IfErr result (λ f. IsBrokenOff (outcome (T.conf target.old) mode (T.entries target.old) (reading mode raw.now.first raw.now.lines)) raw.now.line (T.entries target.old) (T.entries target.new) tally.old (W.written sink.old) (W.written sink.new) f) }
+    ensures broken { IfErr result (IsBrokenOff (outcome_of (T.conf target.old) mode (T.entries target.old) raw.now) raw.now.line
+        (T.entries target.old) (T.entries target.new) tally.old (W.written sink.old) (W.written sink.new)) }
 {
     let Ok(outcome) = target.carry_out(alloc, raw, mode) else {
         return Err(RunFault::OutOfMemory(*tally));

@@ -6,13 +6,12 @@ ghost use Rattle.schema.specs.Conf.{IsConf};
 ghost use Rattle.schema.specs.declared.code.Code.TheVariants.{NoSuchObject};
 ghost use Rattle.entries.specs.declared.refusal.Refusal.TheVariants.{Code as refused_with};
 ghost use Rattle.filter_text.specs.Spells.{view};
-ghost use Rattle.index.specs.Indexes as indexes;
-ghost use Rattle.index.specs.Postings.{shown_by};
-ghost use Rattle.search.specs.Searches.{scan, count_in_scope, scan_among, counted_scan, count_among};
+ghost use Rattle.search.specs.Searches.{scan, count_in_scope, count_among};
+ghost use Rattle.search.specs.TreeSearches.{found, counted_found};
 ghost use Rattle.search.specs.Walks.{seen, counted};
 ghost use Rattle.directory.specs.Found.{AreThere};
 ghost use Rattle.directory.specs.Indexes.{IsIndexOf};
-ghost use Rattle.directory.specs.Searches.{IsRefused, may_by_number, may_by_rank, ReflectsDump};
+ghost use Rattle.directory.specs.Searches.{IsRefused, may_by_rank, AreSteps, IsTestCount, ReflectsDump};
 
 use candidates::{brackets_hold, indexes_reflect_entries, may_match};
 use entries::Refusal;
@@ -65,12 +64,9 @@ pub fn search_with<'a, P: Postings>(
     ensures there { IfOk result (λ h. finite.contains_key tree.now.entries base.now ≡ true) }
     ensures refused { IfErr result (IsRefused tree.now.entries base.now) }
     ensures start { IfOk result (λ h. h.tested ≡ 0) }
-    ensures steps { IfOk result (λ h. map counted h.to_come ≡ counted_scan tree.now.conf tree.now.entries
-        (may_by_rank (P.shown postings.now) filter.now tree.now.entries) base.now scope (view filter.now.filter)) }
-    ensures found { IfOk result (λ h. map seen h.to_come ≡ scan_among tree.now.conf tree.now.entries
-        (may_by_rank (P.shown postings.now) filter.now tree.now.entries) base.now scope (view filter.now.filter)) }
-    ensures tested { IfOk result (λ h. h.in_the_end ≡ count_among tree.now.entries
-        (may_by_rank (P.shown postings.now) filter.now tree.now.entries) base.now scope) }
+    ensures steps { IfOk result (λ h. map counted h.to_come ≡ counted_found tree.now (may_by_rank (P.shown postings.now) filter.now tree.now) base.now scope filter.now) }
+    ensures found { IfOk result (λ h. map seen h.to_come ≡ found tree.now (may_by_rank (P.shown postings.now) filter.now tree.now) base.now scope filter.now) }
+    ensures tested { IfOk result (λ h. h.in_the_end ≡ count_among tree.now.entries (may_by_rank (P.shown postings.now) filter.now tree.now) base.now scope) }
     ensures whole { IsConf tree.now.conf → ReflectsDump (P.shown postings.now) tree.now.conf.types tree.now.entries
         → IfOk result (λ h. map seen h.to_come ≡ scan tree.now.conf tree.now.entries base.now scope (view filter.now.filter)) }
     ensures entries { IfOk result (λ h. AreThere tree.now.entries (map seen h.to_come)) }
@@ -102,11 +98,9 @@ pub(crate) fn search_with_index<'a>(
     ensures there { IfOk result (λ h. finite.contains_key tree.now.entries base.now ≡ true) }
     ensures refused { IfErr result (IsRefused tree.now.entries base.now) }
     ensures start { IfOk result (λ h. h.tested ≡ 0) }
-    ensures steps { (x : indexes.Index) → IsIndexOf conf.now tree.now.entries tree.now.numbers x → IfOk result (λ h. map counted h.to_come ≡ counted_scan tree.now.conf tree.now.entries
-        (may_by_number (shown_by x) filter.now tree.now) base.now scope (view filter.now.filter)) }
+    ensures steps { IfOk result (λ h. AreSteps conf.now tree.now filter.now base.now scope (map counted h.to_come)) }
     ensures found { IfOk result (λ h. map seen h.to_come ≡ scan tree.now.conf tree.now.entries base.now scope (view filter.now.filter)) }
-    ensures tested { (x : indexes.Index) → IsIndexOf conf.now tree.now.entries tree.now.numbers x → IfOk result (λ h. h.in_the_end ≡ count_among tree.now.entries
-        (may_by_number (shown_by x) filter.now tree.now) base.now scope) }
+    ensures tested { IfOk result (λ h. IsTestCount conf.now tree.now filter.now base.now scope h.in_the_end) }
     ensures entries { IfOk result (λ h. AreThere tree.now.entries (map seen h.to_come)) }
 {
     brackets_hold();

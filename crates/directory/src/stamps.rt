@@ -7,7 +7,7 @@ ghost use Rattle.entries.specs.StoredEntries.{content_of};
 ghost use Rattle.directory.specs.Runs.{dump};
 ghost use Rattle.directory.specs.Dumps.{Writes, end_of};
 ghost use Rattle.directory.specs.IndexTexts.{stamp};
-ghost use Rattle.directory.specs.inner.Dumps.{WritesOn, entry_text};
+ghost use Rattle.directory.specs.inner.Dumps.{WritesOn, HashesOn, tree_entry_text};
 
 use crate::dump::{PIECE, Printer, pass_on};
 use crate::selection::Selection;
@@ -42,7 +42,7 @@ fn pass_on_long_stamped<W: Sink>(
 ) -> Result<(), WriteFault>
     requires { (W.written sink.old).failed < 2 ^ 64 - 1 }
     ensures writes { WritesOn result (W.written sink.old) (W.written sink.new) text.old.items text.new.items }
-    ensures holds { OnOk result ((m : List ℕ) → Holds256 hasher.old m → (taken : List ℕ) × Holds256 hasher.new taken × (taken ++ text.new.items ≡ m ++ text.old.items)) }
+    ensures holds { OnOk result (HashesOn hasher.old hasher.new text.old.items text.new.items) }
 {
     if text.len() < PIECE {
         return Ok(());
@@ -63,18 +63,11 @@ fn write_stamped_entry<W: Sink>(
     requires names { names.old ≡ printer.now.tree.now }
     requires there { finite.get printer.now.tree.now.entries found.0.now ≡ Some (content_of found.1.now) }
     ensures names { names.new ≡ printer.now.tree.now }
-    ensures writes { WritesOn result (W.written sink.old) (W.written sink.new)
-        (text.old.items ++ entry_text printer.now.tree.now.conf printer.now.tree.now.entries None (found.entry.0.now, found.entry.1.now)) text.new.items }
-    ensures holds { OnOk result ((m : List ℕ) → Holds256 hasher.old m → (taken : List ℕ) × Holds256 hasher.new taken
-        × (taken ++ text.new.items ≡ m ++ (text.old.items ++ entry_text printer.now.tree.now.conf printer.now.tree.now.entries None (found.entry.0.now, found.entry.1.now)))) }
+    ensures writes { WritesOn result (W.written sink.old) (W.written sink.new) (text.old.items ++ tree_entry_text printer.now.tree.now None found.entry) text.new.items }
+    ensures holds { OnOk result (HashesOn hasher.old hasher.new (text.old.items ++ tree_entry_text printer.now.tree.now None found.entry) text.new.items) }
 {
     let (path, entry) = found;
-    if printer
-        .put_record(names, &Selection::all(), path, entry, text)
-        .is_err()
-    {
-        return Err(WriteFault::OutOfMemory);
-    }
+    printer.put_record(names, &Selection::all(), path, entry, text)?;
     pass_on_long_stamped(sink, hasher, text)
 }
 

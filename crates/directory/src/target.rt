@@ -5,7 +5,7 @@ ghost use Rattle.ldif.specs.Reading.{reading};
 ghost use Rattle.schema.specs.Conf.{Conf};
 ghost use Rattle.tree.specs.Directories.{Entries};
 ghost use Rattle.directory.specs.RunEdits.{CountEdits};
-ghost use Rattle.directory.specs.Runs.{outcome};
+ghost use Rattle.directory.specs.Runs.{outcome_of};
 
 use crate::refusal::Outcome;
 use ldif::{Mode, RawRecord};
@@ -34,6 +34,6 @@ pub trait Target {
     ) -> Result<Outcome, AllocError>
         ensures same_conf { conf self.new ≡ conf self.old }
         ensures edits { OnOk result (edits self.new ≡ edits self.old + count_edits (conf self.old) mode (entries self.old) (reading mode raw.now.first raw.now.lines)) }
-        ensures outcome { IfOk result (λ o. outcome (conf self.old) mode (entries self.old) (reading mode raw.now.first raw.now.lines) ≡ (entries self.new, o)) }
+        ensures outcome { IfOk result (λ o. outcome_of (conf self.old) mode (entries self.old) raw.now ≡ (entries self.new, o)) }
         ensures err { OnErr result (entries self.new ≡ entries self.old) };
 }

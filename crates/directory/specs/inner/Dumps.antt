@@ -2,6 +2,9 @@
 use Rattle.std.specs.Prelude.{◌≡◌, ℕ, ◌<◌, Some, List, [], ◌∷◌, ◌++◌, length, if◌then◌else◌, Result, Ok, Err}
 use Rattle.std.specs.List.{flat_map, filter, AllByRecursion}
 use Rattle.std.specs.FinMap as finite
+use Rattle.std.specs.Borrow.{Bor}
+use Rattle.sha2.specs.declared.Sha256.{Sha256}
+use Rattle.sha2.specs.Hashers.{Holds256}
 use Rattle.base.specs.Ascii.{line_feed}
 use Rattle.device.specs.Device.{Written}
 use Rattle.ldif.specs.Attrs.{Attr}
@@ -13,6 +16,7 @@ use Rattle.values.specs.Values.{Value}
 use Rattle.paths.specs.Paths.{Path}
 use Rattle.schema.specs.Conf.{Conf}
 use Rattle.tree.specs.Directories.{Entries, record_at}
+use Rattle.tree.specs.Trees.{Tree}
 use Rattle.entries.specs.Entries.{lines_of}
 use Rattle.entries.specs.StoredEntries.{Entry, EntryAttribute, content_of, attributes_of}
 use Rattle.directory.specs.Dumps.{SoFar, Writes}
@@ -22,6 +26,10 @@ use Rattle.directory.specs.Selections.{Selection, selects, selected}
 abbrev pub WritesOn : Result (Unit {0}) WriteFault → Written → Written → List ℕ → List ℕ → Type 0
 WritesOn (Ok u) a b bytes left = SoFar a b bytes left
 WritesOn (Err e) a b bytes left = Writes (Err e) a b bytes
+
+-- Of the bytes a beginning went into the hasher, behind the message that it had, and the rest is left.
+abbrev pub HashesOn : Sha256 → Sha256 → List ℕ → List ℕ → Type 0
+HashesOn before after bytes left = (m : List ℕ) → Holds256 before m → (taken : List ℕ) × Holds256 after taken × (taken ++ left ≡ m ++ bytes)
 
 abbrev pub attr_of : List ℕ → Value → Attr
 attr_of name v = record { name = name; value = v.raw }
@@ -44,6 +52,10 @@ selected_text types s attrs = attributes_text types (filter (λ a. selects s a.0
 
 abbrev pub entry_text : Conf → Entries → Selection → Path × Entry → List ℕ
 entry_text conf d s e = write_content (record_at conf d e.0 (selected s (content_of e.1)))
+
+-- that of an entry of a tree
+abbrev pub tree_entry_text : Tree → Selection → Bor Path × Bor Entry → List ℕ
+tree_entry_text t s found = entry_text t.conf t.entries s (found.0.now, found.1.now)
 
 abbrev pub entries_text : Conf → Entries → Selection → List (Path × Entry) → List ℕ
 entries_text conf d s es = flat_map (entry_text conf d s) es

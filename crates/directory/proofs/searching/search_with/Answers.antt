@@ -33,7 +33,7 @@ returns-in-Some-clause-whole g c = λ is_conf shows.
     let f = c.args.filter.now in
     c.in-Some.ensures.found
     ∙ (λ i. scan_among d.conf d.entries (λ p. c.in_ok-may.ensures (rank_in d.entries p) i) c.args.base.now c.args.scope (view f.filter))
-    ∙ c.candidates_suffice.ensures d.conf d.entries (may_by_rank shown f d.entries) c.args.base.now c.args.scope (view f.filter)
+    ∙ c.candidates_suffice.ensures d.conf d.entries (may_by_rank shown f d) c.args.base.now c.args.scope (view f.filter)
     (λ p e at is. is_candidate d shown f c.requires is_conf c.entries_are_a_directory.ensures c.brackets_hold.ensures (rank_in d.entries p) p e at (shows.each p e at) is)
 
 pub returns-in-Some-clause-entries : goal.returns-in-Some-clause-entries

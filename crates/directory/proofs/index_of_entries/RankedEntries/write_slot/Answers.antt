@@ -2,14 +2,16 @@ use Rattle.std.proofs.Common.{◌≡◌, ℕ, List, ◌++◌, sym, ap, ◌∙◌
 use Rattle.schema.specs.Conf.{Conf}
 use Rattle.tree.specs.Directories.{Entries}
 use Rattle.index_text.specs.IndexTexts.{ended, slot_line}
+use Rattle.std.proofs.lemmas.Result.{err_from_is_err_and}
 use Rattle.directory.specs.inner.Dumps.{WritesOn}
 use Rattle.directory.specs.inner.IndexRows.{slot_lines, keys_lines}
 use Rattle.directory.proofs.Pieces.{want_at_once}
-use Rattle.directory.proofs.WrittenLines.{where_ok}
 use Rattle.directory.proofs.index_of_entries.RankedEntries.write_slot.Goals as goal
 
-pub returns-then-is_err : goal.returns-then-is_err
-returns-then-is_err g c = want_at_once (g.W.Sink.written c.args.sink.now) (c.args.text.now.items ++ slot_lines c.args.self.now.conf.now c.args.self.now.tree.now.entries c.args.slot.now)
+pub returns-in_err-put_slot : goal.returns-in_err-put_slot
+returns-in_err-put_slot g c =
+    let p = err_from_is_err_and c.from_residual.result c.from_residual.ensures.1 in
+    rw (p.1, p.2) (want_at_once (g.W.Sink.written c.args.sink.now) (c.args.text.now.items ++ slot_lines c.args.self.now.conf.now c.args.self.now.tree.now.entries c.args.slot.now))
 
 pub returns : goal.returns
 returns g c =
@@ -18,7 +20,7 @@ returns g c =
     let text : List ℕ = c.args.text.now.items in
     let line : List ℕ = ended (slot_line conf.types c.args.slot.now) in
     let keys : List ℕ = keys_lines conf d c.args.slot.now in
-    let put : c.put_slot.new.out.items ≡ text ++ line = where_ok c.put_slot.result (c.put_slot.new.out.items ≡ text ++ line) c.put_slot.ensures.put (sym c.is_err.ensures.value ∙ c.if-is_err.false) in
+    let put : c.put_slot.new.out.items ≡ text ++ line = c.in_ok-put_slot.ensures.put in
     subst (λ (bs : List ℕ). WritesOn c.write_keys.result (g.W.Sink.written c.args.sink.now) (g.W.Sink.written c.write_keys.new.sink) bs c.write_keys.new.text.items)
     (ap (λ (bs : List ℕ). bs ++ keys) put ∙ append_assoc text line keys)
     c.write_keys.ensures

@@ -24,7 +24,7 @@ loop-slot-init g c =
 
 pub returns-in_err-write_slot : goal.returns-in_err-write_slot
 returns-in_err-write_slot g c =
-    let p = err_from_is_err_and c.from_residual.result c.from_residual.ensures.1 in
+    let p = err_from_is_err_and c.from_residual-in_err-write_slot.result c.from_residual-in_err-write_slot.ensures.1 in
     let conf : Conf = c.args.self.now.conf.now in
     let d : Entries = c.args.self.now.tree.now.entries in
     let slots : List Slot = c.slots-slot-items.result.now in
@@ -41,7 +41,7 @@ loop-slot-preserved g c =
     let place : ℕ = c.loop-slot.slot-index in
     record {
       failures = c.in_ok-write_slot.ensures.written.failed ∙ c.loop-slot.invariant.failures;
-      kept = c.in-Ok.ensures.norms;
+      kept = c.in_ok-of_type.ensures.norms;
       so_far = further (g.W.Sink.written c.args.sink.now) (g.W.Sink.written c.loop-slot.sink) (g.W.Sink.written c.write_slot.new.sink)
           (c.args.text.now.items ++ slots_lines conf d conf.slots) c.loop-slot.text.items (slots_lines conf d (drop place slots)) (slot_lines conf d c.slot-item.result) (slots_lines conf d (drop (place + 1) slots))
           c.loop-slot.invariant.so_far (next_slot conf d slots place c.slot-item.result c.loop-slot-test.true c.slot-item.is) c.write_slot.new.text.items c.in_ok-write_slot.ensures;

@@ -5,16 +5,18 @@ use Rattle.schema.specs.Conf.{Conf}
 use Rattle.tree.specs.Trees.{Tree}
 use Rattle.tree.proofs.Order.{path_total}
 use Rattle.index_text.specs.IndexTexts.{ended, slot_line, key_line}
+use Rattle.std.proofs.lemmas.Result.{err_from_is_err_and}
 use Rattle.directory.specs.IndexTexts.{slot_rows, contents}
 use Rattle.directory.specs.inner.Dumps.{WritesOn}
 use Rattle.directory.specs.inner.IndexRows.{slot_lines, rows_text}
 use Rattle.directory.proofs.IndexRows.{lines_are}
 use Rattle.directory.proofs.Pieces.{want_at_once}
-use Rattle.directory.proofs.WrittenLines.{where_ok}
 use Rattle.directory.proofs.index_texts.Listing.write_slot.Goals as goal
 
-pub returns-then-is_err : goal.returns-then-is_err
-returns-then-is_err g c = want_at_once (g.W.Sink.written c.args.sink.now) (c.args.text.now.items ++ slot_lines c.args.self.now.conf.now c.args.self.now.tree.now.entries c.args.slot.now)
+pub returns-in_err-put_slot : goal.returns-in_err-put_slot
+returns-in_err-put_slot g c =
+    let p = err_from_is_err_and c.from_residual.result c.from_residual.ensures.1 in
+    rw (p.1, p.2) (want_at_once (g.W.Sink.written c.args.sink.now) (c.args.text.now.items ++ slot_lines c.args.self.now.conf.now c.args.self.now.tree.now.entries c.args.slot.now))
 
 pub keys-keys-requires : goal.keys-keys-requires
 keys-keys-requires g c =
@@ -27,7 +29,7 @@ returns g c =
     let t : Tree = c.args.self.now.tree.now in
     let text : List ℕ = c.args.text.now.items in
     let line : List ℕ = ended (slot_line conf.types c.args.slot.now) in
-    let put : c.put_slot.new.out.items ≡ text ++ line = where_ok c.put_slot.result (c.put_slot.new.out.items ≡ text ++ line) c.put_slot.ensures.put (sym c.is_err.ensures.value ∙ c.if-is_err.false) in
+    let put : c.put_slot.new.out.items ≡ text ++ line = c.in_ok-put_slot.ensures.put in
     let rows : List ℕ = rows_text c.args.self.now.ranks.now c.keys-keys.result in
     let is : rows ≡ flat_map (λ row. ended (key_line row)) (slot_rows conf.types (contents t.entries) c.args.slot.now) =
     lines_are conf t c.args.self.now.index.now c.args.self.now.ranks.now c.requires.listing.indexed path_total c.entries_are_numbered.ensures c.entries_are_a_directory.ensures c.requires.listing.ranked c.args.place c.args.slot.now c.requires.place c.keys-keys.result c.keys-keys.ensures in
