@@ -1,6 +1,6 @@
 -- Normal forms that are the same from the first on, and what those behind them give.
-use Rattle.std.proofs.Common.{◌≡◌, ℕ, zero, suc, ◌+◌, Bool, true, false, not, ◌&&◌, ◌||◌, List, [], ◌∷◌, ◌++◌, take, drop, Option, Some, None, refl, sym, ap, ◌∙◌, add-one}
-use Rattle.std.specs.List.{list_any, flat_map}
+use Rattle.std.proofs.Common.{◌≡◌, ℕ, zero, suc, ◌+◌, Bool, true, false, cond, not, ◌&&◌, ◌||◌, List, [], ◌∷◌, ◌++◌, take, drop, Option, Some, None, refl, sym, ap, ◌∙◌, add-one, arith}
+use Rattle.std.specs.List.{list_any, flat_map, zip, prefix_len}
 use Rattle.std.specs.Map.Iter.{TakesFirst}
 use Rattle.std.specs.Str.{bytes_eq}
 use Rattle.std.proofs.lemmas.Grind.{flat_map-append}
@@ -22,27 +22,30 @@ one_drop (suc i) (x ∷ xs) = one_drop i xs
 pub drop_next : {A : Type 0} (i : ℕ) (xs s t : List A) → s ≡ drop i xs → t ≡ drop 1 s → t ≡ drop (i + 1) xs
 drop_next i xs s t is next = next ∙ ap (drop 1) is ∙ one_drop i xs ∙ ap (λ n. drop n xs) (sym (add-one i))
 
-take_one : {A : Type 0} (i : ℕ) (xs : List A) (a : A) (rest : List A) → a ∷ rest ≡ drop i xs → take (suc i) xs ≡ take i xs ++ a ∷ []
-take_one zero [] a rest e = cc
-take_one zero (x ∷ xs) a rest e = cc
-take_one (suc i) [] a rest e = cc
-take_one (suc i) (x ∷ xs) a rest e = ap (λ ys. x ∷ ys) (take_one i xs a rest e)
-
-pub take_next : (i : ℕ) (xs ys s t : List (List ℕ)) (a b : List ℕ) (s' t' : List (List ℕ)) → take i xs ≡ take i ys → s ≡ drop i xs → t ≡ drop i ys → s ≡ a ∷ s' → t ≡ b ∷ t' → bytes_eq a b ≡ true → take (i + 1) xs ≡ take (i + 1) ys
-take_next i xs ys s t a b s' t' same is_s is_t first_s first_t equal =
-    ap (λ n. take n xs) (add-one i)
-    ∙ take_one i xs a s' (sym first_s ∙ is_s)
-    ∙ (λ j. same j ++ same_bytes a b equal j ∷ [])
-    ∙ sym (take_one i ys b t' (sym first_t ∙ is_t))
-    ∙ ap (λ n. take n ys) (sym (add-one i))
-
-pub no_difference : (b r : Bool) → r ≡ not b → r ≡ false → b ≡ true
-no_difference true r is e = refl
-no_difference false r is e = sym e ∙ is
-
 pub step : {A X : Type 0} (shows : A → X) (s t : List X) (r : Option A) → TakesFirst shows s r t → t ≡ drop 1 s
 step shows s t None h = h.1 ∙ sym (ap (drop 1) h.0)
 step shows s t (Some x) h = sym (ap (drop 1) h)
+
+-- ---- as many as are the same, and no more than can be counted
+
+abbrev pub are_same : List ℕ × List ℕ → Bool
+are_same both = bytes_eq both.0 both.1
+
+abbrev pub same_len : ℕ → List (List ℕ) → List (List ℕ) → ℕ
+same_len n xs ys = prefix_len are_same (take n (zip xs ys))
+
+pub same_front : (n : ℕ) (xs ys : List (List ℕ)) → take (same_len n xs ys) xs ≡ take (same_len n xs ys) ys
+same_front zero xs ys = refl
+same_front (suc n) [] ys = refl
+same_front (suc n) (x ∷ xs) [] = refl
+same_front (suc n) (x ∷ xs) (y ∷ ys) = by (same_front n xs ys) (bytes_eq x y) refl
+  where
+    one_more : 1 + same_len n xs ys ≡ suc (same_len n xs ys)
+    one_more = omega arith
+
+    by : take (same_len n xs ys) xs ≡ take (same_len n xs ys) ys → (b : Bool) → bytes_eq x y ≡ b → take (cond b (1 + same_len n xs ys) 0) (x ∷ xs) ≡ take (cond b (1 + same_len n xs ys) 0) (y ∷ ys)
+    by rest true e = rw one_more (λ i. same_bytes x y e i ∷ rest i)
+    by rest false e = refl
 
 -- ---- what they give
 

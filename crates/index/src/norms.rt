@@ -141,26 +141,14 @@ impl<'a> Iterator for Norms<'a> {
     }
 }
 
-// how many normal forms are the same in both, from the first on
+// how many normal forms are the same in both, from the first on, as far as they can be counted
 fn common_front<'a>(left: Norms<'a>, right: Norms<'a>) -> usize
     ensures { take result left.entry ≡ take result right.entry }
 {
-    let mut left = left;
-    let mut right = right;
-    for count in 0..usize::MAX {
-        match left.next() {
-            Some(norm) => match right.next() {
-                Some(other) => {
-                    if norm != other {
-                        return count;
-                    }
-                }
-                None => return count,
-            },
-            None => return count,
-        }
-    }
-    0
+    left.zip(right)
+        .take(usize::MAX)
+        .take_while(|(norm, other)| norm == other)
+        .count()
 }
 
 /// How many normal forms of the values of a type and of its subtypes are the same in two entries, from the first on.

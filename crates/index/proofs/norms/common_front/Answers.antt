@@ -1,13 +1,23 @@
-use Rattle.std.specs.Prelude.{Some}
-use Rattle.std.specs.Map.Iter.{deref}
-use Rattle.index.proofs.Fronts.{take_next, drop_next, no_difference, step}
+use Rattle.std.proofs.Common.{rules, tests, ◌≡◌, ℕ, List, length, take, subst, sym, ap, ◌∙◌}
+use Rattle.std.specs.List.{zip}
+use Rattle.std.specs.Map.Iter.{TakesFirst, deref}
+use Rattle.std.proofs.lemmas.Iterator.{YieldsList, YieldsList-from_take, YieldsList-from_zip}
+use Rattle.std.proofs.lemmas.Iterator.Consumers.{YieldsList-at, YieldsList-from_shown, count_from_yields_List}
+use Rattle.std.proofs.lemmas.Iterator.Search.{YieldsList-from_take_while}
+use Rattle.std.proofs.lemmas.List.Folds.{length-prefix_len}
+use Rattle.index.proofs.Fronts.{are_same, same_front}
 use Rattle.index.proofs.norms.common_front.Goals as goal
 
-pub loop-count-preserved : goal.loop-count-preserved
-loop-count-preserved c =
-    let i = c.loop-count.count in
-    record {
-      same = take_next i c.args.left c.args.right c.loop-count.left c.loop-count.right c.in-Some.norm.now c.in-Some-next.other.now c.next.new.self c.next-in-Some.new.self c.loop-count.invariant.same c.loop-count.invariant.left c.loop-count.invariant.right c.in-Some.ensures.steps c.in-Some-next.ensures.steps (no_difference _ c.ne.result c.ne.ensures c.if-ne.false);
-      left = drop_next i c.args.left c.loop-count.left c.next.new.self c.loop-count.invariant.left (step deref c.loop-count.left c.next.new.self (Some c.in-Some.norm) c.in-Some.ensures.steps);
-      right = drop_next i c.args.right c.loop-count.right c.next-in-Some.new.self c.loop-count.invariant.right (step deref c.loop-count.right c.next-in-Some.new.self (Some c.in-Some-next.other) c.in-Some-next.ensures.steps);
-    }
+yields : (norms : List (List ℕ)) → YieldsList (TakesFirst deref) deref norms norms
+yields norms = YieldsList-from_shown (TakesFirst deref) deref (λ (s : List (List ℕ)). s) (λ s t h. ap length h.0) (λ s x t h. h) norms
+
+pub returns : goal.returns
+returns c =
+    let n : ℕ = 18446744073709551615 in
+    let count =
+    count_from_yields_List c.take_while.result _ c.count.ensures.ran
+    (YieldsList-from_take_while _ are_same
+    (YieldsList-at c.take_while.ensures.source (YieldsList-from_take n (YieldsList-at c.take.ensures.source (YieldsList-from_zip (YieldsList-at c.zip.ensures.first (yields c.args.left)) (YieldsList-at c.zip.ensures.second (yields c.args.right)))) c.take.ensures.count))
+    c.take_while.ensures.closure c.take_while.ensures.done (λ x b q k. search (rules, tests)))
+    ∙ length-prefix_len are_same (take n (zip c.args.left c.args.right)) in
+    subst (λ (k : ℕ). take k c.args.left ≡ take k c.args.right) (sym count) (same_front n c.args.left c.args.right)
