@@ -15,8 +15,8 @@ use device::{Device, Sink, Source, push_all};
 use std::alloc::Global;
 use std::convert::AsStr;
 
-/// Prints a text on standard output.
-fn print<O: Sink>(alloc: Global, text: &str, out: &mut O) -> Result<Status, Stop>
+/// Prints a text of help.
+fn print_help<O: Sink>(alloc: Global, text: &str, out: &mut O) -> Result<Status, Stop>
     requires { (O.written out.old).failed < 2 ^ 64 - 1 }
     ensures { (w : World) → HasEnded (HelpGoesThrough text.now) (HelpStops text.now)
         (record w { output = O.written out.old }) (record w { output = O.written out.new }) result }
@@ -46,7 +46,7 @@ fn carry_out<F: Folder, S: Source, O: Sink, E: Sink>(
     ensures can_report { IfErr result (λ why. CanReport why (E.written err.new).failed) }
 {
     match asked {
-        Ok(Request::Help(text)) => print(alloc, text.as_str(), out),
+        Ok(Request::Help(text)) => print_help(alloc, text.as_str(), out),
         Ok(Request::Add(asked)) => change(alloc, &Task::from(asked), folder, input, err),
         Ok(Request::Modify(asked)) => change(alloc, &Task::from(asked), folder, input, err),
         Ok(Request::Index(asked)) => slapindex(alloc, &asked, folder),

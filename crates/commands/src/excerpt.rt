@@ -46,11 +46,11 @@ impl<'a> FileText for Excerpt<'a> {
         let all = Selection::all();
         let Database { conf, tree } = self.database;
         match search_tree(alloc, tree, self.base, Scope::Sub, self.filter) {
-            Ok(hits) => match write_found(alloc, tree, conf, sink, hits, None, &all) {
+            Some(hits) => match write_found(alloc, tree, conf, sink, hits, None, &all) {
                 Ok(_) => Ok(()),
                 Err(fault) => Err(fault),
             },
-            Err(_) => Ok(()),
+            None => Ok(()),
         }
     }
 }

@@ -159,8 +159,11 @@ fn print_by_scan<O: Sink>(
     let Database { conf, tree } = database;
     let wanted = wanted_by(alloc, asked, filter, conf)?;
     match search_tree(alloc, tree, &wanted.base, asked.scope, &wanted.filter) {
-        Ok(hits) => print_hits(alloc, tree, conf, hits, asked.limit, &wanted.selection, out),
-        Err(refusal) => Err(refused(refusal, NAME)),
+        Some(hits) => print_hits(alloc, tree, conf, hits, asked.limit, &wanted.selection, out),
+        None => Err(CommandFault::Code {
+            command: NAME,
+            code: Code::NoSuchObject,
+        }),
     }
 }
 
@@ -194,7 +197,7 @@ fn load<F: Folder>(
 }
 
 /// Prints what is found by index.txt, or without it where it can't be used.
-fn print<O: Sink>(
+fn print_found<O: Sink>(
     alloc: Global,
     asked: &SearchOptions<'_>,
     loaded: &Loaded,
@@ -242,7 +245,7 @@ pub fn search<F: Folder, O: Sink, E: Sink>(
 {
     let loaded = load(alloc, asked, folder)?;
     report_index(alloc, err, &loaded.file)?;
-    let printed = print(alloc, asked, &loaded, out);
+    let printed = print_found(alloc, asked, &loaded, out);
     // The program ends with its command, and that frees the entries at once.
     mem::forget(loaded);
     match printed {

@@ -29,7 +29,11 @@ use std::mem;
 /// The name that its result codes are printed with.
 const NAME: &str = "slapcat";
 
-fn print<T: FileText, O: Sink>(alloc: Global, text: &T, out: &mut O) -> Result<(), CommandFault>
+fn print_text<T: FileText, O: Sink>(
+    alloc: Global,
+    text: &T,
+    out: &mut O,
+) -> Result<(), CommandFault>
     requires { (O.written out.old).failed < 2 ^ 64 - 1 }
     ensures put { OnOk result (Took (O.written out.old) (O.written out.new) (T.text text.now)) }
     ensures err { IfErr result (FailsToWrite (codes "output")) }
@@ -63,7 +67,7 @@ fn put<T: FileText, F: Folder, O: Sink>(
             store(alloc, folder, name, text)?;
             Ok(())
         }
-        None => print(alloc, text, out),
+        None => print_text(alloc, text, out),
     }
 }
 

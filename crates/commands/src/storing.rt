@@ -11,7 +11,7 @@ use crate::database::{path, store};
 use crate::folder::{FileText, Folder};
 use crate::messages::CommandFault;
 use device::Sink;
-use directory::{Database, stamp_of, write_index_of_entries, write_stamped_dump};
+use directory::{Database, Stamp, stamp_of, write_index_of_entries, write_stamped_dump};
 use ldif::WriteFault;
 use std::alloc::Global;
 
@@ -23,13 +23,13 @@ struct StampedDump<'a> {
 
 impl FileText for StampedDump<'_> {
     /// The stamp of the dump.
-    type Answer = [u8; 32];
+    type Answer = Stamp;
 
     ghost text = { λ d. dump d.database.now.tree.conf d.database.now.tree.entries };
 
     ghost answers = { λ d s. s ≡ stamp_by d.database.now.tree.conf d.database.now.tree.entries };
 
-    fn write<W: Sink>(&self, alloc: Global, sink: &mut W) -> Result<[u8; 32], WriteFault> {
+    fn write<W: Sink>(&self, alloc: Global, sink: &mut W) -> Result<Stamp, WriteFault> {
         write_stamped_dump(alloc, &self.database.tree, &self.database.conf, sink)
     }
 }
@@ -38,7 +38,7 @@ impl FileText for StampedDump<'_> {
 #[derive(Clone, Copy, Drop)]
 struct IndexText<'a> {
     database: &'a Database,
-    stamp: &'a [u8; 32],
+    stamp: &'a Stamp,
     ghost is_stamp: { stamp.now ≡ stamp_by database.now.tree.conf database.now.tree.entries },
 }
 
@@ -79,7 +79,7 @@ fn store_index_with<F: Folder>(
     folder: &mut F,
     db: &str,
     database: &Database,
-    stamp: &[u8; 32],
+    stamp: &Stamp,
 ) -> Result<(), CommandFault>
     requires { stamp.now ≡ stamp_by database.now.tree.conf database.now.tree.entries }
     ensures ok { OnOk result (F.files folder.new ≡ with_files (F.files folder.old) (index_file db.now database.now.tree.conf database.now.tree.entries ∷ [])) }

@@ -11,6 +11,7 @@ ghost use Rattle.directory.specs.inner.RankedEntries.{AreRankedEntries};
 
 use crate::dump::{pass_on, pass_on_long};
 use crate::index_texts::first_line;
+use crate::stamps::Stamp;
 use device::Sink;
 use index::{Numbered, NumberedNorm, norms_for};
 use index_text::{put_end, put_slot};
@@ -167,7 +168,7 @@ pub fn write_index_of_entries<W: Sink>(
     alloc: Global,
     tree: &Tree,
     conf: &Conf,
-    stamp: &[u8; 32],
+    stamp: &Stamp,
     sink: &mut W,
 ) -> Result<(), WriteFault>
     requires made { tree.now.conf ≡ conf.now }

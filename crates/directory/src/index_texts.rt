@@ -11,7 +11,7 @@ ghost use Rattle.directory.specs.inner.IndexRows.{row_text, rows_text, first_lin
 use crate::directory::Directory;
 use crate::dump::{pass_on, pass_on_long};
 use crate::ranks::{ranks_by_number, ranks_of};
-use crate::stamps::stamp_of;
+use crate::stamps::{Stamp, stamp_of};
 use device::Sink;
 use id_sets::KeySet;
 use index::{Index, Keys, SlotNumber};
@@ -119,7 +119,7 @@ pub(crate) fn first_line(
     alloc: Global,
     tree: &Tree,
     conf: &Conf,
-    stamp: &[u8; 32],
+    stamp: &Stamp,
 ) -> Result<Vec<u8>, AllocError>
     requires { stamp.now ≡ stamp_by conf.now tree.now.entries }
     ensures { IfOk result (λ text. text.items ≡ first_line conf.now tree.now.entries) }
@@ -137,7 +137,7 @@ pub fn write_index_text<W: Sink>(
     tree: &Tree,
     conf: &Conf,
     index: &Index,
-    stamp: &[u8; 32],
+    stamp: &Stamp,
     sink: &mut W,
 ) -> Result<(), WriteFault>
     requires made { tree.now.conf ≡ conf.now }
@@ -176,7 +176,7 @@ impl Directory {
     pub fn index_text_with<W: Sink>(
         &self,
         alloc: Global,
-        stamp: &[u8; 32],
+        stamp: &Stamp,
         sink: &mut W,
     ) -> Result<(), WriteFault>
         requires stamped { stamp.now ≡ stamp_by self.now.conf self.now.entries }

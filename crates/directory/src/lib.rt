@@ -35,5 +35,5 @@ pub use runs::{RunFault, Tally, run};
 pub use search::{Hits, Scope};
 pub use searching::{search_tree, search_with};
 pub use selection::Selection;
-pub use stamps::{stamp_of, write_stamped_dump};
+pub use stamps::{Stamp, stamp_of, write_stamped_dump};
 pub use target::Target;

@@ -1,10 +1,8 @@
 //! Searches of a tree: with an index that is kept with it, with postings of ranks, and with neither.
 
-ghost use Rattle.std.specs.Prelude.{◌≡◌, true, is_ok, map, IfOk, IfErr};
+ghost use Rattle.std.specs.Prelude.{◌≡◌, true, is_some, map, IfOk, IfErr, IfSome};
 ghost use Rattle.std.specs.FinMap as finite;
 ghost use Rattle.schema.specs.Conf.{IsConf};
-ghost use Rattle.schema.specs.declared.code.Code.TheVariants.{NoSuchObject};
-ghost use Rattle.entries.specs.declared.refusal.Refusal.TheVariants.{Code as refused_with};
 ghost use Rattle.filter_text.specs.Spells.{view};
 ghost use Rattle.search.specs.Searches.{scan, count_in_scope, count_among};
 ghost use Rattle.search.specs.TreeSearches.{found, counted_found};
@@ -24,28 +22,23 @@ use std::alloc::Global;
 use tree::Tree;
 
 /// The entries of a tree in scope of which the filter is True, in dump order (RFC 4511, 4.5.1), with no index: each entry in scope is
-/// tested. The filter was prepared under the configuration that the tree was made with. `NoSuchObject` where the base isn't there, and no
-/// other refusal.
+/// tested. The filter was prepared under the configuration that the tree was made with. `None` where the base isn't there.
 pub fn search_tree<'a>(
     alloc: Global,
     tree: &'a Tree,
     base: &'a Path,
     scope: Scope,
     filter: &'a Prepared,
-) -> Result<Hits<'a, KeySet>, Refusal>
+) -> Option<Hits<'a, KeySet>>
     requires { filter.now.conf ≡ tree.now.conf }
-    ensures there { is_ok result ≡ finite.contains_key tree.now.entries base.now }
-    ensures refused { IfErr result (λ r. r ≡ refused_with NoSuchObject) }
-    ensures found { IfOk result (λ h. map seen h.to_come ≡ scan tree.now.conf tree.now.entries base.now scope (view filter.now.filter)) }
-    ensures tested { IfOk result (λ h. h.in_the_end ≡ count_in_scope tree.now.entries base.now scope) }
-    ensures entries { IfOk result (λ h. AreThere tree.now.entries (map seen h.to_come)) }
+    ensures there { is_some result ≡ finite.contains_key tree.now.entries base.now }
+    ensures found { IfSome result (λ h. map seen h.to_come ≡ scan tree.now.conf tree.now.entries base.now scope (view filter.now.filter)) }
+    ensures tested { IfSome result (λ h. h.in_the_end ≡ count_in_scope tree.now.entries base.now scope) }
+    ensures entries { IfSome result (λ h. AreThere tree.now.entries (map seen h.to_come)) }
 {
     tree.entries_are_a_directory();
     schema::order_of_paths();
-    match scan(alloc, tree, base, scope, filter) {
-        Some(hits) => Ok(hits),
-        None => Err(Refusal::Code(Code::NoSuchObject)),
-    }
+    scan(alloc, tree, base, scope, filter)
 }
 
 /// The entries of a tree in scope of which the filter is True, as far as it may be True by what postings show of their ranks, in dump order

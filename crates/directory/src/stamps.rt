@@ -19,6 +19,9 @@ use sha2::{Digest, Sha256};
 use std::alloc::{AllocError, Global};
 use tree::{Names, Tree};
 
+/// The stamp of a directory: the SHA-256 (FIPS 180-4) of its dump.
+pub type Stamp = [u8; 32];
+
 // takes all bytes into the stamp and hands them on, and forgets them
 fn pass_on_stamped<W: Sink>(
     sink: &mut W,
@@ -77,7 +80,7 @@ pub fn write_stamped_dump<W: Sink>(
     tree: &Tree,
     conf: &Conf,
     sink: &mut W,
-) -> Result<[u8; 32], WriteFault>
+) -> Result<Stamp, WriteFault>
     requires made { tree.now.conf ≡ conf.now }
     requires can_fail { (W.written sink.old).failed < 2 ^ 64 - 1 }
     ensures writes { Writes (end_of result) (W.written sink.old) (W.written sink.new) (dump tree.now.conf tree.now.entries) }
@@ -99,7 +102,7 @@ pub fn write_stamped_dump<W: Sink>(
 
 /// The stamp of a tree, which was made with this configuration: the SHA-256 (FIPS 180-4) of its dump. The dump is made in pieces of some
 /// 64 KiB.
-pub fn stamp_of(alloc: Global, tree: &Tree, conf: &Conf) -> Result<[u8; 32], AllocError>
+pub fn stamp_of(alloc: Global, tree: &Tree, conf: &Conf) -> Result<Stamp, AllocError>
     requires { tree.now.conf ≡ conf.now }
     ensures { IfOk result (λ s. s ≡ stamp tree.now.conf tree.now.entries) }
 {

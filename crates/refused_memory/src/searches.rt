@@ -5,7 +5,7 @@ ghost use Rattle.std.specs.Prelude.{◌≡◌, IfOk, IfSome};
 use crate::directories::{PEOPLE, directory};
 use crate::shown::shown_by;
 use anyhow::{Error, Result};
-use directory::{Directory, search_with, stamp_of};
+use directory::{Directory, Stamp, search_with, stamp_of};
 use entries::{Entry, Refusal};
 use filter::{Prepared, prepare};
 use filter_text::{FilterFault, read_filter};
@@ -146,7 +146,7 @@ fn print_searches(rt: &impl Print, alloc: Global, dir: &Directory, by: By<'_>) -
     Ok(())
 }
 
-fn stamp(alloc: Global, dir: &Directory) -> Result<[u8; 32]> {
+fn stamp(alloc: Global, dir: &Directory) -> Result<Stamp> {
     match stamp_of(alloc, dir.tree(), dir.conf()) {
         Ok(stamp) => Ok(stamp),
         Err(_) => Ok(stamp_of(alloc, dir.tree(), dir.conf())?),
@@ -157,7 +157,7 @@ fn stored_once(
     alloc: Global,
     dir: &Directory,
     text: &[u8],
-    stamp: &[u8; 32],
+    stamp: &Stamp,
 ) -> Result<Option<StoredIndex>> {
     match StoredIndex::read(alloc, text, dir.conf(), stamp, dir.tree().len()) {
         Ok(stored) => Ok(Some(stored)),
@@ -173,7 +173,7 @@ fn stored(alloc: Global, dir: &Directory) -> Result<StoredIndex> {
     stored_by(alloc, dir, shown.index(), &stamp)
 }
 
-fn stored_by(alloc: Global, dir: &Directory, text: &[u8], stamp: &[u8; 32]) -> Result<StoredIndex> {
+fn stored_by(alloc: Global, dir: &Directory, text: &[u8], stamp: &Stamp) -> Result<StoredIndex> {
     match stored_once(alloc, dir, text, stamp)? {
         Some(stored) => Ok(stored),
         None => match stored_once(alloc, dir, text, stamp)? {

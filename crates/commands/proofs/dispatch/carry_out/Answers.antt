@@ -11,8 +11,8 @@ use Rattle.commands.proofs.dispatch.carry_out.Goals as goal
 pub returns-in-Ok-Help-clause-ends : goal.returns-in-Ok-Help-clause-ends
 returns-in-Ok-Help-clause-ends g c =
     let w : World = record { files = g.F.Folder.files c.args.folder.now; lock = g.F.Folder.locking c.args.folder.now; input = g.S.Source.seen c.args.input.now; output = g.O.Sink.written c.args.out.now; messages = g.E.Sink.written c.args.err.now } in
-    let w' : World = record w { output = g.O.Sink.written c.print.new.out } in
-    rw (c.in-Ok-Help.is, c.in-Ok-Help.field-0-is) (subst (λ (text : List ℕ). HasEnded (HelpGoesThrough text) (HelpStops text) w w' c.print.result) c.as_str.ensures.value (c.print.ensures w))
+    let w' : World = record w { output = g.O.Sink.written c.print_help.new.out } in
+    rw (c.in-Ok-Help.is, c.in-Ok-Help.field-0-is) (subst (λ (text : List ℕ). HasEnded (HelpGoesThrough text) (HelpStops text) w w' c.print_help.result) c.as_str.ensures.value (c.print_help.ensures w))
 
 pub returns-in-Ok-Add-clause-ends : goal.returns-in-Ok-Add-clause-ends
 returns-in-Ok-Add-clause-ends g c =

@@ -13,33 +13,33 @@ use Rattle.commands.specs.inner.Views.{basis_of}
 use Rattle.commands.proofs.Ends.{found_so, selection_so, printed_so, text_begun}
 use Rattle.commands.proofs.searching.print_by_scan.Goals as goal
 
-pub returns-in-Ok-clause-found : goal.returns-in-Ok-clause-found
-returns-in-Ok-clause-found g c =
+pub returns-in-Some-clause-found : goal.returns-in-Some-clause-found
+returns-in-Some-clause-found g c =
     let asked = c.args.asked.now in
     let d = c.args.database.now.tree in
-    printed_so (λ past text. IsFoundText asked None (basis_of c.args.filter.now d) past text) (goes_past asked.limit (map seen c.in-Ok.hits.to_come))
-    (found_text d.conf d.entries c.in_ok-wanted.wanted.selection (up_to asked.limit (map seen c.in-Ok.hits.to_come)))
-    (found_so asked None (basis_of c.args.filter.now d) c.in_ok-wanted.wanted.base c.in_ok-wanted.wanted.selection (map seen c.in-Ok.hits.to_come)
+    printed_so (λ past text. IsFoundText asked None (basis_of c.args.filter.now d) past text) (goes_past asked.limit (map seen c.in-Some.hits.to_come))
+    (found_text d.conf d.entries c.in_ok-wanted.wanted.selection (up_to asked.limit (map seen c.in-Some.hits.to_come)))
+    (found_so asked None (basis_of c.args.filter.now d) c.in_ok-wanted.wanted.base c.in_ok-wanted.wanted.selection (map seen c.in-Some.hits.to_come)
     (subst (λ (conf : Conf). IsBase conf (option_copied asked.base) c.in_ok-wanted.wanted.base) (sym c.args.database.now.same_conf) c.in_ok-wanted.ensures.base)
     (selection_so d.conf c.args.database.now.conf asked.attributes.items asked.attributes.items c.in_ok-wanted.wanted.selection (sym c.args.database.now.same_conf) refl c.in_ok-wanted.ensures.selection)
-    (sym c.in-Ok.ensures.there)
-    (c.in-Ok.ensures.found ∙ ap (λ (m : Made). scan d.conf d.entries c.in_ok-wanted.wanted.base asked.scope (view m.filter)) c.in_ok-wanted.ensures.filter)
+    (sym c.in-Some.ensures.there)
+    (c.in-Some.ensures.found ∙ ap (λ (m : Made). scan d.conf d.entries c.in_ok-wanted.wanted.base asked.scope (view m.filter)) c.in_ok-wanted.ensures.filter)
     (λ own. refl))
     c.print_hits.result _ _ c.print_hits.ensures.past c.print_hits.ensures.printed
 
-pub returns-in-Ok-clause-partly : goal.returns-in-Ok-clause-partly
-returns-in-Ok-clause-partly g c =
+pub returns-in-Some-clause-partly : goal.returns-in-Some-clause-partly
+returns-in-Some-clause-partly g c =
     let asked = c.args.asked.now in
     let d = c.args.database.now.tree in
-    let past = goes_past asked.limit (map seen c.in-Ok.hits.to_come) in
+    let past = goes_past asked.limit (map seen c.in-Some.hits.to_come) in
     text_begun (λ text. (past : Bool) × IsFoundText asked None (basis_of c.args.filter.now d) past text) None
-    (found_text d.conf d.entries c.in_ok-wanted.wanted.selection (up_to asked.limit (map seen c.in-Ok.hits.to_come))) (
+    (found_text d.conf d.entries c.in_ok-wanted.wanted.selection (up_to asked.limit (map seen c.in-Some.hits.to_come))) (
       past,
-      found_so asked None (basis_of c.args.filter.now d) c.in_ok-wanted.wanted.base c.in_ok-wanted.wanted.selection (map seen c.in-Ok.hits.to_come)
+      found_so asked None (basis_of c.args.filter.now d) c.in_ok-wanted.wanted.base c.in_ok-wanted.wanted.selection (map seen c.in-Some.hits.to_come)
           (subst (λ (conf : Conf). IsBase conf (option_copied asked.base) c.in_ok-wanted.wanted.base) (sym c.args.database.now.same_conf) c.in_ok-wanted.ensures.base)
           (selection_so d.conf c.args.database.now.conf asked.attributes.items asked.attributes.items c.in_ok-wanted.wanted.selection (sym c.args.database.now.same_conf) refl c.in_ok-wanted.ensures.selection)
-          (sym c.in-Ok.ensures.there)
-          (c.in-Ok.ensures.found ∙ ap (λ (m : Made). scan d.conf d.entries c.in_ok-wanted.wanted.base asked.scope (view m.filter)) c.in_ok-wanted.ensures.filter)
+          (sym c.in-Some.ensures.there)
+          (c.in-Some.ensures.found ∙ ap (λ (m : Made). scan d.conf d.entries c.in_ok-wanted.wanted.base asked.scope (view m.filter)) c.in_ok-wanted.ensures.filter)
           (λ own. refl)
           past refl,
     )

@@ -29,7 +29,7 @@ returns-in-Ok-false-clause-ends g c = λ w.
     let files = g.F.Folder.files c.args.folder.now in
     let l = c.in_ok-loaded.loaded in
     searched asked (record w { files = files; output = g.O.Sink.written c.args.out.now; messages = g.E.Sink.written c.args.err.now }) (said l.file) _ c.in_ok-report_index.ensures.reports _
-    (subst (λ (past : Bool). HasPrinted (SearchText asked files (said l.file) past) (g.O.Sink.written c.args.out.now) (g.O.Sink.written c.print-printed.new.out)) c.in-Ok-false.field-0-test
+    (subst (λ (past : Bool). HasPrinted (SearchText asked files (said l.file) past) (g.O.Sink.written c.args.out.now) (g.O.Sink.written c.print_found-printed.new.out)) c.in-Ok-false.field-0-test
     (printed_more (IsFoundText asked (said l.file) (basis_of l.filter l.database.tree) _) (SearchText asked files (said l.file) _) (text_so asked files l c.in_ok-loaded.ensures.loaded _) _ _ c.in-Ok-false.ensures.found))
 
 pub returns-in-Ok-true-clause-ends : goal.returns-in-Ok-true-clause-ends
@@ -38,7 +38,7 @@ returns-in-Ok-true-clause-ends g c = λ w.
     let files = g.F.Folder.files c.args.folder.now in
     let l = c.in_ok-loaded.loaded in
     searched_past asked (record w { files = files; output = g.O.Sink.written c.args.out.now; messages = g.E.Sink.written c.args.err.now }) (said l.file) _ c.in_ok-report_index.ensures.reports _ (g.E.Sink.written c.report_fault.new.err) _ _ _
-    (subst (λ (past : Bool). HasPrinted (SearchText asked files (said l.file) past) (g.O.Sink.written c.args.out.now) (g.O.Sink.written c.print-printed.new.out)) c.in-Ok-true.field-0-test
+    (subst (λ (past : Bool). HasPrinted (SearchText asked files (said l.file) past) (g.O.Sink.written c.args.out.now) (g.O.Sink.written c.print_found-printed.new.out)) c.in-Ok-true.field-0-test
     (printed_more (IsFoundText asked (said l.file) (basis_of l.filter l.database.tree) _) (SearchText asked files (said l.file) _) (text_so asked files l c.in_ok-loaded.ensures.loaded _) _ _ c.in-Ok-true.ensures.found))
     c.past_limit.ensures.text c.past_limit.ensures.status c.report_fault.ensures.reported
 

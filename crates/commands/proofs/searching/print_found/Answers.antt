@@ -6,7 +6,7 @@ use Rattle.commands.specs.inner.IndexFiles.{said}
 use Rattle.commands.specs.inner.Views.{basis_of}
 use Rattle.commands.proofs.Ends.{printed_more, partly_more}
 use Rattle.commands.proofs.Searched.{beside}
-use Rattle.commands.proofs.searching.print.Goals as goal
+use Rattle.commands.proofs.searching.print_found.Goals as goal
 
 pub returns-in-Faulty-clause-found : goal.returns-in-Faulty-clause-found
 returns-in-Faulty-clause-found g c =

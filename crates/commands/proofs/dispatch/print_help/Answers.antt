@@ -2,7 +2,7 @@ use Rattle.std.proofs.Common.{refl, subst}
 use Rattle.device.specs.Device.{Took, Broke}
 use Rattle.commands.specs.Commands.{HelpStops}
 use Rattle.commands.proofs.Stopping.{stopped}
-use Rattle.commands.proofs.dispatch.print.Goals as goal
+use Rattle.commands.proofs.dispatch.print_help.Goals as goal
 
 pub returns-in-Ok : goal.returns-in-Ok
 returns-in-Ok g c = λ w. (refl, record { took = subst (Took _ _) c.as_bytes.ensures.value c.in-Ok.ensures.ok; stays = refl })
