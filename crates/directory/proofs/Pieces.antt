@@ -1,12 +1,15 @@
 -- Writing piece by piece.
 use Rattle.std.proofs.Common.{◌≡◌, ℕ, List, [], ◌++◌, refl, sym, ◌∙◌, ap, subst, append_assoc}
 use Rattle.std.specs.Prelude.{Result, Ok, Err}
+use Rattle.std.specs.Result.{IsErrAnd}
 use Rattle.std.proofs.lemmas.List.{append-nil}
+use Rattle.std.proofs.lemmas.Result.{err_from_is_err_and}
 use Rattle.device.specs.Device.{Written, Took, Broke}
 use Rattle.device.proofs.Taken.{took_none, took_more, broke_after, broke_before}
 use Rattle.ldif.specs.declared.write.WriteFault.{WriteFault}
 use Rattle.ldif.specs.declared.write.WriteFault.TheVariants as faults
 use Rattle.directory.specs.Dumps.{SoFar, Begun, Writes}
+use Rattle.directory.specs.inner.Dumps.{WritesOn}
 
 pub begins : (a : Written) (whole : List ℕ) → SoFar a a whole whole
 begins a whole = record { front = []; parts = refl; written = took_none a }
@@ -57,6 +60,18 @@ nothing_yet a whole left is = subst (SoFar a a whole) (sym is) (begins a whole)
 
 pub want_at_once : (a : Written) (whole : List ℕ) → Begun a a whole
 want_at_once a whole = record { rest = whole; so_far = begins a whole }
+
+-- memory ran out before anything was written
+module _ (answer : Result (Unit {0}) WriteFault) (is : IsErrAnd answer (λ e. e ≡ faults.OutOfMemory)) (a : Written) (whole : List ℕ) where
+  pub wants_memory : Writes answer a a whole
+  wants_memory =
+      let p = err_from_is_err_and answer is in
+      rw (p.1, p.2) (want_at_once a whole)
+
+  pub wants_memory_on : (left : List ℕ) → WritesOn answer a a whole left
+  wants_memory_on left =
+      let p = err_from_is_err_and answer is in
+      rw (p.1, p.2) (want_at_once a whole)
 
 -- what was put at the end, of what is to come there
 pub put_on : (out longer xs rest more total : List ℕ) → longer ≡ out ++ xs → rest ≡ xs ++ more → out ++ rest ≡ total → longer ++ more ≡ total

@@ -6,19 +6,15 @@ use Rattle.index_text.specs.IndexTexts.{ended, end_line}
 use Rattle.directory.specs.Dumps.{SoFar}
 use Rattle.directory.specs.IndexTexts.{index_text}
 use Rattle.directory.specs.inner.IndexRows.{slots_lines}
-use Rattle.directory.proofs.Pieces.{want_at_once, ends}
+use Rattle.directory.proofs.Pieces.{wants_memory, ends}
 use Rattle.directory.proofs.WrittenLines.{longer, stopped_early, in_parts}
 use Rattle.directory.proofs.index_of_entries.write_index_of_entries.Goals as goal
 
 pub returns-in_err-text : goal.returns-in_err-text
-returns-in_err-text g c =
-    let p = err_from_is_err_and c.from_residual.result c.from_residual.ensures.1 in
-    record { writes = rw (p.1, p.2) (want_at_once (g.W.Sink.written c.args.sink.now) (index_text c.args.conf.now c.args.tree.now.entries)) }
+returns-in_err-text g c = record { writes = wants_memory c.from_residual.result c.from_residual.ensures.1 (g.W.Sink.written c.args.sink.now) (index_text c.args.conf.now c.args.tree.now.entries) }
 
 pub returns-in_err-entries : goal.returns-in_err-entries
-returns-in_err-entries g c =
-    let p = err_from_is_err_and c.from_residual-in_err-entries.result c.from_residual-in_err-entries.ensures.1 in
-    record { writes = rw (p.1, p.2) (want_at_once (g.W.Sink.written c.args.sink.now) (index_text c.args.conf.now c.args.tree.now.entries)) }
+returns-in_err-entries g c = record { writes = wants_memory c.from_residual-in_err-entries.result c.from_residual-in_err-entries.ensures.1 (g.W.Sink.written c.args.sink.now) (index_text c.args.conf.now c.args.tree.now.entries) }
 
 pub returns-in_err-write_slots : goal.returns-in_err-write_slots
 returns-in_err-write_slots g c =

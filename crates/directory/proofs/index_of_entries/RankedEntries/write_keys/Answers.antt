@@ -1,6 +1,5 @@
 use Rattle.std.proofs.Common.{◌≡◌, ℕ, List, ◌++◌, ap, ◌∙◌, subst}
 use Rattle.std.specs.Prelude.{Result}
-use Rattle.std.proofs.lemmas.Result.{err_from_is_err_and}
 use Rattle.device.specs.Device.{Written}
 use Rattle.ldif.specs.declared.write.WriteFault.{WriteFault}
 use Rattle.schema.specs.declared.slots.IndexKind.TheVariants.{Equality, Presence, Substrings}
@@ -10,7 +9,7 @@ use Rattle.ranked_keys.specs.Pairs.{norm_pairs, window_pairs}
 use Rattle.ranked_keys.specs.RankedKeys.{rows_text}
 use Rattle.directory.specs.inner.Dumps.{WritesOn}
 use Rattle.directory.specs.inner.IndexRows.{keys_lines}
-use Rattle.directory.proofs.Pieces.{want_at_once}
+use Rattle.directory.proofs.Pieces.{wants_memory_on}
 use Rattle.directory.proofs.SortedRows.{lines_same}
 use Rattle.directory.proofs.index_of_entries.RankedEntries.write_keys.Goals as goal
 
@@ -19,14 +18,10 @@ as_lines : (answer : Result (Unit {0}) WriteFault) (a b : Written) (text rows li
 as_lines answer a b text rows lines left same written = subst (λ (bs : List ℕ). WritesOn answer a b (text ++ bs) left) same written
 
 pub returns-in_err-bytes-in-Equality : goal.returns-in_err-bytes-in-Equality
-returns-in_err-bytes-in-Equality g c =
-    let p = err_from_is_err_and c.from_residual.result c.from_residual.ensures.1 in
-    rw (p.1, p.2) (want_at_once (g.W.Sink.written c.args.sink.now) (c.args.text.now.items ++ keys_lines c.args.self.now.conf.now c.args.self.now.tree.now.entries c.args.slot.now))
+returns-in_err-bytes-in-Equality g c = wants_memory_on c.from_residual.result c.from_residual.ensures.1 (g.W.Sink.written c.args.sink.now) (c.args.text.now.items ++ keys_lines c.args.self.now.conf.now c.args.self.now.tree.now.entries c.args.slot.now) _
 
 pub returns-in_err-keys-in-Equality : goal.returns-in_err-keys-in-Equality
-returns-in_err-keys-in-Equality g c =
-    let p = err_from_is_err_and c.from_residual-in_err-keys-in-Equality.result c.from_residual-in_err-keys-in-Equality.ensures.1 in
-    rw (p.1, p.2) (want_at_once (g.W.Sink.written c.args.sink.now) (c.args.text.now.items ++ keys_lines c.args.self.now.conf.now c.args.self.now.tree.now.entries c.args.slot.now))
+returns-in_err-keys-in-Equality g c = wants_memory_on c.from_residual-in_err-keys-in-Equality.result c.from_residual-in_err-keys-in-Equality.ensures.1 (g.W.Sink.written c.args.sink.now) (c.args.text.now.items ++ keys_lines c.args.self.now.conf.now c.args.self.now.tree.now.entries c.args.slot.now) _
 
 pub returns-in_ok-keys-in-Equality : goal.returns-in_ok-keys-in-Equality
 returns-in_ok-keys-in-Equality g c =
@@ -38,9 +33,7 @@ returns-in_ok-keys-in-Equality g c =
     c.write_rows.ensures
 
 pub returns-in_err-keys-in-Presence : goal.returns-in_err-keys-in-Presence
-returns-in_err-keys-in-Presence g c =
-    let p = err_from_is_err_and c.from_residual-in_err-keys-in-Presence.result c.from_residual-in_err-keys-in-Presence.ensures.1 in
-    rw (p.1, p.2) (want_at_once (g.W.Sink.written c.args.sink.now) (c.args.text.now.items ++ keys_lines c.args.self.now.conf.now c.args.self.now.tree.now.entries c.args.slot.now))
+returns-in_err-keys-in-Presence g c = wants_memory_on c.from_residual-in_err-keys-in-Presence.result c.from_residual-in_err-keys-in-Presence.ensures.1 (g.W.Sink.written c.args.sink.now) (c.args.text.now.items ++ keys_lines c.args.self.now.conf.now c.args.self.now.tree.now.entries c.args.slot.now) _
 
 pub returns-in_ok-keys-in-Presence : goal.returns-in_ok-keys-in-Presence
 returns-in_ok-keys-in-Presence g c =
@@ -52,9 +45,7 @@ returns-in_ok-keys-in-Presence g c =
     c.write_rows-in-Presence.ensures
 
 pub returns-in_err-keys-in-Substrings : goal.returns-in_err-keys-in-Substrings
-returns-in_err-keys-in-Substrings g c =
-    let p = err_from_is_err_and c.from_residual-in_err-keys-in-Substrings.result c.from_residual-in_err-keys-in-Substrings.ensures.1 in
-    rw (p.1, p.2) (want_at_once (g.W.Sink.written c.args.sink.now) (c.args.text.now.items ++ keys_lines c.args.self.now.conf.now c.args.self.now.tree.now.entries c.args.slot.now))
+returns-in_err-keys-in-Substrings g c = wants_memory_on c.from_residual-in_err-keys-in-Substrings.result c.from_residual-in_err-keys-in-Substrings.ensures.1 (g.W.Sink.written c.args.sink.now) (c.args.text.now.items ++ keys_lines c.args.self.now.conf.now c.args.self.now.tree.now.entries c.args.slot.now) _
 
 pub returns-in_ok-keys-in-Substrings : goal.returns-in_ok-keys-in-Substrings
 returns-in_ok-keys-in-Substrings g c =

@@ -2,16 +2,13 @@ use Rattle.std.proofs.Common.{◌≡◌, ℕ, List, ◌++◌, sym, ap, ◌∙◌
 use Rattle.schema.specs.Conf.{Conf}
 use Rattle.tree.specs.Directories.{Entries}
 use Rattle.index_text.specs.IndexTexts.{ended, slot_line}
-use Rattle.std.proofs.lemmas.Result.{err_from_is_err_and}
 use Rattle.directory.specs.inner.Dumps.{WritesOn}
 use Rattle.directory.specs.inner.IndexRows.{slot_lines, keys_lines}
-use Rattle.directory.proofs.Pieces.{want_at_once}
+use Rattle.directory.proofs.Pieces.{wants_memory_on}
 use Rattle.directory.proofs.index_of_entries.RankedEntries.write_slot.Goals as goal
 
 pub returns-in_err-put_slot : goal.returns-in_err-put_slot
-returns-in_err-put_slot g c =
-    let p = err_from_is_err_and c.from_residual.result c.from_residual.ensures.1 in
-    rw (p.1, p.2) (want_at_once (g.W.Sink.written c.args.sink.now) (c.args.text.now.items ++ slot_lines c.args.self.now.conf.now c.args.self.now.tree.now.entries c.args.slot.now))
+returns-in_err-put_slot g c = wants_memory_on c.from_residual.result c.from_residual.ensures.1 (g.W.Sink.written c.args.sink.now) (c.args.text.now.items ++ slot_lines c.args.self.now.conf.now c.args.self.now.tree.now.entries c.args.slot.now) _
 
 pub returns : goal.returns
 returns g c =

@@ -5,18 +5,15 @@ use Rattle.schema.specs.Conf.{Conf}
 use Rattle.tree.specs.Trees.{Tree}
 use Rattle.tree.proofs.Order.{path_total}
 use Rattle.index_text.specs.IndexTexts.{ended, slot_line, key_line}
-use Rattle.std.proofs.lemmas.Result.{err_from_is_err_and}
 use Rattle.directory.specs.IndexTexts.{slot_rows, contents}
 use Rattle.directory.specs.inner.Dumps.{WritesOn}
 use Rattle.directory.specs.inner.IndexRows.{slot_lines, rows_text}
 use Rattle.directory.proofs.IndexRows.{lines_are}
-use Rattle.directory.proofs.Pieces.{want_at_once}
+use Rattle.directory.proofs.Pieces.{wants_memory_on}
 use Rattle.directory.proofs.index_texts.Listing.write_slot.Goals as goal
 
 pub returns-in_err-put_slot : goal.returns-in_err-put_slot
-returns-in_err-put_slot g c =
-    let p = err_from_is_err_and c.from_residual.result c.from_residual.ensures.1 in
-    rw (p.1, p.2) (want_at_once (g.W.Sink.written c.args.sink.now) (c.args.text.now.items ++ slot_lines c.args.self.now.conf.now c.args.self.now.tree.now.entries c.args.slot.now))
+returns-in_err-put_slot g c = wants_memory_on c.from_residual.result c.from_residual.ensures.1 (g.W.Sink.written c.args.sink.now) (c.args.text.now.items ++ slot_lines c.args.self.now.conf.now c.args.self.now.tree.now.entries c.args.slot.now) _
 
 pub keys-keys-requires : goal.keys-keys-requires
 keys-keys-requires g c =
