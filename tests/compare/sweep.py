@@ -1,16 +1,17 @@
 #!/usr/bin/env python3
-"""Reads a dir.conf and a filter that have all forms, broken at each byte, by a built program and by a second reading: sweep.py PROGRAM
-[--all]
+"""Reads a dir.conf, a dump, records and a filter that have all forms, broken at each byte, by a built program and by a second reading:
+sweep.py PROGRAM [--all]
 
-Each beginning of the text, and each single byte changed into others (with --all: into all that it may be), is a dir.conf of its own, with no
-data.ldif, or a filter of its own over a few entries. What slapindex answers and says, and the slots of the index.txt that it stores, and
-what slapcat answers, prints and says must be what `model.py` says, byte for byte: a configuration or a numbered fault with its line; entries
-or a fault at a place. Prints each difference and at the end the number of texts;
-the exit status is 0 where nothing differs, else 1.
+Each beginning of a text, and each single byte changed into others (with --all: into all that it may be), is a dir.conf of its own, with no
+data.ldif; a data.ldif of its own; an input of slapadd or ldapmodify of its own, over a few entries; or a filter of its own over such. What
+the commands answer, print, say and store must be what `model.py` says, byte for byte: a configuration, a directory and its index, or
+numbered faults with their lines; entries or a fault at a place. Prints each difference and at the end the number of texts; the exit status
+is 0 where nothing differs, else 1.
 """
 import argparse
 import collections
 import concurrent.futures
+import functools
 import os
 import subprocess
 import sys
@@ -52,6 +53,97 @@ FILTER_DATA = b"dn: dc=ex\nobjectClass: one\ncn: ab\n\n" + b"".join(
     for name, n in [(b"ab", 5), (b"a b c*", 7), (b"\xc3\xa4", -12), (b"x*(y", 6)])
 
 
+RECORD_OTHERS = b"\0\n\r #+,-:;<=0Aa\\\x80"
+
+ENTRIES_CONF = b"""\
+suffix "dc=ex"
+attributetype ( 0.9.2342.19200300.100.1.25 NAME 'dc' EQUALITY caseIgnoreMatch SYNTAX 1.3.6.1.4.1.1466.115.121.1.15 SINGLE-VALUE )
+attributetype ( 2.5.4.3 NAME ( 'cn' 'commonName' ) EQUALITY caseIgnoreMatch SUBSTR caseIgnoreSubstringsMatch
+  SYNTAX 1.3.6.1.4.1.1466.115.121.1.15 )
+attributetype ( 2.5.4.13 NAME 'description' EQUALITY caseIgnoreMatch SYNTAX 1.3.6.1.4.1.1466.115.121.1.15 )
+attributetype ( 1.3.6.1.1.1.1.0 NAME 'uidNumber' EQUALITY integerMatch SYNTAX 1.3.6.1.4.1.1466.115.121.1.27 SINGLE-VALUE )
+attributetype ( 2.5.4.49 NAME 'member' EQUALITY distinguishedNameMatch SYNTAX 1.3.6.1.4.1.1466.115.121.1.12 )
+objectclass ( 0.9.2342.19200300.100.4.13 NAME 'domain' SUP top STRUCTURAL MUST dc )
+objectclass ( 2.5.6.6 NAME 'person' SUP top STRUCTURAL MUST cn MAY ( description $ uidNumber $ member ) )
+index cn eq,pres,sub
+index member eq
+"""
+
+DUMP = b"""\
+dn: dc=ex
+objectClass: domain
+dc: ex
+
+dn: cn=aba,dc=ex
+objectClass: person
+cn: aba
+description:: w6Qg
+description: fol
+ ded
+
+dn: cn=Bob\\, B,dc=ex
+objectClass: person
+uidNumber: 7
+member: cn=aba,dc=ex
+cn: Bob, B
+
+dn: cn=x,cn=aba,dc=ex
+objectClass: person
+cn: x
+
+"""
+
+ADDED = b"""\
+version: 1
+
+dn: cn=a,dc=ex
+# note
+ more
+cn: a
+description: fol
+ ded
+objectClass: person
+
+dn:: Y249YixjbjE9YQ==
+objectClass: person
+
+dn: cn=b,cn=a,dc=ex
+changetype: add
+objectClass: person
+cn:: YiA=
+uidNumber: -7
+"""
+
+CHANGED = b"""\
+dn: cn=aba,dc=ex
+changetype: modify
+add: description
+description: x
+-
+delete: description
+description: folded
+-
+replace: uidNumber
+uidNumber: 8
+-
+
+dn: cn=x,cn=aba,dc=ex
+changetype: modrdn
+newrdn: cn=y
+deleteoldrdn: 1
+newsuperior: dc=ex
+
+dn: cn=Bob\\2C B,dc=ex
+control: 1.2.3 false: a
+changetype: delete
+
+dn: cn=n,dc=ex
+changetype: add
+objectClass: person
+member: cn=a,dc=ex
+"""
+
+
 def broken(text, others):
     """each beginning of a text, and the text with each byte changed"""
     for end in range(len(text) + 1):
@@ -73,6 +165,34 @@ def conf_answers(program, home, text):
         (db / name).unlink()
     status, messages, wanted = model.slapindex(text, None, db)
     return (done.returncode, done.stdout, done.stderr, stored), (status, b"", messages, wanted)
+
+
+def dump_answers(program, home, text):
+    """-> (what the program answers to a data.ldif, what the second reading answers)"""
+    db = home / f"dump{os.getpid()}"
+    db.mkdir(exist_ok=True)
+    (db / "dir.conf").write_bytes(ENTRIES_CONF)
+    (db / "data.ldif").write_bytes(text)
+    done = subprocess.run([program, "slapcat", "--db", db], capture_output=True, timeout=10)
+    return (done.returncode, done.stdout, done.stderr), model.slapcat(ENTRIES_CONF, text, db)
+
+
+def record_answers(command, second, program, home, text):
+    """-> (what the program answers to records, and stores, what the second reading answers)"""
+    db = home / f"records{os.getpid()}"
+    db.mkdir(exist_ok=True)
+    before = {"dir.conf": ENTRIES_CONF, "data.ldif": DUMP}
+    for name, content in before.items():
+        (db / name).write_bytes(content)
+    done = subprocess.run([program, command, "--db", db, "-c"], input=text, capture_output=True, timeout=10)
+    stored = {path.name: path.read_bytes() for path in db.iterdir()}
+    (db / "index.txt").unlink(missing_ok=True)
+    status, messages, wanted = second(ENTRIES_CONF, DUMP, text, go_on=True, dry_run=False, folder=db, source="input")
+    return (done.returncode, done.stdout, done.stderr, stored), (status, b"", messages, {**before, **wanted})
+
+
+ADD_ANSWERS = functools.partial(record_answers, "slapadd", model.slapadd)
+CHANGE_ANSWERS = functools.partial(record_answers, "ldapmodify", functools.partial(model.ldapmodify, add_default=False))
 
 
 def filter_answers(program, home, text):
@@ -110,6 +230,8 @@ def main():
     all_bytes = [bytes([b]) for b in range(256)]
     sweeps = [
         (conf_answers, list(broken(CONF, all_bytes if words.all else [bytes([b]) for b in OTHERS]))),
+        *((answers, list(broken(text, all_bytes if words.all else [bytes([b]) for b in RECORD_OTHERS])))
+          for answers, text in [(dump_answers, DUMP), (ADD_ANSWERS, ADDED), (CHANGE_ANSWERS, CHANGED)]),
         (filter_answers, list(broken(FILTER, all_bytes[1:128] + FILTER_OTHERS[-2:] if words.all else FILTER_OTHERS))),
     ]
     told, different = collections.Counter(), []
