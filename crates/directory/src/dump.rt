@@ -11,7 +11,7 @@ ghost use Rattle.directory.specs.inner.Dumps.{WritesOn, AreKnown, values_text, a
 use crate::directory::Directory;
 use crate::laws::loading_a_dump;
 use crate::selection::Selection;
-use device::{Device, Sink, push_all};
+use device::{Sink, push_all};
 use entries::{Entry, Values};
 use ldif::{WriteFault, put_line};
 use schema::{Conf, Path, TypeId};
