@@ -24,6 +24,9 @@ use Rattle.filter_text.specs.Spells.{FilterContent, FilterContents, All_of, Any_
 use Rattle.filter.specs.Prepared.{prepared_filter}
 use Rattle.index.specs.KeySets.{Members}
 use Rattle.index.specs.Postings.{Shown, slot_in}
+use Rattle.index.specs.SlotKeys.{slot_key}
+use Rattle.index.specs.declared.slot_key.SlotKey.{SlotKey}
+use Rattle.candidates.specs.Asked.{asked_keys}
 use Rattle.candidates.specs.Sides.{Sides, unknown, neither, exactly, at_most, sides}
 
 abbrev type_with : List ℕ → List ℕ → Option ℕ → Syntax → Family → Bool → Bool → AttributeType
@@ -148,3 +151,21 @@ module _ (numbers : ℕ → List ℕ → Members) (n : ℕ) where
   or_with_undefined : said (Any_of (two no_type bob)) ≡ record { may = has 0 (codes "bob") || false; may_not = false }
   unfolding compares
   or_with_undefined = refl
+
+-- ---- the keys that are asked for
+
+abbrev asked : FilterContent → List SlotKey
+asked f = asked_keys (slot_in slots) (prepared_filter types f)
+
+asks_for_windows : asked has_obby ≡ slot_key 2 (codes "obb") ∷ slot_key 2 (codes "bby") ∷ []
+unfolding compares
+asks_for_windows = refl
+
+-- of each item, also where it is negated; an order asks for the empty key
+asks_for_each : asked (All_of (two (Not_of bob) (Leaf (GreaterOrEqual (codes "uidNumber") (codes "7"))))) ≡ slot_key 0 (codes "bob") ∷ slot_key 3 [] ∷ []
+unfolding compares
+asks_for_each = refl
+
+asks_for_none : asked (Any_of (two no_type (Leaf (Equality (codes "uidNumber") (codes "7"))))) ≡ []
+unfolding compares
+asks_for_none = refl

@@ -1,4 +1,5 @@
 pub mod Allowed
+pub mod AskedKeys
 pub mod Examples
 pub mod Norms
 pub mod Operands

@@ -1,3 +1,4 @@
+pub mod Asked
 pub mod Brackets
 pub mod Candidates
 pub mod Numbers

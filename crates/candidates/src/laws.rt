@@ -1,14 +1,15 @@
 //! What candidates say of a filter's truth.
 
-ghost use Rattle.std.specs.Prelude.{ℕ};
+ghost use Rattle.std.specs.Prelude.{◌≡◌, ℕ};
 ghost use Rattle.std.specs.List.{AllByRecursion};
 ghost use Rattle.schema.specs.Conf.{Conf, IsConf};
 ghost use Rattle.entries.specs.Entries.{Attributes, IsAttribute};
 ghost use Rattle.filter_text.specs.Spells.{FilterContent};
 ghost use Rattle.filter.specs.Filters.{truth};
-ghost use Rattle.filter.specs.Prepared.{prepared_filter};
+ghost use Rattle.filter.specs.Prepared.{PreparedContent, prepared_filter};
 ghost use Rattle.index.specs.Indexes.{Index};
 ghost use Rattle.index.specs.Postings.{Shown, shown_by};
+ghost use Rattle.candidates.specs.Asked.{asked_keys, HaveSameSlots, ShowAlike};
 ghost use Rattle.candidates.specs.Brackets.{Allows, HasKeysOf, Reflects};
 ghost use Rattle.candidates.specs.Sides.{sides};
 
@@ -28,3 +29,8 @@ pub fn indexes_reflect_entries()
 {
     index::keys_are_told();
 }
+
+/// What postings show of other keys than those that a filter asks for doesn't matter to it.
+pub fn asked_keys_suffice()
+    ensures { (a b : Shown) (f : PreparedContent) (n : ℕ) → HaveSameSlots a b → ShowAlike a b (asked_keys b.slot_of f) → sides a n f ≡ sides b n f }
+{}

@@ -4,6 +4,7 @@
 //! The functions of `laws` do nothing: a call of one is made for what it states alone.
 #![tactic(auto)]
 
+mod asked;
 mod filters;
 mod held;
 mod items;
@@ -11,6 +12,7 @@ mod laws;
 mod numbers;
 mod side;
 
+pub use asked::asked_keys;
 pub use filters::{Bracket, candidates, may_match};
-pub use laws::{brackets_hold, indexes_reflect_entries};
+pub use laws::{asked_keys_suffice, brackets_hold, indexes_reflect_entries};
 pub use numbers::Numbers;
