@@ -1,6 +1,6 @@
 use Rattle.std.proofs.Common.{sym, ◌∙◌}
 use Rattle.stored_index.proofs.NumberCuts.{is_number, at_end, at_space}
-use Rattle.stored_index.proofs.numbers.cut_number.Goals as goal
+use Rattle.stored_index.proofs.numbers.cut_any.Goals as goal
 
 pub returns-in-None-clause-parts : goal.returns-in-None-clause-parts
 returns-in-None-clause-parts c = at_end c.args.text.now c.digits-at.result.0 c.digits-at.result.1 c.in-None.ensures.lookup.3 c.digits-at.ensures.number
