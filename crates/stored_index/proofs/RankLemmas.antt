@@ -70,14 +70,22 @@ pub in_order_more : (key a : Bool) (ns : List ℕ) (least n : ℕ) → a ≡ are
 in_order_more true a ns least n e f = rw (e, f) (and_is (are_rising 0 ns) (nat_le (least_after 0 ns) n) ∙ sym (rising_more 0 ns n))
 in_order_more false a ns least n e f = rw e refl
 
-pub kept : (r new : List ℕ) (a : Bool) (entries least rank : ℕ) (ns : List ℕ) → (a ≡ true → least ≤ entries → r ≡ ns)
-    → (((a && nat_le least rank) && nat_lt rank entries) ≡ true → new ≡ r ++ rank ∷ []) → (a && nat_le least rank) ≡ true → rank + 1 ≤ entries
+-- what keeping a rank makes of those that were kept, where they are asked for
+pub kept : (r new : List ℕ) (asked a : Bool) (entries least rank : ℕ) (ns : List ℕ) → asked ≡ true → (a ≡ true → least ≤ entries → r ≡ ns)
+    → new ≡ (if (asked && (a && nat_le least rank)) && nat_lt rank entries then r ++ rank ∷ [] else r) → (a && nat_le least rank) ≡ true → rank + 1 ≤ entries
     → new ≡ ns ++ rank ∷ []
-kept r new a entries least rank ns so_far put rises fits =
+kept r new asked a entries least rank ns is so_far put rises fits =
     let parts = and_parts a (nat_le least rank) rises in
     let low : least ≤ rank = grind (arith, nat_tests, parts.1) in
     let small : nat_lt rank entries ≡ true = grind (arith, nat_tests) in
-    put (all_cons (a && nat_le least rank) (nat_lt rank entries) rises small) ∙ ap (λ (xs : List ℕ). xs ++ rank ∷ []) (so_far parts.0 (omega arith))
+    let wanted = all_cons (asked && (a && nat_le least rank)) (nat_lt rank entries) (all_cons asked (a && nat_le least rank) is rises) small in
+    put ∙ ap (λ (w : Bool). if w then r ++ rank ∷ [] else r) wanted ∙ ap (λ (xs : List ℕ). xs ++ rank ∷ []) (so_far parts.0 (omega arith))
+
+-- and where they aren't
+pub none_kept : (r new : List ℕ) (asked a : Bool) (entries least rank : ℕ) → asked ≡ false → r ≡ []
+    → new ≡ (if (asked && (a && nat_le least rank)) && nat_lt rank entries then r ++ rank ∷ [] else r) → new ≡ []
+none_kept r new asked a entries least rank isnt none put =
+    put ∙ ap (λ (q : Bool). if (q && (a && nat_le least rank)) && nat_lt rank entries then r ++ rank ∷ [] else r) isnt ∙ none
 
 above_all : (least low : ℕ) (ns : List ℕ) → low < least → are_rising least ns ≡ true → AllAbove low ns
 unfolding are_rising

@@ -36,7 +36,7 @@ fn read_words(
 {
     let key = read_key(alloc, word)?;
     let is_in_order = is_above(before, key.as_slice());
-    let ranks = read_ranks(alloc, words, is_in_order, entries)?;
+    let ranks = read_ranks(alloc, words, is_in_order, entries, true)?;
     Ok(Row::new(Bytes::from_vec(key), ranks))
 }
 

@@ -1,10 +1,10 @@
 //! The ranks behind a key.
 
-ghost use Rattle.std.specs.Prelude.{◌≡◌, ◌++◌, ◌∷◌, [], true, OnOk};
+ghost use Rattle.std.specs.Prelude.{◌≡◌, ◌++◌, ◌∷◌, [], if◌then◌else◌, OnOk};
 ghost use Rattle.base.specs.Ascii.{space};
 ghost use Rattle.stored_index.specs.Cuts.{parts};
 ghost use Rattle.stored_index.specs.KeyLines.{ranks_in};
-ghost use Rattle.stored_index.specs.inner.Reads.{Reads, IsSetOf};
+ghost use Rattle.stored_index.specs.inner.Reads.{Reads, SetIfAsked};
 
 use crate::fault::{IndexFault, IndexFaultKind};
 use crate::numbers::cut_number;
@@ -24,7 +24,7 @@ fn add(ranks: &mut Vec<u32>, rank: u64) -> Result<(), AllocError>
 
 // puts a rank that is wanted behind others
 fn keep(ranks: &mut Vec<u32>, rank: u64, is_wanted: bool) -> Result<(), AllocError>
-    ensures { is_wanted ≡ true → OnOk result (ranks.new.items ≡ ranks.old.items ++ rank ∷ []) }
+    ensures { OnOk result (ranks.new.items ≡ (if is_wanted then ranks.old.items ++ rank ∷ [] else ranks.old.items)) }
 {
     if is_wanted {
         add(ranks, rank)?;
@@ -32,14 +32,15 @@ fn keep(ranks: &mut Vec<u32>, rank: u64, is_wanted: bool) -> Result<(), AllocErr
     Ok(())
 }
 
-/// The ranks that stand behind a key, which is in order itself or not.
+/// The ranks that stand behind a key, which is in order itself or not. None is kept where they aren't asked for.
 pub(crate) fn read_ranks(
     alloc: Global,
     text: &[u8],
     is_key_in_order: bool,
     entries: usize,
+    is_asked: bool,
 ) -> Result<ListSet, IndexFault>
-    ensures { Reads IsSetOf result (ranks_in is_key_in_order entries (parts space text.now)) }
+    ensures { Reads (SetIfAsked is_asked) result (ranks_in is_key_in_order entries (parts space text.now)) }
 {
     let mut ranks = Vec::new(alloc);
     let mut rest = Some(text);
@@ -49,7 +50,8 @@ pub(crate) fn read_ranks(
         let (_, number, next) = cut_number(words);
         let rank = number?;
         is_in_order = is_in_order & (least <= rank);
-        keep(&mut ranks, rank, is_in_order & (rank < entries as u64))?;
+        let is_wanted = is_asked & is_in_order & (rank < entries as u64);
+        keep(&mut ranks, rank, is_wanted)?;
         least = rank + 1;
         rest = next;
     }

@@ -1,5 +1,5 @@
 -- What a call reads, where what it keeps is another form of what the definition says.
-use Rattle.std.specs.Prelude.{◌≡◌, ℕ, List, [], ◌∷◌, Option, Some, None, Result, Ok, Err}
+use Rattle.std.specs.Prelude.{◌≡◌, ℕ, Bool, true, List, [], ◌∷◌, Option, Some, None, Result, Ok, Err}
 use Rattle.std.specs.FinSet as set
 use Rattle.std.specs.Borrow.{Bor}
 use Rattle.base.specs.Answers as answers
@@ -22,6 +22,10 @@ Reads Keeps (Err error) said = answers.Fails (fault_of error) said
 -- the set of these ranks
 abbrev pub IsSetOf : List ℕ → keys.Members → Type 0
 IsSetOf ranks members = members ≡ set.from_list ranks
+
+-- the same, where they are asked for
+abbrev pub SetIfAsked : Bool → List ℕ → keys.Members → Type 0
+SetIfAsked asked ranks members = asked ≡ true → IsSetOf ranks members
 
 abbrev pub IsKept : Row → keys.Row → Type 0
 IsKept row kept = kept ≡ kept_row row

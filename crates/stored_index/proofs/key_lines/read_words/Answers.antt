@@ -1,4 +1,4 @@
-use Rattle.std.proofs.Common.{Bool, ◌∷◌, option_copied, sym, ap, ◌∙◌}
+use Rattle.std.proofs.Common.{Bool, ◌∷◌, option_copied, refl, sym, ap, ◌∙◌}
 use Rattle.std.proofs.lemmas.Result.{err_from_is_err_and}
 use Rattle.base.specs.Ascii.{space}
 use Rattle.base.proofs.Each.{passed_on}
@@ -37,5 +37,5 @@ returns c =
     let ranks = c.in_ok-ranks.ensures in (
       (key, ranks.0),
       row_read before c.args.entries c.args.word.now c.args.words.now key ranks.0 c.in_ok-key.ensures (sym (ap (λ (a : Bool). ranks_in a c.args.entries words) above) ∙ ranks.1),
-      c.new.ensures ∙ (λ i. (c.from_vec.ensures i, ranks.2 i)),
+      c.new.ensures ∙ (λ i. (c.from_vec.ensures i, ranks.2 refl i)),
     )
