@@ -1,5 +1,5 @@
 -- Keys that are read as hexadecimal digits.
-use Rattle.std.proofs.Common.{◌≡◌, ℕ, zero, suc, ◌+◌, ◌*◌, ◌-◌, ◌/◌, ◌%◌, ◌==◌, ◌||◌, Bool, true, false, cond, List, [], ◌∷◌, length, Result, Ok, Err, ◌⊎◌, inl, inr, refl, sym, ap, ◌∙◌, arith}
+use Rattle.std.proofs.Common.{◌≡◌, ℕ, zero, suc, ◌+◌, ◌*◌, ◌-◌, ◌/◌, ◌%◌, ◌==◌, ◌&&◌, ◌||◌, Bool, true, false, cond, List, [], ◌∷◌, length, Result, Ok, Err, is_ok, ◌⊎◌, inl, inr, refl, sym, ap, ◌∙◌, arith}
 use Rattle.std.proofs.lemmas.Bool.{eqb-true, eq-eqb, and_parts, cases_Bool}
 use Rattle.std.specs.List.{list_all, AllByRecursion}
 use Rattle.std.specs.Char.{is_ascii_digit}
@@ -98,6 +98,29 @@ other (high ∷ low ∷ rest) e =
                 pair.1 ∙ ap (from_rest high low rest pair.0) (other rest left)
           ]
     ]
+
+pub are_pairs : (word : List ℕ) → ((length word % 2 == 0) && list_all is_hex_byte word) ≡ is_ok (bytes_in word)
+are_pairs word =
+    let even = length word % 2 == 0 in
+    elim (cases_Bool (list_all is_hex_byte word)) [
+      | inr isnt ↦ ap (λ (t : Bool). even && t) isnt ∙ never even ∙ sym (ap is_told (other word isnt))
+      | inl is ↦
+          elim (cases_Bool even) [
+            | inl two ↦
+                let length_is : length word ≡ 2 * (length word / 2) = omega (arith, eqb-true (length word % 2) 0 two) in
+                (λ i. two i && is i) ∙ sym (ap is_told (bytes_told (length word / 2) word length_is is).1)
+            | inr one ↦
+                let left : length word % 2 ≡ 1 = grind (arith, one) in
+                ap (λ (t : Bool). t && list_all is_hex_byte word) one ∙ sym (ap is_told (odd word left is))
+          ]
+    ]
+  where
+    is_told : Text → Bool
+    is_told r = is_ok r
+
+    never : (t : Bool) → (t && false) ≡ false
+    never true = refl
+    never false = refl
 
 -- ---- what decodes
 

@@ -10,6 +10,7 @@ mod WholeLemmas
 mod NumberLaws
 mod NumberCuts
 mod KeyLaws
+mod KeyOrder
 mod OrderLaws
 mod RowLaws
 mod LineLaws
