@@ -69,7 +69,7 @@ fn digits(text: &[u8]) -> (usize, u64)
     (at, number)
 }
 
-// The first word of a text, the number that it writes, and what stands behind the space that ends it. A word of a few digits is read in one pass.
+// what `cut_number` answers, for any text; a word of a few digits is read in one pass
 fn cut_any(text: &[u8]) -> (&[u8], Result<u64, IndexFault>, Option<&[u8]>)
     ensures parts { parts space text.now ≡ result.0.now ∷ parts_if space result.2 }
     ensures number { Gives (λ n. n) result.1 (number_in result.0.now) }
