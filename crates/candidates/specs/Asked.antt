@@ -36,14 +36,14 @@ abbrev pub keys_under : Option ℕ → List (List ℕ) → List SlotKey
 keys_under None keys = []
 keys_under (Some slot) keys = map (slot_key slot) keys
 
--- the keys that an item asks for, by the slots that there are
+-- by the slots that there are, as for filters
 abbrev pub item_keys : (ℕ → IndexKind → Option ℕ) → PreparedItem → List SlotKey
 item_keys slot_of Undefined = []
 item_keys slot_of (Asserts t types assertion) = keys_under (slot_of t (asked_kind assertion)) (asked_of_slot assertion)
 
 -- ---- filters
 
--- the keys that a filter asks for: those of its items, in their order
+-- those of its items, in their order
 abbrev mutual
   pub asked_keys : (ℕ → IndexKind → Option ℕ) → PreparedContent → List SlotKey
   asked_keys slot_of (All_of operands) = asked_keys_each slot_of operands

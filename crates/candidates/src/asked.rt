@@ -92,7 +92,6 @@ fn push_assertion(
     }
 }
 
-// the keys that an item asks for, by the slots that there are
 fn push_item(
     alloc: Global,
     keys: &mut Vec<SlotKey>,
@@ -114,7 +113,6 @@ fn push_item(
     }
 }
 
-// the keys that a filter asks for: those of its items
 #[cycle(operands)]
 fn push_filter(
     alloc: Global,

@@ -5,17 +5,17 @@ use Rattle.std.specs.Option.{option_copied, option_map}
 use Rattle.std.specs.FinMap as finite
 use Rattle.device.specs.Device.{Written, Took}
 use Rattle.paths.specs.Paths.{Path}
-use Rattle.schema.specs.Conf.{Conf}
+use Rattle.schema.specs.Conf.{Conf, IsConf}
 use Rattle.entries.specs.Entries.{EntryContent}
 use Rattle.tree.specs.Trees.{Tree}
 use Rattle.filter_text.specs.Spells.{view}
 use Rattle.filter.specs.Made.{Made}
-use Rattle.filter_text.specs.declared.filters.Filter.{Filter}
+use Rattle.index.specs.Postings.{Shown}
 use Rattle.search.specs.declared.scope.Scope.{Scope}
 use Rattle.search.specs.Searches.{scan, scan_among}
 use Rattle.stored_index.specs.Stored.{Stored, shown_by}
 use Rattle.directory.specs.IndexTexts.{index_text}
-use Rattle.directory.specs.Searches.{may_by_rank}
+use Rattle.directory.specs.Searches.{may_by_rank, ShowsTo, ReflectsDump}
 use Rattle.directory.specs.Selections.{Selection}
 use Rattle.directory.specs.Found.{found_text, up_to, goes_past}
 use Rattle.commands.specs.Asked.{IsFilter, IsBase, IsSelection}
@@ -27,7 +27,10 @@ use Rattle.commands.specs.Excerpts.{excerpt_text}
 use Rattle.commands.specs.Prints.{HasPut, IsFoundText}
 use Rattle.commands.specs.Queries.{Query, Basis, HasBasis, Begins, HasBegun, PrintsPartly}
 use Rattle.commands.specs.Worlds.{World}
+use Rattle.commands.specs.inner.IndexFiles.{Keeps}
 use Rattle.commands.specs.inner.Printed.{HasPrinted}
+use Rattle.commands.specs.inner.Views.{basis_of}
+use Rattle.commands.specs.declared.index_file.IndexFile.TheVariants as kept_files
 use Rattle.commands.specs.declared.messages.CommandFault.{CommandFault}
 use Rattle.command_line.specs.declared.request.SearchOptions.{SearchOptions}
 use Rattle.commands.proofs.Stopping.{of_faults, unwritten_prints, prints_more}
@@ -97,8 +100,29 @@ pub printed_so : (IsText : Bool → List ℕ → Type 0) (wanted : Bool) (text :
 printed_so IsText wanted text so (Ok past) a b is took = record { text = text; is = so past is; took = took }
 printed_so IsText wanted text so (Err f) a b is took = tt
 
--- what is found by an index, for a filter that was prepared under the configuration of the tree
-pub by_index : (made : Made) (conf : Conf) (t : Tree) (f : Filter) (x : Stored) (base : Path) (scope : Scope) → made ≡ record { conf = conf; filter = f } → t.conf ≡ conf
-    → scan_among t.conf t.entries (may_by_rank (shown_by x) made t) base scope (view made.filter) ≡ found_by (Some (Ok x)) t.conf t.entries base scope (view f)
-by_index made conf t f x base scope same same_conf =
-    ap (λ (m : Made). scan_among t.conf t.entries (may_by_rank (shown_by x) m t) base scope (view m.filter)) (same ∙ ap (λ (k : Conf). record { conf = k; filter = f }) (sym same_conf))
+-- what is found by what an index shows, for a filter that was prepared under the configuration of the tree
+by_index : (f : Made) (t : Tree) (x : Stored) (base : Path) (scope : Scope) → f.conf ≡ t.conf
+    → scan_among t.conf t.entries (may_by_rank (shown_by x) f t) base scope (view f.filter) ≡ found_by (Some (Ok x)) t.conf t.entries base scope (view f.filter)
+by_index f t x base scope same = ap (λ (conf : Conf). scan_among t.conf t.entries (may_by_rank (shown_by x) (record { conf = conf; filter = f.filter }) t) base scope (view f.filter)) same
+
+-- by the part of it that was kept
+module _ (asked : SearchOptions) (t : Tree) (f : Made) (part : Stored) (base : Path) (s : Selection) (es : List (Path × EntryContent)) (prepared : f.conf ≡ t.conf) (good : IsConf t.conf)
+    (based : IsBase t.conf (option_copied asked.base) base) (selects : IsSelection t.conf (map (λ w. w.now) asked.attributes.items) s)
+    (there : finite.contains_key t.entries base ≡ true) (found : es ≡ scan_among t.conf t.entries (may_by_rank (shown_by part) f t) base asked.scope (view f.filter))
+    (same : (whole : Shown) → ShowsTo f (shown_by part) whole → may_by_rank (shown_by part) f t ≡ may_by_rank whole f t)
+    (all : (whole : Shown) → ShowsTo f (shown_by part) whole → IsConf t.conf → ReflectsDump whole t.conf.types t.entries → es ≡ scan t.conf t.entries base asked.scope (view f.filter)) where
+  found_by_said : (said : Said) (whole : Stored) → said ≡ Some (Ok whole) → ShowsTo f (shown_by part) (shown_by whole) → es ≡ found_by said t.conf t.entries base asked.scope (view f.filter)
+  found_by_said said whole is shows =
+      found
+      ∙ ap (λ (may : Path → Bool). scan_among t.conf t.entries may base asked.scope (view f.filter)) (same (shown_by whole) shows)
+      ∙ by_index f t whole base asked.scope prepared
+      ∙ ap (λ (said : Said). found_by said t.conf t.entries base asked.scope (view f.filter)) (sym is)
+
+  pub found_by_part : (said : Said) → Keeps t f (kept_files.Read part) said → (past : Bool) → past ≡ goes_past asked.limit es
+      → IsFoundText asked said (basis_of f.filter t) past (found_text t.conf t.entries s (up_to asked.limit es))
+  found_by_part said kept =
+      let whole = kept.says.0 in
+      let is = kept.says.1 in
+      let shows = kept.says.2 in
+      let by_said = found_by_said said whole is shows in
+      found_so asked said (basis_of f.filter t) base s es based selects there by_said (λ own. sym by_said ∙ all (shown_by whole) shows good (kept.is_true whole is own))

@@ -1,18 +1,24 @@
 -- What index.txt says, by what was found at its name.
-use Rattle.std.proofs.Common.{◌≡◌, ℕ, suc, ◌<◌, List, [], ◌∷◌, get_or, Option, None, Some, sym, ap, ◌∙◌, subst}
+use Rattle.std.proofs.Common.{◌≡◌, ℕ, suc, ◌<◌, List, [], ◌∷◌, get_or, Option, None, Some, refl, sym, ap, ◌∙◌, subst}
 use Rattle.std.specs.Prelude.{Result, Ok, Err, IfSome}
 use Rattle.std.specs.List.{AllByRecursion}
 use Rattle.std.specs.Option.{option_map}
 use Rattle.std.specs.FinMap as finite
+use Rattle.base.specs.Answers.{◌>>=◌}
 use Rattle.commands.specs.Folders.{Files, Finds, index_name}
 use Rattle.schema.specs.Conf.{Conf}
 use Rattle.tree.specs.Directories.{Entries}
 use Rattle.stored_index.specs.Rows.{IsByte}
-use Rattle.stored_index.specs.Stored.{Stored, index_in, stored, shown_by}
+use Rattle.filter.specs.Made.{Made}
+use Rattle.index.specs.declared.slot_key.SlotKey.{SlotKey}
+use Rattle.candidates.specs.Asked.{asked_keys, ShowAlike}
+use Rattle.candidates.specs.Candidates.{prepared_of}
+use Rattle.stored_index.specs.Reading.{rows_in}
+use Rattle.stored_index.specs.Stored.{Stored, index_in, stored, shown_by, ShowsKeys}
 use Rattle.stored_index.specs.declared.fault.IndexFaultKind.{IndexFaultKind}
 use Rattle.directory.specs.IndexTexts.{index_rows, index_text, stamp}
-use Rattle.directory.specs.Searches.{ReflectsDump, ShowsIndexText}
-use Rattle.index.specs.Postings.{Shown}
+use Rattle.directory.specs.Searches.{ReflectsDump, ShowsIndexText, ShowsTo}
+use Rattle.index.specs.Postings.{Shown, slot_in}
 use Rattle.commands.specs.Failures.{FailsToRead}
 use Rattle.commands.specs.IndexFiles.{SaysOf}
 use Rattle.commands.specs.inner.IndexFiles.{IsTrue}
@@ -39,6 +45,22 @@ pub said_so : (files : Option Files) (db : List ℕ) (conf : Conf) (d : Entries)
     → index_in conf (finite.len d) (stamp conf d) text ≡ answer → SaysOf files db conf d (Some answer)
 said_so files db conf d text answer there is = record { text = Some text; there = there; says = ap (λ (r : Result Stored IndexFaultKind). Some r) (sym is) }
 
+-- an index has the configuration that it was read under
+under : {X : Type 0} (made : X → Stored) (conf : Conf) (whole : Stored) → ((x : X) → (made x).conf ≡ conf) → (rows : Result X IndexFaultKind) → (rows >>= λ x. Ok (made x)) ≡ Ok whole → whole.conf ≡ conf
+under {X} made conf whole has (Ok x) is = let same : made x ≡ whole = cc in ap (λ (s : Stored). s.conf) (sym same) ∙ has x
+under {X} made conf whole has (Err fault) is = cc
+
+pub read_under : (conf : Conf) (entries : ℕ) (stamp' text : List ℕ) (whole : Stored) → index_in conf entries stamp' text ≡ Ok whole → whole.conf ≡ conf
+read_under conf entries stamp' text whole = under (stored conf) conf whole (λ rows. refl) (rows_in conf entries stamp' text)
+
+-- a part that shows the keys that a filter asks for shows to it what the whole shows
+pub shows_to : (f : Made) (conf : Conf) (asked : List SlotKey) (whole part : Stored) → asked ≡ asked_keys (slot_in conf.slots) (prepared_of f) → whole.conf ≡ conf → ShowsKeys asked whole part
+    → ShowsTo f (shown_by part) (shown_by whole)
+shows_to f conf asked whole part are under shows = record {
+  slots = λ t kind. ap (λ (conf : Conf). slot_in conf.slots t kind) shows.conf;
+  keys = subst (λ (keys : List SlotKey). ShowAlike (shown_by part) (shown_by whole) keys) (are ∙ ap (λ (conf : Conf). asked_keys (slot_in conf.slots) (prepared_of f)) (sym under)) shows.keys;
+}
+
 -- what the text of the directory's own index is read as has each entry under exactly its keys
 pub true_so : (conf : Conf) (d : Entries) (x : Stored) → index_in conf (finite.len d) (stamp conf d) (index_text conf d) ≡ Ok (stored conf (index_rows conf d))
     → ShowsIndexText (shown_by (stored conf (index_rows conf d))) conf d → ((shown : Shown) → ShowsIndexText shown conf d → ReflectsDump shown conf.types d) → IsTrue conf d (Some (Ok x))
@@ -54,10 +76,9 @@ pub faulty_true : (conf : Conf) (d : Entries) (fault : IndexFaultKind) → IsTru
 faulty_true conf d fault x is = absurd cc
 
 -- the answer to a call with other names for the same things
-pub answered : (conf conf' : Conf) (d : Entries) (count : ℕ) (stamp' text' text : List ℕ) (answer : Result Stored IndexFaultKind) → conf ≡ conf' → count ≡ finite.len d → stamp' ≡ stamp conf d → text' ≡ text
-    → index_in conf' count stamp' text' ≡ answer → index_in conf (finite.len d) (stamp conf d) text ≡ answer
-answered conf conf' d count stamp' text' text answer same_conf same_count same_stamp same_text is =
-    (λ i. index_in (same_conf i) (sym same_count i) (sym same_stamp i) (sym same_text i)) ∙ is
+pub answered : (conf conf' : Conf) (d : Entries) (count : ℕ) (stamp' text : List ℕ) (answer : Result Stored IndexFaultKind) → conf ≡ conf' → count ≡ finite.len d → stamp' ≡ stamp conf d
+    → index_in conf' count stamp' text ≡ answer → index_in conf (finite.len d) (stamp conf d) text ≡ answer
+answered conf conf' d count stamp' text answer same_conf same_count same_stamp is = (λ i. index_in (same_conf i) (sym same_count i) (sym same_stamp i) text) ∙ is
 
 pub each_byte : (bs : List ℕ) → ((i : ℕ) → get_or bs i 0 < 256) → AllByRecursion IsByte bs
 each_byte [] each = tt

@@ -11,7 +11,7 @@ use Rattle.commands.specs.Messages.{IsReported, code_text}
 use Rattle.commands.specs.Prints.{search_query, IsFoundText, SearchText, SearchGoesThrough, IsSaid, ComesFirst, SearchStops}
 use Rattle.commands.specs.Queries.{Basis, StopsWith, HasBegun, PrintsPartly}
 use Rattle.commands.specs.Worlds.{World}
-use Rattle.commands.specs.inner.IndexFiles.{said, FailsToReport, HasLoaded}
+use Rattle.commands.specs.inner.IndexFiles.{FailsToReport, HasLoaded}
 use Rattle.commands.specs.inner.Printed.{HasPrinted}
 use Rattle.commands.specs.inner.Stopped.{CanReport}
 use Rattle.commands.specs.inner.Views.{basis_of}
@@ -26,13 +26,13 @@ use Rattle.commands.proofs.Stopping.{query_stops, first_prints, of_memory}
 
 -- what was loaded, and what its index.txt says
 module _ (asked : SearchOptions) (files : Option Files) (loaded : Loaded) (h : HasLoaded asked files loaded) where
-  pub is_said : IsSaid asked files (said loaded.file)
-  is_said = record { conf = loaded.database.tree.conf; entries = loaded.database.tree.entries; loaded = h.directory; says = h.says }
+  pub is_said : IsSaid asked files h.index.said
+  is_said = record { conf = loaded.database.tree.conf; entries = loaded.database.tree.entries; loaded = h.directory; says = h.index.in_file }
 
-  pub text_so : (past : Bool) (text : List ℕ) → IsFoundText asked (said loaded.file) (basis_of loaded.filter loaded.database.tree) past text → SearchText asked files (said loaded.file) past text
+  pub text_so : (past : Bool) (text : List ℕ) → IsFoundText asked h.index.said (basis_of loaded.filter.filter loaded.database.tree) past text → SearchText asked files h.index.said past text
   text_so past text found =
-      has_basis (search_query asked) files (basis_of loaded.filter loaded.database.tree) h.filter_is h.directory
-      (λ (basis : Basis). SaysOf files asked.db.now basis.conf basis.entries (said loaded.file) × IsFoundText asked (said loaded.file) basis past text) (h.says, found)
+      has_basis (search_query asked) files (basis_of loaded.filter.filter loaded.database.tree) h.filter_is h.directory
+      (λ (basis : Basis). SaysOf files asked.db.now basis.conf basis.entries h.index.said × IsFoundText asked h.index.said basis past text) (h.index.in_file, found)
 
 module _ (asked : SearchOptions) (w : World) where
   -- ---- where it stops

@@ -105,11 +105,7 @@ pub fn store<F: Folder, T: FileText>(
 }
 
 /// All bytes of a source that has this name.
-pub fn contents<S: Source>(
-    alloc: Global,
-    source: &mut S,
-    name: &str,
-) -> Result<Vec<u8>, CommandFault>
+fn contents<S: Source>(alloc: Global, source: &mut S, name: &str) -> Result<Vec<u8>, CommandFault>
     requires { (S.seen source.old).failed < 2 ^ 64 - 1 }
     ensures bytes { IfOk result (λ v. IfSome (S.seen source.old).left (λ bs. v.items ≡ bs)) }
     ensures err { IfErr result (FailsToRead name.now) }

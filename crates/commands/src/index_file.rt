@@ -2,19 +2,22 @@
 ghost use Rattle.std.specs.Prelude.{◌≡◌, ◌<◌, ◌-◌, ◌^◌, IfOk, IfErr, OnOk, string_bytes};
 ghost use Rattle.std.specs.List.{AllByRecursion};
 ghost use Rattle.device.specs.Device.{Took};
+ghost use Rattle.filter.specs.Made.{Made};
 ghost use Rattle.stored_index.specs.Rows.{IsByte};
 ghost use Rattle.commands.specs.Failures.{FailsToRead};
 ghost use Rattle.commands.specs.Folders.{index_name};
-ghost use Rattle.commands.specs.IndexFiles.{SaysOf, index_fault_text, ReportsFault};
+ghost use Rattle.commands.specs.IndexFiles.{Said, index_fault_text, ReportsFault};
 ghost use Rattle.commands.specs.Messages.{line_of};
-ghost use Rattle.commands.specs.inner.IndexFiles.{said, IsTrue, FailsToReportFault, FailsToReport};
+ghost use Rattle.commands.specs.inner.IndexFiles.{Says, HasRead, FailsToReportFault, FailsToReport};
 ghost use Rattle.commands.specs.inner.Stopped.{CanReport};
 
-use crate::database::{contents, open, path};
+use crate::database::{open, path};
 use crate::folder::Folder;
 use crate::messages::{CommandFault, Stop};
+use candidates::asked_keys;
 use device::{Sink, push_all};
 use directory::{Database, index_texts_reflect_dumps, kept_index_texts_are_read, stamp_of};
+use filter::Prepared;
 use std::alloc::{AllocError, Global};
 use stored_index::{IndexFault, IndexFaultKind, StoredIndex};
 
@@ -23,7 +26,7 @@ use stored_index::{IndexFault, IndexFaultKind, StoredIndex};
 pub enum IndexFile {
     /// There is no such file.
     Missing,
-    /// It can be read, and is of this directory as far as its stamp tells.
+    /// It can be read, and is of this directory as far as its stamp tells. These are the keys of it that a filter asks for.
     Read(StoredIndex),
     /// This is the first thing wrong with it.
     Faulty(IndexFaultKind),
@@ -34,31 +37,39 @@ fn are_bytes(bytes: &[u8])
     ensures { AllByRecursion IsByte bytes.now }
 {}
 
-/// Reads index.txt in the folder `db`, of the directory that was loaded from there.
+/// Reads index.txt in the folder `db`, of the directory that was loaded from there, and keeps of it what a filter asks for.
 pub fn read_index<F: Folder>(
     alloc: Global,
     folder: &F,
     db: &str,
     database: &Database,
+    filter: &Prepared,
 ) -> Result<IndexFile, CommandFault>
-    ensures says { IfOk result (λ file. SaysOf (F.files folder.now) db.now database.now.tree.conf database.now.tree.entries (said file)) }
-    ensures is_true { IfOk result (λ file. IsTrue database.now.tree.conf database.now.tree.entries (said file)) }
+    ensures read { IfOk result (HasRead (F.files folder.now) db.now database.now.tree filter.now) }
     ensures err { IfErr result (FailsToRead (index_name db.now)) }
 {
     database.conf.rules_are_kept();
     database.tree.entries_are_a_directory();
     index_texts_reflect_dumps();
     kept_index_texts_are_read();
+    let asked = asked_keys(alloc, filter, database.conf.slots())?;
     let name = path(alloc, db, "index.txt")?;
     let Some(mut source) = open(alloc, folder, name.as_str())? else {
         return Ok(IndexFile::Missing);
     };
-    let text = contents(alloc, &mut source, name.as_str())?;
     let stamp = stamp_of(alloc, &database.tree, &database.conf)?;
     are_bytes(&stamp);
-    match StoredIndex::read(alloc, &text, &database.conf, &stamp, database.tree.len()) {
+    match StoredIndex::read(
+        alloc,
+        &mut source,
+        &database.conf,
+        &stamp,
+        database.tree.len(),
+        asked.as_slice(),
+    ) {
         Ok(stored) => Ok(IndexFile::Read(stored)),
         Err(IndexFault::Fault(kind)) => Ok(IndexFile::Faulty(kind)),
+        Err(IndexFault::Device) => Err(CommandFault::cannot_read(alloc, name.as_str())),
         Err(IndexFault::OutOfMemory) => Err(CommandFault::OutOfMemory),
     }
 }
@@ -93,9 +104,9 @@ fn report_index_fault<E: Sink>(
 /// Reports what is wrong with index.txt, if anything is. Where that can't be reported, the command stops.
 pub fn report_index<E: Sink>(alloc: Global, err: &mut E, file: &IndexFile) -> Result<(), Stop>
     requires { (E.written err.old).failed < 2 ^ 64 - 1 }
-    ensures reports { OnOk result (ReportsFault (said file.now) (E.written err.old) (E.written err.new)) }
+    ensures reports { (f : Made) (said : Said) → Says f file.now said → OnOk result (ReportsFault said (E.written err.old) (E.written err.new)) }
     ensures failed { OnOk result ((E.written err.new).failed ≡ (E.written err.old).failed) }
-    ensures err { IfErr result (FailsToReport (said file.now) (E.written err.old) (E.written err.new)) }
+    ensures err { (f : Made) (said : Said) → Says f file.now said → IfErr result (FailsToReport said (E.written err.old) (E.written err.new)) }
     ensures can_report { IfErr result (λ why. CanReport why (E.written err.new).failed) }
 {
     match file {

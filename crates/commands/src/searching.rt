@@ -1,5 +1,5 @@
 //! search: the entries that a filter finds are printed as LDIF.
-ghost use Rattle.std.specs.Prelude.{◌≡◌, ℕ, ◌<◌, ◌-◌, ◌^◌, Bool, List, None, Some, Ok, Err, map, IfOk, IfErr, OnOk, codes};
+ghost use Rattle.std.specs.Prelude.{◌≡◌, ℕ, ◌<◌, ◌-◌, ◌^◌, Bool, List, None, Err, map, IfOk, IfErr, OnOk, codes};
 ghost use Rattle.std.specs.Option.{option_copied};
 ghost use Rattle.device.specs.Device.{Took};
 ghost use Rattle.schema.specs.declared.code.Code.TheVariants.{SizeLimitExceeded};
@@ -11,12 +11,14 @@ ghost use Rattle.commands.specs.Worlds.{World};
 ghost use Rattle.commands.specs.Messages.{code_text, fault_text};
 ghost use Rattle.commands.specs.Statuses.{status_of_fault};
 ghost use Rattle.commands.specs.Queries.{IsBegun, HasBegun, PrintsPartly, StopsWith};
+ghost use Rattle.commands.specs.IndexFiles.{Said};
 ghost use Rattle.commands.specs.Prints.{search_query, IsFoundText, MayBeFound, ComesFirst, SearchGoesThrough, SearchStops};
-ghost use Rattle.commands.specs.inner.IndexFiles.{said, IsTrue, HasLoaded};
+ghost use Rattle.commands.specs.inner.IndexFiles.{Keeps, HasLoaded};
 ghost use Rattle.commands.specs.inner.Refusals.{Refuses, RefusesOrBreaks};
 ghost use Rattle.commands.specs.inner.Printed.{HasPrinted};
 ghost use Rattle.commands.specs.inner.Views.{basis_of};
 ghost use Rattle.commands.specs.inner.Stopped.{CanReport, HasEnded};
+ghost use Rattle.commands.specs.declared.index_file.IndexFile.TheVariants.{Read};
 
 use crate::database::load_database;
 use crate::finding::{filter_of, path_of, refused};
@@ -27,7 +29,6 @@ use command_line::SearchOptions;
 use device::Sink;
 use directory::{Database, Selection, search_tree, search_with, write_found};
 use filter::{Prepared, prepare};
-use filter_text::Filter;
 use id_sets::IdSet;
 use schema::{Code, Conf, Path};
 use search::Hits;
@@ -50,34 +51,22 @@ fn past_limit() -> CommandFault
     }
 }
 
-/// What is searched for, under a configuration.
+/// What is searched for, and printed of it, under a configuration.
 #[derive(Drop)]
 struct Wanted {
     base: Path,
     selection: Selection,
-    filter: Prepared,
 }
 
 /// Reads what is asked for under a configuration.
-fn wanted_by(
-    alloc: Global,
-    asked: &SearchOptions<'_>,
-    filter: &Filter,
-    conf: &Conf,
-) -> Result<Wanted, CommandFault>
+fn wanted_by(alloc: Global, asked: &SearchOptions<'_>, conf: &Conf) -> Result<Wanted, CommandFault>
     ensures base { IfOk result (λ w. IsBase conf.now (option_copied asked.now.base) w.base) }
     ensures selection { IfOk result (λ w. IsSelection conf.now (map (λ w. w.now) asked.now.attributes.items) w.selection) }
-    ensures filter { IfOk result (λ w. w.filter ≡ record { conf = conf.now; filter = filter.now }) }
     ensures fault { IfErr result (Refuses (codes "search") (λ code. base_of conf.now (option_copied asked.now.base) ≡ Err code)) }
 {
     let base = path_of(alloc, conf, asked.base, NAME)?;
     let selection = Selection::of(alloc, conf, asked.attributes.as_slice())?;
-    let filter = prepare(alloc, filter, conf)?;
-    Ok(Wanted {
-        base,
-        selection,
-        filter,
-    })
+    Ok(Wanted { base, selection })
 }
 
 /// Prints the entries that were found, and answers whether there are more than may be printed.
@@ -106,35 +95,28 @@ fn print_hits<S: IdSet, O: Sink>(
     }
 }
 
-/// Prints what is found by the rows of an index text, and answers whether there is more than may be printed.
+/// Prints what is found by the rows of an index text that the filter asks for, and answers whether there is more than may be printed.
 fn print_by_text<O: Sink>(
     alloc: Global,
     asked: &SearchOptions<'_>,
-    filter: &Filter,
+    filter: &Prepared,
     database: &Database,
     stored: &StoredIndex,
     out: &mut O,
 ) -> Result<bool, CommandFault>
     requires can_fail { (O.written out.old).failed < 2 ^ 64 - 1 }
-    requires is_true { IsTrue database.now.tree.conf database.now.tree.entries (Some (Ok stored.now)) }
-    ensures found { IfOk result (λ past. HasPrinted
-        (IsFoundText asked.now (Some (Ok stored.now)) (basis_of filter.now database.now.tree) past)
+    requires prepared { filter.now.conf ≡ database.now.tree.conf }
+    ensures found { (said : Said) → Keeps database.now.tree filter.now (Read stored.now) said → IfOk result (λ past. HasPrinted
+        (IsFoundText asked.now said (basis_of filter.now.filter database.now.tree) past)
         (O.written out.old) (O.written out.new)) }
     ensures fault { IfErr result (RefusesOrBreaks (search_query asked.now) database.now.tree.conf database.now.tree.entries) }
-    ensures partly { IfErr result (PrintsPartly (HasBegun
-        (MayBeFound asked.now (Some (Ok stored.now)) (basis_of filter.now database.now.tree)) None) (O.written out.old) (O.written out.new)) }
+    ensures partly { (said : Said) → Keeps database.now.tree filter.now (Read stored.now) said → IfErr result (PrintsPartly (HasBegun
+        (MayBeFound asked.now said (basis_of filter.now.filter database.now.tree)) None) (O.written out.old) (O.written out.new)) }
 {
     let Database { conf, tree } = database;
     conf.rules_are_kept();
-    let wanted = wanted_by(alloc, asked, filter, conf)?;
-    match search_with(
-        alloc,
-        tree,
-        stored,
-        &wanted.base,
-        asked.scope,
-        &wanted.filter,
-    ) {
+    let wanted = wanted_by(alloc, asked, conf)?;
+    match search_with(alloc, tree, stored, &wanted.base, asked.scope, filter) {
         Ok(hits) => print_hits(alloc, tree, conf, hits, asked.limit, &wanted.selection, out),
         Err(refusal) => Err(refused(refusal, NAME)),
     }
@@ -144,21 +126,22 @@ fn print_by_text<O: Sink>(
 fn print_by_scan<O: Sink>(
     alloc: Global,
     asked: &SearchOptions<'_>,
-    filter: &Filter,
+    filter: &Prepared,
     database: &Database,
     out: &mut O,
 ) -> Result<bool, CommandFault>
-    requires { (O.written out.old).failed < 2 ^ 64 - 1 }
+    requires can_fail { (O.written out.old).failed < 2 ^ 64 - 1 }
+    requires prepared { filter.now.conf ≡ database.now.tree.conf }
     ensures found { IfOk result (λ past. HasPrinted
-        (IsFoundText asked.now None (basis_of filter.now database.now.tree) past)
+        (IsFoundText asked.now None (basis_of filter.now.filter database.now.tree) past)
         (O.written out.old) (O.written out.new)) }
     ensures fault { IfErr result (RefusesOrBreaks (search_query asked.now) database.now.tree.conf database.now.tree.entries) }
     ensures partly { IfErr result (PrintsPartly (HasBegun
-        (MayBeFound asked.now None (basis_of filter.now database.now.tree)) None) (O.written out.old) (O.written out.new)) }
+        (MayBeFound asked.now None (basis_of filter.now.filter database.now.tree)) None) (O.written out.old) (O.written out.new)) }
 {
     let Database { conf, tree } = database;
-    let wanted = wanted_by(alloc, asked, filter, conf)?;
-    match search_tree(alloc, tree, &wanted.base, asked.scope, &wanted.filter) {
+    let wanted = wanted_by(alloc, asked, conf)?;
+    match search_tree(alloc, tree, &wanted.base, asked.scope, filter) {
         Some(hits) => print_hits(alloc, tree, conf, hits, asked.limit, &wanted.selection, out),
         None => Err(CommandFault::Code {
             command: NAME,
@@ -167,15 +150,15 @@ fn print_by_scan<O: Sink>(
     }
 }
 
-/// What a search reads: the filter, and the directory with what index.txt says of it.
+/// What a search reads: the filter, prepared under the directory's configuration, and the directory with what index.txt says of it.
 #[derive(Drop)]
 struct Loaded {
-    filter: Filter,
+    filter: Prepared,
     database: Database,
     file: IndexFile,
 }
 
-/// Reads the filter, the directory and its index.txt, in this order.
+/// Reads the filter, the directory and its index.txt, in this order. Of index.txt it keeps what the filter asks for.
 #[tactic(auto, using(crate::proofs::Stopping::filter_stops, crate::proofs::Stopping::load_stops, crate::proofs::Stopping::index_stops))]
 fn load<F: Folder>(
     alloc: Global,
@@ -188,9 +171,10 @@ fn load<F: Folder>(
 {
     let filter = filter_of(alloc, asked.filter)?;
     let database = load_database(alloc, folder, asked.db)?;
-    let file = read_index(alloc, folder, asked.db, &database)?;
+    let prepared = prepare(alloc, &filter, &database.conf)?;
+    let file = read_index(alloc, folder, asked.db, &database, &prepared)?;
     Ok(Loaded {
-        filter,
+        filter: prepared,
         database,
         file,
     })
@@ -204,12 +188,13 @@ fn print_found<O: Sink>(
     out: &mut O,
 ) -> Result<bool, CommandFault>
     requires can_fail { (O.written out.old).failed < 2 ^ 64 - 1 }
-    requires is_true { IsTrue loaded.now.database.tree.conf loaded.now.database.tree.entries (said loaded.now.file) }
-    ensures found { IfOk result (λ past. HasPrinted (IsFoundText asked.now (said loaded.now.file) (basis_of loaded.now.filter loaded.now.database.tree) past)
+    requires prepared { loaded.now.filter.conf ≡ loaded.now.database.tree.conf }
+    ensures found { (said : Said) → Keeps loaded.now.database.tree loaded.now.filter loaded.now.file said → IfOk result (λ past. HasPrinted
+        (IsFoundText asked.now said (basis_of loaded.now.filter.filter loaded.now.database.tree) past)
         (O.written out.old) (O.written out.new)) }
     ensures fault { IfErr result (RefusesOrBreaks (search_query asked.now) loaded.now.database.tree.conf loaded.now.database.tree.entries) }
-    ensures partly { IfErr result (PrintsPartly (HasBegun
-        (MayBeFound asked.now (said loaded.now.file) (basis_of loaded.now.filter loaded.now.database.tree)) None)
+    ensures partly { (said : Said) → Keeps loaded.now.database.tree loaded.now.filter loaded.now.file said → IfErr result (PrintsPartly (HasBegun
+        (MayBeFound asked.now said (basis_of loaded.now.filter.filter loaded.now.database.tree)) None)
         (O.written out.old) (O.written out.new)) }
 {
     let Loaded {

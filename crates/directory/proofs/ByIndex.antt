@@ -28,14 +28,16 @@ use Rattle.index.specs.EntryKeys.{slot_keys, windows}
 use Rattle.index.specs.SlotKeys.{slot_key}
 use Rattle.index.specs.Indexes.{Index, members}
 use Rattle.index.specs.Postings.{Shown, slot_in, shown_by}
+use Rattle.candidates.specs.Asked.{asked_keys, HaveSameSlots, ShowAlike}
 use Rattle.candidates.specs.Brackets.{Reflects, Allows}
 use Rattle.candidates.specs.Candidates.{prepared_of, may_be_true}
 use Rattle.candidates.specs.Sides.{Sides, exactly, at_most, if_indexed, assertion_sides, item_sides, all_sides, any_sides, swapped, sides, sides_each}
 use Rattle.search.specs.declared.scope.Scope.{Scope}
+use Rattle.search.specs.Ranks.{rank_in}
 use Rattle.search.specs.Scopes.{is_in_scope}
 use Rattle.search.specs.Searches.{is_tested, count_among, counted_by, counted_scan}
 use Rattle.directory.specs.Indexes.{IsIndexOf}
-use Rattle.directory.specs.Searches.{may_by_number}
+use Rattle.directory.specs.Searches.{may_by_number, may_by_rank, ShowsTo}
 use Rattle.directory.proofs.RanksByNumber.{there_number}
 
 -- ---- postings that show the same of a number
@@ -108,6 +110,13 @@ module _ (conf : Conf) (t : Tree) (numbered : IsNumbered t.entries t.numbers) (x
   reflected law p e at =
       subst (λ (c : Conf). Reflects (shown_by x) c.types (number_at t p) e.attrs) of_x.same_conf
       (law x (number_at t p) e.attrs (λ k. of_x.has (number_at t p) e (entry_at p e at) k ∙ ap (λ (c : Conf). set.contains (slot_keys c e.attrs) k) (sym of_x.same_conf)))
+
+-- ---- a part of what postings show
+
+-- it gives the same candidates as the whole, to a filter that asks for no more
+pub by_whole : ((a b : Shown) (f : prepared.PreparedContent) (n : ℕ) → HaveSameSlots a b → ShowAlike a b (asked_keys b.slot_of f) → sides a n f ≡ sides b n f)
+    → (f : Made) (t : Tree) (part whole : Shown) → ShowsTo f part whole → may_by_rank part f t ≡ may_by_rank whole f t
+by_whole law f t part whole shows = λ i p. (law part whole (prepared_of f) (rank_in t.entries p) shows.slots shows.keys i).may
 
 -- ---- what is True
 

@@ -17,8 +17,9 @@ use Rattle.entries.specs.declared.refusal.Refusal.TheVariants.{Code, OutOfMemory
 use Rattle.filter.specs.Made.{Made}
 use Rattle.index.specs.Indexes.{Index}
 use Rattle.index.specs.Postings.{Shown, slot_in, shown_by}
+use Rattle.candidates.specs.Asked.{asked_keys, HaveSameSlots, ShowAlike}
 use Rattle.candidates.specs.Brackets.{Reflects}
-use Rattle.candidates.specs.Candidates.{may_be_true}
+use Rattle.candidates.specs.Candidates.{prepared_of, may_be_true}
 use Rattle.search.specs.declared.scope.Scope.{Scope}
 use Rattle.search.specs.Ranks.{rank_in}
 use Rattle.search.specs.Searches.{count_among}
@@ -40,6 +41,11 @@ may_by_number shown f t p = may_be_true shown f (number_at t p)
 -- the same by what they show of its rank
 abbrev pub may_by_rank : Shown → Made → Tree → Path → Bool
 may_by_rank shown f t p = may_be_true shown f (rank_in t.entries p)
+
+-- A part of what postings show is the whole to a filter: it has the same slots, and shows the same members of the keys that the filter asks for.
+pub record ShowsTo (f : Made) (part whole : Shown) : Type 0 where
+  pub slots : HaveSameSlots part whole
+  pub keys : ShowAlike part whole (asked_keys whole.slot_of (prepared_of f))
 
 -- ---- what a search by an index that is kept tells
 

@@ -4,14 +4,15 @@ ghost use Rattle.std.specs.Prelude.{◌≡◌, true, is_some, map, IfOk, IfErr, 
 ghost use Rattle.std.specs.FinMap as finite;
 ghost use Rattle.schema.specs.Conf.{IsConf};
 ghost use Rattle.filter_text.specs.Spells.{view};
+ghost use Rattle.index.specs.Postings.{Shown};
 ghost use Rattle.search.specs.Searches.{scan, count_in_scope, count_among};
 ghost use Rattle.search.specs.TreeSearches.{found, counted_found};
 ghost use Rattle.search.specs.Walks.{seen, counted};
 ghost use Rattle.directory.specs.Found.{AreThere};
 ghost use Rattle.directory.specs.Indexes.{IsIndexOf};
-ghost use Rattle.directory.specs.Searches.{IsRefused, may_by_rank, AreSteps, IsTestCount, ReflectsDump};
+ghost use Rattle.directory.specs.Searches.{IsRefused, may_by_rank, ShowsTo, AreSteps, IsTestCount, ReflectsDump};
 
-use candidates::{brackets_hold, indexes_reflect_entries, may_match};
+use candidates::{asked_keys_suffice, brackets_hold, indexes_reflect_entries, may_match};
 use entries::Refusal;
 use filter::Prepared;
 use id_sets::KeySet;
@@ -43,8 +44,10 @@ pub fn search_tree<'a>(
 
 /// The entries of a tree in scope of which the filter is True, as far as it may be True by what postings show of their ranks, in dump order
 /// (RFC 4511, 4.5.1). A rank is an entry's place in the dump. Where each rank stands under exactly the keys of its entry, these are all
-/// entries in scope of which the filter is True. No entry is tested but those of which the filter may be True. The filter was prepared under
-/// the configuration that the tree was made with. `NoSuchObject` where the base isn't there, and else `OutOfMemory`.
+/// entries in scope of which the filter is True. The postings may be a part of a whole, as long as they show the keys that the filter asks
+/// for as the whole does: by the whole the same is found. No entry is tested but those of which the filter may be True. The filter was
+/// prepared under the configuration that the tree was made with. `NoSuchObject` where the base isn't there, and else `OutOfMemory`.
+#[tactic(auto, using(crate::proofs::ByIndex::by_whole))]
 pub fn search_with<'a, P: Postings>(
     alloc: Global,
     tree: &'a Tree,
@@ -60,10 +63,14 @@ pub fn search_with<'a, P: Postings>(
     ensures steps { IfOk result (λ h. map counted h.to_come ≡ counted_found tree.now (may_by_rank (P.shown postings.now) filter.now tree.now) base.now scope filter.now) }
     ensures found { IfOk result (λ h. map seen h.to_come ≡ found tree.now (may_by_rank (P.shown postings.now) filter.now tree.now) base.now scope filter.now) }
     ensures tested { IfOk result (λ h. h.in_the_end ≡ count_among tree.now.entries (may_by_rank (P.shown postings.now) filter.now tree.now) base.now scope) }
-    ensures whole { IsConf tree.now.conf → ReflectsDump (P.shown postings.now) tree.now.conf.types tree.now.entries
+    ensures part { (whole : Shown) → ShowsTo filter.now (P.shown postings.now) whole
+        → may_by_rank (P.shown postings.now) filter.now tree.now ≡ may_by_rank whole filter.now tree.now }
+    ensures whole { (whole : Shown) → ShowsTo filter.now (P.shown postings.now) whole → IsConf tree.now.conf
+        → ReflectsDump whole tree.now.conf.types tree.now.entries
         → IfOk result (λ h. map seen h.to_come ≡ scan tree.now.conf tree.now.entries base.now scope (view filter.now.filter)) }
     ensures entries { IfOk result (λ h. AreThere tree.now.entries (map seen h.to_come)) }
 {
+    asked_keys_suffice();
     brackets_hold();
     candidates_suffice();
     schema::order_of_paths();

@@ -5,6 +5,8 @@ ghost use Rattle.std.specs.Prelude.{◌≡◌, IfOk, IfSome};
 use crate::directories::{PEOPLE, directory};
 use crate::shown::shown_by;
 use anyhow::{Error, Result};
+use candidates::asked_keys;
+use device::TrySource;
 use directory::{Directory, Stamp, search_with, stamp_of};
 use entries::{Entry, Refusal};
 use filter::{Prepared, prepare};
@@ -41,11 +43,18 @@ const FILTERS: [&str; 21] = [
     "(cn~=abc bcd)",
 ];
 
+/// The index text of a directory, and the stamp that stands in it.
+#[derive(Clone, Copy)]
+struct IndexText<'a> {
+    text: &'a [u8],
+    stamp: &'a Stamp,
+}
+
 /// How entries are found.
 #[derive(Clone, Copy)]
 enum By<'a> {
     Index,
-    Text(&'a StoredIndex),
+    Text(IndexText<'a>),
     Scan,
 }
 
@@ -68,7 +77,55 @@ fn print_hits<S: IdSet>(rt: &impl Print, hits: Hits<'_, S>) -> Result<()> {
     Ok(())
 }
 
-/// Searches and prints; answers false where memory is refused, and nothing is printed then.
+/// The keys of an index text that a filter asks for; `None` where memory is refused.
+fn stored_for(
+    alloc: Global,
+    dir: &Directory,
+    filter: &Prepared,
+    index: IndexText<'_>,
+) -> Result<Option<StoredIndex>> {
+    let IndexText { text, stamp } = index;
+    let Ok(asked) = asked_keys(alloc, filter, dir.conf().slots()) else {
+        return Ok(None);
+    };
+    let mut source = TrySource::new(text, 100, None);
+    match StoredIndex::read(
+        alloc,
+        &mut source,
+        dir.conf(),
+        stamp,
+        dir.tree().len(),
+        asked.as_slice(),
+    ) {
+        Ok(stored) => Ok(Some(stored)),
+        Err(IndexFault::OutOfMemory) => Ok(None),
+        Err(IndexFault::Fault(_) | IndexFault::Device) => Err(Error::msg("no index text")),
+    }
+}
+
+/// Searches by an index text and prints; answers false where memory is refused, and nothing is printed then.
+fn print_by_text(
+    rt: &impl Print,
+    alloc: Global,
+    dir: &Directory,
+    filter: &Prepared,
+    index: IndexText<'_>,
+) -> Result<bool>
+    requires { filter.now.conf ≡ dir.now.conf }
+{
+    let Some(stored) = stored_for(alloc, dir, filter, index)? else {
+        return Ok(false);
+    };
+    let base = Path::root(alloc);
+    match search_with(alloc, dir.tree(), &stored, &base, Scope::Sub, filter) {
+        Ok(hits) => print_hits(rt, hits)?,
+        Err(Refusal::OutOfMemory) => return Ok(false),
+        Err(Refusal::Code(_)) => return Err(Error::msg("no base")),
+    }
+    Ok(true)
+}
+
+/// The same by any way.
 fn print_by(
     rt: &impl Print,
     alloc: Global,
@@ -85,13 +142,7 @@ fn print_by(
             Err(Refusal::OutOfMemory) => return Ok(false),
             Err(Refusal::Code(_)) => return Err(Error::msg("no base")),
         },
-        By::Text(stored) => {
-            match search_with(alloc, dir.tree(), stored, &base, Scope::Sub, filter) {
-                Ok(hits) => print_hits(rt, hits)?,
-                Err(Refusal::OutOfMemory) => return Ok(false),
-                Err(Refusal::Code(_)) => return Err(Error::msg("no base")),
-            }
-        }
+        By::Text(index) => return print_by_text(rt, alloc, dir, filter, index),
         By::Scan => match scan(alloc, dir.tree(), &base, Scope::Sub, filter) {
             Some(hits) => print_hits(rt, hits)?,
             None => return Err(Error::msg("no base")),
@@ -153,44 +204,19 @@ fn stamp(alloc: Global, dir: &Directory) -> Result<Stamp> {
     }
 }
 
-fn stored_once(
-    alloc: Global,
-    dir: &Directory,
-    text: &[u8],
-    stamp: &Stamp,
-) -> Result<Option<StoredIndex>> {
-    match StoredIndex::read(alloc, text, dir.conf(), stamp, dir.tree().len()) {
-        Ok(stored) => Ok(Some(stored)),
-        Err(IndexFault::OutOfMemory) => Ok(None),
-        Err(IndexFault::Fault(_)) => Err(Error::msg("no index text")),
-    }
-}
-
-/// The index that the index text of a directory is read as.
-fn stored(alloc: Global, dir: &Directory) -> Result<StoredIndex> {
+fn print_searches_by_text(rt: &impl Print, alloc: Global, dir: &Directory) -> Result<()> {
     let shown = shown_by(alloc, dir)?;
     let stamp = stamp(alloc, dir)?;
-    stored_by(alloc, dir, shown.index(), &stamp)
-}
-
-fn stored_by(alloc: Global, dir: &Directory, text: &[u8], stamp: &Stamp) -> Result<StoredIndex> {
-    match stored_once(alloc, dir, text, stamp)? {
-        Some(stored) => Ok(stored),
-        None => match stored_once(alloc, dir, text, stamp)? {
-            Some(stored) => Ok(stored),
-            None => Err(Error::msg("an index text is refused memory twice")),
-        },
-    }
-}
-
-fn print_by_text(rt: &impl Print, alloc: Global, dir: &Directory) -> Result<()> {
-    let stored = stored(alloc, dir)?;
-    print_searches(rt, alloc, dir, By::Text(&stored))
+    let index = IndexText {
+        text: shown.index(),
+        stamp: &stamp,
+    };
+    print_searches(rt, alloc, dir, By::Text(index))
 }
 
 fn print_in_each_way(rt: &impl Print, alloc: Global, dir: &Directory) -> Result<()> {
     print_searches(rt, alloc, dir, By::Index)?;
-    print_by_text(rt, alloc, dir)?;
+    print_searches_by_text(rt, alloc, dir)?;
     print_searches(rt, alloc, dir, By::Scan)
 }
 

@@ -42,8 +42,3 @@ module _ (types : List AttributeType) (before : Option Slot) where
       let s = split_cons (is_byte line_feed) rest in
       ap (λ (ps : List (List ℕ)). end_of types before (line ∷ ps)) s.2
       ∙ ap (λ (b : Bool). cond (bytes_eq line end_line && b) ended (Err (fault_at types before line))) (sym (ap is_one_empty s.2) ∙ nothing_is rest)
-
-  pub no_end : (text line rest : List ℕ) (kind : IndexFaultKind) → parts line_feed text ≡ line ∷ parts line_feed rest → (bytes_eq line end_line && is_empty rest) ≡ false
-      → kind ≡ fault_at types before line → end_of types before (parts line_feed text) ≡ Err kind
-  no_end text line rest kind cut none is =
-      ap (end_of types before) cut ∙ end_opened line rest ∙ ap (λ (b : Bool). cond b ended (Err (fault_at types before line))) none ∙ sym (ap (λ (k : IndexFaultKind). Err k) is)

@@ -23,7 +23,7 @@ use Rattle.stored_index.specs.declared.fault.IndexFaultKind.{IndexFaultKind}
 use Rattle.stored_index.specs.declared.fault.IndexFaultKind.TheVariants.{Header, Stale, Form, Order, Rank}
 use Rattle.stored_index.proofs.CutLemmas.{split_cons, IsCons}
 use Rattle.stored_index.proofs.EndLemmas.{end_opened}
-use Rattle.stored_index.proofs.LineLemmas.{Found}
+use Rattle.stored_index.proofs.SlotLemmas.{Found}
 use Rattle.stored_index.proofs.LineLaws.{found, key_cmp, row_lines, lines_of, rows_opened, lines_before, rows_go_on}
 use Rattle.stored_index.proofs.OrderLaws.{AreAbove, sorted_parts}
 use Rattle.stored_index.proofs.RowFaults.{row_stands}

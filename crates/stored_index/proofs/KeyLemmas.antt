@@ -9,7 +9,7 @@ use Rattle.hex.specs.declared.error.FromHexError.{FromHexError}
 use Rattle.hex.specs.declared.error.FromHexError.TheVariants as hex
 use Rattle.hex.proofs.HexLemmas.{decode_of-encode_lower}
 use Rattle.stored_index.specs.Words.{is_hex_byte, is_small_hex_letter, hex_digit, bytes_in}
-use Rattle.stored_index.specs.Gives.{fault_of}
+use Rattle.stored_index.specs.Gives.{kind_of}
 use Rattle.stored_index.specs.inner.HexFaults.{fault_by}
 use Rattle.stored_index.specs.Rows.{IsByte}
 use Rattle.stored_index.specs.declared.fault.IndexFaultKind.{IndexFaultKind}
@@ -165,7 +165,7 @@ not_decoded word fault all e =
           absurd cc
     ]
 
-pub not_read : (word : List ℕ) (error : FromHexError) → list_all is_hex_byte word ≡ true → (error ≡ hex.OutOfMemory) ⊎ (decode_of word ≡ Err error) → Fails (fault_of (fault_by error)) (bytes_in word)
+pub not_read : (word : List ℕ) (error : FromHexError) → list_all is_hex_byte word ≡ true → (error ≡ hex.OutOfMemory) ⊎ (decode_of word ≡ Err error) → Fails (kind_of (fault_by error)) (bytes_in word)
 not_read word hex.OutOfMemory all h = tt
 not_read word hex.OddLength all (inr h) = not_decoded word hex.OddLength all h
 not_read word hex.OddLength all (inl h) = absurd cc

@@ -3,7 +3,6 @@ mod KeyLemmas
 mod NumberLemmas
 mod RankLemmas
 mod RowLemmas
-mod LineLemmas
 mod EndLemmas
 mod SlotLemmas
 mod WholeLemmas
@@ -11,6 +10,10 @@ mod NumberLaws
 mod NumberCuts
 mod KeyLaws
 mod KeyOrder
+mod DraftLemmas
+mod DraftSteps
+mod DraftEnds
+mod AskedLemmas
 mod OrderLaws
 mod RowLaws
 mod LineLaws
@@ -18,9 +21,11 @@ mod SlotLaws
 mod WholeLaws
 mod SearchLemmas
 mod KeptLaws
+mod TextLemmas
 mod WrittenLaws
 mod Examples
 mod RowFaults
+mod KeyLineLemmas
 mod TextFaults
 mod HeaderFaults
 mod FaultsStand

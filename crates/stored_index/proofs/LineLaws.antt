@@ -22,7 +22,7 @@ use Rattle.stored_index.specs.Words.{key_in, bytes_in}
 use Rattle.stored_index.specs.declared.fault.IndexFaultKind.{IndexFaultKind}
 use Rattle.stored_index.specs.declared.fault.IndexFaultKind.TheVariants.{Form}
 use Rattle.stored_index.proofs.CutLemmas.{split_cons, IsCons}
-use Rattle.stored_index.proofs.LineLemmas.{Found}
+use Rattle.stored_index.proofs.SlotLemmas.{Found}
 use Rattle.stored_index.proofs.NumberLaws.{Lacks, decimal_lacks}
 use Rattle.stored_index.proofs.KeyLaws.{key_lacks}
 use Rattle.stored_index.proofs.RowLaws.{WasRead, row_writes, row_read, parts_at}

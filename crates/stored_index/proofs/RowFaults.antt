@@ -70,7 +70,7 @@ bytes_form (high ∷ low ∷ rest) k e =
       ]
     ]
 
-key_form : (word : List ℕ) (k : IndexFaultKind) → key_in word ≡ Err k → k ≡ Form
+pub key_form : (word : List ℕ) (k : IndexFaultKind) → key_in word ≡ Err k → k ≡ Form
 unfolding key_in
 key_form [] k e = is_err Form k e
 key_form (b ∷ bs) k e = by (is_hyphen (b ∷ bs)) b bs k e

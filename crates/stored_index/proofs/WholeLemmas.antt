@@ -1,5 +1,5 @@
 -- The first line, and those behind it.
-use Rattle.std.proofs.Common.{◌≡◌, ℕ, List, [], ◌∷◌, None, Result, Ok, Err, sym, ap, ◌∙◌}
+use Rattle.std.proofs.Common.{◌≡◌, ℕ, List, ◌∷◌, None, Result, Ok, sym, ap, ◌∙◌}
 use Rattle.base.specs.Ascii.{line_feed}
 use Rattle.base.specs.Answers.{◌>>=◌}
 use Rattle.memchr.specs.Find.{is_byte}
@@ -7,15 +7,10 @@ use Rattle.schema.specs.Conf.{Conf}
 use Rattle.stored_index.specs.Cuts.{parts}
 use Rattle.stored_index.specs.Reading.{current_header, slots_of, lines_in, rows_in}
 use Rattle.stored_index.specs.declared.fault.IndexFaultKind.{IndexFaultKind}
-use Rattle.stored_index.specs.declared.fault.IndexFaultKind.TheVariants.{Header}
 use Rattle.stored_index.proofs.CutLemmas.{split_cons}
 use Rattle.stored_index.proofs.SlotLemmas.{AllRows}
 
 module _ (conf : Conf) (entries : ℕ) (stamp text : List ℕ) where
-  pub no_line : parts line_feed text ≡ text ∷ [] → rows_in conf entries stamp text ≡ Err Header
-  unfolding rows_in
-  no_line cut = ap (lines_in conf entries stamp) cut
-
   module _ (line rest : List ℕ) (cut : parts line_feed text ≡ line ∷ parts line_feed rest) where
     abbrev others : AllRows
     others = slots_of conf.types entries None conf.slots (parts line_feed rest)
@@ -30,9 +25,6 @@ module _ (conf : Conf) (entries : ℕ) (stamp text : List ℕ) where
 
     abbrev then_others : Result (Unit {0}) IndexFaultKind → AllRows
     then_others r = r >>= λ _. others
-
-    pub no_header : (fault : IndexFaultKind) → current_header entries stamp line ≡ Err fault → rows_in conf entries stamp text ≡ Err fault
-    no_header fault e = opened ∙ ap then_others e
 
     pub behind_header : current_header entries stamp line ≡ Ok tt → rows_in conf entries stamp text ≡ others
     behind_header e = opened ∙ ap then_others e

@@ -32,7 +32,7 @@ use Rattle.stored_index.specs.Rows.{IsByte, AreSlotRows, AreRows}
 use Rattle.stored_index.specs.declared.fault.IndexFaultKind.{IndexFaultKind}
 use Rattle.stored_index.specs.declared.fault.IndexFaultKind.TheVariants.{Form, Header, Stale}
 use Rattle.stored_index.proofs.CutLemmas.{split_cons, IsCons}
-use Rattle.stored_index.proofs.LineLemmas.{Found}
+use Rattle.stored_index.proofs.SlotLemmas.{Found}
 use Rattle.stored_index.proofs.SlotLemmas.{AllRows, all_rows, is_due}
 use Rattle.stored_index.proofs.WholeLemmas.{behind_header}
 use Rattle.stored_index.proofs.NumberLaws.{Lacks, number_read, decimal_lacks}

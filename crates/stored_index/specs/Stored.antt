@@ -1,11 +1,13 @@
 -- What an index that was read from its text shows.
-use Rattle.std.specs.Prelude.{ℕ, List, [], map, refl, slice_index_or, Result, Ok}
+use Rattle.std.specs.Prelude.{◌≡◌, ℕ, List, [], Option, IfSome, map, refl, slice_index_or, Result, Ok}
 use Rattle.std.specs.Coded.{Coded, code_by, coded×, coded_list}
 use Rattle.std.specs.FinSet as set
+use Rattle.std.specs.List.{AllByRecursion}
 use Rattle.base.specs.Answers.{◌>>=◌}
 use Rattle.schema.specs.contracts.conf.Conf as conf_contract
 use Rattle.schema.specs.Conf.{Conf}
 use Rattle.index.specs.KeySets as keys
+use Rattle.index.specs.declared.slot_key.SlotKey.{SlotKey}
 use Rattle.index.specs.Postings.{Shown, slot_in}
 use Rattle.index_text.specs.IndexTexts as texts
 use Rattle.stored_index.specs.Reading.{rows_in}
@@ -45,3 +47,20 @@ ranks_at x slot key = keys.members_at (slice_index_or x.slots slot []) key
 
 abbrev pub shown_by : Stored → Shown
 shown_by x = record { slot_of = slot_in x.conf.slots; members = ranks_at x }
+
+-- ---- where some keys are asked for
+
+-- a part of an index shows these keys as the whole does
+pub record ShowsKeys (asked : List SlotKey) (whole part : Stored) : Type 0 where
+  pub conf : part.conf ≡ whole.conf
+  pub keys : AllByRecursion (λ k. ranks_at part k.slot.0 k.key ≡ ranks_at whole k.slot.0 k.key) asked
+
+-- so it is of what was read
+abbrev pub ReadsKeys : List SlotKey → Result Stored IndexFaultKind → Stored → Type 0
+ReadsKeys asked said part = (whole : Stored) × (said ≡ Ok whole) × ShowsKeys asked whole part
+
+-- this holds of the text that is left of a source, or of some text where its bytes aren't known
+pub record HasText (left : Option (List ℕ)) (Says : List ℕ → Type 0) : Type 0 where
+  pub text : List ℕ
+  pub left_is : IfSome left (λ bytes. text ≡ bytes)
+  pub says : Says text

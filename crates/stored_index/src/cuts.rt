@@ -1,7 +1,8 @@
 //! Lines, and words in a line.
 
-ghost use Rattle.std.specs.Prelude.{◌≡◌, ◌<◌, ◌∷◌, [], IfSome, MatchOption, length};
-ghost use Rattle.base.specs.Ascii.{line_feed};
+ghost use Rattle.std.specs.Prelude.{◌≡◌, ◌<◌, ◌∷◌, IfSome, MatchOption, length};
+ghost use Rattle.stored_index.specs.FaultyLines.{HasNoLineFeed};
+ghost use Rattle.stored_index.specs.inner.Lines.{IsCutAt};
 ghost use Rattle.stored_index.specs.Cuts.{parts, parts_if};
 
 use memchr::memchr;
@@ -19,7 +20,7 @@ pub(crate) fn cut(byte: u8, text: &[u8]) -> (&[u8], Option<&[u8]>)
 
 /// The first line, and what stands behind its LF, if it has one.
 pub(crate) fn first_line(text: &[u8]) -> Option<(&[u8], &[u8])>
-    ensures parts { MatchOption result (parts line_feed text.now ≡ text.now ∷ []) (λ c. parts line_feed text.now ≡ c.0.now ∷ parts line_feed c.1.now) }
+    ensures cut { MatchOption result (HasNoLineFeed text.now) (λ c. IsCutAt text.now c.0.now c.1.now) }
     ensures shorter { IfSome result (λ c. length c.1.now < length text.now) }
 {
     match memchr(b'\n', text) {

@@ -2,9 +2,10 @@
 
 ghost use Rattle.std.specs.Prelude.{◌≡◌, Some};
 ghost use Rattle.stored_index.specs.Faults.{fault_number, fault_text, fault_report};
-ghost use Rattle.stored_index.specs.declared.fault.IndexFault.TheVariants.{Fault, OutOfMemory};
+ghost use Rattle.stored_index.specs.declared.fault.LineFault.TheVariants.{Fault, OutOfMemory};
 ghost use Rattle.stored_index.specs.declared.fault.IndexFaultKind.TheVariants.{Form};
 
+use device::Device;
 use hex::FromHexError;
 use std::alloc::{AllocError, AllocFailed};
 use std::error::Error;
@@ -68,34 +69,77 @@ impl Error for IndexFaultKind {}
 pub enum IndexFault {
     #[error("{0}")]
     Fault(IndexFaultKind),
+    /// The source of the text failed.
+    #[error("the source failed")]
+    Device,
     #[error("out of memory")]
     OutOfMemory,
 }
 
+impl From<LineFault> for IndexFault {
+    ghost use Rattle.stored_index.specs.inner.Faults.{index_fault};
+
+    ghost from_gives = { λ fault e. e ≡ index_fault fault };
+
+    fn from(fault: LineFault) -> IndexFault {
+        match fault {
+            LineFault::Fault(kind) => IndexFault::Fault(kind),
+            LineFault::OutOfMemory => IndexFault::OutOfMemory,
+        }
+    }
+}
+
+impl From<Device> for IndexFault {
+    ghost use Rattle.stored_index.specs.declared.fault.IndexFault.TheVariants.{Device as failed};
+
+    ghost from_gives = { λ _ e. e ≡ failed };
+
+    fn from(_e: Device) -> IndexFault {
+        IndexFault::Device
+    }
+}
+
 impl From<AllocError> for IndexFault {
-    ghost from_gives = { λ _ e. e ≡ OutOfMemory };
+    ghost use Rattle.stored_index.specs.declared.fault.IndexFault.TheVariants as faults;
+
+    ghost from_gives = { λ _ e. e ≡ faults.OutOfMemory };
 
     fn from(_e: AllocError) -> IndexFault {
         IndexFault::OutOfMemory
     }
 }
 
-impl<T: Drop> From<AllocFailed<T>> for IndexFault {
+/// Why lines of an index text weren't read.
+#[derive(Clone, Copy, Drop)]
+pub(crate) enum LineFault {
+    Fault(IndexFaultKind),
+    OutOfMemory,
+}
+
+impl From<AllocError> for LineFault {
     ghost from_gives = { λ _ e. e ≡ OutOfMemory };
 
-    fn from(_e: AllocFailed<T>) -> IndexFault {
-        IndexFault::OutOfMemory
+    fn from(_e: AllocError) -> LineFault {
+        LineFault::OutOfMemory
     }
 }
 
-impl From<FromHexError> for IndexFault {
+impl<T: Drop> From<AllocFailed<T>> for LineFault {
+    ghost from_gives = { λ _ e. e ≡ OutOfMemory };
+
+    fn from(_e: AllocFailed<T>) -> LineFault {
+        LineFault::OutOfMemory
+    }
+}
+
+impl From<FromHexError> for LineFault {
     ghost use Rattle.stored_index.specs.inner.HexFaults.{fault_by};
 
     ghost from_gives = { λ error e. e ≡ fault_by error };
 
-    fn from(error: FromHexError) -> IndexFault {
+    fn from(error: FromHexError) -> LineFault {
         match error {
-            FromHexError::OutOfMemory => IndexFault::OutOfMemory,
+            FromHexError::OutOfMemory => LineFault::OutOfMemory,
             FromHexError::OddLength => form(),
             FromHexError::InvalidStringLength => form(),
             FromHexError::InvalidHexCharacter { .. } => form(),
@@ -103,8 +147,8 @@ impl From<FromHexError> for IndexFault {
     }
 }
 
-pub(crate) fn form() -> IndexFault
+pub(crate) fn form() -> LineFault
     ensures { result ≡ Fault Form }
 {
-    IndexFault::Fault(IndexFaultKind::Form)
+    LineFault::Fault(IndexFaultKind::Form)
 }

@@ -4,10 +4,10 @@ ghost use Rattle.std.specs.Prelude.{◌≡◌, IfOk, map};
 ghost use Rattle.stored_index.specs.Gives.{Gives};
 ghost use Rattle.stored_index.specs.Reading.{is_stamp, has_header_form, header_of, header_in, is_current, if_current, current_header};
 ghost use Rattle.stored_index.specs.inner.Reads.{header_view};
-ghost use Rattle.stored_index.specs.declared.fault.IndexFault.TheVariants.{Fault};
+ghost use Rattle.stored_index.specs.declared.fault.LineFault.TheVariants.{Fault};
 ghost use Rattle.stored_index.specs.declared.fault.IndexFaultKind.TheVariants as kinds;
 
-use crate::fault::{IndexFault, IndexFaultKind};
+use crate::fault::{IndexFaultKind, LineFault};
 use crate::keys::are_hex_bytes;
 use crate::numbers::number_in;
 use crate::words::words;
@@ -33,13 +33,13 @@ fn has_header_form(name: &[u8], version: &[u8], stamp: &[u8]) -> bool
     name == b"slapindex".as_slice() && version == b"1".as_slice() && is_stamp(stamp)
 }
 
-fn header_fault() -> IndexFault
+fn header_fault() -> LineFault
     ensures { result ≡ Fault kinds.Header }
 {
-    IndexFault::Fault(IndexFaultKind::Header)
+    LineFault::Fault(IndexFaultKind::Header)
 }
 
-fn header_of<'a>(words: &[&'a [u8]]) -> Result<Header<'a>, IndexFault>
+fn header_of<'a>(words: &[&'a [u8]]) -> Result<Header<'a>, LineFault>
     ensures { Gives header_view result (header_of (map (λ w. w.now) words.now)) }
 {
     match words {
@@ -60,7 +60,7 @@ fn header_of<'a>(words: &[&'a [u8]]) -> Result<Header<'a>, IndexFault>
 }
 
 #[tactic(auto, unfolding(crate::specs::Reading::header_in))]
-fn header_in<'a>(alloc: Global, line: &'a [u8]) -> Result<Header<'a>, IndexFault>
+fn header_in<'a>(alloc: Global, line: &'a [u8]) -> Result<Header<'a>, LineFault>
     ensures { Gives header_view result (header_in line.now) }
 {
     let words = words(alloc, line)?;
@@ -86,13 +86,13 @@ pub(crate) fn check_header(
     line: &[u8],
     entries: usize,
     stamp: &[u8],
-) -> Result<(), IndexFault>
+) -> Result<(), LineFault>
     ensures { Gives (λ _. tt) result (current_header entries stamp.now line.now) }
 {
     let header = header_in(alloc, line)?;
     if is_current(alloc, header, entries, stamp)? {
         Ok(())
     } else {
-        Err(IndexFault::Fault(IndexFaultKind::Stale))
+        Err(LineFault::Fault(IndexFaultKind::Stale))
     }
 }

@@ -1,57 +1,75 @@
 //! The line of a key.
 
-ghost use Rattle.std.specs.Prelude.{◌≡◌, ◌∷◌, option_copied};
-ghost use Rattle.base.specs.Ascii.{space};
-ghost use Rattle.stored_index.specs.Cuts.{parts};
-ghost use Rattle.stored_index.specs.KeyLines.{is_above, row_of, row_in};
-ghost use Rattle.stored_index.specs.inner.Reads.{Reads, IsKept};
+ghost use Rattle.std.specs.Prelude.{◌≡◌, ℕ, List, Ok, IfOk, IfErr};
+ghost use Rattle.base.specs.Answers.{Fails};
+ghost use Rattle.stored_index.specs.KeyLines.{row_in};
+ghost use Rattle.stored_index.specs.Gives.{kind_of};
+ghost use Rattle.stored_index.specs.Words.{key_in};
+ghost use Rattle.stored_index.specs.inner.Kept.{ReadsBehind, IsLineOf, listed, kept_if, row_of_words};
 
 use crate::cuts::cut;
-use crate::fault::{IndexFault, form};
-use crate::keys::read_key;
+use crate::fault::{LineFault, form};
+use crate::given::Given;
+use crate::keys::{is_key, read_key};
 use crate::ranks::read_ranks;
 use crate::row::Row;
 use base::Bytes;
-use std::alloc::Global;
+use id_sets::ListSet;
 
-// whether a key comes after the one before it, where there is one
-fn is_above(before: Option<&[u8]>, key: &[u8]) -> bool
-    ensures { result ≡ is_above (option_copied before.entry) key.now }
-{
-    match before {
-        Some(before) => before.cmp(key).is_lt(),
-        None => true,
-    }
+/// A key as its line writes it, and its row, where the key is asked for.
+#[derive(Drop)]
+pub(crate) struct KeyLine<'l> {
+    pub(crate) word: &'l [u8],
+    pub(crate) row: Option<Row>,
 }
 
-// the key of this word, with the ranks of the words behind it
-fn read_words(
-    alloc: Global,
+// the row of the key that a word writes, where it is asked for
+fn row_if_asked(
+    given: Given<'_>,
     word: &[u8],
-    words: &[u8],
-    before: Option<&[u8]>,
-    entries: usize,
-) -> Result<Row, IndexFault>
-    ensures { Reads IsKept result (row_of (option_copied before.entry) entries (word.now ∷ parts space words.now)) }
+    is_asked: bool,
+    ranks: ListSet,
+) -> Result<Option<Row>, LineFault>
+    ensures ok { IfOk result (λ row. (key : List ℕ) → key_in word.now ≡ Ok key → listed row ≡ kept_if is_asked (key, ranks)) }
+    ensures err { IfErr result (λ e. Fails (kind_of e) (key_in word.now)) }
 {
-    let key = read_key(alloc, word)?;
-    let is_in_order = is_above(before, key.as_slice());
-    let ranks = read_ranks(alloc, words, is_in_order, entries, true)?;
-    Ok(Row::new(Bytes::from_vec(key), ranks))
+    if !is_asked {
+        return Ok(None);
+    }
+    let key = read_key(given.alloc, word)?;
+    Ok(Some(Row::new(Bytes::from_vec(key), ranks)))
 }
 
-/// A key with its ranks, as a line says them behind the line of another key, if there is one.
-pub(crate) fn read_row(
-    alloc: Global,
-    line: &[u8],
-    before: Option<&[u8]>,
-    entries: usize,
-) -> Result<Row, IndexFault>
-    ensures { Reads IsKept result (row_in (option_copied before.entry) entries line.now) }
+// the line of this word, with the ranks of the words behind it
+fn read_words<'l>(
+    given: Given<'_>,
+    word: &'l [u8],
+    words: &[u8],
+    last_word: &[u8],
+) -> Result<KeyLine<'l>, LineFault>
+    ensures { ReadsBehind (IsLineOf given.entry.asked.now) last_word.now result (row_of_words given.entry.entries word.now words.now) }
+{
+    if !is_key(word) {
+        return Err(form());
+    }
+    let is_in_order = last_word.cmp(word).is_lt();
+    let is_asked = given.asked.has(word);
+    let ranks = read_ranks(given.alloc, words, is_in_order, given.entries, is_asked)?;
+    let row = row_if_asked(given, word, is_asked, ranks)?;
+    Ok(KeyLine { word, row })
+}
+
+/// The key and the ranks of a line, behind the line of another key, if there is one.
+pub(crate) fn read_key_line<'l>(
+    given: Given<'_>,
+    line: &'l [u8],
+    last_word: &[u8],
+) -> Result<KeyLine<'l>, LineFault>
+    ensures { ReadsBehind (IsLineOf given.entry.asked.now) last_word.now result (λ before. row_in before given.entry.entries line.now) }
 {
     let (word, words) = cut(b' ', line);
     match words {
-        Some(words) => read_words(alloc, word, words, before, entries),
+        Some(words) => read_words(given, word, words, last_word),
         None => Err(form()),
     }
 }

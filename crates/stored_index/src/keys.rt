@@ -5,7 +5,7 @@ ghost use Rattle.std.specs.List.{list_all};
 ghost use Rattle.stored_index.specs.Words.{is_hex_byte, bytes_in, key_in};
 ghost use Rattle.stored_index.specs.Gives.{Gives};
 
-use crate::fault::{IndexFault, form};
+use crate::fault::{LineFault, form};
 use byte_tests::{ByteTest, any_byte};
 use std::alloc::Global;
 
@@ -50,7 +50,7 @@ pub(crate) fn is_key(word: &[u8]) -> bool
 }
 
 // the bytes of which each is two digits
-fn read_bytes(alloc: Global, word: &[u8]) -> Result<Vec<u8>, IndexFault>
+fn read_bytes(alloc: Global, word: &[u8]) -> Result<Vec<u8>, LineFault>
     ensures { Gives (λ bytes. bytes.items) result (bytes_in word.now) }
 {
     if !are_hex_bytes(word) {
@@ -62,7 +62,7 @@ fn read_bytes(alloc: Global, word: &[u8]) -> Result<Vec<u8>, IndexFault>
 
 /// The bytes of the key that a word writes.
 #[tactic(auto, unfolding(crate::specs::Words::key_in))]
-pub(crate) fn read_key(alloc: Global, word: &[u8]) -> Result<Vec<u8>, IndexFault>
+pub(crate) fn read_key(alloc: Global, word: &[u8]) -> Result<Vec<u8>, LineFault>
     ensures { Gives (λ bytes. bytes.items) result (key_in word.now) }
 {
     match word {

@@ -3,9 +3,13 @@
 //! The functions of `laws` do nothing: a call of one is made for what it states alone.
 #![tactic(auto)]
 
+mod asked;
 mod cuts;
+mod draft;
 mod fault;
+mod given;
 mod header;
+mod kept;
 mod key_lines;
 mod keys;
 mod laws;
@@ -13,7 +17,6 @@ mod numbers;
 mod ranks;
 mod reading;
 mod row;
-mod row_lines;
 mod slot_lines;
 mod stored;
 mod words;

@@ -6,11 +6,11 @@ ghost use Rattle.base.specs.Ascii.{space};
 ghost use Rattle.stored_index.specs.Cuts.{parts, parts_if};
 ghost use Rattle.stored_index.specs.Words.{has_number_form, number_after, number_in};
 ghost use Rattle.stored_index.specs.Gives.{Gives};
-ghost use Rattle.stored_index.specs.declared.fault.IndexFault.TheVariants.{Fault};
+ghost use Rattle.stored_index.specs.declared.fault.LineFault.TheVariants.{Fault};
 ghost use Rattle.stored_index.specs.declared.fault.IndexFaultKind.TheVariants.{Form};
 
 use crate::cuts::cut;
-use crate::fault::{IndexFault, form};
+use crate::fault::{LineFault, form};
 
 fn has_number_form(word: &[u8]) -> bool
     ensures { result ≡ has_number_form word.now }
@@ -23,7 +23,7 @@ fn has_number_form(word: &[u8]) -> bool
 }
 
 // the number that so few digits write
-fn number_of(word: &[u8]) -> Result<u64, IndexFault>
+fn number_of(word: &[u8]) -> Result<u64, LineFault>
     requires { length word.now ≤ 10 }
     ensures number { Gives (λ n. n) result (number_after 0 word.now) }
     ensures small { IfOk result (λ n. n < 10 ^ 10) }
@@ -41,7 +41,7 @@ fn number_of(word: &[u8]) -> Result<u64, IndexFault>
 
 /// The number that a word writes, in decimal without leading zeros and of at most ten digits.
 #[tactic(auto, unfolding(crate::specs::Words::number_in))]
-pub(crate) fn number_in(word: &[u8]) -> Result<u64, IndexFault>
+pub(crate) fn number_in(word: &[u8]) -> Result<u64, LineFault>
     ensures number { Gives (λ n. n) result (number_in word.now) }
     ensures small { IfOk result (λ n. n < 10 ^ 10) }
     ensures fault { IfErr result (λ e. e ≡ Fault Form) }
@@ -70,7 +70,7 @@ fn digits(text: &[u8]) -> (usize, u64)
 }
 
 // what `cut_number` answers, for any text; a word of a few digits is read in one pass
-fn cut_any(text: &[u8]) -> (&[u8], Result<u64, IndexFault>, Option<&[u8]>)
+fn cut_any(text: &[u8]) -> (&[u8], Result<u64, LineFault>, Option<&[u8]>)
     ensures parts { parts space text.now ≡ result.0.now ∷ parts_if space result.2 }
     ensures number { Gives (λ n. n) result.1 (number_in result.0.now) }
     ensures small { IfOk result.1 (λ n. n < 10 ^ 10) }
@@ -136,7 +136,7 @@ fn cut_five(text: &[u8]) -> Option<(&[u8], u64, Option<&[u8]>)>
 
 /// The first word of a text, the number that it writes, and what stands behind the space that ends it. Most have five digits.
 #[inline(always)]
-pub(crate) fn cut_number(text: &[u8]) -> (&[u8], Result<u64, IndexFault>, Option<&[u8]>)
+pub(crate) fn cut_number(text: &[u8]) -> (&[u8], Result<u64, LineFault>, Option<&[u8]>)
     ensures parts { parts space text.now ≡ result.0.now ∷ parts_if space result.2 }
     ensures number { Gives (λ n. n) result.1 (number_in result.0.now) }
     ensures small { IfOk result.1 (λ n. n < 10 ^ 10) }

@@ -6,7 +6,7 @@ ghost use Rattle.stored_index.specs.Cuts.{parts};
 ghost use Rattle.stored_index.specs.KeyLines.{ranks_in};
 ghost use Rattle.stored_index.specs.inner.Reads.{Reads, SetIfAsked};
 
-use crate::fault::{IndexFault, IndexFaultKind};
+use crate::fault::{IndexFaultKind, LineFault};
 use crate::numbers::cut_number;
 use id_sets::ListSet;
 use std::alloc::{AllocError, Global};
@@ -39,7 +39,7 @@ pub(crate) fn read_ranks(
     is_key_in_order: bool,
     entries: usize,
     is_asked: bool,
-) -> Result<ListSet, IndexFault>
+) -> Result<ListSet, LineFault>
     ensures { Reads (SetIfAsked is_asked) result (ranks_in is_key_in_order entries (parts space text.now)) }
 {
     let mut ranks = Vec::new(alloc);
@@ -56,10 +56,10 @@ pub(crate) fn read_ranks(
         rest = next;
     }
     if !is_in_order {
-        return Err(IndexFault::Fault(IndexFaultKind::Order));
+        return Err(LineFault::Fault(IndexFaultKind::Order));
     }
     if least > entries as u64 {
-        return Err(IndexFault::Fault(IndexFaultKind::Rank));
+        return Err(LineFault::Fault(IndexFaultKind::Rank));
     }
     Ok(ListSet::of_list(ranks))
 }

@@ -1,108 +1,70 @@
-//! The whole text, line by line.
+//! The whole text, piece by piece.
 
-ghost use Rattle.std.specs.Prelude.{◌≡◌, ◌&&◌, None};
-ghost use Rattle.std.specs.Str.{bytes_eq};
-ghost use Rattle.base.specs.Ascii.{line_feed};
-ghost use Rattle.index_text.specs.IndexTexts.{end_line};
-ghost use Rattle.stored_index.specs.Cuts.{parts};
-ghost use Rattle.stored_index.specs.Words.{is_empty};
-ghost use Rattle.stored_index.specs.Gives.{Gives};
-ghost use Rattle.stored_index.specs.Reading.{slot_rows, end_of, slots_of, rows_in};
-ghost use Rattle.stored_index.specs.inner.Reads.{Reads, AreFirst, AreSlots};
+ghost use Rattle.std.specs.Prelude.{◌≡◌, ◌<◌, ◌-◌, ◌+◌, ◌^◌, ◌++◌, ◌∷◌, [], ℕ, List, Err, OnOk, IfErr, IfOk};
+ghost use Rattle.base.specs.Answers.{Fails};
+ghost use Rattle.stored_index.specs.Gives.{fault_of, kind_of};
+ghost use Rattle.stored_index.specs.Stored.{HasText};
+ghost use Rattle.stored_index.specs.inner.Drafts.{GoesOn, FailsBehind, Comes, TakesOn, FailsIn, read_by};
+ghost use Rattle.stored_index.specs.declared.fault.IndexFault.TheVariants.{Device as failed};
 
 use crate::cuts::first_line;
-use crate::fault::{IndexFault, IndexFaultKind, form};
-use crate::header::check_header;
+use crate::draft::Draft;
+use crate::fault::{IndexFault, LineFault};
+use crate::given::Given;
 use crate::row::Row;
-use crate::row_lines::read_rows;
-use crate::slot_lines::{fault_at, is_slot, slot_in};
 use base::Sequence;
-use schema::{Conf, Slot};
-use std::alloc::Global;
+use device::Source;
 
-// the line of a slot that is due, and its rows; and what stands behind them
-fn read_slot<'a>(
-    alloc: Global,
-    conf: &Conf,
-    before: Option<Slot>,
-    due: Slot,
-    text: &'a [u8],
-    entries: usize,
-) -> Result<(Sequence<Row>, &'a [u8]), IndexFault>
-    ensures { Reads AreFirst result (slot_rows conf.now.types entries before due (parts line_feed text.now)) }
+/// How many bytes are asked of a source at a time.
+const PIECE: usize = 65536;
+
+// the line that ends here, behind the bytes that are held of it
+fn take_line(draft: &mut Draft<'_>, held: &mut Vec<u8>, line: &[u8]) -> Result<(), LineFault>
+    ensures ok { OnOk result (GoesOn draft.old draft.new (held.old.items ++ line.now)) }
+    ensures held { OnOk result (held.new.items ≡ []) }
+    ensures err { IfErr result (FailsBehind draft.old (held.old.items ++ line.now)) }
 {
-    match first_line(text) {
-        None => Err(form()),
-        Some((line, rest)) => {
-            if is_slot(due, slot_in(alloc, conf, line)?) {
-                read_rows(alloc, rest, entries)
-            } else {
-                Err(IndexFault::Fault(fault_at(alloc, conf, before, line)?))
-            }
-        }
+    if held.is_empty() {
+        return draft.read_line(line);
     }
+    held.extend_from_slice(line)?;
+    draft.read_line(held.as_slice())?;
+    held.clear();
+    Ok(())
 }
 
-// whether a line is the last one, and nothing stands behind it
-fn is_end(line: &[u8], rest: &[u8]) -> bool
-    ensures { result ≡ (bytes_eq line.now end_line && is_empty rest.now) }
+// the next bytes of the text
+fn take_piece(draft: &mut Draft<'_>, held: &mut Vec<u8>, piece: &[u8]) -> Result<(), LineFault>
+    ensures ok { OnOk result (TakesOn draft.old held.old.items piece.now draft.new held.new.items) }
+    ensures err { IfErr result (FailsIn draft.old held.old.items piece.now) }
 {
-    line == b"end".as_slice() && rest.is_empty()
-}
-
-// the last line
-fn read_end(alloc: Global, conf: &Conf, before: Option<Slot>, text: &[u8]) -> Result<(), IndexFault>
-    ensures { Gives (λ _. tt) result (end_of conf.now.types before (parts line_feed text.now)) }
-{
-    match first_line(text) {
-        None => Err(form()),
-        Some((line, rest)) => {
-            if is_end(line, rest) {
-                Ok(())
-            } else {
-                Err(IndexFault::Fault(fault_at(alloc, conf, before, line)?))
-            }
-        }
-    }
-}
-
-// the rows of each slot, and the last line
-fn read_slots(
-    alloc: Global,
-    conf: &Conf,
-    text: &[u8],
-    entries: usize,
-) -> Result<Sequence<Sequence<Row>>, IndexFault>
-    ensures { Reads AreSlots result (slots_of conf.now.types entries None conf.now.slots (parts line_feed text.now)) }
-{
-    let mut slots = Vec::new(alloc);
-    let mut before = None;
-    let mut rest = text;
-    for due in conf.slots() {
-        let (rows, next) = read_slot(alloc, conf, before, *due, rest, entries)?;
-        slots.push(rows)?;
-        before = Some(*due);
+    let mut rest = piece;
+    while let Some((line, next)) = first_line(rest) {
+        take_line(draft, held, line)?;
         rest = next;
     }
-    read_end(alloc, conf, before, rest)?;
-    Ok(Sequence::from_vec(slots))
+    held.extend_from_slice(rest)?;
+    Ok(())
 }
 
-/// The rows of each slot, as a text says them.
-pub(crate) fn read_text(
-    alloc: Global,
-    text: &[u8],
-    conf: &Conf,
-    stamp: &[u8],
-    entries: usize,
+/// The rows of each slot whose keys are asked for, as the text of a source says them.
+pub(crate) fn read_rows<S: Source>(
+    given: Given<'_>,
+    source: &mut S,
 ) -> Result<Sequence<Sequence<Row>>, IndexFault>
-    ensures { Reads AreSlots result (rows_in conf.now entries stamp.now text.now) }
+    requires { (S.seen source.old).failed < 2 ^ 64 - 1 }
+    ensures ok { IfOk result (λ slots. HasText (S.seen source.old).left (λ text. Comes given.entry.asked.now slots (read_by given.entry text))) }
+    ensures err { IfErr result (λ e. HasText (S.seen source.old).left (λ text. Fails (fault_of e) (read_by given.entry text))) }
+    ensures device { result ≡ Err failed → (S.seen source.new).failed ≡ (S.seen source.old).failed + 1 }
 {
-    match first_line(text) {
-        None => Err(IndexFault::Fault(IndexFaultKind::Header)),
-        Some((line, rest)) => {
-            check_header(alloc, line, entries, stamp)?;
-            read_slots(alloc, conf, rest, entries)
+    let mut draft = Draft::new(given);
+    let mut held = Vec::new(given.alloc);
+    let mut piece = [0; PIECE];
+    'pulls: loop {
+        let n = source.pull(&mut piece)?;
+        if n == 0 {
+            return Ok(draft.finish(held.as_slice())?);
         }
+        take_piece(&mut draft, &mut held, &piece[..n])?;
     }
 }

@@ -1,12 +1,20 @@
 //! The lines of slots.
 
 ghost use Rattle.std.specs.Prelude.{◌≡◌, IfOk, map};
+ghost use Rattle.stored_index.specs.Reading.{ends_rows};
 ghost use Rattle.stored_index.specs.SlotLines.{kind_named, type_printed, slot_of, slot_in, is_slot, is_passed, fault_at};
 
 use crate::fault::IndexFaultKind;
 use crate::words::words;
 use schema::{Conf, IndexKind, Slot, TypeId};
 use std::alloc::{AllocError, Global};
+
+/// Whether a line is that of a slot, or the last one.
+pub(crate) fn ends_rows(line: &[u8]) -> bool
+    ensures { result ≡ ends_rows line.now }
+{
+    line == b"end".as_slice() || line.starts_with(b"slot ")
+}
 
 // the kind that a word calls
 fn kind_named(word: &[u8]) -> Option<IndexKind>

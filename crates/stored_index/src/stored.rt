@@ -1,21 +1,26 @@
 //! An index as its text says it.
 
-ghost use Rattle.std.specs.Prelude.{◌≡◌, MatchOption};
+ghost use Rattle.std.specs.Prelude.{◌≡◌, ◌<◌, ◌+◌, ◌-◌, ◌^◌, Err, IfOk, IfErr, MatchOption};
+ghost use Rattle.base.specs.Answers.{Fails};
 ghost use Rattle.std.specs.List.Sorted.{IsStrictlySortedBy};
 ghost use Rattle.std.specs.Cmp.Lexicographic.{slice_cmp};
 ghost use Rattle.std.specs.Ordering.{nat_cmp};
 ghost use Rattle.std.specs.Map.{keys_of};
 ghost use Rattle.std.specs.FinSet as set;
 ghost use Rattle.index.specs.KeySets.{members_at};
-ghost use Rattle.stored_index.specs.Gives.{Gives};
-ghost use Rattle.stored_index.specs.Stored.{index_in};
+ghost use Rattle.stored_index.specs.Gives.{fault_of};
+ghost use Rattle.stored_index.specs.Stored.{index_in, HasText, ReadsKeys};
+ghost use Rattle.stored_index.specs.declared.fault.IndexFault.TheVariants.{Device as failed};
 
+use crate::asked::AskedTexts;
 use crate::fault::IndexFault;
-use crate::reading::read_text;
+use crate::given::Given;
+use crate::reading::read_rows;
 use crate::row::Row;
 use base::Sequence;
+use device::Source;
 use id_sets::ListSet;
-use index::{Postings, SlotNumber, slot_number};
+use index::{Postings, SlotKey, SlotNumber, slot_number};
 use schema::{Conf, IndexKind, Slot, TypeId};
 use std::alloc::Global;
 use std::marker::Model;
@@ -59,18 +64,31 @@ fn ranks_of<'a>(rows: &'a [Row], key: &[u8]) -> Option<&'a ListSet>
 }
 
 impl StoredIndex {
-    /// The index that a text writes under a configuration, of so many entries, for the dump with this stamp; or what is wrong with the
-    /// text's first line, or else with the first line behind it that is at fault.
-    pub fn read(
+    /// Of the index that a text writes under a configuration, of so many entries, for the dump with this stamp, the keys that are asked
+    /// for; or what is wrong with the text's first line, or else with the first line behind it that is at fault. The text is read from a
+    /// source in pieces of 64 KiB, up to the fault, if it has one. Memory is taken for the keys that are asked for, and for the longest line.
+    pub fn read<S: Source>(
         alloc: Global,
-        text: &[u8],
+        source: &mut S,
         conf: &Conf,
         stamp: &[u8],
         entries: usize,
+        asked: &[SlotKey],
     ) -> Result<StoredIndex, IndexFault>
-        ensures { Gives (λ x. x) result (index_in conf.now entries stamp.now text.now) }
+        requires { (S.seen source.old).failed < 2 ^ 64 - 1 }
+        ensures ok { IfOk result (λ x. HasText (S.seen source.old).left (λ text. ReadsKeys asked.now (index_in conf.now entries stamp.now text) x)) }
+        ensures err { IfErr result (λ e. HasText (S.seen source.old).left (λ text. Fails (fault_of e) (index_in conf.now entries stamp.now text))) }
+        ensures device { result ≡ Err failed → (S.seen source.new).failed ≡ (S.seen source.old).failed + 1 }
     {
-        let rows = read_text(alloc, text, conf, stamp, entries)?;
+        let asked = AskedTexts::of(alloc, asked)?;
+        let given = Given {
+            alloc,
+            conf,
+            stamp,
+            entries,
+            asked: &asked,
+        };
+        let rows = read_rows(given, source)?;
         Ok(StoredIndex {
             made: Snapshot::of(conf),
             slots: Vec::from_slice(alloc, conf.slots())?,

@@ -1,13 +1,15 @@
 -- index.txt as the parts of a search have it.
-use Rattle.std.specs.Prelude.{◌≡◌, Option, None, Some, Ok, Err}
+use Rattle.std.specs.Prelude.{◌≡◌, ℕ, List, Option, None, Some, Ok, Err}
 use Rattle.std.specs.Option.{option_copied}
 use Rattle.device.specs.Device.{Written, Broke}
 use Rattle.stored_index.specs.declared.fault.IndexFaultKind.{IndexFaultKind}
 use Rattle.schema.specs.Conf.{Conf}
 use Rattle.tree.specs.Directories.{Entries}
+use Rattle.tree.specs.Trees.{Tree}
+use Rattle.filter.specs.Made.{Made}
 use Rattle.stored_index.specs.Stored.{Stored, shown_by}
 use Rattle.directory.specs.IndexTexts.{index_text}
-use Rattle.directory.specs.Searches.{ReflectsDump}
+use Rattle.directory.specs.Searches.{ReflectsDump, ShowsTo}
 use Rattle.filter_text.specs.Spells.{view}
 use Rattle.command_line.specs.declared.request.SearchOptions.{SearchOptions}
 use Rattle.commands.specs.Asked.{IsFilter}
@@ -22,15 +24,28 @@ use Rattle.commands.specs.declared.searching.Loaded.{Loaded}
 use Rattle.commands.specs.declared.messages.Stop.{Stop}
 use Rattle.commands.specs.declared.messages.Stop.TheVariants as stops
 
--- what it says
-abbrev pub said : IndexFile → Said
-said files.Missing = None
-said (files.Read stored) = Some (Ok stored)
-said (files.Faulty fault) = Some (Err fault)
-
 -- where the text is that of the directory's own index, the index has the rank of each entry under exactly its keys
 abbrev pub IsTrue : Conf → Entries → Said → Type 0
 IsTrue conf d said = (x : Stored) → said ≡ Some (Ok x) → said ≡ said_by conf d (Some (index_text conf d)) → ReflectsDump (shown_by x) conf.types d
+
+-- What is kept of it says this to a filter: of an index, a part that shows to the filter what the whole shows.
+abbrev pub Says : Made → IndexFile → Said → Type 0
+Says f files.Missing said = said ≡ None
+Says f (files.Read part) said = (whole : Stored) × (said ≡ Some (Ok whole)) × ShowsTo f (shown_by part) (shown_by whole)
+Says f (files.Faulty fault) said = said ≡ Some (Err fault)
+
+-- and what that says of a tree is true
+pub record Keeps (t : Tree) (f : Made) (file : IndexFile) (said : Said) : Type 0 where
+  pub says : Says f file said
+  pub is_true : IsTrue t.conf t.entries said
+
+-- index.txt in this folder says this of a tree, and what is kept of it says so to a filter
+pub record HasRead (files : Option Files) (db : List ℕ) (t : Tree) (f : Made) (file : IndexFile) : Type 0 where
+  pub said : Said
+  pub in_file : SaysOf files db t.conf t.entries said
+  pub kept : Keeps t f file said
+
+-- ---- what is reported of it
 
 -- the line of a fault was broken off; or memory ran out, and nothing was reported
 abbrev pub FailsToReportFault : IndexFaultKind → Written → Written → Stop → Type 0
@@ -46,9 +61,9 @@ FailsToReport None a b why = ⊥
 
 -- ---- what a search has loaded
 
--- it is the filter that was asked for, and the directory with what its index.txt says
+-- it is the filter that was asked for, prepared under the configuration of the directory, and that with what its index.txt says
 pub record HasLoaded (asked : SearchOptions) (files : Option Files) (loaded : Loaded) : Type 0 where
-  pub filter_is : IsFilter (option_copied asked.filter) (view loaded.filter)
+  pub filter_is : IsFilter (option_copied asked.filter) (view loaded.filter.filter)
+  pub prepared : loaded.filter.conf ≡ loaded.database.tree.conf
   pub directory : IsLoaded files asked.db.now loaded.database.tree.conf loaded.database.tree.entries
-  pub says : SaysOf files asked.db.now loaded.database.tree.conf loaded.database.tree.entries (said loaded.file)
-  pub is_true : IsTrue loaded.database.tree.conf loaded.database.tree.entries (said loaded.file)
+  pub index : HasRead files asked.db.now loaded.database.tree loaded.filter loaded.file

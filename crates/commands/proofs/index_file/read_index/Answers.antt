@@ -1,36 +1,55 @@
-use Rattle.std.proofs.Common.{◌≡◌, ℕ, List, length, sym, ap, ◌∙◌, subst, rules}
+use Rattle.std.proofs.Common.{◌≡◌, ℕ, List, length, Some, refl, sym, ap, ◌∙◌, subst, rules}
 use Rattle.std.specs.Prelude.{Ok, Err}
 use Rattle.std.specs.List.{AllByRecursion}
+use Rattle.base.specs.Answers.{Fails}
+use Rattle.schema.specs.declared.slots.Slot.{Slot}
 use Rattle.schema.specs.Conf.{IsConf}
+use Rattle.index.specs.Postings.{slot_in}
+use Rattle.candidates.specs.Asked.{asked_keys}
+use Rattle.candidates.specs.Candidates.{prepared_of}
+use Rattle.stored_index.specs.Gives.{fault_of}
 use Rattle.stored_index.specs.Rows.{IsByte}
-use Rattle.commands.proofs.IndexTold.{read_so, named_so, said_so, true_so, answered}
+use Rattle.stored_index.specs.Stored.{index_in}
+use Rattle.stored_index.specs.declared.fault.IndexFault.{IndexFault}
+use Rattle.commands.proofs.IndexTold.{read_so, named_so, said_so, read_under, shows_to, true_so, faulty_true, answered}
 use Rattle.commands.proofs.Loading.{opened_so}
 use Rattle.commands.proofs.index_file.read_index.Goals as goal
 
-pub returns-in-Ok-clause-says : goal.returns-in-Ok-clause-says
-returns-in-Ok-clause-says g c =
+pub returns-in-Ok-clause-read : goal.returns-in-Ok-clause-read
+returns-in-Ok-clause-read g c =
     let files = g.F.Folder.files c.args.folder.now in
     let d = c.args.database.now.tree in
-    said_so files c.args.db.now d.conf d.entries c.in_ok-text.text.items (Ok c.in-Ok.stored)
-    (named_so files c.args.db.now _ _ (c.as_str.ensures.value ∙ c.in_ok-name.ensures)
-    (read_so files _ _ c.in_ok-text.text.items (opened_so files _ _ _ _ c.in_ok-source.ensures.finds c.in-Some.is) c.in_ok-text.ensures.bytes))
-    (answered d.conf c.args.database.now.conf d.entries c.len.result c.in_ok-stamp.stamp c.deref.result.now c.in_ok-text.text.items (Ok c.in-Ok.stored) c.args.database.now.same_conf c.len.ensures c.in_ok-stamp.ensures c.deref.ensures.value c.in-Ok.ensures)
-
-pub returns-in-Err-Fault-clause-says : goal.returns-in-Err-Fault-clause-says
-returns-in-Err-Fault-clause-says g c =
-    let files = g.F.Folder.files c.args.folder.now in
-    let d = c.args.database.now.tree in
-    said_so files c.args.db.now d.conf d.entries c.in_ok-text.text.items (Err c.in-Err-Fault.kind)
-    (named_so files c.args.db.now _ _ (c.as_str.ensures.value ∙ c.in_ok-name.ensures)
-    (read_so files _ _ c.in_ok-text.text.items (opened_so files _ _ _ _ c.in_ok-source.ensures.finds c.in-Some.is) c.in_ok-text.ensures.bytes))
-    (answered d.conf c.args.database.now.conf d.entries c.len.result c.in_ok-stamp.stamp c.deref.result.now c.in_ok-text.text.items (Err c.in-Err-Fault.kind) c.args.database.now.same_conf c.len.ensures c.in_ok-stamp.ensures c.deref.ensures.value (search rules))
-
-pub returns-in-Ok-clause-is_true : goal.returns-in-Ok-clause-is_true
-returns-in-Ok-clause-is_true g c =
-    let d = c.args.database.now.tree in
+    let conf = c.args.database.now.conf in
+    let h = c.in-Ok.ensures.ok in
+    let whole = h.says.0 in
+    let is = h.says.1 in
     let long : length c.in_ok-stamp.stamp ≡ 32 = search rules in
     let bytes : AllByRecursion IsByte c.in_ok-stamp.stamp = c.are_bytes.ensures in
-    true_so d.conf d.entries c.in-Ok.stored
-    (c.kept_index_texts_are_read.ensures.read d.conf d.entries (subst IsConf (sym c.args.database.now.same_conf) c.rules_are_kept.ensures) c.entries_are_a_directory.ensures (ap (λ (s : List ℕ). length s) (sym c.in_ok-stamp.ensures) ∙ long) (subst (AllByRecursion IsByte) c.in_ok-stamp.ensures bytes))
-    (c.kept_index_texts_are_read.ensures.shows d.conf d.entries)
-    (λ shown. c.index_texts_reflect_dumps.ensures d.conf d.entries shown)
+    record {
+      said = Some (Ok whole);
+      in_file = said_so files c.args.db.now d.conf d.entries h.text (Ok whole)
+          (named_so files c.args.db.now _ _ (c.as_str.ensures.value ∙ c.in_ok-name.ensures) (read_so files _ _ h.text (opened_so files _ _ _ _ c.in_ok-source.ensures.finds c.in-Some.is) h.left_is))
+          (answered d.conf conf d.entries c.len.result c.in_ok-stamp.stamp h.text (Ok whole) c.args.database.now.same_conf c.len.ensures c.in_ok-stamp.ensures is);
+      kept = record {
+        says = (whole, refl, shows_to c.args.filter.now conf c.as_slice.result.now whole c.in-Ok.stored (c.as_slice.ensures.value ∙ c.in_ok-asked.ensures ∙ ap (λ (slots : List Slot). asked_keys (slot_in slots) (prepared_of c.args.filter.now)) c.slots.ensures) (read_under conf c.len.result c.in_ok-stamp.stamp h.text whole is) h.says.2);
+        is_true = true_so d.conf d.entries whole
+            (c.kept_index_texts_are_read.ensures.read d.conf d.entries (subst IsConf (sym c.args.database.now.same_conf) c.rules_are_kept.ensures) c.entries_are_a_directory.ensures (ap (λ (s : List ℕ). length s) (sym c.in_ok-stamp.ensures) ∙ long) (subst (AllByRecursion IsByte) c.in_ok-stamp.ensures bytes))
+            (c.kept_index_texts_are_read.ensures.shows d.conf d.entries)
+            (λ shown. c.index_texts_reflect_dumps.ensures d.conf d.entries shown);
+      };
+    }
+
+pub returns-in-Err-Fault-clause-read : goal.returns-in-Err-Fault-clause-read
+returns-in-Err-Fault-clause-read g c =
+    let files = g.F.Folder.files c.args.folder.now in
+    let d = c.args.database.now.tree in
+    let conf = c.args.database.now.conf in
+    let h = c.in-Err-Fault.ensures.err in
+    let says = subst (λ (e : IndexFault). Fails (fault_of e) (index_in conf c.len.result c.in_ok-stamp.stamp h.text)) c.in-Err-Fault.field-0-is h.says in
+    record {
+      said = Some (Err c.in-Err-Fault.kind);
+      in_file = said_so files c.args.db.now d.conf d.entries h.text (Err c.in-Err-Fault.kind)
+          (named_so files c.args.db.now _ _ (c.as_str.ensures.value ∙ c.in_ok-name.ensures) (read_so files _ _ h.text (opened_so files _ _ _ _ c.in_ok-source.ensures.finds c.in-Some.is) h.left_is))
+          (answered d.conf conf d.entries c.len.result c.in_ok-stamp.stamp h.text (Err c.in-Err-Fault.kind) c.args.database.now.same_conf c.len.ensures c.in_ok-stamp.ensures says);
+      kept = record { says = refl; is_true = faulty_true d.conf d.entries c.in-Err-Fault.kind };
+    }

@@ -1,10 +1,7 @@
-use Rattle.std.proofs.Common.{Bool, map, refl, sym, ap, subst, ◌∙◌}
+use Rattle.std.proofs.Common.{Bool, map, refl, sym, subst}
 use Rattle.std.specs.Prelude.{codes, None}
 use Rattle.std.specs.Option.{option_copied}
 use Rattle.schema.specs.Conf.{Conf}
-use Rattle.filter_text.specs.Spells.{view}
-use Rattle.filter.specs.Made.{Made}
-use Rattle.search.specs.Searches.{scan}
 use Rattle.search.specs.Walks.{seen}
 use Rattle.directory.specs.Found.{found_text, up_to, goes_past}
 use Rattle.commands.specs.Asked.{IsBase}
@@ -17,13 +14,13 @@ pub returns-in-Some-clause-found : goal.returns-in-Some-clause-found
 returns-in-Some-clause-found g c =
     let asked = c.args.asked.now in
     let d = c.args.database.now.tree in
-    printed_so (λ past text. IsFoundText asked None (basis_of c.args.filter.now d) past text) (goes_past asked.limit (map seen c.in-Some.hits.to_come))
+    printed_so (λ past text. IsFoundText asked None (basis_of c.args.filter.now.filter d) past text) (goes_past asked.limit (map seen c.in-Some.hits.to_come))
     (found_text d.conf d.entries c.in_ok-wanted.wanted.selection (up_to asked.limit (map seen c.in-Some.hits.to_come)))
-    (found_so asked None (basis_of c.args.filter.now d) c.in_ok-wanted.wanted.base c.in_ok-wanted.wanted.selection (map seen c.in-Some.hits.to_come)
+    (found_so asked None (basis_of c.args.filter.now.filter d) c.in_ok-wanted.wanted.base c.in_ok-wanted.wanted.selection (map seen c.in-Some.hits.to_come)
     (subst (λ (conf : Conf). IsBase conf (option_copied asked.base) c.in_ok-wanted.wanted.base) (sym c.args.database.now.same_conf) c.in_ok-wanted.ensures.base)
     (selection_so d.conf c.args.database.now.conf asked.attributes.items asked.attributes.items c.in_ok-wanted.wanted.selection (sym c.args.database.now.same_conf) refl c.in_ok-wanted.ensures.selection)
     (sym c.in-Some.ensures.there)
-    (c.in-Some.ensures.found ∙ ap (λ (m : Made). scan d.conf d.entries c.in_ok-wanted.wanted.base asked.scope (view m.filter)) c.in_ok-wanted.ensures.filter)
+    c.in-Some.ensures.found
     (λ own. refl))
     c.print_hits.result _ _ c.print_hits.ensures.past c.print_hits.ensures.printed
 
@@ -32,14 +29,14 @@ returns-in-Some-clause-partly g c =
     let asked = c.args.asked.now in
     let d = c.args.database.now.tree in
     let past = goes_past asked.limit (map seen c.in-Some.hits.to_come) in
-    text_begun (λ text. (past : Bool) × IsFoundText asked None (basis_of c.args.filter.now d) past text) None
+    text_begun (λ text. (past : Bool) × IsFoundText asked None (basis_of c.args.filter.now.filter d) past text) None
     (found_text d.conf d.entries c.in_ok-wanted.wanted.selection (up_to asked.limit (map seen c.in-Some.hits.to_come))) (
       past,
-      found_so asked None (basis_of c.args.filter.now d) c.in_ok-wanted.wanted.base c.in_ok-wanted.wanted.selection (map seen c.in-Some.hits.to_come)
+      found_so asked None (basis_of c.args.filter.now.filter d) c.in_ok-wanted.wanted.base c.in_ok-wanted.wanted.selection (map seen c.in-Some.hits.to_come)
           (subst (λ (conf : Conf). IsBase conf (option_copied asked.base) c.in_ok-wanted.wanted.base) (sym c.args.database.now.same_conf) c.in_ok-wanted.ensures.base)
           (selection_so d.conf c.args.database.now.conf asked.attributes.items asked.attributes.items c.in_ok-wanted.wanted.selection (sym c.args.database.now.same_conf) refl c.in_ok-wanted.ensures.selection)
           (sym c.in-Some.ensures.there)
-          (c.in-Some.ensures.found ∙ ap (λ (m : Made). scan d.conf d.entries c.in_ok-wanted.wanted.base asked.scope (view m.filter)) c.in_ok-wanted.ensures.filter)
+          c.in-Some.ensures.found
           (λ own. refl)
           past refl,
     )

@@ -1,48 +1,42 @@
-use Rattle.std.proofs.Common.{Bool, map, refl, sym, ap, subst, ◌∙◌}
-use Rattle.std.specs.Prelude.{codes, None, Some, Ok}
+use Rattle.std.proofs.Common.{Bool, map, refl, sym, subst}
+use Rattle.std.specs.Prelude.{codes, None}
 use Rattle.std.specs.Option.{option_copied}
 use Rattle.schema.specs.Conf.{Conf, IsConf}
-use Rattle.filter_text.specs.Spells.{view}
-use Rattle.filter.specs.Made.{Made}
-use Rattle.search.specs.Searches.{scan}
 use Rattle.search.specs.Walks.{seen}
 use Rattle.directory.specs.Found.{found_text, up_to, goes_past}
 use Rattle.commands.specs.Asked.{IsBase}
 use Rattle.commands.specs.Prints.{IsFoundText}
 use Rattle.commands.specs.inner.Views.{basis_of}
-use Rattle.commands.proofs.Ends.{found_so, selection_so, printed_so, by_index, text_begun}
+use Rattle.commands.proofs.Ends.{found_by_part, selection_so, printed_so, text_begun}
 use Rattle.commands.proofs.searching.print_by_text.Goals as goal
 
 pub returns-in-Ok-clause-found : goal.returns-in-Ok-clause-found
-returns-in-Ok-clause-found g c =
+returns-in-Ok-clause-found g c = λ said kept.
     let asked = c.args.asked.now in
     let d = c.args.database.now.tree in
-    let found = by_index c.in_ok-wanted.wanted.filter c.args.database.now.conf d c.args.filter.now c.args.stored.now c.in_ok-wanted.wanted.base asked.scope c.in_ok-wanted.ensures.filter c.args.database.now.same_conf in
-    printed_so (λ past text. IsFoundText asked (Some (Ok c.args.stored.now)) (basis_of c.args.filter.now d) past text) (goes_past asked.limit (map seen c.in-Ok.hits.to_come))
-    (found_text d.conf d.entries c.in_ok-wanted.wanted.selection (up_to asked.limit (map seen c.in-Ok.hits.to_come)))
-    (found_so asked (Some (Ok c.args.stored.now)) (basis_of c.args.filter.now d) c.in_ok-wanted.wanted.base c.in_ok-wanted.wanted.selection (map seen c.in-Ok.hits.to_come)
-    (subst (λ (conf : Conf). IsBase conf (option_copied asked.base) c.in_ok-wanted.wanted.base) (sym c.args.database.now.same_conf) c.in_ok-wanted.ensures.base)
-    (selection_so d.conf c.args.database.now.conf asked.attributes.items asked.attributes.items c.in_ok-wanted.wanted.selection (sym c.args.database.now.same_conf) refl c.in_ok-wanted.ensures.selection)
-    c.in-Ok.ensures.there
-    (c.in-Ok.ensures.found ∙ found)
-    (λ own. sym found ∙ sym c.in-Ok.ensures.found ∙ c.in-Ok.ensures.whole (subst IsConf (sym c.args.database.now.same_conf) c.rules_are_kept.ensures) (c.requires.is_true c.args.stored.now refl own) ∙ ap (λ (m : Made). scan d.conf d.entries c.in_ok-wanted.wanted.base asked.scope (view m.filter)) c.in_ok-wanted.ensures.filter))
+    let f = c.args.filter.now in
+    let wanted = c.in_ok-wanted.wanted in
+    let es = map seen c.in-Ok.hits.to_come in
+    printed_so (λ past text. IsFoundText asked said (basis_of f.filter d) past text) (goes_past asked.limit es) (found_text d.conf d.entries wanted.selection (up_to asked.limit es))
+    (found_by_part asked d f c.args.stored.now wanted.base wanted.selection es c.requires.prepared (subst IsConf (sym c.args.database.now.same_conf) c.rules_are_kept.ensures)
+    (subst (λ (conf : Conf). IsBase conf (option_copied asked.base) wanted.base) (sym c.args.database.now.same_conf) c.in_ok-wanted.ensures.base)
+    (selection_so d.conf c.args.database.now.conf asked.attributes.items asked.attributes.items wanted.selection (sym c.args.database.now.same_conf) refl c.in_ok-wanted.ensures.selection)
+    c.in-Ok.ensures.there c.in-Ok.ensures.found c.search_with.ensures.part c.in-Ok.ensures.whole said kept)
     c.print_hits.result _ _ c.print_hits.ensures.past c.print_hits.ensures.printed
 
 pub returns-in-Ok-clause-partly : goal.returns-in-Ok-clause-partly
-returns-in-Ok-clause-partly g c =
+returns-in-Ok-clause-partly g c = λ said kept.
     let asked = c.args.asked.now in
     let d = c.args.database.now.tree in
-    let found = by_index c.in_ok-wanted.wanted.filter c.args.database.now.conf d c.args.filter.now c.args.stored.now c.in_ok-wanted.wanted.base asked.scope c.in_ok-wanted.ensures.filter c.args.database.now.same_conf in
-    let past = goes_past asked.limit (map seen c.in-Ok.hits.to_come) in
-    text_begun (λ text. (past : Bool) × IsFoundText asked (Some (Ok c.args.stored.now)) (basis_of c.args.filter.now d) past text) None
-    (found_text d.conf d.entries c.in_ok-wanted.wanted.selection (up_to asked.limit (map seen c.in-Ok.hits.to_come))) (
+    let f = c.args.filter.now in
+    let wanted = c.in_ok-wanted.wanted in
+    let es = map seen c.in-Ok.hits.to_come in
+    let past = goes_past asked.limit es in
+    text_begun (λ text. (past : Bool) × IsFoundText asked said (basis_of f.filter d) past text) None (found_text d.conf d.entries wanted.selection (up_to asked.limit es)) (
       past,
-      found_so asked (Some (Ok c.args.stored.now)) (basis_of c.args.filter.now d) c.in_ok-wanted.wanted.base c.in_ok-wanted.wanted.selection (map seen c.in-Ok.hits.to_come)
-          (subst (λ (conf : Conf). IsBase conf (option_copied asked.base) c.in_ok-wanted.wanted.base) (sym c.args.database.now.same_conf) c.in_ok-wanted.ensures.base)
-          (selection_so d.conf c.args.database.now.conf asked.attributes.items asked.attributes.items c.in_ok-wanted.wanted.selection (sym c.args.database.now.same_conf) refl c.in_ok-wanted.ensures.selection)
-          c.in-Ok.ensures.there
-          (c.in-Ok.ensures.found ∙ found)
-          (λ own. sym found ∙ sym c.in-Ok.ensures.found ∙ c.in-Ok.ensures.whole (subst IsConf (sym c.args.database.now.same_conf) c.rules_are_kept.ensures) (c.requires.is_true c.args.stored.now refl own) ∙ ap (λ (m : Made). scan d.conf d.entries c.in_ok-wanted.wanted.base asked.scope (view m.filter)) c.in_ok-wanted.ensures.filter)
-          past refl,
+      found_by_part asked d f c.args.stored.now wanted.base wanted.selection es c.requires.prepared (subst IsConf (sym c.args.database.now.same_conf) c.rules_are_kept.ensures)
+          (subst (λ (conf : Conf). IsBase conf (option_copied asked.base) wanted.base) (sym c.args.database.now.same_conf) c.in_ok-wanted.ensures.base)
+          (selection_so d.conf c.args.database.now.conf asked.attributes.items asked.attributes.items wanted.selection (sym c.args.database.now.same_conf) refl c.in_ok-wanted.ensures.selection)
+          c.in-Ok.ensures.there c.in-Ok.ensures.found c.search_with.ensures.part c.in-Ok.ensures.whole said kept past refl,
     )
     c.print_hits.result (codes "output") _ _ c.print_hits.ensures.fault c.print_hits.ensures.begun

@@ -6,7 +6,7 @@ use Rattle.search.specs.Searches.{scan_among, counted_scan, count_among}
 use Rattle.search.specs.Walks.{seen}
 use Rattle.directory.specs.Found.{AreThere}
 use Rattle.directory.specs.Searches.{may_by_rank}
-use Rattle.directory.proofs.ByIndex.{is_candidate}
+use Rattle.directory.proofs.ByIndex.{by_whole, is_candidate}
 use Rattle.directory.proofs.FoundText.{found_are_there}
 use Rattle.directory.proofs.searching.search_with.Given.{Over}
 use Rattle.directory.proofs.searching.search_with.Goals as goal
@@ -27,14 +27,14 @@ returns-in-Some-clause-tested g c =
     c.in-Some.ensures.tested ∙ (λ i. count_among d.entries (λ p. c.in_ok-may.ensures (rank_in d.entries p) i) c.args.base.now c.args.scope)
 
 pub returns-in-Some-clause-whole : goal.returns-in-Some-clause-whole
-returns-in-Some-clause-whole g c = λ is_conf shows.
+returns-in-Some-clause-whole g c = λ whole shows is_conf reflects.
     let d : Tree = c.args.tree.now in
-    let shown = g.P.Postings.shown c.args.postings.now in
     let f = c.args.filter.now in
     c.in-Some.ensures.found
     ∙ (λ i. scan_among d.conf d.entries (λ p. c.in_ok-may.ensures (rank_in d.entries p) i) c.args.base.now c.args.scope (view f.filter))
-    ∙ c.candidates_suffice.ensures d.conf d.entries (may_by_rank shown f d) c.args.base.now c.args.scope (view f.filter)
-    (λ p e at is. is_candidate d shown f c.requires is_conf c.entries_are_a_directory.ensures c.brackets_hold.ensures (rank_in d.entries p) p e at (shows.each p e at) is)
+    ∙ (λ i. scan_among d.conf d.entries (by_whole c.asked_keys_suffice.ensures f d (g.P.Postings.shown c.args.postings.now) whole shows i) c.args.base.now c.args.scope (view f.filter))
+    ∙ c.candidates_suffice.ensures d.conf d.entries (may_by_rank whole f d) c.args.base.now c.args.scope (view f.filter)
+    (λ p e at is. is_candidate d whole f c.requires is_conf c.entries_are_a_directory.ensures c.brackets_hold.ensures (rank_in d.entries p) p e at (reflects.each p e at) is)
 
 pub returns-in-Some-clause-entries : goal.returns-in-Some-clause-entries
 returns-in-Some-clause-entries g c =

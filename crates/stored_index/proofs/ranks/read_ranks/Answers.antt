@@ -9,14 +9,14 @@ use Rattle.base.proofs.Each.{with_front, nothing_front, passed_on, on_cons}
 use Rattle.stored_index.specs.Cuts.{parts, parts_if}
 use Rattle.stored_index.specs.Words.{number_in}
 use Rattle.stored_index.specs.KeyLines.{ranks_in}
-use Rattle.stored_index.specs.Gives.{Gives, fault_of}
-use Rattle.stored_index.specs.declared.fault.IndexFault.{IndexFault}
+use Rattle.stored_index.specs.Gives.{Gives, kind_of}
+use Rattle.stored_index.specs.declared.fault.LineFault.{LineFault}
 use Rattle.stored_index.proofs.RankLemmas.{itself, in_order_more, least_more, kept, none_kept, all_read, one_fails, faulty, out_of_order, of_no_entry, as_they_are, rising_of, ascending}
 use Rattle.stored_index.proofs.ranks.read_ranks.Goals as goal
 
 -- what the number of a word is told as
-as_told : (r s : Result ℕ IndexFault) (word : List ℕ) → r ≡ s → Gives (λ (n : ℕ). n) r (number_in word) → Gives (λ (n : ℕ). n) s (number_in word)
-as_told r s word is told = subst (λ (x : Result ℕ IndexFault). Gives (λ (n : ℕ). n) x (number_in word)) is told
+as_told : (r s : Result ℕ LineFault) (word : List ℕ) → r ≡ s → Gives (λ (n : ℕ). n) r (number_in word) → Gives (λ (n : ℕ). n) s (number_in word)
+as_told r s word is told = subst (λ (x : Result ℕ LineFault). Gives (λ (n : ℕ). n) x (number_in word)) is told
 
 pub loop-rest-init : goal.loop-rest-init
 loop-rest-init c = ([], nothing_front (each number_in (parts space c.args.text.now)), itself c.args.is_key_in_order, refl, λ asked e le. c.new-ranks.ensures.items, λ e. c.new-ranks.ensures.items)
@@ -28,7 +28,7 @@ returns-in_err-rank c =
     let words = parts space c.args.text.now in
     let here = subst (λ (r : Option (Bor (List ℕ))). with_front i.0 (each number_in (parts_if space r)) ≡ each number_in words) c.in-Some.is i.1 in
     rw (p.1, p.2)
-    (passed_on (fault_of c.in_err-rank.field-0.0) (number_in c.cut_number-number.result.0.now) (ranks_in c.args.is_key_in_order c.args.entries words)
+    (passed_on (kind_of c.in_err-rank.field-0.0) (number_in c.cut_number-number.result.0.now) (ranks_in c.args.is_key_in_order c.args.entries words)
     (λ fault e. faulty c.args.is_key_in_order c.args.entries words fault
     (one_fails number_in (parts space c.in-Some.words.now) c.cut_number-number.result.0.now (parts_if space c.cut_number-number.result.2) i.0 (each number_in words) fault c.cut_number-number.ensures.parts here e)) (as_told _ _ c.cut_number-number.result.0.now c.in_err-rank.was c.cut_number-number.ensures.number))
 
