@@ -1,11 +1,11 @@
 #!/usr/bin/env python3
-"""Reads a dir.conf, a dump, records and a filter that have all forms, broken at each byte, by a built program and by a second reading:
-sweep.py PROGRAM [--all]
+"""Reads a dir.conf, a dump, an index text, records and a filter that have all forms, broken at each byte, by a built program and by a second
+reading: sweep.py PROGRAM [--all]
 
 Each beginning of a text, and each single byte changed into others (with --all: into all that it may be), is a dir.conf of its own, with no
-data.ldif; a data.ldif of its own; an input of slapadd or ldapmodify of its own, over a few entries; or a filter of its own over such. What
-the commands answer, print, say and store must be what `model.py` says, byte for byte: a configuration, a directory and its index, or
-numbered faults with their lines; entries or a fault at a place. Prints each difference and at the end the number of texts; the exit status
+data.ldif; a data.ldif of its own; an index.txt of its own, by which a few entries are searched; an input of slapadd or ldapmodify of its own,
+over a few entries; or a filter of its own over such. What the commands answer, print, say and store must be what `model.py` says, byte for
+byte: a configuration, a directory and its index, or numbered faults with their lines; entries or a fault at a place. Prints each difference and at the end the number of texts; the exit status
 is 0 where nothing differs, else 1.
 """
 import argparse
@@ -144,6 +144,11 @@ member: cn=a,dc=ex
 """
 
 
+INDEX_OTHERS = b"\0\n\r -0129:Aafg\x80\xff"
+
+INDEX_FILTER = b"(|(&(cn=*ba*)(!(cn=Bob, B)))(member=cn=a,dc=ex)(!(cn=*)))"
+
+
 def broken(text, others):
     """each beginning of a text, and the text with each byte changed"""
     for end in range(len(text) + 1):
@@ -175,6 +180,16 @@ def dump_answers(program, home, text):
     (db / "data.ldif").write_bytes(text)
     done = subprocess.run([program, "slapcat", "--db", db], capture_output=True, timeout=10)
     return (done.returncode, done.stdout, done.stderr), model.slapcat(ENTRIES_CONF, text, db)
+
+
+def index_answers(program, home, text):
+    """-> (what a search answers by an index.txt, what the second reading answers)"""
+    db = home / f"index{os.getpid()}"
+    db.mkdir(exist_ok=True)
+    for name, content in [("dir.conf", ENTRIES_CONF), ("data.ldif", DUMP), ("index.txt", text)]:
+        (db / name).write_bytes(content)
+    done = subprocess.run([program, "search", "--db", db, INDEX_FILTER], capture_output=True, timeout=10)
+    return (done.returncode, done.stdout, done.stderr), model.search(ENTRIES_CONF, DUMP, db, [INDEX_FILTER], index=text)
 
 
 def record_answers(command, second, program, home, text):
@@ -215,6 +230,7 @@ def compared(work):
         seen, wanted = answers(program, home, text)
         status, output, said, *stored = seen
         what = said.split(b":")[1].strip().split(b" at ")[0] if status == 2 else b"%d, with%s output" % (status, b"" if output else b"out")
+        what += b", %s" % said.split(b": ")[1].strip() if status == 0 and said else b""
         what += b", %d slots" % stored[0]["index.txt"].count(b"\nslot ") if stored and "index.txt" in stored[0] else b""
         told[what] += 1
         if seen != wanted:
@@ -228,10 +244,12 @@ def main():
     words.add_argument("--all", action="store_true")
     words = words.parse_args()
     all_bytes = [bytes([b]) for b in range(256)]
+    index = model.slapindex(ENTRIES_CONF, DUMP, "")[2]["index.txt"]
     sweeps = [
         (conf_answers, list(broken(CONF, all_bytes if words.all else [bytes([b]) for b in OTHERS]))),
         *((answers, list(broken(text, all_bytes if words.all else [bytes([b]) for b in RECORD_OTHERS])))
           for answers, text in [(dump_answers, DUMP), (ADD_ANSWERS, ADDED), (CHANGE_ANSWERS, CHANGED)]),
+        (index_answers, list(broken(index, all_bytes if words.all else [bytes([b]) for b in INDEX_OTHERS]))),
         (filter_answers, list(broken(FILTER, all_bytes[1:128] + FILTER_OTHERS[-2:] if words.all else FILTER_OTHERS))),
     ]
     told, different = collections.Counter(), []

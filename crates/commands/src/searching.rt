@@ -6,14 +6,15 @@ ghost use Rattle.schema.specs.declared.code.Code.TheVariants.{SizeLimitExceeded}
 ghost use Rattle.search.specs.Walks.{seen};
 ghost use Rattle.directory.specs.Found.{AreThere, limited_text, goes_past};
 ghost use Rattle.commands.specs.Asked.{base_of, IsBase, IsSelection};
-ghost use Rattle.commands.specs.Failures.{FailsToWrite};
+ghost use Rattle.commands.specs.Failures.{FailsToRead, FailsToWrite};
+ghost use Rattle.commands.specs.Folders.{index_name};
 ghost use Rattle.commands.specs.Worlds.{World};
 ghost use Rattle.commands.specs.Messages.{code_text, fault_text};
 ghost use Rattle.commands.specs.Statuses.{status_of_fault};
 ghost use Rattle.commands.specs.Queries.{IsBegun, HasBegun, PrintsPartly, StopsWith};
 ghost use Rattle.commands.specs.IndexFiles.{Said};
 ghost use Rattle.commands.specs.Prints.{search_query, IsFoundText, MayBeFound, ComesFirst, SearchGoesThrough, SearchStops};
-ghost use Rattle.commands.specs.inner.IndexFiles.{Keeps, HasLoaded};
+ghost use Rattle.commands.specs.inner.IndexFiles.{Keeps, HasRead, HasLoaded};
 ghost use Rattle.commands.specs.inner.Refusals.{Refuses, RefusesOrBreaks};
 ghost use Rattle.commands.specs.inner.Printed.{HasPrinted};
 ghost use Rattle.commands.specs.inner.Views.{basis_of};
@@ -29,6 +30,7 @@ use command_line::SearchOptions;
 use device::Sink;
 use directory::{Database, Selection, search_tree, search_with, write_found};
 use filter::{Prepared, prepare};
+use filter_text::Filter;
 use id_sets::IdSet;
 use schema::{Code, Conf, Path};
 use search::Hits;
@@ -150,6 +152,23 @@ fn print_by_scan<O: Sink>(
     }
 }
 
+/// The filter, prepared under the configuration of a directory, and index.txt of that in the folder `db`, as far as the filter asks for it.
+fn asked_index<F: Folder>(
+    alloc: Global,
+    folder: &F,
+    db: &str,
+    filter: &Filter,
+    database: &Database,
+) -> Result<(Prepared, IndexFile), CommandFault>
+    ensures prepared { IfOk result (λ r. r.0 ≡ record { conf = database.now.tree.conf; filter = filter.now }) }
+    ensures read { IfOk result (λ r. HasRead (F.files folder.now) db.now database.now.tree r.0 r.1) }
+    ensures err { IfErr result (FailsToRead (index_name db.now)) }
+{
+    let prepared = prepare(alloc, filter, &database.conf)?;
+    let file = read_index(alloc, folder, db, database, &prepared)?;
+    Ok((prepared, file))
+}
+
 /// What a search reads: the filter, prepared under the directory's configuration, and the directory with what index.txt says of it.
 #[derive(Drop)]
 struct Loaded {
@@ -171,8 +190,7 @@ fn load<F: Folder>(
 {
     let filter = filter_of(alloc, asked.filter)?;
     let database = load_database(alloc, folder, asked.db)?;
-    let prepared = prepare(alloc, &filter, &database.conf)?;
-    let file = read_index(alloc, folder, asked.db, &database, &prepared)?;
+    let (prepared, file) = asked_index(alloc, folder, asked.db, &filter, &database)?;
     Ok(Loaded {
         filter: prepared,
         database,
