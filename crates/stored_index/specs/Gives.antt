@@ -1,5 +1,5 @@
 -- What a call that may run out of memory, or whose source may fail, answers, against what a definition says.
-use Rattle.std.specs.Prelude.{Option, Some, None, Result}
+use Rattle.std.specs.Prelude.{ℕ, ◌+◌, Option, Some, None, Result, Ok, Err}
 use Rattle.base.specs.Answers as answers
 use Rattle.stored_index.specs.declared.fault.IndexFault.{IndexFault}
 use Rattle.stored_index.specs.declared.fault.IndexFault.TheVariants as faults
@@ -21,3 +21,10 @@ kind_of lines.OutOfMemory = None
 -- seen by view, what was answered is what the definition says, unless memory ran out
 abbrev pub Gives : {X Y : Type 0} → (X → Y) → Result X LineFault → Result Y IndexFaultKind → Type 0
 Gives = answers.Gives kind_of
+
+-- how often a source has failed behind a call, by what that answers: once more where it says so
+abbrev pub failures_by : {X : Type 0} → Result X IndexFault → ℕ → ℕ
+failures_by (Ok x) before = before
+failures_by (Err (faults.Fault kind)) before = before
+failures_by (Err faults.Device) before = before + 1
+failures_by (Err faults.OutOfMemory) before = before

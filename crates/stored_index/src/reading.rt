@@ -2,10 +2,9 @@
 
 ghost use Rattle.std.specs.Prelude.{◌≡◌, ◌<◌, ◌-◌, ◌+◌, ◌^◌, ◌++◌, ◌∷◌, [], ℕ, List, Err, OnOk, IfErr, IfOk};
 ghost use Rattle.base.specs.Answers.{Fails};
-ghost use Rattle.stored_index.specs.Gives.{fault_of, kind_of};
+ghost use Rattle.stored_index.specs.Gives.{failures_by, fault_of, kind_of};
 ghost use Rattle.stored_index.specs.Stored.{HasText};
 ghost use Rattle.stored_index.specs.inner.Drafts.{GoesOn, FailsBehind, Comes, TakesOn, FailsIn, read_by};
-ghost use Rattle.stored_index.specs.declared.fault.IndexFault.TheVariants.{Device as failed};
 
 use crate::cuts::first_line;
 use crate::draft::Draft;
@@ -55,7 +54,7 @@ pub(crate) fn read_rows<S: Source>(
     requires { (S.seen source.old).failed < 2 ^ 64 - 1 }
     ensures ok { IfOk result (λ slots. HasText (S.seen source.old).left (λ text. Comes given.entry.asked.now slots (read_by given.entry text))) }
     ensures err { IfErr result (λ e. HasText (S.seen source.old).left (λ text. Fails (fault_of e) (read_by given.entry text))) }
-    ensures device { result ≡ Err failed → (S.seen source.new).failed ≡ (S.seen source.old).failed + 1 }
+    ensures failures { (S.seen source.new).failed ≡ failures_by result (S.seen source.old).failed }
 {
     let mut draft = Draft::new(given);
     let mut held = Vec::new(given.alloc);

@@ -8,9 +8,8 @@ ghost use Rattle.std.specs.Ordering.{nat_cmp};
 ghost use Rattle.std.specs.Map.{keys_of};
 ghost use Rattle.std.specs.FinSet as set;
 ghost use Rattle.index.specs.KeySets.{members_at};
-ghost use Rattle.stored_index.specs.Gives.{fault_of};
+ghost use Rattle.stored_index.specs.Gives.{failures_by, fault_of};
 ghost use Rattle.stored_index.specs.Stored.{index_in, HasText, ReadsKeys};
-ghost use Rattle.stored_index.specs.declared.fault.IndexFault.TheVariants.{Device as failed};
 
 use crate::asked::AskedTexts;
 use crate::fault::IndexFault;
@@ -78,7 +77,7 @@ impl StoredIndex {
         requires { (S.seen source.old).failed < 2 ^ 64 - 1 }
         ensures ok { IfOk result (λ x. HasText (S.seen source.old).left (λ text. ReadsKeys asked.now (index_in conf.now entries stamp.now text) x)) }
         ensures err { IfErr result (λ e. HasText (S.seen source.old).left (λ text. Fails (fault_of e) (index_in conf.now entries stamp.now text))) }
-        ensures device { result ≡ Err failed → (S.seen source.new).failed ≡ (S.seen source.old).failed + 1 }
+        ensures failures { (S.seen source.new).failed ≡ failures_by result (S.seen source.old).failed }
     {
         let asked = AskedTexts::of(alloc, asked)?;
         let given = Given {
