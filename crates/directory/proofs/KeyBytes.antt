@@ -1,6 +1,6 @@
 -- The keys of entries are bytes.
-use Rattle.std.proofs.Common.{◌≡◌, ℕ, zero, suc, ◌+◌, ◌<◌, ◌==◌, Bool, true, false, cond, ◌&&◌, not, nat_lt, List, [], ◌∷◌, ◌++◌, map, filter, length, Option, Some, None, refl, sym, ap, subst, ◌∙◌, arith}
-use Rattle.std.specs.Prelude.{Result, Ok, Err, unwrap_or, is_some}
+use Rattle.std.proofs.Common.{◌≡◌, ℕ, zero, suc, ◌+◌, ◌==◌, Bool, true, false, cond, ◌&&◌, not, nat_lt, List, [], ◌∷◌, ◌++◌, map, filter, length, Option, Some, None, refl, ap, ◌∙◌, arith}
+use Rattle.std.specs.Prelude.{Result, Ok, Err, unwrap_or}
 use Rattle.std.specs.Char.{to_ascii_lowercase}
 use Rattle.std.specs.List.{list_all, AllByRecursion, insert, prefix_len, flat_map}
 use Rattle.std.proofs.lemmas.Bool.{and_parts, ltb-true, lt-ltb, ne_eqb}
@@ -19,10 +19,9 @@ use Rattle.matching.specs.declared.family.Family.{Family}
 use Rattle.matching.specs.declared.family.Family.TheVariants as families
 use Rattle.matching.proofs.ValidBytes.{valid_bytes}
 use Rattle.paths.specs.Paths.{Pair, RdnKey}
-use Rattle.values.specs.Types.{name_of, type_at, is_known, plain_family}
+use Rattle.values.specs.Types.{name_of, type_at, plain_family}
 use Rattle.values.specs.declared.types.EqualityRule.{EqualityRule}
 use Rattle.values.specs.declared.types.EqualityRule.TheVariants as rules
-use Rattle.values.specs.declared.types.AttributeType.{AttributeType}
 use Rattle.values.specs.Values.{norm_by}
 use Rattle.schema.specs.Conf.{Conf, IsConf}
 use Rattle.schema.specs.GoodRdns.{IsAva, IsRdn}
@@ -34,11 +33,11 @@ use Rattle.schema.proofs.Locating.{printed_is_text}
 use Rattle.schema.proofs.Found.{name_has_avas, rdns_are}
 use Rattle.schema.specs.Names.{name_in}
 use Rattle.schema.specs.Rdns.{typed}
-use Rattle.entries.specs.Entries.{Attribute, Attributes, IsAttribute}
+use Rattle.entries.specs.Entries.{Attributes, IsAttribute}
 use Rattle.schema.specs.declared.slots.IndexKind.{IndexKind}
 use Rattle.schema.specs.declared.slots.IndexKind.TheVariants as kinds
 use Rattle.schema.specs.Subtypes.{is_subtype}
-use Rattle.index.specs.EntryKeys.{norms_under, windows, empty_key, keys_by, entry_keys}
+use Rattle.index.specs.EntryKeys.{norms_under, windows, keys_by, entry_keys}
 
 abbrev pub AreBytes : List ℕ → Type 0
 AreBytes bs = list_all is_byte bs ≡ true

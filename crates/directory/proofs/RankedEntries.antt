@@ -1,16 +1,19 @@
 -- The entries of a tree, each with its rank, one after the other.
 use Rattle.std.proofs.Common.{◌≡◌, ℕ, ◌+◌, ◌≤◌, List, [], ◌∷◌, ◌++◌, filter, map, length, refl, sym, ap, subst, ◌∙◌, arith, append_assoc}
 use Rattle.std.specs.FinMap as finite
+use Rattle.std.specs.List.Sorted.{IsPermutation}
+use Rattle.std.proofs.ByRecursion.{all_shuffled}
 use Rattle.std.proofs.lemmas.List.{append-nil, length-map, length-append}
+use Rattle.std.proofs.lemmas.List.Sorted.{IsPermutation-trans}
 use Rattle.paths.specs.Paths.{Path, begins}
 use Rattle.schema.specs.Conf.{Conf}
 use Rattle.entries.specs.Entries.{EntryContent}
-use Rattle.entries.specs.StoredEntries.{Entry, attributes_of, content_of}
+use Rattle.entries.specs.StoredEntries.{Entry, IsMade, attributes_of, content_of}
 use Rattle.tree.specs.Directories.{Entries, IsDirectory}
 use Rattle.tree.specs.Trees.{seen_entries}
 use Rattle.index.specs.declared.type_norms.Numbered.{Numbered}
 use Rattle.directory.specs.IndexTexts.{contents}
-use Rattle.directory.specs.inner.RankedEntries.{AreFrom}
+use Rattle.directory.specs.inner.RankedEntries.{AreFrom, AreRankedEntries}
 use Rattle.directory.proofs.DumpText.{all_begin}
 
 one_behind : (rank : ℕ) (cs : List EntryContent) (es : List Numbered) (c : EntryContent) (e : Numbered) → AreFrom rank cs es → e.number ≡ rank + length cs → attributes_of e.entry.now.attrs ≡ c.attrs → AreFrom rank (cs ++ c ∷ []) (es ++ e ∷ [])
@@ -60,3 +63,12 @@ few_ranked conf d es rank left rest e directory cut h =
 
 pub all_ranked : (d : Entries) (es : List Numbered) (rank : ℕ) (left : List (Path × Entry)) → left ≡ [] → EntriesSoFar d es rank left → AreFrom 0 (contents d) es
 all_ranked d es rank left none h = subst (λ (cs : List EntryContent). AreFrom 0 cs es) (sym (append-nil h.done) ∙ ap (λ (xs : List (Path × Entry)). h.done ++ map (λ e. content_of e.1) xs) (sym none) ∙ h.parts) h.are
+
+-- in any other order they are so, too
+pub ranked_moved : (conf : Conf) (d : Entries) (es fs : List Numbered) → IsPermutation es fs → AreRankedEntries conf d es → AreRankedEntries conf d fs
+ranked_moved conf d es fs moved h = record {
+  made = all_shuffled (λ (e : Numbered). IsMade conf.types e.entry.now.attrs) es fs moved h.made;
+  in_order = h.in_order;
+  from = h.from;
+  moved = IsPermutation-trans h.in_order es fs h.moved moved;
+}

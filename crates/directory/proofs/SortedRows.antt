@@ -7,6 +7,7 @@ use Rattle.std.specs.Cmp.{nat_eq_equiv}
 use Rattle.std.specs.Cmp.Lexicographic.{slice_cmp, nat_list_cmp_total}
 use Rattle.std.specs.FinMap as finite
 use Rattle.std.specs.FinMap.Entries.{same_entries}
+use Rattle.std.proofs.lemmas.List.Sorted.{list_any-IsPermutation}
 use Rattle.std.proofs.lemmas.Map.Lookups.{exact_bytes}
 use Rattle.id_sets.specs.inner.Lists.{holds}
 use Rattle.id_sets.proofs.Ascending.{ascending_same}
@@ -15,6 +16,7 @@ use Rattle.schema.specs.declared.slots.IndexKind.{IndexKind}
 use Rattle.schema.specs.declared.slots.Slot.{Slot}
 use Rattle.schema.specs.Conf.{Conf}
 use Rattle.entries.specs.Entries.{EntryContent}
+use Rattle.entries.specs.StoredEntries.{attributes_of}
 use Rattle.tree.specs.Directories.{Entries}
 use Rattle.index.specs.declared.type_norms.Numbered.{Numbered}
 use Rattle.index.specs.declared.type_norms.NumberedNorm.{NumberedNorm}
@@ -26,7 +28,7 @@ use Rattle.ranked_keys.proofs.RowsInOrder.{and_true, and_false, ranks_at, some_o
 use Rattle.ranked_keys.proofs.RowsInOrder as sorted
 use Rattle.directory.specs.IndexTexts.{ranks_with, slot_rows, contents}
 use Rattle.directory.specs.inner.IndexRows.{keys_lines}
-use Rattle.directory.specs.inner.RankedEntries.{AreFrom}
+use Rattle.directory.specs.inner.RankedEntries.{AreFrom, AreRankedEntries}
 use Rattle.directory.proofs.IndexRows.{ranks_rise, find_each, any_key, is_T}
 
 module _ (types : List AttributeType) (s : Slot) where
@@ -75,8 +77,10 @@ module _ (types : List AttributeType) (s : Slot) where
         ∙ finite.get-entries made key)
 
 -- the lines of the keys that the normal forms of a type give
-pub lines_same : (conf : Conf) (d : Entries) (s : Slot) (kind : IndexKind) (es : List Numbered) (ns : List NumberedNorm) (ps : List Ranked) → s.kind ≡ kind → AreFrom 0 (contents d) es → AreNormsOf conf.types es s.type_id ns → AreRanked kind ns ps
+pub lines_same : (conf : Conf) (d : Entries) (s : Slot) (kind : IndexKind) (es : List Numbered) (ns : List NumberedNorm) (ps : List Ranked) → s.kind ≡ kind → AreRankedEntries conf d es → AreNormsOf conf.types es s.type_id ns → AreRanked kind ns ps
     → rows_text ps ≡ keys_lines conf d s
-lines_same conf d s kind es ns ps is from norms ranked =
+lines_same conf d s kind es ns ps is entries norms ranked =
     ap (λ rows. flat_map (λ row. ended (key_line row)) rows)
-    (rows_same conf.types s (contents d) es from ps ranked.rise (λ key n. ranked.exact key n ∙ norms kind key n ∙ ap (λ (k : IndexKind). has_for conf.types es s.type_id k key n) (sym is)))
+    (rows_same conf.types s (contents d) entries.in_order entries.from ps ranked.rise
+    (λ key n. ranked.exact key n ∙ norms kind key n ∙ ap (λ (k : IndexKind). has_for conf.types es s.type_id k key n) (sym is)
+    ∙ sym (list_any-IsPermutation (λ (e : Numbered). nat_eq n e.number && has_key conf.types (attributes_of e.entry.now.attrs) s.type_id s.kind key) entries.in_order es entries.moved)))

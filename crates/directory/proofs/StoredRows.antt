@@ -32,7 +32,7 @@ use Rattle.index.specs.EntryKeys.{entry_keys, has_key}
 use Rattle.index.specs.KeySets as kept
 use Rattle.index_text.specs.IndexTexts.{Row}
 use Rattle.stored_index.specs.Rows.{IsByte, IsRow, AreSlotRows, AreRows, key_of, slot_of}
-use Rattle.stored_index.specs.Stored.{kept_row, kept_rows, kept_slots, stored, shown_by}
+use Rattle.stored_index.specs.Stored.{kept_rows, kept_slots, stored, shown_by}
 use Rattle.directory.specs.IndexTexts.{ranks_with, slot_rows, contents, index_rows}
 use Rattle.directory.specs.Searches.{ShowsIndexText}
 use Rattle.directory.proofs.KeyBytes.{AreBytes, keys_bytes}

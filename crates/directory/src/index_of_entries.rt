@@ -11,6 +11,7 @@ ghost use Rattle.directory.specs.inner.RankedEntries.{AreRankedEntries};
 
 use crate::dump::{pass_on, pass_on_long};
 use crate::index_texts::first_line;
+use crate::placed_entries::ranked_entries;
 use crate::stamps::Stamp;
 use device::Sink;
 use index::{Numbered, NumberedNorm, norms_for};
@@ -20,31 +21,6 @@ use ranked_keys::{RankedKey, bytes_of, put_row, ranked_norms, ranked_presence, r
 use schema::{Conf, IndexKind, Path, Slot};
 use std::alloc::{AllocError, Global};
 use tree::Tree;
-
-// all entries of a tree below its root, each with its rank as its number
-fn ranked_entries<'a>(
-    alloc: Global,
-    conf: &Conf,
-    tree: &'a Tree,
-    root: &'a Path,
-) -> Result<Vec<Numbered<'a>>, AllocError>
-    requires same_conf { tree.now.conf ≡ conf.now }
-    requires root { root.now ≡ [] }
-    ensures { IfOk result (λ es. AreRankedEntries conf.now tree.now.entries es.items) }
-{
-    tree.entries_are_a_directory();
-    let mut entries = Vec::with_capacity(alloc, tree.len())?;
-    let mut rank: u32 = 0;
-    for found in tree.range(root) {
-        let (_, entry) = found;
-        entries.push(Numbered {
-            number: rank,
-            entry,
-        })?;
-        rank += 1;
-    }
-    Ok(entries)
-}
 
 // puts the row of the first key behind a text, hands the text on where it is long, and hands out the keys of the other rows
 fn write_row<'k, K: RankedKey, W: Sink>(

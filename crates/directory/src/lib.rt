@@ -13,6 +13,7 @@ mod index_texts;
 mod indexing;
 mod laws;
 mod loading;
+mod placed_entries;
 mod ranks;
 mod refusal;
 mod runs;

@@ -7,7 +7,7 @@ use Rattle.ranked_keys.specs.inner.Windows.{window_in, rank_in}
 
 -- those of normal forms
 abbrev pub norm_pairs : List RankedNorm → List Ranked
-norm_pairs ks = map (λ k. (k.norm.now, k.rank)) ks
+norm_pairs ks = map (λ k. (k.key.norm.now, k.rank)) ks
 
 -- those of windows
 abbrev pub window_pairs : List RankedWindow → List Ranked

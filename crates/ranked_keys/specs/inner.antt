@@ -1,4 +1,5 @@
 pub mod AddedWindows
 pub mod Fronts
+pub mod NormFronts
 pub mod WindowOrder
 pub mod Windows

@@ -75,10 +75,7 @@ pub fn ranked_norms<'a>(
     let mut left = bytes;
     for numbered in norms {
         let (norm, others) = left.split_at(numbered.norm.len());
-        all.push(RankedNorm {
-            norm,
-            rank: numbered.number,
-        })?;
+        all.push(RankedNorm::of(norm, numbered.number))?;
         left = others;
     }
     Ok(in_order(all))
@@ -93,10 +90,7 @@ pub fn ranked_presence<'a>(
 {
     let mut all = Vec::with_capacity(alloc, norms.len())?;
     for numbered in norms {
-        all.push(RankedNorm {
-            norm: b"",
-            rank: numbered.number,
-        })?;
+        all.push(RankedNorm::of(b"", numbered.number))?;
     }
     Ok(in_order(all))
 }

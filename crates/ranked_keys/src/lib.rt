@@ -2,6 +2,7 @@
 #![tactic(auto)]
 
 mod gathering;
+mod norm_key;
 mod ranked_key;
 mod ranked_norm;
 mod ranked_window;

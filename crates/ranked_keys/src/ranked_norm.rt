@@ -2,6 +2,7 @@
 
 ghost use Rattle.std.specs.Prelude.{◌≡◌};
 
+use crate::norm_key::NormKey;
 use crate::ranked_key::RankedKey;
 use index_text::put_key;
 use std::alloc::{AllocError, Global};
@@ -9,14 +10,26 @@ use std::alloc::{AllocError, Global};
 /// A normal form as a key, and the rank of an entry that has it. Only the bytes are lent.
 #[derive(Clone, Copy, Drop, PartialEq, Eq, PartialOrd, Ord)]
 pub struct RankedNorm<'a> {
-    pub(crate) norm: &'a [u8],
-    pub(crate) rank: u32,
+    key: NormKey<'a>,
+    rank: u32,
+}
+
+impl<'a> RankedNorm<'a> {
+    pub(crate) fn of(norm: &'a [u8], rank: u32) -> RankedNorm<'a>
+        ensures norm { result.key.norm.now ≡ norm.now }
+        ensures rank { result.rank ≡ rank }
+    {
+        RankedNorm {
+            key: NormKey::of(norm),
+            rank,
+        }
+    }
 }
 
 impl RankedKey for RankedNorm<'_> {
     ghost use Rattle.std.specs.Prelude.{refl};
 
-    ghost pair = { λ k. (k.norm.now, k.rank) };
+    ghost pair = { λ k. (k.key.norm.now, k.rank) };
 
     ghost by_pair = { λ p q. refl };
 
@@ -25,10 +38,10 @@ impl RankedKey for RankedNorm<'_> {
     }
 
     fn has_key_of(&self, other: &Self) -> bool {
-        other.norm == self.norm
+        other.key == self.key
     }
 
     fn put_line(&self, alloc: Global, ranks: &[u32], out: &mut Vec<u8>) -> Result<(), AllocError> {
-        put_key(alloc, out, self.norm, ranks)
+        put_key(alloc, out, self.key.norm, ranks)
     }
 }

@@ -1,6 +1,7 @@
--- Entries in the order of the dump, each with its rank.
+-- Entries, each with its rank in the dump.
 use Rattle.std.specs.Prelude.{◌≡◌, ℕ, ◌+◌, List, [], ◌∷◌, ⊤}
 use Rattle.std.specs.List.{AllByRecursion}
+use Rattle.std.specs.List.Sorted.{IsPermutation}
 use Rattle.schema.specs.Conf.{Conf}
 use Rattle.entries.specs.Entries.{EntryContent}
 use Rattle.entries.specs.StoredEntries.{attributes_of, IsMade}
@@ -15,7 +16,9 @@ AreFrom rank (c ∷ cs) (e ∷ es) = (e.number ≡ rank) × (attributes_of e.ent
 AreFrom rank [] (e ∷ es) = ⊥
 AreFrom rank (c ∷ cs) [] = ⊥
 
--- the entries of a directory in the order of its dump
+-- the entries of a directory in some order, each with its rank
 pub record AreRankedEntries (conf : Conf) (d : Entries) (es : List Numbered) : Type 0 where
   pub made : AllByRecursion (λ e. IsMade conf.types e.entry.now.attrs) es
-  pub all : AreFrom 0 (contents d) es
+  pub in_order : List Numbered
+  pub from : AreFrom 0 (contents d) in_order
+  pub moved : IsPermutation in_order es

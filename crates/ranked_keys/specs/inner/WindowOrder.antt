@@ -24,7 +24,7 @@ both w a r s = by (nat_cmp r s) refl
     by Equal e = let same = ranked r s Equal (sym e) in sym (nat_cmp_is (a * w + r) (a * w + s) Equal (omega (arith, same)))
     by Greater e = let less = ranked r s Greater (sym e) in sym (nat_cmp_is (a * w + r) (a * w + s) Greater (omega (arith, less)))
 
-digits : (w a r b s : ℕ) → r < w → s < w → nat_cmp (a * w + r) (b * w + s) ≡ ordering_then (nat_cmp a b) (nat_cmp r s)
+pub digits : (w a r b s : ℕ) → r < w → s < w → nat_cmp (a * w + r) (b * w + s) ≡ ordering_then (nat_cmp a b) (nat_cmp r s)
 digits w a r b s low high = by (nat_cmp a b) refl
   where
     by : (o : Ordering) → nat_cmp a b ≡ o → nat_cmp (a * w + r) (b * w + s) ≡ ordering_then o (nat_cmp r s)

@@ -1,4 +1,4 @@
-use Rattle.std.proofs.Common.{◌≡◌, ℕ, ◌<◌, ◌^◌, ap, arith}
+use Rattle.std.proofs.Common.{ap, arith}
 use Rattle.std.specs.Prelude.{Result, Ok}
 use Rattle.base.specs.Answers.{◌>>=◌}
 use Rattle.index_text.specs.IndexTexts.{Rows}

@@ -1,14 +1,12 @@
-use Rattle.std.proofs.Common.{◌≡◌, ℕ, ◌∙◌, sym, subst, map}
+use Rattle.std.proofs.Common.{◌∙◌, sym, subst}
 use Rattle.tree.specs.Trees.{Tree}
 use Rattle.filter_text.specs.Spells.{view}
 use Rattle.search.specs.Ranks.{rank_in}
 use Rattle.search.specs.Searches.{scan_among, counted_scan, count_among}
-use Rattle.search.specs.Walks.{seen}
 use Rattle.directory.specs.Found.{AreThere}
 use Rattle.directory.specs.Searches.{may_by_rank}
 use Rattle.directory.proofs.ByIndex.{by_whole, is_candidate}
 use Rattle.directory.proofs.FoundText.{found_are_there}
-use Rattle.directory.proofs.searching.search_with.Given.{Over}
 use Rattle.directory.proofs.searching.search_with.Goals as goal
 
 pub returns-in-Some-clause-steps : goal.returns-in-Some-clause-steps

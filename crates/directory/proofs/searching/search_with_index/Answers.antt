@@ -1,4 +1,4 @@
-use Rattle.std.proofs.Common.{◌≡◌, ◌∙◌, sym, subst, ap}
+use Rattle.std.proofs.Common.{◌∙◌, sym, subst}
 use Rattle.schema.specs.Conf.{Conf, IsConf}
 use Rattle.tree.specs.Trees.{Tree, number_at}
 use Rattle.filter_text.specs.Spells.{view}

@@ -29,7 +29,7 @@ returns-in_ok-keys-in-Equality g c =
     let d : Entries = c.args.self.now.tree.now.entries in
     let keys = c.in_ok-keys-in-Equality.keys.items in
     as_lines c.write_rows.result (g.W.Sink.written c.args.sink.now) (g.W.Sink.written c.write_rows.new.sink) c.args.text.now.items (rows_text (norm_pairs c.as_slice-in-Equality.result.now)) (keys_lines conf d c.args.slot.now) c.write_rows.new.text.items
-    (ap (λ ks. rows_text (norm_pairs ks)) c.as_slice-in-Equality.ensures.value ∙ lines_same conf d c.args.slot.now Equality c.args.self.now.entries.now c.args.norms.now (norm_pairs keys) c.in-Equality.is c.requires.ranked.all c.requires.norms c.in_ok-keys-in-Equality.ensures)
+    (ap (λ ks. rows_text (norm_pairs ks)) c.as_slice-in-Equality.ensures.value ∙ lines_same conf d c.args.slot.now Equality c.args.self.now.entries.now c.args.norms.now (norm_pairs keys) c.in-Equality.is c.requires.ranked c.requires.norms c.in_ok-keys-in-Equality.ensures)
     c.write_rows.ensures
 
 pub returns-in_err-keys-in-Presence : goal.returns-in_err-keys-in-Presence
@@ -41,7 +41,7 @@ returns-in_ok-keys-in-Presence g c =
     let d : Entries = c.args.self.now.tree.now.entries in
     let keys = c.in_ok-keys-in-Presence.keys.items in
     as_lines c.write_rows-in-Presence.result (g.W.Sink.written c.args.sink.now) (g.W.Sink.written c.write_rows-in-Presence.new.sink) c.args.text.now.items (rows_text (norm_pairs c.as_slice-in-Presence.result.now)) (keys_lines conf d c.args.slot.now) c.write_rows-in-Presence.new.text.items
-    (ap (λ ks. rows_text (norm_pairs ks)) c.as_slice-in-Presence.ensures.value ∙ lines_same conf d c.args.slot.now Presence c.args.self.now.entries.now c.args.norms.now (norm_pairs keys) c.in-Presence.is c.requires.ranked.all c.requires.norms c.in_ok-keys-in-Presence.ensures)
+    (ap (λ ks. rows_text (norm_pairs ks)) c.as_slice-in-Presence.ensures.value ∙ lines_same conf d c.args.slot.now Presence c.args.self.now.entries.now c.args.norms.now (norm_pairs keys) c.in-Presence.is c.requires.ranked c.requires.norms c.in_ok-keys-in-Presence.ensures)
     c.write_rows-in-Presence.ensures
 
 pub returns-in_err-keys-in-Substrings : goal.returns-in_err-keys-in-Substrings
@@ -53,5 +53,5 @@ returns-in_ok-keys-in-Substrings g c =
     let d : Entries = c.args.self.now.tree.now.entries in
     let keys = c.in_ok-keys-in-Substrings.keys.items in
     as_lines c.write_rows-in-Substrings.result (g.W.Sink.written c.args.sink.now) (g.W.Sink.written c.write_rows-in-Substrings.new.sink) c.args.text.now.items (rows_text (window_pairs c.as_slice-in-Substrings.result.now)) (keys_lines conf d c.args.slot.now) c.write_rows-in-Substrings.new.text.items
-    (ap (λ ks. rows_text (window_pairs ks)) c.as_slice-in-Substrings.ensures.value ∙ lines_same conf d c.args.slot.now Substrings c.args.self.now.entries.now c.args.norms.now (window_pairs keys) c.in-Substrings.is c.requires.ranked.all c.requires.norms c.in_ok-keys-in-Substrings.ensures)
+    (ap (λ ks. rows_text (window_pairs ks)) c.as_slice-in-Substrings.ensures.value ∙ lines_same conf d c.args.slot.now Substrings c.args.self.now.entries.now c.args.norms.now (window_pairs keys) c.in-Substrings.is c.requires.ranked c.requires.norms c.in_ok-keys-in-Substrings.ensures)
     c.write_rows-in-Substrings.ensures
