@@ -1,3 +1,4 @@
+pub mod Added
 pub mod Folders
 pub mod Named
 pub mod Rows

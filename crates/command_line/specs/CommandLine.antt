@@ -1,9 +1,12 @@
 -- The commands of slaptools, and the options of each, in clap's words.
-use Rattle.std.specs.Prelude.{ℕ, true, false, List, [], ◌∷◌, Some, codes}
+use Rattle.std.specs.Prelude.{ℕ, true, false, List, [], ◌∷◌, map, Some, codes}
 use Rattle.clap.specs.Lexer.{usize_max}
 use Rattle.clap.specs.Words.{App, Rule, Shape, Text, new_rule}
 use Rattle.clap.specs.Simple.{new_shape}
 use Rattle.clap.specs.declared.builder.action.ArgAction.TheVariants.{Set, SetTrue, Append}
+use Rattle.command_line.specs.declared.options.CommandOption.{CommandOption}
+use Rattle.command_line.specs.declared.options.CommandOption.TheVariants.{Folder, File, Value, Flag, OtherWords}
+use Rattle.command_line.specs.declared.options.Tool.{Tool}
 
 -- ---- options
 
@@ -43,6 +46,17 @@ other_words = record (new_rule (codes "words")) {
 
 abbrev pub command : Text → List Rule → Shape
 command name options = record (new_shape name) { rules = options }
+
+-- what clap is told of an option, and of a command
+abbrev pub rule : CommandOption → Rule
+rule Folder = folder_option
+rule (File short help) = file_option short
+rule (Value id short value_name help) = value_option id.now short
+rule (Flag id short help) = flag id.now short
+rule OtherWords = other_words
+
+abbrev pub shape : Tool → Shape
+shape tool = command tool.name.now (map rule tool.options.now)
 
 -- slapadd --db DIR [-l FILE] [-c] [-u]
 abbrev pub slapadd : Shape

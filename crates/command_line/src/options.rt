@@ -1,5 +1,5 @@
 //! The commands and their options, for `clap`.
-ghost use Rattle.std.specs.Prelude.{◌≡◌, false, IfOk};
+ghost use Rattle.std.specs.Prelude.{◌≡◌, false, map, IfOk};
 ghost use Rattle.clap.specs.Words.{app_of, rule_of, shape_of};
 ghost use Rattle.command_line.specs.CommandLine as commands;
 
@@ -11,6 +11,8 @@ const INPUT_HELP: &str = "The LDIF text, in place of standard input";
 const GO_ON_HELP: &str = "Goes on after a refused record";
 
 const DRY_RUN_HELP: &str = "Writes no file";
+
+const ADD_HELP: &str = "Adds the entries of records without changetype";
 
 const OUTPUT_HELP: &str = "The file that is written, in place of standard output";
 
@@ -26,6 +28,29 @@ const WORDS_HELP: &str =
 const FILTER_HELP: &str = "Prints the entries that it is true of";
 
 const SUBTREE_HELP: &str = "Prints this entry and those below it";
+
+/// An option of a command.
+#[derive(Clone, Copy)]
+enum CommandOption<'a> {
+    /// `--db DIR`, which each command needs.
+    Folder,
+    /// One with a file: its letter and its help.
+    File(char, &'a str),
+    /// One with a value: its id, its letter, the name of the value and its help.
+    Value(&'a str, char, &'a str, &'a str),
+    /// One without a value: its id, its letter and its help.
+    Flag(&'a str, char, &'a str),
+    /// The words that belong to no option.
+    OtherWords,
+}
+
+/// A command of slaptools.
+#[derive(Clone, Copy)]
+struct Tool<'a> {
+    name: &'a str,
+    about: &'a str,
+    options: &'a [CommandOption<'a>],
+}
 
 fn folder_option<'a>(alloc: Global) -> Arg<'a>
     ensures rule { rule_of result ≡ commands.folder_option }
@@ -84,75 +109,114 @@ fn other_words<'a>(alloc: Global) -> Arg<'a>
         .help(WORDS_HELP)
 }
 
-fn slapadd<'a>(alloc: Global) -> Result<Command<'a>, AllocError>
-    ensures { IfOk result (λ c. shape_of c ≡ commands.slapadd) }
+/// The option for clap.
+fn arg_of<'a>(alloc: Global, option: CommandOption<'a>) -> Arg<'a>
+    ensures rule { rule_of result ≡ commands.rule option.entry }
+    ensures local { result.global ≡ false }
 {
-    Command::new(alloc, "slapadd")
-        .about("Adds the entries of an LDIF text")
-        .arg(folder_option(alloc))?
-        .arg(file_option(alloc, 'l', INPUT_HELP))?
-        .arg(flag(alloc, "go_on", 'c', GO_ON_HELP))?
-        .arg(flag(alloc, "dry_run", 'u', DRY_RUN_HELP))
+    match option {
+        CommandOption::Folder => folder_option(alloc),
+        CommandOption::File(short, help) => file_option(alloc, short, help),
+        CommandOption::Value(id, short, value_name, help) => {
+            value_option(alloc, id, short, value_name, help)
+        }
+        CommandOption::Flag(id, short, help) => flag(alloc, id, short, help),
+        CommandOption::OtherWords => other_words(alloc),
+    }
 }
 
-fn ldapmodify<'a>(alloc: Global) -> Result<Command<'a>, AllocError>
-    ensures { IfOk result (λ c. shape_of c ≡ commands.ldapmodify) }
+/// The command for clap.
+fn command_of<'a>(alloc: Global, tool: Tool<'a>) -> Result<Command<'a>, AllocError>
+    ensures { IfOk result (λ c. shape_of c ≡ commands.shape tool.entry) }
 {
-    Command::new(alloc, "ldapmodify")
-        .about("Carries out the changes of an LDIF text")
-        .arg(folder_option(alloc))?
-        .arg(file_option(alloc, 'f', INPUT_HELP))?
-        .arg(flag(
-            alloc,
-            "add",
-            'a',
-            "Adds the entries of records without changetype",
-        ))?
-        .arg(flag(alloc, "go_on", 'c', GO_ON_HELP))?
-        .arg(flag(alloc, "dry_run", 'n', DRY_RUN_HELP))
+    let mut command = Command::new(alloc, tool.name).about(tool.about);
+    for option in tool.options {
+        command = command.arg(arg_of(alloc, *option))?;
+    }
+    Ok(command)
 }
 
-fn slapindex<'a>(alloc: Global) -> Result<Command<'a>, AllocError>
-    ensures { IfOk result (λ c. shape_of c ≡ commands.slapindex) }
+fn slapadd() -> Tool<'static>
+    ensures { commands.shape result ≡ commands.slapadd }
 {
-    Command::new(alloc, "slapindex")
-        .about("Writes the index of the directory anew")
-        .arg(folder_option(alloc))
+    Tool {
+        name: "slapadd",
+        about: "Adds the entries of an LDIF text",
+        options: &[
+            CommandOption::Folder,
+            CommandOption::File('l', INPUT_HELP),
+            CommandOption::Flag("go_on", 'c', GO_ON_HELP),
+            CommandOption::Flag("dry_run", 'u', DRY_RUN_HELP),
+        ],
+    }
 }
 
-fn search<'a>(alloc: Global) -> Result<Command<'a>, AllocError>
-    ensures { IfOk result (λ c. shape_of c ≡ commands.search) }
+fn ldapmodify() -> Tool<'static>
+    ensures { commands.shape result ≡ commands.ldapmodify }
 {
-    Command::new(alloc, "search")
-        .about("Prints the entries that a filter finds")
-        .arg(folder_option(alloc))?
-        .arg(value_option(alloc, "base", 'b', "NAME", BASE_HELP))?
-        .arg(value_option(alloc, "scope", 's', "SCOPE", SCOPE_HELP))?
-        .arg(value_option(alloc, "limit", 'z', "N", LIMIT_HELP))?
-        .arg(other_words(alloc))
+    Tool {
+        name: "ldapmodify",
+        about: "Carries out the changes of an LDIF text",
+        options: &[
+            CommandOption::Folder,
+            CommandOption::File('f', INPUT_HELP),
+            CommandOption::Flag("add", 'a', ADD_HELP),
+            CommandOption::Flag("go_on", 'c', GO_ON_HELP),
+            CommandOption::Flag("dry_run", 'n', DRY_RUN_HELP),
+        ],
+    }
 }
 
-fn slapcat<'a>(alloc: Global) -> Result<Command<'a>, AllocError>
-    ensures { IfOk result (λ c. shape_of c ≡ commands.slapcat) }
+fn slapindex() -> Tool<'static>
+    ensures { commands.shape result ≡ commands.slapindex }
 {
-    Command::new(alloc, "slapcat")
-        .about("Prints the directory as LDIF")
-        .arg(folder_option(alloc))?
-        .arg(file_option(alloc, 'l', OUTPUT_HELP))?
-        .arg(value_option(alloc, "filter", 'a', "FILTER", FILTER_HELP))?
-        .arg(value_option(alloc, "base", 's', "NAME", SUBTREE_HELP))
+    Tool {
+        name: "slapindex",
+        about: "Writes the index of the directory anew",
+        options: &[CommandOption::Folder],
+    }
+}
+
+fn search() -> Tool<'static>
+    ensures { commands.shape result ≡ commands.search }
+{
+    Tool {
+        name: "search",
+        about: "Prints the entries that a filter finds",
+        options: &[
+            CommandOption::Folder,
+            CommandOption::Value("base", 'b', "NAME", BASE_HELP),
+            CommandOption::Value("scope", 's', "SCOPE", SCOPE_HELP),
+            CommandOption::Value("limit", 'z', "N", LIMIT_HELP),
+            CommandOption::OtherWords,
+        ],
+    }
+}
+
+fn slapcat() -> Tool<'static>
+    ensures { commands.shape result ≡ commands.slapcat }
+{
+    Tool {
+        name: "slapcat",
+        about: "Prints the directory as LDIF",
+        options: &[
+            CommandOption::Folder,
+            CommandOption::File('l', OUTPUT_HELP),
+            CommandOption::Value("filter", 'a', "FILTER", FILTER_HELP),
+            CommandOption::Value("base", 's', "NAME", SUBTREE_HELP),
+        ],
+    }
 }
 
 /// The commands of slaptools, of which one has to be named.
 pub(crate) fn slaptools<'a>(alloc: Global) -> Result<Command<'a>, AllocError>
     ensures { IfOk result (λ c. app_of c ≡ commands.slaptools) }
 {
-    Command::new(alloc, "slaptools")
+    let mut command = Command::new(alloc, "slaptools")
         .about("Tools for an LDAP directory that is kept as LDIF, without a server")
-        .subcommand_required(true)
-        .subcommand(slapadd(alloc)?)?
-        .subcommand(ldapmodify(alloc)?)?
-        .subcommand(slapindex(alloc)?)?
-        .subcommand(search(alloc)?)?
-        .subcommand(slapcat(alloc)?)
+        .subcommand_required(true);
+    for tool in &[slapadd(), ldapmodify(), slapindex(), search(), slapcat()] {
+        command = command.subcommand(command_of(alloc, *tool)?)?;
+    }
+    Ok(command)
 }

@@ -1,25 +1,33 @@
-use Rattle.std.proofs.Common.{◌≡◌, Bool, true, false, not, ◌&&◌, ap, ap₂, ◌∙◌, arith}
-use Rattle.std.proofs.lemmas.Result.{IfOk-weaker}
-use Rattle.clap.specs.Words.{App, Shape, shape_of, with_subcommand}
+use Rattle.std.proofs.Common.{◌≡◌, ◌∙◌, ◌∷◌, [], List, ap, ap₂, sym, drop, map, true, ◌+◌}
+use Rattle.std.specs.Prelude.{fold}
+use Rattle.std.proofs.lemmas.List.{at_drop_all, at_drop_more}
+use Rattle.clap.specs.Words.{App, Shape, app_of, with_subcommand}
 use Rattle.clap.specs.Simple.{app_of_fields, on_top}
-use Rattle.clap.specs.declared.builder.command.Command.{Command}
-use Rattle.clap.specs.declared.builder.command.Command.TheViews.{out-Command}
+use Rattle.command_line.specs.CommandLine.{shape}
+use Rattle.command_line.specs.declared.options.Tool.{Tool}
+use Rattle.command_line.proofs.Added.{local}
 use Rattle.command_line.proofs.options.slaptools.Goals as goal
 
--- a plain command has no global argument
-third : (a b g rest : Bool) → (a && (not b && (not g && rest))) ≡ true → g ≡ false
-third a b g rest h = grind arith
+-- the command with all commands of a list
+abbrev with_all : App → List Tool → App
+with_all command tools = fold with_subcommand command (map shape tools)
 
-local : (c : Command) → (shape_of c).is_plain ≡ true → (out-Command c).has_globals ≡ false
-local c h = third _ _ (out-Command c).has_globals _ h
+pub loop-tool-init : goal.loop-tool-init
+loop-tool-init c =
+    let required : App → App = on_top (λ s. record s { subcommand_required = true }) in
+    let start = ap app_of_fields c.subcommand_required-command.ensures ∙ ap required (ap app_of_fields c.about.ensures ∙ c.new.ensures.app) in
+    let ours : _ ≡ _ ∷ _ ∷ _ ∷ _ ∷ _ ∷ [] = ap₂ (λ x xs. x ∷ xs) c.slapadd.ensures (ap₂ (λ x xs. x ∷ xs) c.ldapmodify.ensures (ap₂ (λ x xs. x ∷ xs) c.slapindex.ensures
+    (ap₂ (λ x xs. x ∷ xs) c.search.ensures (ap (λ x. x ∷ []) c.slapcat.ensures)))) in
+    ap₂ (fold with_subcommand) start ours
+
+pub loop-tool-preserved : goal.loop-tool-preserved
+loop-tool-preserved c =
+    let at = c.loop-tool in
+    let tools = c.slapadd.result ∷ c.ldapmodify.result ∷ c.slapindex.result ∷ c.search.result ∷ c.slapcat.result ∷ [] in
+    let plain = local c.in_ok-command_of.field-0 (ap (λ (s : Shape). s.is_plain) c.in_ok-command_of.ensures) in
+    let added = c.in_ok-command.ensures.shape plain ∙ ap (with_subcommand (app_of at.command)) c.in_ok-command_of.ensures in
+    ap (λ a. with_all a (drop (at.tool-index + 1) tools)) added ∙ sym (at_drop_more (with_all (app_of at.command)) tools at.tool-index _ c.loop-tool-test.true) ∙ at.invariant
 
 pub returns : goal.returns
 returns c =
-    let required : App → App = on_top (λ s. record s { subcommand_required = true }) in
-    let start = ap app_of_fields c.subcommand_required.ensures ∙ ap required (ap app_of_fields c.about.ensures ∙ c.new.ensures.app) in
-    let plain-slapadd = local c.in_ok-slapadd.field-0 (ap (λ (s : Shape). s.is_plain) c.in_ok-slapadd.ensures) in
-    let plain-ldapmodify = local c.in_ok-ldapmodify.field-0 (ap (λ (s : Shape). s.is_plain) c.in_ok-ldapmodify.ensures) in
-    let plain-slapindex = local c.in_ok-slapindex.field-0 (ap (λ (s : Shape). s.is_plain) c.in_ok-slapindex.ensures) in
-    let plain-search = local c.in_ok-search.field-0 (ap (λ (s : Shape). s.is_plain) c.in_ok-search.ensures) in
-    let plain-slapcat = local c.in_ok-slapcat.field-0 (ap (λ (s : Shape). s.is_plain) c.in_ok-slapcat.ensures) in
-    IfOk-weaker c.subcommand-5.result _ _ (λ r h. h.shape plain-slapcat ∙ ap₂ with_subcommand (c.in_ok-subcommand-4.ensures.shape plain-search ∙ ap₂ with_subcommand (c.in_ok-subcommand-3.ensures.shape plain-slapindex ∙ ap₂ with_subcommand (c.in_ok-subcommand-2.ensures.shape plain-ldapmodify ∙ ap₂ with_subcommand (c.in_ok-subcommand.ensures.shape plain-slapadd ∙ ap₂ with_subcommand (start) c.in_ok-slapadd.ensures) c.in_ok-ldapmodify.ensures) c.in_ok-slapindex.ensures) c.in_ok-search.ensures) c.in_ok-slapcat.ensures) c.subcommand-5.ensures
+    sym (at_drop_all (with_all (app_of c.loop-tool.command)) _ c.loop-tool.tool-index c.loop-tool-test.false) ∙ c.loop-tool.invariant

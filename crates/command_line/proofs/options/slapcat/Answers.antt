@@ -1,9 +1,0 @@
-use Rattle.std.proofs.Common.{ap, ap₂, ◌∙◌}
-use Rattle.std.proofs.lemmas.Result.{IfOk-weaker}
-use Rattle.clap.specs.Words.{App, with_rule}
-use Rattle.clap.specs.Simple.{app_of_fields}
-use Rattle.command_line.proofs.options.slapcat.Goals as goal
-
-pub returns : goal.returns
-returns c = IfOk-weaker c.arg-4.result _ _ (λ r h. ap (λ (a : App). a.top)
-    (h.shape c.value_option-2.ensures.local ∙ ap₂ with_rule (c.in_ok-arg-3.ensures.shape c.value_option.ensures.local ∙ ap₂ with_rule (c.in_ok-arg-2.ensures.shape c.file_option.ensures.local ∙ ap₂ with_rule (c.in_ok-arg.ensures.shape c.folder_option.ensures.local ∙ ap₂ with_rule (ap app_of_fields c.about.ensures ∙ c.new.ensures.app) c.folder_option.ensures.rule) c.file_option.ensures.rule) c.value_option.ensures.rule) c.value_option-2.ensures.rule)) c.arg-4.ensures
