@@ -237,6 +237,17 @@ fn answer_of<'a>(alloc: Global, said: &Error) -> Result<Request<'a>, UsageFault>
     }
 }
 
+/// What words that are more than the program's name ask for.
+fn parsed<'a, W: AsStr>(alloc: Global, words: &'a [W]) -> Result<Request<'a>, UsageFault>
+    ensures asked { IfOk result (asks.AskFor (map W.text words.now)) }
+    ensures faulty { IfErr result (asks.IsFaultOf (map W.text words.now)) }
+{
+    match slaptools(alloc)?.try_get_matches_from(words) {
+        Ok(matches) => requested(alloc, &matches),
+        Err(said) => answer_of(alloc, &said),
+    }
+}
+
 /// What the words ask for, the first being the program's name. Where it stands alone, that is the help.
 pub fn read<'a, W: AsStr>(alloc: Global, words: &'a [W]) -> Result<Request<'a>, UsageFault>
     ensures help { length (map W.text words.now) ≤ 1 → AsksForHelp result }
@@ -246,8 +257,5 @@ pub fn read<'a, W: AsStr>(alloc: Global, words: &'a [W]) -> Result<Request<'a>, 
     if words.len() <= 1 {
         return Ok(Request::Help(help(alloc)?));
     }
-    match slaptools(alloc)?.try_get_matches_from(words) {
-        Ok(matches) => requested(alloc, &matches),
-        Err(said) => answer_of(alloc, &said),
-    }
+    parsed(alloc, words)
 }

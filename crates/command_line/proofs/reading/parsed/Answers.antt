@@ -3,7 +3,7 @@ use Rattle.std.proofs.lemmas.Result.{IfErr-weaker, IfOk-weaker}
 use Rattle.command_line.specs.Requests.{IsRequest, IsFaultOfCommand, IsWhole}
 use Rattle.command_line.proofs.Taken.{answer_asked, answer_faulty, clean, fault_of_words, kinds, rows}
 use Rattle.command_line.proofs.Named.{whole}
-use Rattle.command_line.proofs.reading.read.Goals as goal
+use Rattle.command_line.proofs.reading.parsed.Goals as goal
 
 pub requested-requires : goal.requested-requires
 requested-requires g c =
