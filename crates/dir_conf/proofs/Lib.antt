@@ -4,6 +4,7 @@ pub mod Taken
 pub mod OneMore
 pub mod ClassesKept
 pub mod Whole
+pub mod SuffixAndSlots
 pub mod Twins
 pub mod SlotExamples
 pub mod ClassExamples

@@ -17,7 +17,7 @@ use Rattle.std.proofs.Math.ListN.{get_or-append}
 use Rattle.definitions.specs.declared.element.Element.{Element}
 use Rattle.definitions.specs.declared.lines.Line.{Line}
 use Rattle.definitions.specs.declared.type_definition.TypeDefinition.{TypeDefinition}
-use Rattle.definitions.specs.Lines.{begins_blank, lines_of}
+use Rattle.definitions.specs.Lines.{begins_blank}
 use Rattle.terms.specs.Naming.{is_oid, is_type_name, are_groups}
 use Rattle.definitions.specs.Words.{after_word}
 use Rattle.definitions.specs.TypeDefinitions.{type_definition_of}
@@ -41,7 +41,7 @@ use Rattle.schema.specs.Classes.{class_at, top, extensible_object}
 use Rattle.schema.specs.declared.slots.Slot.{Slot}
 use Rattle.schema.specs.Slots.{IsSlot}
 use Rattle.dir_conf.specs.IndexLines.{slots_in, in_order}
-use Rattle.dir_conf.specs.Configurations.{At, says_nothing, is_first, is_built_in, names_one, is_taken, superior_of, flaw_of, unless, below, refused, placed, Defined, built_in, class_placed, with_types, definition_line, defined_by, some_rdns, suffix_at, suffix_text, Found, none_found, with_suffix, with_slots, later_line, found_in, rules_of, conf_of}
+use Rattle.dir_conf.specs.Configurations.{At, says_nothing, is_first, is_built_in, names_one, is_taken, superior_of, flaw_of, unless, below, refused, placed, Defined, built_in, class_placed, with_types, definition_line, defined_by, some_rdns, suffix_at, suffix_text, Found, none_found, with_suffix, with_slots, later_line, found_in, rules_of, conf_on_lines}
 use Rattle.dir_conf.proofs.OneMore.{all_put, distinct_put, not_below}
 use Rattle.dir_conf.proofs.ClassesKept.{AreClasses, class_keeps, with_more_types, built_in_are}
 use Rattle.schema.proofs.Found.{found_is_known, SpellsRead, name_has_avas, rdns_are}
@@ -380,10 +380,12 @@ rules_are s suffix said h k slots = record {
   classes_apart = h.classes.apart;
 }
 
-pub conf_is : (text : List ℕ) (first second : List Line) (s : Defined) (f : Found) (suffix : List TypedRdn) → first ≡ lines_of text → second ≡ lines_of text → defined_by built_in first ≡ Ok s → found_in s.types none_found second ≡ Ok f
-    → f.suffix ≡ Some suffix → conf_of text ≡ Ok (record { types = s.types; suffix = suffix; slots = in_order (length s.types) f.slots; classes = s.classes })
-unfolding conf_of
-conf_is text first second s f suffix one two defined found some =
-    ap (λ (r : Outcome). r >>= λ d. (found_in d.types none_found (lines_of text) >>= λ g. rules_of d g.slots g.suffix)) (ap (λ (ls : List Line). defined_by built_in ls) (sym one) ∙ defined)
-    ∙ ap (λ (r : Later). r >>= λ g. rules_of s g.slots g.suffix) (ap (λ (ls : List Line). found_in s.types none_found ls) (sym two) ∙ found)
-    ∙ ap (λ (o : Option (List TypedRdn)). rules_of s f.slots o) some
+-- what is defined and found is what the whole comes from
+pub comes_from : (ls : List Line) (s : Defined) (f : Found) → defined_by built_in ls ≡ Ok s → found_in s.types none_found ls ≡ Ok f → conf_on_lines ls ≡ rules_of s f.slots f.suffix
+comes_from ls s f defined found =
+    ap (λ (r : Outcome). r >>= λ d. (found_in d.types none_found ls >>= λ g. rules_of d g.slots g.suffix)) defined
+    ∙ ap (λ (r : Later). r >>= λ g. rules_of s g.slots g.suffix) found
+
+pub conf_is : (ls : List Line) (s : Defined) (f : Found) (suffix : List TypedRdn) → defined_by built_in ls ≡ Ok s → found_in s.types none_found ls ≡ Ok f
+    → f.suffix ≡ Some suffix → conf_on_lines ls ≡ Ok (record { types = s.types; suffix = suffix; slots = in_order (length s.types) f.slots; classes = s.classes })
+conf_is ls s f suffix defined found some = comes_from ls s f defined found ∙ ap (λ (o : Option (List TypedRdn)). rules_of s f.slots o) some

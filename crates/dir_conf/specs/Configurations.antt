@@ -213,7 +213,10 @@ abbrev pub rules_of : Defined → List Slot → Option (List TypedRdn) → Resul
 rules_of s slots None = Err (0, Suffix)
 rules_of s slots (Some suffix) = Ok (record { types = s.types; suffix = suffix; slots = in_order (length s.types) slots; classes = s.classes })
 
+abbrev pub conf_on_lines : List Line → Result Conf At
+conf_on_lines ls =
+    defined_by built_in ls >>= λ s.
+    (found_in s.types none_found ls >>= λ found. rules_of s found.slots found.suffix)
+
 unfoldable pub conf_of : List ℕ → Result Conf At
-conf_of text =
-    defined_by built_in (lines_of text) >>= λ s.
-    (found_in s.types none_found (lines_of text) >>= λ found. rules_of s found.slots found.suffix)
+conf_of text = conf_on_lines (lines_of text)

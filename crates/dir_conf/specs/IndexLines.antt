@@ -72,12 +72,17 @@ each_once kinds = filter (λ k. list_any (same_kind k) kinds) every_kind
 abbrev pub if_kept : List AttributeType → ℕ → List Slot → Result (List Slot) At
 if_kept types line slots = if list_all (can_be_kept types) slots then Ok slots else Err (line, Index)
 
--- the slots that a line says behind its first word: of each type that it names, those of each kind that it lists
+-- of each type that is named, the slots of each kind that is listed
+abbrev pub slots_of : List AttributeType → ℕ → List (List ℕ) → List (List ℕ) → Result (List Slot) At
+slots_of types line names kinds = do
+  ts ← each (type_named types line) names
+  listed ← each (kind_named line) kinds
+  if_kept types line (slots_with ts (each_once listed))
+
+-- the slots that a line says behind its first word
 unfoldable pub slots_in : List AttributeType → ℕ → List ℕ → Result (List Slot) At
 slots_in types line text = do
   lists ← two_words line (words text)
   names ← members line lists.0
   kinds ← members line lists.1
-  ts ← each (type_named types line) names
-  listed ← each (kind_named line) kinds
-  if_kept types line (slots_with ts (each_once listed))
+  slots_of types line names kinds

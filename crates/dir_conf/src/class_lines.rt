@@ -1,17 +1,19 @@
 //! Reading the object classes of a configuration.
 
-ghost use Rattle.std.specs.Prelude.{◌≡◌, Some, IfOk};
+ghost use Rattle.std.specs.Prelude.{◌≡◌, ◌∷◌, [], Some, IfOk};
 ghost use Rattle.std.specs.List.{list_any};
 ghost use Rattle.base.specs.Answers.{each};
 ghost use Rattle.definitions.specs.ClassDefinitions.{class_definition_of};
 ghost use Rattle.schema.specs.Classes.{is_class, top, extensible_object};
-ghost use Rattle.dir_conf.specs.Configurations.{types_and_classes, shares_class_name, is_class_taken, class_named, kind_with, class_with, class_placed};
+ghost use Rattle.dir_conf.specs.Configurations.{types_and_classes, shares_class_name, is_class_taken, class_named, kind_with, class_from, class_with, class_placed};
 ghost use Rattle.dir_conf.specs.NamesInLines.{type_named};
 ghost use Rattle.dir_conf.specs.Reads.{Reads};
+ghost use Rattle.dir_conf.specs.inner.Views.{and_class};
 
 use crate::conf_fault::{ConfFault, ConfFaultKind};
 use crate::conf_lines::fault;
-use crate::type_lines::{has_twin, is_built_in, type_named};
+use crate::type_lines::{has_twin, is_built_in, one_name, type_named};
+use crate::type_rules::copied;
 use base::{Bytes, Sequence};
 use definitions::{ClassDefinition, DefinitionFault, Element, read_class_definition};
 use schema::{ClassTable, ObjectClass};
@@ -19,40 +21,64 @@ use std::alloc::{AllocError, Global};
 use terms::ClassKind;
 use values::{TypeId, TypeTable};
 
+/// The numbers of the classes and types that a definition of a class names.
+#[derive(Drop)]
+struct Links {
+    superiors: Sequence<usize>,
+    must: Sequence<TypeId>,
+    may: Sequence<TypeId>,
+}
+
+fn built_in(
+    alloc: Global,
+    oid: &[u8],
+    name: &[u8],
+    kind: ClassKind,
+    superiors: Sequence<usize>,
+    must: Sequence<TypeId>,
+) -> Result<ObjectClass, AllocError>
+    ensures { IfOk result (λ c. c ≡ record { oid = oid.now; names = name.now ∷ []; kind = kind; superiors = superiors; must = must; may = [] }) }
+{
+    Ok(ObjectClass {
+        oid: Bytes::from_slice(alloc, oid)?,
+        names: one_name(alloc, name)?,
+        kind,
+        superiors,
+        must,
+        may: Sequence::new(alloc),
+    })
+}
+
 /// The abstract class of every entry (RFC 4512, 2.4.1).
 pub(crate) fn top(alloc: Global) -> Result<ObjectClass, AllocError>
     ensures { IfOk result (λ c. c ≡ top) }
 {
-    let mut names = Sequence::new(alloc);
-    names.push(Bytes::from_slice(alloc, b"top")?)?;
     let mut must = Sequence::new(alloc);
     must.push(TypeId::OBJECT_CLASS)?;
-    Ok(ObjectClass {
-        oid: Bytes::from_slice(alloc, b"2.5.6.0")?,
-        names,
-        kind: ClassKind::Abstract,
-        superiors: Sequence::new(alloc),
+    built_in(
+        alloc,
+        b"2.5.6.0",
+        b"top",
+        ClassKind::Abstract,
+        Sequence::new(alloc),
         must,
-        may: Sequence::new(alloc),
-    })
+    )
 }
 
 /// The auxiliary class of entries that may have any type (RFC 4512, 4.3), below the class of number 0.
 pub(crate) fn extensible_object(alloc: Global) -> Result<ObjectClass, AllocError>
     ensures { IfOk result (λ c. c ≡ extensible_object) }
 {
-    let mut names = Sequence::new(alloc);
-    names.push(Bytes::from_slice(alloc, b"extensibleObject")?)?;
     let mut superiors = Sequence::new(alloc);
     superiors.push(0)?;
-    Ok(ObjectClass {
-        oid: Bytes::from_slice(alloc, b"1.3.6.1.4.1.1466.101.120.111")?,
-        names,
-        kind: ClassKind::Auxiliary,
+    built_in(
+        alloc,
+        b"1.3.6.1.4.1.1466.101.120.111",
+        b"extensibleObject",
+        ClassKind::Auxiliary,
         superiors,
-        must: Sequence::new(alloc),
-        may: Sequence::new(alloc),
-    })
+        Sequence::new(alloc),
+    )
 }
 
 // whether a class has this name or OID
@@ -130,63 +156,94 @@ fn kind_with(stated: Option<ClassKind>) -> ClassKind
 }
 
 #[tactic(auto, unfolding(crate::specs::Configurations::class_with))]
-fn class_with(
+fn links_of(
     alloc: Global,
     types: &TypeTable,
     classes: &ClassTable,
     line: u64,
-    definition: ClassDefinition,
-) -> Result<ObjectClass, ConfFault>
-    ensures { Reads (λ c. c) result (class_with (types_and_classes types.now classes.now) line definition) }
+    definition: &ClassDefinition,
+) -> Result<Links, ConfFault>
+    ensures { Reads (λ l. class_from definition.now l.superiors l.must l.may) result (class_with (types_and_classes types.now classes.now) line definition.now) }
 {
     let superiors = classes_named(alloc, classes, line, definition.superiors.as_slice())?;
     let must = types_named(alloc, types, line, definition.must.as_slice())?;
     let may = types_named(alloc, types, line, definition.may.as_slice())?;
-    let ClassDefinition { element, kind, .. } = definition;
-    let Element { oid, names, .. } = element;
-    Ok(ObjectClass {
-        oid,
-        names,
-        kind: kind_with(kind),
+    Ok(Links {
         superiors,
         must,
         may,
     })
 }
 
+fn class_from(
+    alloc: Global,
+    definition: &ClassDefinition,
+    links: Links,
+) -> Result<ObjectClass, AllocError>
+    ensures { IfOk result (λ c. c ≡ class_from definition.now links.superiors links.must links.may) }
+{
+    let oid = definition.element.oid.copy(alloc)?;
+    let names = copied(alloc, definition.element.names.as_slice())?;
+    let Links {
+        superiors,
+        must,
+        may,
+    } = links;
+    Ok(ObjectClass {
+        oid,
+        names,
+        kind: kind_with(definition.kind),
+        superiors,
+        must,
+        may,
+    })
+}
+
+fn class_with(
+    alloc: Global,
+    types: &TypeTable,
+    classes: &ClassTable,
+    line: u64,
+    definition: &ClassDefinition,
+) -> Result<ObjectClass, ConfFault>
+    ensures { Reads (λ c. c) result (class_with (types_and_classes types.now classes.now) line definition.now) }
+{
+    let links = links_of(alloc, types, classes, line, definition)?;
+    Ok(class_from(alloc, definition, links)?)
+}
+
 #[tactic(auto, unfolding(crate::specs::Configurations::class_placed))]
 fn place_class(
     alloc: Global,
     types: &TypeTable,
-    classes: ClassTable,
+    classes: &ClassTable,
     line: u64,
-    definition: ClassDefinition,
-) -> Result<ClassTable, ConfFault>
-    ensures { Reads (types_and_classes types.now) result (class_placed (types_and_classes types.now classes) line (Some definition)) }
+    definition: &ClassDefinition,
+) -> Result<Option<ObjectClass>, ConfFault>
+    ensures { Reads (and_class (types_and_classes types.now classes.now)) result (class_placed (types_and_classes types.now classes.now) line (Some definition.now)) }
 {
     if is_built_in(definition.element.oid.as_slice()) {
-        return Ok(classes);
+        return Ok(None);
     }
-    if is_class_taken(alloc, &classes, &definition.element)? {
+    if is_class_taken(alloc, classes, &definition.element)? {
         return Err(fault(line, ConfFaultKind::Twice));
     }
-    let class = class_with(alloc, types, &classes, line, definition)?;
-    Ok(classes.with(alloc, class)?)
+    Ok(Some(class_with(alloc, types, classes, line, definition)?))
 }
 
-/// The classes, and one more as its definition reads.
+/// The class that a definition adds to those that are there; none where it is built in.
 #[tactic(auto, unfolding(crate::specs::Configurations::class_placed))]
-pub(crate) fn define_class(
+pub(crate) fn defined_class(
     alloc: Global,
     types: &TypeTable,
-    classes: ClassTable,
+    classes: &ClassTable,
     line: u64,
     text: &[u8],
-) -> Result<ClassTable, ConfFault>
-    ensures { Reads (types_and_classes types.now) result (class_placed (types_and_classes types.now classes) line (class_definition_of text.now)) }
+) -> Result<Option<ObjectClass>, ConfFault>
+    ensures { Reads (and_class (types_and_classes types.now classes.now)) result (class_placed (types_and_classes types.now classes.now) line (class_definition_of text.now)) }
 {
     match read_class_definition(alloc, text) {
-        Ok(definition) => place_class(alloc, types, classes, line, definition),
+        Ok(definition) => place_class(alloc, types, classes, line, &definition),
         Err(DefinitionFault::Form) => Err(fault(line, ConfFaultKind::Form)),
         Err(DefinitionFault::OutOfMemory) => Err(ConfFault::OutOfMemory),
     }

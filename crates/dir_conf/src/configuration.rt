@@ -1,20 +1,50 @@
 //! Reading the text of a configuration.
 
-ghost use Rattle.dir_conf.specs.Configurations.{conf_of};
+ghost use Rattle.dir_conf.specs.Configurations.{conf_on_lines, conf_of};
 ghost use Rattle.dir_conf.specs.Reads.{Reads};
+ghost use Rattle.dir_conf.specs.inner.Views.{suffix_and_slots};
 
 use crate::conf_fault::{ConfFault, ConfFaultKind};
 use crate::conf_lines::fault;
 use crate::defined::{Defined, defined_by};
 use crate::later_lines::{Found, found_in};
 use crate::slots::in_order;
-use definitions::{defined_types_have_names, lines_of};
+use base::Sequence;
+use definitions::{Line, defined_types_have_names, lines_of};
 use dn::spelled_names_are_read;
-use schema::Conf;
+use paths::TypedRdn;
+use schema::{Conf, Slot};
 use std::alloc::Global;
+use values::TypeTable;
 
 /// Few texts have more names and OIDs than one in so many bytes.
 const BYTES_OF_A_NAME: usize = 32;
+
+fn suffix_and_slots(
+    alloc: Global,
+    types: &TypeTable,
+    lines: &[Line],
+) -> Result<(Sequence<TypedRdn>, Sequence<Slot>), ConfFault>
+    ensures { Reads (λ x. (x.0, x.1)) result (suffix_and_slots types.now lines.now) }
+{
+    spelled_names_are_read();
+    let Found { suffix, slots } = found_in(alloc, types, lines)?;
+    match suffix {
+        Some(suffix) => Ok((suffix, in_order(alloc, slots)?)),
+        None => Err(fault(0, ConfFaultKind::Suffix)),
+    }
+}
+
+fn conf_on_lines(alloc: Global, names: usize, lines: &[Line]) -> Result<Conf, ConfFault>
+    ensures { Reads (λ c. c) result (conf_on_lines lines.now) }
+{
+    defined_types_have_names();
+    spelled_names_are_read();
+    let defined = defined_by(alloc, names, lines)?;
+    let (suffix, slots) = suffix_and_slots(alloc, &defined.types, lines)?;
+    let Defined { types, classes } = defined;
+    Ok(Conf::new(alloc, types, suffix, slots, classes)?)
+}
 
 /// The configuration that the text of a `dir.conf` says. It is refused with the first line that is at fault; lines of suffixes and
 /// indexes are looked at after all others, and a missing suffix last of all.
@@ -27,13 +57,6 @@ const BYTES_OF_A_NAME: usize = 32;
 pub fn read_conf(alloc: Global, text: &[u8]) -> Result<Conf, ConfFault>
     ensures { Reads (λ c. c) result (conf_of text.now) }
 {
-    defined_types_have_names();
-    spelled_names_are_read();
     let lines = lines_of(alloc, text)?;
-    let Defined { types, classes } = defined_by(alloc, text.len() / BYTES_OF_A_NAME, &lines)?;
-    let Found { suffix, slots } = found_in(alloc, &types, &lines)?;
-    match suffix {
-        Some(suffix) => Ok(Conf::new(alloc, types, suffix, in_order(alloc, slots)?, classes)?),
-        None => Err(fault(0, ConfFaultKind::Suffix)),
-    }
+    conf_on_lines(alloc, text.len() / BYTES_OF_A_NAME, &lines)
 }

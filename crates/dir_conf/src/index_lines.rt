@@ -3,7 +3,7 @@
 ghost use Rattle.std.specs.Prelude.{◌≡◌, ◌<◌, ◌++◌, IfOk, OnOk, length, map};
 ghost use Rattle.std.specs.List.{AllByRecursion, list_any, list_all, slice_split};
 ghost use Rattle.base.specs.Answers.{each};
-ghost use Rattle.dir_conf.specs.IndexLines.{is_comma, is_empty, words, two_words, members, kind_named, each_once, slots_with, if_kept, slots_in};
+ghost use Rattle.dir_conf.specs.IndexLines.{is_comma, is_empty, words, two_words, members, kind_named, each_once, slots_with, if_kept, slots_of, slots_in};
 ghost use Rattle.schema.specs.Slots.{has_rule_for, can_be_kept};
 ghost use Rattle.dir_conf.specs.NamesInLines.{type_named};
 ghost use Rattle.dir_conf.specs.Reads.{Reads};
@@ -190,6 +190,22 @@ fn kept_slots(
     }
 }
 
+// the slots of types and kinds as they are named
+fn slots_of(
+    alloc: Global,
+    types: &TypeTable,
+    line: u64,
+    names: &[&[u8]],
+    kinds: &[&[u8]],
+) -> Result<Vec<Slot>, ConfFault>
+    ensures { Reads (λ v. v.items) result (slots_of types.now line (map (λ n. n.now) names.now) (map (λ k. k.now) kinds.now)) }
+{
+    let ts = types_named(alloc, types, line, names)?;
+    let listed = kinds_named(alloc, line, kinds)?;
+    let kinds = each_once(alloc, &listed)?;
+    kept_slots(alloc, types, line, &ts, &kinds)
+}
+
 /// The slots that an index line says behind its first word.
 #[tactic(auto, unfolding(crate::specs::IndexLines::slots_in))]
 pub(crate) fn slots_in(
@@ -203,8 +219,5 @@ pub(crate) fn slots_in(
     let (names, kinds) = two_words(alloc, line, text)?;
     let names = members(alloc, line, names)?;
     let kinds = members(alloc, line, kinds)?;
-    let ts = types_named(alloc, types, line, &names)?;
-    let listed = kinds_named(alloc, line, &kinds)?;
-    let kinds = each_once(alloc, &listed)?;
-    kept_slots(alloc, types, line, &ts, &kinds)
+    slots_of(alloc, types, line, &names, &kinds)
 }

@@ -1,6 +1,8 @@
 //! Reading the lines that are looked at after all others: the suffix and the indexes.
 
-ghost use Rattle.dir_conf.specs.Configurations.{later_line, found_in, none_found};
+ghost use Rattle.definitions.specs.Words.{after_word};
+ghost use Rattle.dir_conf.specs.Configurations.{with_slots, later_line, found_in, none_found};
+ghost use Rattle.dir_conf.specs.IndexLines.{slots_in};
 ghost use Rattle.dir_conf.specs.Reads.{Reads};
 ghost use Rattle.dir_conf.specs.inner.Views.{found_view};
 
@@ -22,6 +24,20 @@ pub(crate) struct Found {
     pub(crate) slots: Vec<Slot>,
 }
 
+// puts the slots that an index line says behind those before it
+fn read_index_line(
+    alloc: Global,
+    types: &TypeTable,
+    found: &mut Found,
+    line: &Line,
+) -> Result<(), ConfFault>
+    ensures { Reads (λ _. found_view found.new) result (with_slots (found_view found.old) (slots_in types.now line.now.number (after_word line.now.text))) }
+{
+    let text = split_first_word(line.text.as_slice()).1;
+    let slots = slots_in(alloc, types, line.number, text)?;
+    Ok(found.slots.extend_from_slice(&slots)?)
+}
+
 #[tactic(auto, unfolding(crate::specs::Configurations::later_line))]
 fn read_later_line(
     alloc: Global,
@@ -36,9 +52,7 @@ fn read_later_line(
         return Ok(());
     }
     if is_first(b"index", text) {
-        let slots = slots_in(alloc, types, line.number, split_first_word(text).1)?;
-        found.slots.extend_from_slice(&slots)?;
-        return Ok(());
+        return read_index_line(alloc, types, found, line);
     }
     if !is_first(b"suffix", text) {
         return Ok(());

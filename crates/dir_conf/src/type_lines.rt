@@ -1,6 +1,6 @@
 //! Reading the attribute types of a configuration.
 
-ghost use Rattle.std.specs.Prelude.{◌≡◌, ◌<◌, IfOk, IfSome, Some, length};
+ghost use Rattle.std.specs.Prelude.{◌≡◌, ◌<◌, ◌++◌, ◌∷◌, [], IfOk, IfSome, Some, length};
 ghost use Rattle.std.specs.List.{list_any};
 ghost use Rattle.std.specs.Option.{option_map};
 ghost use Rattle.std.specs.Str.{str_eq_ignore_ascii_case};
@@ -10,6 +10,7 @@ ghost use Rattle.dir_conf.specs.DerivedTypes.{type_with};
 ghost use Rattle.schema.specs.TypeRules.{object_class, has_twin, up_of};
 ghost use Rattle.dir_conf.specs.NamesInLines.{type_named};
 ghost use Rattle.dir_conf.specs.Reads.{Reads};
+ghost use Rattle.dir_conf.specs.inner.Views.{and_type};
 
 use crate::conf_fault::{ConfFault, ConfFaultKind};
 use crate::conf_lines::fault;
@@ -20,14 +21,21 @@ use matching::{Family, Syntax};
 use std::alloc::{AllocError, Global};
 use values::{AttributeType, EqualityRule, NameIndex, TypeId, TypeSyntax, TypeTable};
 
+/// A name alone.
+pub(crate) fn one_name(alloc: Global, name: &[u8]) -> Result<Sequence<Bytes>, AllocError>
+    ensures { IfOk result (λ names. names ≡ name.now ∷ []) }
+{
+    let mut names = Sequence::new(alloc);
+    names.push(Bytes::from_slice(alloc, name)?)?;
+    Ok(names)
+}
+
 pub(crate) fn object_class(alloc: Global) -> Result<AttributeType, AllocError>
     ensures { IfOk result (λ t. t ≡ object_class) }
 {
-    let mut names = Sequence::new(alloc);
-    names.push(Bytes::from_slice(alloc, b"objectClass")?)?;
     Ok(AttributeType {
         oid: Bytes::from_slice(alloc, b"2.5.4.0")?,
-        names,
+        names: one_name(alloc, b"objectClass")?,
         superior: None,
         syntax: TypeSyntax::Plain(Syntax::Oid),
         equality: Some(EqualityRule::Plain(Family::Oid)),
@@ -155,22 +163,22 @@ fn flaw_of(types: &TypeTable, new: &AttributeType, number: &Option<TypeId>) -> O
     }
 }
 
-fn add_below(
+// the type that a definition defines below the type of this number, or below none
+fn type_below(
     alloc: Global,
-    types: TypeTable,
+    types: &TypeTable,
     line: u64,
     definition: &TypeDefinition,
     number: &Option<TypeId>,
-) -> Result<TypeTable, ConfFault>
-    requires room { length types < 65535 }
-    requires number { IfSome number.now (λ t. t < length types) }
-    ensures { Reads (λ t. t) result (below types line definition.now (Some number.now)) }
+) -> Result<AttributeType, ConfFault>
+    requires { IfSome number.now (λ t. t < length types.now) }
+    ensures { Reads (λ t. types.now ++ t ∷ []) result (below types.now line definition.now (Some number.now)) }
 {
-    let new = derived(alloc, &types, definition, number)?;
-    if let Some(kind) = flaw_of(&types, &new, number) {
-        return Err(fault(line, kind));
+    let new = derived(alloc, types, definition, number)?;
+    match flaw_of(types, &new, number) {
+        Some(kind) => Err(fault(line, kind)),
+        None => Ok(new),
     }
-    Ok(types.with(alloc, new)?)
 }
 
 // the fault of a definition that breaks no rule by itself, but beside the types that are there
@@ -195,33 +203,35 @@ fn refused(
 #[tactic(auto, unfolding(crate::specs::Configurations::placed))]
 fn place(
     alloc: Global,
-    types: TypeTable,
+    types: &TypeTable,
     line: u64,
     definition: &TypeDefinition,
-) -> Result<TypeTable, ConfFault>
-    ensures { Reads (λ t. t) result (placed types line (Some definition.now)) }
+) -> Result<Option<AttributeType>, ConfFault>
+    ensures gives { Reads (and_type types.now) result (placed types.now line (Some definition.now)) }
+    ensures room { IfOk result (λ o. IfSome o (λ t. length types.now < 65535)) }
 {
     if is_built_in(definition.element.oid.as_slice()) {
-        return Ok(types);
+        return Ok(None);
     }
-    if let Some(kind) = refused(alloc, &types, definition)? {
+    if let Some(kind) = refused(alloc, types, definition)? {
         return Err(fault(line, kind));
     }
-    match superior_of(&types, &definition.superior) {
-        Some(number) => add_below(alloc, types, line, definition, &number),
+    match superior_of(types, &definition.superior) {
+        Some(number) => Ok(Some(type_below(alloc, types, line, definition, &number)?)),
         None => Err(fault(line, ConfFaultKind::UnknownName)),
     }
 }
 
-/// The types, and one more as its definition reads.
+/// The type that a definition adds to those that are there, which leave room for it; none where it is built in.
 #[tactic(auto, unfolding(crate::specs::Configurations::placed))]
-pub(crate) fn define_type(
+pub(crate) fn defined_type(
     alloc: Global,
-    types: TypeTable,
+    types: &TypeTable,
     line: u64,
     text: &[u8],
-) -> Result<TypeTable, ConfFault>
-    ensures { Reads (λ t. t) result (placed types line (type_definition_of text.now)) }
+) -> Result<Option<AttributeType>, ConfFault>
+    ensures gives { Reads (and_type types.now) result (placed types.now line (type_definition_of text.now)) }
+    ensures room { IfOk result (λ o. IfSome o (λ t. length types.now < 65535)) }
 {
     match read_type_definition(alloc, text) {
         Ok(definition) => place(alloc, types, line, &definition),

@@ -139,7 +139,7 @@ fn is_operational(usage: Option<Usage>) -> bool
     }
 }
 
-fn copied(alloc: Global, names: &[Bytes]) -> Result<Sequence<Bytes>, AllocError>
+pub(crate) fn copied(alloc: Global, names: &[Bytes]) -> Result<Sequence<Bytes>, AllocError>
     ensures { IfOk result (λ s. s ≡ names.now) }
 {
     let mut copies = Vec::with_capacity(alloc, names.len())?;
