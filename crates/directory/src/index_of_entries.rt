@@ -137,6 +137,32 @@ impl<'a> RankedEntries<'a> {
     }
 }
 
+// puts the lines of all slots of a tree's entries behind a text, and hands the text on where it is long; without a slot it looks at no entry
+fn write_all_slots<W: Sink>(
+    alloc: Global,
+    tree: &Tree,
+    conf: &Conf,
+    sink: &mut W,
+    text: &mut Vec<u8>,
+) -> Result<(), WriteFault>
+    requires made { tree.now.conf ≡ conf.now }
+    requires can_fail { (W.written sink.old).failed < 2 ^ 64 - 1 }
+    ensures { WritesOn result (W.written sink.old) (W.written sink.new) (text.old.items ++ slots_lines conf.now tree.now.entries conf.now.slots) text.new.items }
+{
+    if conf.slots().is_empty() {
+        return Ok(());
+    }
+    let root = Path::root(alloc);
+    let entries = ranked_entries(alloc, conf, tree, &root)?;
+    let ranked = RankedEntries {
+        alloc,
+        tree,
+        conf,
+        entries: entries.as_slice(),
+    };
+    ranked.write_slots(sink, text)
+}
+
 /// Writes the text of the index of a tree's entries, as `Directory::index_text` does, and makes it of the entries alone: slot by slot the keys of
 /// all entries are sorted, so it takes the memory of one slot. The tree was made with this configuration, and this is its stamp. On a fault
 /// a beginning was written.
@@ -152,16 +178,8 @@ pub fn write_index_of_entries<W: Sink>(
     requires can_fail { (W.written sink.old).failed < 2 ^ 64 - 1 }
     ensures writes { Writes result (W.written sink.old) (W.written sink.new) (index_text conf.now tree.now.entries) }
 {
-    let root = Path::root(alloc);
     let mut text = first_line(alloc, tree, conf, stamp)?;
-    let entries = ranked_entries(alloc, conf, tree, &root)?;
-    let ranked = RankedEntries {
-        alloc,
-        tree,
-        conf,
-        entries: entries.as_slice(),
-    };
-    ranked.write_slots(sink, &mut text)?;
+    write_all_slots(alloc, tree, conf, sink, &mut text)?;
     put_end(&mut text)?;
     pass_on(sink, &mut text)
 }

@@ -13,17 +13,14 @@ use Rattle.directory.proofs.index_of_entries.write_index_of_entries.Goals as goa
 pub returns-in_err-text : goal.returns-in_err-text
 returns-in_err-text g c = record { writes = wants_memory c.from_residual.result c.from_residual.ensures.1 (g.W.Sink.written c.args.sink.now) (index_text c.args.conf.now c.args.tree.now.entries) }
 
-pub returns-in_err-entries : goal.returns-in_err-entries
-returns-in_err-entries g c = record { writes = wants_memory c.from_residual-in_err-entries.result c.from_residual-in_err-entries.ensures.1 (g.W.Sink.written c.args.sink.now) (index_text c.args.conf.now c.args.tree.now.entries) }
-
-pub returns-in_err-write_slots : goal.returns-in_err-write_slots
-returns-in_err-write_slots g c =
-    let p = err_from_is_err_and c.from_residual-in_err-write_slots.result c.from_residual-in_err-write_slots.ensures.1 in
+pub returns-in_err-write_all_slots : goal.returns-in_err-write_all_slots
+returns-in_err-write_all_slots g c =
+    let p = err_from_is_err_and c.from_residual-in_err-write_all_slots.result c.from_residual-in_err-write_all_slots.ensures.1 in
     let conf : Conf = c.args.conf.now in
     let d : Entries = c.args.tree.now.entries in
     let start : List ℕ = c.in_ok-text.text.items in
     record {
-      writes = rw (p.1, p.2) (stopped_early (g.W.Sink.written c.args.sink.now) (g.W.Sink.written c.write_slots.new.sink) (start ++ slots_lines conf d conf.slots) (ended end_line) (index_text conf d) (in_parts conf d start c.in_ok-text.ensures) c.in_err-write_slots.field-0.0 c.in_err-write_slots.ensures);
+      writes = rw (p.1, p.2) (stopped_early (g.W.Sink.written c.args.sink.now) (g.W.Sink.written c.write_all_slots.new.sink) (start ++ slots_lines conf d conf.slots) (ended end_line) (index_text conf d) (in_parts conf d start c.in_ok-text.ensures) c.in_err-write_all_slots.field-0.0 c.in_err-write_all_slots.ensures);
     }
 
 pub returns-in_err-put_end : goal.returns-in_err-put_end
@@ -34,8 +31,8 @@ returns-in_err-put_end g c =
     let start : List ℕ = c.in_ok-text.text.items in
     record {
       writes = rw (p.1, p.2) (record {
-        rest = c.write_slots.new.text.items ++ ended end_line;
-        so_far = longer (g.W.Sink.written c.args.sink.now) (g.W.Sink.written c.write_slots.new.sink) (start ++ slots_lines conf d conf.slots) c.write_slots.new.text.items (ended end_line) (index_text conf d) (in_parts conf d start c.in_ok-text.ensures) c.in_ok-write_slots.ensures;
+        rest = c.write_all_slots.new.text.items ++ ended end_line;
+        so_far = longer (g.W.Sink.written c.args.sink.now) (g.W.Sink.written c.write_all_slots.new.sink) (start ++ slots_lines conf d conf.slots) c.write_all_slots.new.text.items (ended end_line) (index_text conf d) (in_parts conf d start c.in_ok-text.ensures) c.in_ok-write_all_slots.ensures;
       });
     }
 
@@ -44,10 +41,10 @@ returns g c =
     let conf : Conf = c.args.conf.now in
     let d : Entries = c.args.tree.now.entries in
     let start : List ℕ = c.in_ok-text.text.items in
-    let last : c.put_end.new.out.items ≡ c.write_slots.new.text.items ++ ended end_line = c.in_ok-put_end.ensures.put in
+    let last : c.put_end.new.out.items ≡ c.write_all_slots.new.text.items ++ ended end_line = c.in_ok-put_end.ensures.put in
     record {
-      writes = ends (g.W.Sink.written c.args.sink.now) (g.W.Sink.written c.write_slots.new.sink) (g.W.Sink.written c.pass_on.new.sink) (index_text conf d) c.put_end.new.out.items
-          (subst (SoFar (g.W.Sink.written c.args.sink.now) (g.W.Sink.written c.write_slots.new.sink) (index_text conf d)) (sym last)
-          (longer (g.W.Sink.written c.args.sink.now) (g.W.Sink.written c.write_slots.new.sink) (start ++ slots_lines conf d conf.slots) c.write_slots.new.text.items (ended end_line) (index_text conf d) (in_parts conf d start c.in_ok-text.ensures) c.in_ok-write_slots.ensures))
+      writes = ends (g.W.Sink.written c.args.sink.now) (g.W.Sink.written c.write_all_slots.new.sink) (g.W.Sink.written c.pass_on.new.sink) (index_text conf d) c.put_end.new.out.items
+          (subst (SoFar (g.W.Sink.written c.args.sink.now) (g.W.Sink.written c.write_all_slots.new.sink) (index_text conf d)) (sym last)
+          (longer (g.W.Sink.written c.args.sink.now) (g.W.Sink.written c.write_all_slots.new.sink) (start ++ slots_lines conf d conf.slots) c.write_all_slots.new.text.items (ended end_line) (index_text conf d) (in_parts conf d start c.in_ok-text.ensures) c.in_ok-write_all_slots.ensures))
           c.pass_on.result c.pass_on.ensures.writes;
     }
