@@ -9,10 +9,10 @@ use schema::{Conf, Path};
 use std::alloc::{AllocError, Global};
 use tree::Tree;
 
-/// An entry with its rank as its number, and the number that it has in the tree.
+/// An entry by its number in the tree, and with its rank in the place of that number.
 #[derive(Clone, Copy, Drop)]
 struct PlacedEntry<'a> {
-    place: u32,
+    number: u32,
     ranked: Numbered<'a>,
 }
 
@@ -31,26 +31,26 @@ fn placed_entries<'a>(
     let mut entries = Vec::with_capacity(alloc, tree.len())?;
     let mut rank: u32 = 0;
     for found in tree.numbered(root) {
-        let (_, place, entry) = found;
+        let (_, number, entry) = found;
         let ranked = Numbered {
             number: rank,
             entry,
         };
-        entries.push(PlacedEntry { place, ranked })?;
+        entries.push(PlacedEntry { number, ranked })?;
         rank += 1;
     }
     Ok(entries)
 }
 
 // the same by their numbers in the tree
-fn by_place<'a>(
+fn by_number<'a>(
     alloc: Global,
     placed: Vec<PlacedEntry<'a>>,
 ) -> Result<Vec<Numbered<'a>>, AllocError>
     ensures { IfOk result (λ es. IsPermutation (map (λ e. e.ranked) placed.entry.items) es.items) }
 {
     let mut sorted = placed;
-    sorted.sort_unstable_by_key(|entry| entry.place);
+    sorted.sort_unstable_by_key(|entry| entry.number);
     let mut entries = Vec::with_capacity(alloc, sorted.len())?;
     for entry in &sorted {
         entries.push(entry.ranked)?;
@@ -70,5 +70,5 @@ pub(crate) fn ranked_entries<'a>(
     ensures { IfOk result (λ es. AreRankedEntries conf.now tree.now.entries es.items) }
 {
     let placed = placed_entries(alloc, conf, tree, root)?;
-    by_place(alloc, placed)
+    by_number(alloc, placed)
 }

@@ -4,7 +4,7 @@ use Rattle.std.proofs.lemmas.List.{take_all}
 use Rattle.std.proofs.lemmas.List.Sorted.{IsPermutation-map}
 use Rattle.index.specs.declared.type_norms.Numbered.{Numbered}
 use Rattle.directory.specs.declared.placed_entries.PlacedEntry.{PlacedEntry}
-use Rattle.directory.proofs.placed_entries.by_place.Goals as goal
+use Rattle.directory.proofs.placed_entries.by_number.Goals as goal
 
 pub returns : goal.returns
 returns c =
