@@ -11,7 +11,7 @@ use Rattle.entries.specs.Entries.{Attributes, IsAttribute}
 use Rattle.entries.specs.StoredEntries.{EntryAttribute, raws, attributes_of, AreNormal, IsMadeAttribute}
 use Rattle.filter.specs.Prepared.{is_among}
 use Rattle.filter.proofs.SubtypeLists.{among_subtypes}
-use Rattle.index.specs.EntryKeys.{norms_under}
+use Rattle.index_keys.specs.EntryKeys.{norms_under}
 
 module _ (types : List AttributeType) where
   abbrev stored_values : ℕ → List (List ℕ) → List Value

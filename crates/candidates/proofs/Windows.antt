@@ -8,8 +8,8 @@ use Rattle.std.specs.Str.{bytes_eq}
 use Rattle.std.specs.Cmp.Lexicographic.{nat_list_eq_equiv}
 use Rattle.matching.specs.Substrings.{joined, Fits}
 use Rattle.filter.specs.Pieces.{fits}
-use Rattle.index.specs.EntryKeys.{windows}
-use Rattle.index.specs.Postings.{Shown}
+use Rattle.index_keys.specs.EntryKeys.{windows}
+use Rattle.index_keys.specs.Postings.{Shown}
 use Rattle.candidates.specs.Sides.{is_member, has_windows}
 
 -- ---- windows of a text

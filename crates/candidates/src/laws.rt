@@ -7,8 +7,8 @@ ghost use Rattle.entries.specs.Entries.{Attributes, IsAttribute};
 ghost use Rattle.filter_text.specs.Spells.{FilterContent};
 ghost use Rattle.filter.specs.Filters.{truth};
 ghost use Rattle.filter.specs.Prepared.{PreparedContent, prepared_filter};
-ghost use Rattle.index.specs.Indexes.{Index};
-ghost use Rattle.index.specs.Postings.{Shown, shown_by};
+ghost use Rattle.index_keys.specs.Indexes.{Index};
+ghost use Rattle.index_keys.specs.Postings.{Shown, shown_by};
 ghost use Rattle.candidates.specs.Asked.{asked_keys, HaveSameSlots, ShowAlike};
 ghost use Rattle.candidates.specs.Brackets.{Allows, HasKeysOf, Reflects};
 ghost use Rattle.candidates.specs.Sides.{sides};
@@ -27,7 +27,7 @@ pub fn brackets_hold()
 pub fn indexes_reflect_entries()
     ensures { (x : Index) (n : ℕ) (attrs : Attributes) → HasKeysOf x n attrs → Reflects (shown_by x) x.conf.types n attrs }
 {
-    index::keys_are_told();
+    index_keys::keys_are_told();
 }
 
 /// What postings show of other keys than those that a filter asks for doesn't matter to it.

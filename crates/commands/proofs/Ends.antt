@@ -10,14 +10,14 @@ use Rattle.entries.specs.Entries.{EntryContent}
 use Rattle.tree.specs.Trees.{Tree}
 use Rattle.filter_text.specs.Spells.{view}
 use Rattle.filter.specs.Made.{Made}
-use Rattle.index.specs.Postings.{Shown}
+use Rattle.index_keys.specs.Postings.{Shown}
 use Rattle.search.specs.declared.scope.Scope.{Scope}
 use Rattle.search.specs.Searches.{scan, scan_among}
 use Rattle.stored_index.specs.Stored.{Stored, shown_by}
-use Rattle.directory.specs.IndexTexts.{index_text}
-use Rattle.directory.specs.Searches.{may_by_rank, ShowsTo, ReflectsDump}
-use Rattle.directory.specs.Selections.{Selection}
-use Rattle.directory.specs.Found.{found_text, up_to, goes_past}
+use Rattle.databases.specs.IndexTexts.{index_text}
+use Rattle.databases.specs.Searches.{may_by_rank, ShowsTo, ReflectsDump}
+use Rattle.databases.specs.Selections.{Selection}
+use Rattle.databases.specs.Found.{found_text, up_to, goes_past}
 use Rattle.commands.specs.Asked.{IsFilter, IsBase, IsSelection}
 use Rattle.commands.specs.Failures.{FailsToWrite}
 use Rattle.commands.specs.Folders.{Files}

@@ -7,10 +7,10 @@ use Rattle.device.specs.Device.{Seen, Written}
 use Rattle.ldif_lines.specs.Records.{RawRecord, records}
 use Rattle.schema.specs.Conf.{Conf}
 use Rattle.tree.specs.Directories.{Entries}
-use Rattle.directory.specs.Runs.{LoadsRecords}
-use Rattle.directory.specs.Folds.{Over, Ran, Runs}
-use Rattle.directory.specs.declared.runs.Tally.{Tally}
-use Rattle.directory.specs.declared.runs.RunFault.{RunFault}
+use Rattle.databases.specs.Runs.{LoadsRecords}
+use Rattle.databases.specs.Folds.{Over, Ran, Runs}
+use Rattle.databases.specs.declared.runs.Tally.{Tally}
+use Rattle.databases.specs.declared.runs.RunFault.{RunFault}
 use Rattle.commands.specs.declared.changes.Task.{Task}
 use Rattle.commands.specs.declared.messages.Status.{Status}
 use Rattle.commands.specs.declared.messages.Stop.{Stop}

@@ -5,8 +5,8 @@ use Rattle.std.specs.FinMap as finite
 use Rattle.ldif_lines.specs.Records.{records}
 use Rattle.schema.specs.Conf.{Conf}
 use Rattle.tree.specs.Directories.{Entries}
-use Rattle.directory.specs.Runs.{LoadsRecords}
-use Rattle.directory.specs.Folds.{Over}
+use Rattle.databases.specs.Runs.{LoadsRecords}
+use Rattle.databases.specs.Folds.{Over}
 use Rattle.commands.specs.Folders.{Files, Finds, conf_name, data_name}
 use Rattle.commands.specs.Loaded.{IsConfigured, IsLoaded}
 

@@ -5,8 +5,8 @@ use Rattle.std.specs.Option.{option_copied}
 use Rattle.device.specs.Device.{Seen}
 use Rattle.schema.specs.Conf.{Conf}
 use Rattle.tree.specs.Directories.{Entries}
-use Rattle.directory.specs.declared.runs.Tally.{Tally}
-use Rattle.directory.specs.declared.runs.RunFault.{RunFault}
+use Rattle.databases.specs.declared.runs.Tally.{Tally}
+use Rattle.databases.specs.declared.runs.RunFault.{RunFault}
 use Rattle.commands.specs.Changes.{Run, RunsInput, RunsSource, IsSource, stored_by, HasNoSource, Breaks, source_name, ChangeStops}
 use Rattle.commands.specs.Folders.{File, Files, Finds, with_files}
 use Rattle.commands.specs.Loaded.{IsLoaded}

@@ -10,13 +10,13 @@ use Rattle.ldif.specs.declared.write.WriteFault.TheVariants as writes
 use Rattle.schema.specs.Conf.{Conf}
 use Rattle.schema.specs.declared.code.Code.{Code}
 use Rattle.tree.specs.Directories.{Entries}
-use Rattle.directory.specs.Dumps.{Writes}
-use Rattle.directory.specs.Faults.{Failures}
-use Rattle.directory.specs.Loading.{StopsAt}
-use Rattle.directory.specs.declared.runs.RunFault.{RunFault}
-use Rattle.directory.specs.declared.runs.RunFault.TheVariants as run_faults
-use Rattle.directory.specs.declared.loading.LoadFault.{LoadFault}
-use Rattle.directory.specs.declared.loading.LoadFault.TheVariants as loads
+use Rattle.databases.specs.Dumps.{Writes}
+use Rattle.databases.specs.Faults.{Failures}
+use Rattle.databases.specs.Loading.{StopsAt}
+use Rattle.databases.specs.declared.runs.RunFault.{RunFault}
+use Rattle.databases.specs.declared.runs.RunFault.TheVariants as run_faults
+use Rattle.databases.specs.declared.loading.LoadFault.{LoadFault}
+use Rattle.databases.specs.declared.loading.LoadFault.TheVariants as loads
 use Rattle.filter_text.specs.Spells.{FilterContent}
 use Rattle.commands.specs.Asked.{IsFilter, HasFilter}
 use Rattle.commands.specs.Folders.{Files, Finds, conf_name, data_name, index_name}

@@ -10,7 +10,7 @@ use Rattle.filter_text.specs.Spells.{FilterContent, FilterText}
 use Rattle.filter_text.specs.declared.filter_fault.FilterFault.{FilterFault}
 use Rattle.filter_text.specs.declared.filter_fault.FilterFault.TheVariants.{At}
 use Rattle.filter_text.specs.declared.filter_fault.FilterFaultKind.TheVariants.{Deep}
-use Rattle.directory.specs.Selections.{Selection, selects, is_selected}
+use Rattle.databases.specs.Selections.{Selection, selects, is_selected}
 
 -- ---- the filter (RFC 4515)
 

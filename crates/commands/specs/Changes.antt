@@ -7,12 +7,12 @@ use Rattle.ldif_lines.specs.Records.{records, closed_records}
 use Rattle.ldif.specs.declared.record.Mode.TheVariants as modes
 use Rattle.schema.specs.Conf.{Conf}
 use Rattle.tree.specs.Directories.{Entries}
-use Rattle.directory.specs.Faults.{Failures}
-use Rattle.directory.specs.FailedReads.{StopsReading}
-use Rattle.directory.specs.Folds.{Ran, Runs}
-use Rattle.directory.specs.declared.runs.Tally.{Tally}
-use Rattle.directory.specs.declared.runs.RunFault.{RunFault}
-use Rattle.directory.specs.declared.runs.RunFault.TheVariants as run_faults
+use Rattle.databases.specs.Faults.{Failures}
+use Rattle.databases.specs.FailedReads.{StopsReading}
+use Rattle.databases.specs.Folds.{Ran, Runs}
+use Rattle.databases.specs.declared.runs.Tally.{Tally}
+use Rattle.databases.specs.declared.runs.RunFault.{RunFault}
+use Rattle.databases.specs.declared.runs.RunFault.TheVariants as run_faults
 use Rattle.command_line.specs.declared.request.AddOptions.{AddOptions}
 use Rattle.command_line.specs.declared.request.ModifyOptions.{ModifyOptions}
 use Rattle.commands.specs.Folders.{File, Files, Finds, with_files}

@@ -7,7 +7,7 @@ use Rattle.tree.specs.Directories.{Entries}
 use Rattle.filter_text.specs.Spells.{FilterContent}
 use Rattle.search.specs.declared.scope.Scope.TheVariants.{Sub}
 use Rattle.search.specs.Searches.{scan}
-use Rattle.directory.specs.Found.{found_text}
+use Rattle.databases.specs.Found.{found_text}
 
 -- the entries at a base and below it of which a filter is True, whole; nothing where the base isn't there
 abbrev pub excerpt_text : Conf → Entries → Path → FilterContent → List ℕ

@@ -16,7 +16,7 @@ use Rattle.search.specs.Searches.{scan, scan_among}
 use Rattle.stored_index.specs.Faults.{fault_report}
 use Rattle.stored_index.specs.Stored.{Stored, index_in, shown_by}
 use Rattle.stored_index.specs.declared.fault.IndexFaultKind.{IndexFaultKind}
-use Rattle.directory.specs.IndexTexts.{stamp}
+use Rattle.databases.specs.IndexTexts.{stamp}
 use Rattle.commands.specs.Folders.{Files, Finds, index_name}
 use Rattle.commands.specs.Messages.{line_of}
 use Rattle.commands.specs.Worlds.{World}

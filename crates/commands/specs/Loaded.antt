@@ -8,9 +8,9 @@ use Rattle.schema.specs.Conf.{Conf}
 use Rattle.dir_conf.specs.Configurations.{conf_of}
 use Rattle.dir_conf.specs.declared.conf_fault.ConfFaultKind.{ConfFaultKind}
 use Rattle.tree.specs.Directories.{Entries}
-use Rattle.directory.specs.Runs.{LoadsRecords, Loads, loaded_after}
-use Rattle.directory.specs.Folds.{Over}
-use Rattle.directory.specs.declared.refusal.RecordRefusal.{RecordRefusal}
+use Rattle.databases.specs.Runs.{LoadsRecords, Loads, loaded_after}
+use Rattle.databases.specs.Folds.{Over}
+use Rattle.databases.specs.declared.refusal.RecordRefusal.{RecordRefusal}
 use Rattle.commands.specs.Folders.{Files, Finds, conf_name, data_name}
 use Rattle.commands.specs.Failures.{IsMemory}
 use Rattle.commands.specs.declared.messages.CommandFault.{CommandFault}

@@ -7,7 +7,7 @@ use Rattle.schema.specs.declared.code.Code.{Code}
 use Rattle.schema.specs.Codes.{code_report}
 use Rattle.dir_conf.specs.ConfFaults.{kind_report}
 use Rattle.filter_text.specs.FaultReports as filters
-use Rattle.directory.specs.Reports.{refusal_report}
+use Rattle.databases.specs.Reports.{refusal_report}
 use Rattle.commands.specs.declared.messages.Status.{Status}
 use Rattle.commands.specs.declared.messages.Status.TheVariants.{Failed}
 use Rattle.commands.specs.declared.messages.CommandFault.{CommandFault}

@@ -9,10 +9,10 @@ use Rattle.schema.specs.declared.code.Code.TheVariants.{SizeLimitExceeded}
 use Rattle.tree.specs.Directories.{Entries}
 use Rattle.search.specs.Searches.{scan}
 use Rattle.stored_index.specs.declared.fault.IndexFaultKind.{IndexFaultKind}
-use Rattle.directory.specs.Selections.{Selection}
-use Rattle.directory.specs.Found.{limited_text, goes_past}
-use Rattle.directory.specs.IndexTexts.{index_text}
-use Rattle.directory.specs.Runs.{dump}
+use Rattle.databases.specs.Selections.{Selection}
+use Rattle.databases.specs.Found.{limited_text, goes_past}
+use Rattle.databases.specs.IndexTexts.{index_text}
+use Rattle.databases.specs.Runs.{dump}
 use Rattle.command_line.specs.declared.request.CatOptions.{CatOptions}
 use Rattle.command_line.specs.declared.request.SearchOptions.{SearchOptions}
 use Rattle.commands.specs.Asked.{IsBase, IsSelection}

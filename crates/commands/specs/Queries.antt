@@ -8,7 +8,7 @@ use Rattle.schema.specs.declared.code.Code.{Code}
 use Rattle.schema.specs.declared.code.Code.TheVariants.{NoSuchObject}
 use Rattle.tree.specs.Directories.{Entries}
 use Rattle.filter_text.specs.Spells.{FilterContent}
-use Rattle.directory.specs.Dumps.{Begun}
+use Rattle.databases.specs.Dumps.{Begun}
 use Rattle.commands.specs.Asked.{IsFilter, HasFilter, IsNoFilterFor, base_of, IsBase}
 use Rattle.commands.specs.Folders.{Files, index_name}
 use Rattle.commands.specs.Worlds.{World}

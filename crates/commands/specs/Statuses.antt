@@ -1,6 +1,6 @@
 -- How a command ends.
 use Rattle.std.specs.Prelude.{ℕ, zero, suc}
-use Rattle.directory.specs.declared.runs.Tally.{Tally}
+use Rattle.databases.specs.declared.runs.Tally.{Tally}
 use Rattle.commands.specs.declared.messages.Status.{Status}
 use Rattle.commands.specs.declared.messages.Status.TheVariants as statuses
 use Rattle.commands.specs.declared.messages.CommandFault.{CommandFault}

@@ -2,8 +2,8 @@
 use Rattle.std.specs.Prelude.{◌≡◌, ℕ, List, [], ◌∷◌, ◌++◌}
 use Rattle.schema.specs.Conf.{Conf}
 use Rattle.tree.specs.Directories.{Entries}
-use Rattle.directory.specs.Runs.{dump}
-use Rattle.directory.specs.IndexTexts.{index_text}
+use Rattle.databases.specs.Runs.{dump}
+use Rattle.databases.specs.IndexTexts.{index_text}
 use Rattle.commands.specs.Folders.{File, data_name, index_name}
 use Rattle.commands.specs.Worlds.{World}
 use Rattle.commands.specs.Endings.{StoppedAt, IsFault}

@@ -1,6 +1,6 @@
 //! slapadd and ldapmodify: the records of an LDIF text are carried out on a directory in a folder.
 ghost use Rattle.std.specs.Prelude.{◌≡◌, ◌<◌, ◌-◌, ◌^◌, Ok, Err, IfOk, IfErr};
-ghost use Rattle.directory.specs.declared.runs.RunFault.{RunFault};
+ghost use Rattle.databases.specs.declared.runs.RunFault.{RunFault};
 ghost use Rattle.commands.specs.Worlds.{World};
 ghost use Rattle.commands.specs.Loaded.{IsLoaded};
 ghost use Rattle.commands.specs.Changes.{written_by, Breaks, RunsInput, RunsSource, RunsAndStores, ChangeGoesThrough, ChangeStops};
@@ -12,8 +12,8 @@ use crate::folder::Folder;
 use crate::messages::{CommandFault, Status, Stop};
 use crate::storing::store_database;
 use command_line::{AddOptions, ModifyOptions};
+use databases::{Database, RunFault, Tally, run};
 use device::{Sink, Source};
-use directory::{Database, RunFault, Tally, run};
 use ldif::Mode;
 use std::alloc::Global;
 use std::mem;

@@ -1,7 +1,7 @@
 //! The files of a directory: its configuration and its entries.
 ghost use Rattle.std.specs.Prelude.{◌≡◌, ◌<◌, ◌-◌, ◌^◌, ⊤, IfOk, IfErr, IfSome, OnOk, OnErr, Some, string_bytes};
 ghost use Rattle.std.specs.Option.{option_map};
-ghost use Rattle.directory.specs.Runs.{dump};
+ghost use Rattle.databases.specs.Runs.{dump};
 ghost use Rattle.commands.specs.Folders.{Finds, with_file, file_in, conf_name};
 ghost use Rattle.commands.specs.Locks.{Takes};
 ghost use Rattle.commands.specs.Locked.{LockFails};
@@ -11,9 +11,9 @@ ghost use Rattle.commands.specs.inner.LoadFaults.{TellsLoadFault};
 
 use crate::folder::{FileText, Folder, FolderFault, LockFault};
 use crate::messages::CommandFault;
+use databases::{Database, LoadFault, load_tree, write_dump};
 use device::{Device, Sink, Source};
 use dir_conf::{ConfFault, read_conf};
-use directory::{Database, LoadFault, load_tree, write_dump};
 use ldif::WriteFault;
 use schema::Conf;
 use std::alloc::{AllocError, Global};

@@ -4,8 +4,8 @@ ghost use Rattle.filter_text.specs.Spells.{view};
 ghost use Rattle.commands.specs.Excerpts.{excerpt_text};
 
 use crate::folder::FileText;
+use databases::{Database, Scope, Selection, search_tree, write_found};
 use device::Sink;
-use directory::{Database, Scope, Selection, search_tree, write_found};
 use filter::Prepared;
 use ldif::WriteFault;
 use schema::Path;

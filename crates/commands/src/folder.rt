@@ -1,7 +1,7 @@
 //! Files by their paths.
 ghost use Rattle.std.specs.Prelude.{◌≡◌, ◌<◌, ◌-◌, ◌^◌, ℕ, List, Option, IfOk, IfErr, IfSome, OnOk, OnErr};
 ghost use Rattle.std.specs.Option.{option_map};
-ghost use Rattle.directory.specs.Dumps.{Writes, end_of};
+ghost use Rattle.databases.specs.Dumps.{Writes, end_of};
 ghost use Rattle.commands.specs.Folders.{Files, Finds, with_file};
 ghost use Rattle.commands.specs.Locks.{Locking, IsNotTaken, Takes};
 ghost use Rattle.commands.specs.declared.folder.FolderFault.TheVariants.{OutOfMemory};

@@ -9,9 +9,9 @@ ghost use Rattle.commands.specs.Statuses.{status_number, status_of_fault, status
 ghost use Rattle.commands.specs.inner.Stopped.{CanReport};
 ghost use Rattle.commands.specs.inner.WriteFaults.{TellsWriteFault};
 
+use databases::{RecordRefusal, Tally};
 use device::{Sink, push_all};
 use dir_conf::ConfFaultKind;
-use directory::{RecordRefusal, Tally};
 use filter_text::FilterFault;
 use ldif::WriteFault;
 use schema::Code;

@@ -1,7 +1,7 @@
 //! The files that a directory is kept in, as they are stored.
 ghost use Rattle.std.specs.Prelude.{◌≡◌, [], ◌∷◌, ⊤, IfOk, IfErr, OnOk, OnErr};
-ghost use Rattle.directory.specs.Runs.{dump};
-ghost use Rattle.directory.specs.IndexTexts.{stamp as stamp_by, index_text};
+ghost use Rattle.databases.specs.Runs.{dump};
+ghost use Rattle.databases.specs.IndexTexts.{stamp as stamp_by, index_text};
 ghost use Rattle.commands.specs.Folders.{with_file, with_files, file_in};
 ghost use Rattle.commands.specs.Failures.{FailsToWrite};
 ghost use Rattle.commands.specs.Stored.{index_file, kept_files};
@@ -10,8 +10,8 @@ ghost use Rattle.commands.specs.inner.Stores.{StoresPartly};
 use crate::database::{path, store};
 use crate::folder::{FileText, Folder};
 use crate::messages::CommandFault;
+use databases::{Database, Stamp, stamp_of, write_index_of_entries, write_stamped_dump};
 use device::Sink;
-use directory::{Database, Stamp, stamp_of, write_index_of_entries, write_stamped_dump};
 use ldif::WriteFault;
 use std::alloc::Global;
 

@@ -1,20 +1,18 @@
--- The candidates that an index gives: they are the same by each index of the same entries, and each entry of which a filter is True is one.
-use Rattle.std.proofs.Common.{◌≡◌, ℕ, ◌+◌, Bool, true, cond, ◌&&◌, List, [], ◌∷◌, filter, length, Some, refl, sym, ap, subst, ◌∙◌}
+-- The candidates that an index gives: they are the same by each index of the same entries.
+use Rattle.std.proofs.Common.{◌≡◌, ℕ, ◌+◌, Bool, cond, ◌&&◌, List, [], ◌∷◌, filter, length, Some, refl, sym, ap, subst, ◌∙◌}
 use Rattle.std.specs.List.{AllByRecursion, list_all, flat_map}
 use Rattle.std.specs.FinMap as finite
 use Rattle.std.specs.FinSet as set
 use Rattle.paths.specs.Paths.{Path, path_cmp}
 use Rattle.schema.specs.declared.slots.IndexKind.{IndexKind}
 use Rattle.schema.specs.declared.slots.IndexKind.TheVariants as kinds
-use Rattle.schema.specs.Conf.{Conf, IsConf}
-use Rattle.entries.specs.Entries.{Attributes, EntryContent, IsAttribute}
-use Rattle.tree.specs.Directories.{Entries, IsDirectory}
+use Rattle.schema.specs.Conf.{Conf}
+use Rattle.entries.specs.Entries.{Attributes, EntryContent}
+use Rattle.tree.specs.Directories.{Entries}
 use Rattle.tree.specs.Trees.{Tree, HasEntry, IsNumbered, number_at}
 use Rattle.tree.proofs.Order.{path_total}
 use Rattle.tree.proofs.Views.{all_found}
 use Rattle.filter_text.specs.Spells as texts
-use Rattle.filter.specs.declared.truth.Truth.{Truth}
-use Rattle.filter.specs.declared.truth.Truth.TheVariants.{True, Undefined, False}
 use Rattle.filter.specs.declared.assertion.Assertion.{Assertion}
 use Rattle.filter.specs.declared.assertion.Assertion.TheVariants as assertions
 use Rattle.filter.specs.declared.prepared_item.PreparedItem.{PreparedItem}
@@ -23,21 +21,19 @@ use Rattle.filter.specs.Truths.{is_true}
 use Rattle.filter.specs.Filters.{truth}
 use Rattle.filter.specs.Made.{Made}
 use Rattle.filter.specs.Prepared as prepared
-use Rattle.index.specs.declared.slot_key.SlotKey.{SlotKey}
-use Rattle.index.specs.EntryKeys.{slot_keys, windows}
-use Rattle.index.specs.SlotKeys.{slot_key}
-use Rattle.index.specs.Indexes.{Index, members}
-use Rattle.index.specs.Postings.{Shown, slot_in, shown_by}
-use Rattle.candidates.specs.Asked.{asked_keys, HaveSameSlots, ShowAlike}
-use Rattle.candidates.specs.Brackets.{Reflects, Allows}
-use Rattle.candidates.specs.Candidates.{prepared_of, may_be_true}
+use Rattle.index_keys.specs.declared.slot_key.SlotKey.{SlotKey}
+use Rattle.index_keys.specs.EntryKeys.{slot_keys, windows}
+use Rattle.index_keys.specs.SlotKeys.{slot_key}
+use Rattle.index_keys.specs.Indexes.{Index, members}
+use Rattle.index_keys.specs.Postings.{Shown, slot_in, shown_by}
+use Rattle.candidates.specs.Brackets.{Reflects}
+use Rattle.candidates.specs.Candidates.{prepared_of}
 use Rattle.candidates.specs.Sides.{Sides, exactly, at_most, if_indexed, assertion_sides, item_sides, all_sides, any_sides, swapped, sides, sides_each}
 use Rattle.search.specs.declared.scope.Scope.{Scope}
-use Rattle.search.specs.Ranks.{rank_in}
 use Rattle.search.specs.Scopes.{is_in_scope}
 use Rattle.search.specs.Searches.{is_tested, count_among, counted_by, counted_scan}
 use Rattle.directory.specs.Indexes.{IsIndexOf}
-use Rattle.directory.specs.Searches.{may_by_number, may_by_rank, ShowsTo}
+use Rattle.directory.specs.Searches.{may_by_number}
 use Rattle.directory.proofs.RanksByNumber.{there_number}
 
 -- ---- postings that show the same of a number
@@ -110,27 +106,3 @@ module _ (conf : Conf) (t : Tree) (numbered : IsNumbered t.entries t.numbers) (x
   reflected law p e at =
       subst (λ (c : Conf). Reflects (shown_by x) c.types (number_at t p) e.attrs) of_x.same_conf
       (law x (number_at t p) e.attrs (λ k. of_x.has (number_at t p) e (entry_at p e at) k ∙ ap (λ (c : Conf). set.contains (slot_keys c e.attrs) k) (sym of_x.same_conf)))
-
--- ---- a part of what postings show
-
--- it gives the same candidates as the whole, to a filter that asks for no more
-pub by_whole : ((a b : Shown) (f : prepared.PreparedContent) (n : ℕ) → HaveSameSlots a b → ShowAlike a b (asked_keys b.slot_of f) → sides a n f ≡ sides b n f)
-    → (f : Made) (t : Tree) (part whole : Shown) → ShowsTo f part whole → may_by_rank part f t ≡ may_by_rank whole f t
-by_whole law f t part whole shows = λ i p. (law part whole (prepared_of f) (rank_in t.entries p) shows.slots shows.keys i).may
-
--- ---- what is True
-
-told_true : (t : Truth) → is_true t ≡ true → t ≡ True
-told_true True e = refl
-told_true Undefined e = cc
-told_true False e = cc
-
--- an entry of which a filter is True is a candidate, by whichever number reflects it
-pub is_candidate : (d : Tree) (shown : Shown) (f : Made) → f.conf ≡ d.conf → IsConf d.conf → IsDirectory d.conf d.entries
-    → ((conf : Conf) (shown : Shown) (n : ℕ) (attrs : Attributes) (f : texts.FilterContent) → IsConf conf → AllByRecursion (IsAttribute conf.types) attrs
-    → Reflects shown conf.types n attrs → Allows (truth conf.types attrs f) (sides shown n (prepared.prepared_filter conf.types f)))
-    → (n : ℕ) (p : Path) (e : EntryContent) → finite.get d.entries p ≡ Some e → Reflects shown d.conf.types n e.attrs
-    → is_true (truth d.conf.types e.attrs (texts.view f.filter)) ≡ true → may_be_true shown f n ≡ true
-is_candidate d shown f same is_conf good law n p e at shows is =
-    ap (λ (c : Conf). (sides shown n (prepared.prepared_filter c.types (texts.view f.filter))).may) same
-    ∙ (law d.conf shown n e.attrs (texts.view f.filter) is_conf (good.good p e at).attrs shows).if_true (told_true (truth d.conf.types e.attrs (texts.view f.filter)) is)

@@ -1,6 +1,6 @@
 -- The rows of an index are those that the entries give.
-use Rattle.std.proofs.Common.{◌≡◌, ◌≢◌, ℕ, ◌+◌, ◌<◌, Bool, true, false, cond, ◌&&◌, ◌||◌, nat_eq, List, [], ◌∷◌, map, Option, Some, None, refl, sym, ap, ◌∙◌, arith}
-use Rattle.std.specs.Prelude.{unwrap_or, T}
+use Rattle.std.proofs.Common.{◌≡◌, ◌≢◌, ℕ, ◌+◌, Bool, true, false, cond, ◌&&◌, ◌||◌, nat_eq, List, [], ◌∷◌, map, Option, Some, None, refl, sym, ap, ◌∙◌}
+use Rattle.std.specs.Prelude.{unwrap_or}
 use Rattle.std.specs.declared.cmp.Ordering.TheVariants.{Less}
 use Rattle.std.specs.List.{list_any, flat_map, slice_get, AllByRecursion}
 use Rattle.std.specs.List.Sorted.{IsStrictlySortedBy}
@@ -8,19 +8,16 @@ use Rattle.std.specs.Map.{keys_of, lookup}
 use Rattle.std.specs.Option.{option_map}
 use Rattle.std.specs.Ordering.{nat_cmp, is_lt, eq_by_cmp}
 use Rattle.std.specs.Cmp.{IsTotalOrder, nat_cmp_total}
-use Rattle.std.specs.Cmp.Lexicographic.{slice_cmp, nat_list_cmp_total, nat_list_eq_equiv, bytes_decides}
+use Rattle.std.specs.Cmp.Lexicographic.{slice_cmp, nat_list_cmp_total}
 use Rattle.std.specs.Str.{bytes_eq}
 use Rattle.std.specs.FinMap as finite
 use Rattle.std.specs.FinMap.Entries.{find, is_sorted, below_all, same_entries}
 use Rattle.std.specs.FinSet as set
 use Rattle.std.proofs.lemmas.Bool.{eq-eqb}
-use Rattle.std.proofs.lemmas.List.Folds.{list_any-append}
 use Rattle.std.proofs.lemmas.Map.Lookups.{exact_bytes}
 use Rattle.std.proofs.lemmas.Map.Text.{is_eq-slice_cmp}
-use Rattle.id_sets.specs.Ascending.{AllAbove, IsAscending}
-use Rattle.id_sets.specs.inner.Lists.{holds}
+use Rattle.id_sets.specs.Lists.{holds}
 use Rattle.paths.specs.Paths.{Path, path_cmp}
-use Rattle.values.specs.declared.types.AttributeType.{AttributeType}
 use Rattle.schema.specs.declared.slots.Slot.{Slot}
 use Rattle.schema.specs.Conf.{Conf}
 use Rattle.entries.specs.Entries.{EntryContent}
@@ -28,16 +25,18 @@ use Rattle.tree.specs.Directories.{IsDirectory}
 use Rattle.tree.specs.Trees.{Tree, number_at, IsNumbered}
 use Rattle.tree.proofs.Order.{path_exact}
 use Rattle.tree.proofs.Kept.{equal}
-use Rattle.index.specs.EntryKeys.{entry_keys, has_key}
-use Rattle.index.specs.Indexes.{Index, members, sets_at}
-use Rattle.index.specs.KeySets.{Members, Row, AreRowsOf}
-use Rattle.index.specs.SlotKeys.{slot_key}
-use Rattle.index.proofs.Agreement.{told_there}
+use Rattle.index_keys.specs.EntryKeys.{entry_keys, has_key}
+use Rattle.index_keys.specs.Indexes.{Index, members, sets_at}
+use Rattle.index_keys.specs.KeySets.{Members, Row}
+use Rattle.index.specs.KeySets.{AreRowsOf}
+use Rattle.index_keys.specs.SlotKeys.{slot_key}
+use Rattle.index_keys.proofs.Agreement.{told_there}
 use Rattle.index_text.specs.IndexTexts.{ended, key_line}
 use Rattle.directory.specs.Indexes.{IsIndexOf}
-use Rattle.directory.specs.IndexTexts.{ranks_with, slot_rows, contents}
+use Rattle.databases.specs.IndexTexts.{ranks_with, slot_rows, contents}
 use Rattle.directory.specs.inner.IndexRows.{rank_at, AreRanked, numbers_in_order, ranks_of, ranked_row, rows_text}
-use Rattle.directory.proofs.LoadLaw.{all_there, flat_map-map}
+use Rattle.databases.proofs.IndexRows.{ranks_rise, find_each, any_key, is_T}
+use Rattle.databases.proofs.LoadLaw.{all_there, flat_map-map}
 use Rattle.directory.proofs.RankLists.{ascending_is, any_map, member_passes, among_others}
 use Rattle.directory.proofs.RanksByNumber.{there_number}
 
@@ -50,49 +49,7 @@ AreThere t es = AllByRecursion (λ e. finite.get t.entries e.0 ≡ Some e.1) es
 abbrev numbers_of : Tree → Pairs → List ℕ
 numbers_of t es = map (λ e. number_at t e.0) es
 
--- ---- ranks rise
-
-ranks_above : (types : List AttributeType) (s : Slot) (key : List ℕ) (low rank : ℕ) (es : List EntryContent) → low < rank → AllAbove low (ranks_with types s key rank es)
-ranks_above types s key low rank [] lt = tt
-ranks_above types s key low rank (e ∷ es) lt = by (has_key types e.attrs s.type_id s.kind key) (ranks_above types s key low (rank + 1) es (omega (arith, lt)))
-  where
-    by : (b : Bool) → AllAbove low (ranks_with types s key (rank + 1) es) → AllAbove low (cond b (rank ∷ ranks_with types s key (rank + 1) es) (ranks_with types s key (rank + 1) es))
-    by true rest = (lt, rest)
-    by false rest = rest
-
-pub ranks_rise : (types : List AttributeType) (s : Slot) (key : List ℕ) (rank : ℕ) (es : List EntryContent) → IsAscending (ranks_with types s key rank es)
-ranks_rise types s key rank [] = tt
-ranks_rise types s key rank (e ∷ es) = by (has_key types e.attrs s.type_id s.kind key) (ranks_rise types s key (rank + 1) es)
-  where
-    by : (b : Bool) → IsAscending (ranks_with types s key (rank + 1) es) → IsAscending (cond b (rank ∷ ranks_with types s key (rank + 1) es) (ranks_with types s key (rank + 1) es))
-    by true rest = (ranks_above types s key rank (rank + 1) es (omega arith), rest)
-    by false rest = rest
-
--- ---- look-ups by key
-
-bytes_turned : (k q : List ℕ) → bytes_eq k q ≡ bytes_eq q k
-bytes_turned k q = nat_list_eq_equiv.symm k q
-
-pub same_bytes : (a b : List ℕ) → bytes_eq a b ≡ true → a ≡ b
-same_bytes a b e = (bytes_decides a b).0 e
-
--- each key of a list with what belongs to it
-pub find_each : {X : Type 0} (f : List ℕ → X) (ks : List (List ℕ)) (q : List ℕ) → find (slice_cmp nat_cmp) q (map (λ k. (k, f k)) ks) ≡ cond (list_any (λ k. bytes_eq k q) ks) (Some (f q)) None
-find_each f [] q = refl
-find_each f (k ∷ ks) q =
-    ap (λ b. cond b (Some (f k)) (find (slice_cmp nat_cmp) q (map (λ k. (k, f k)) ks))) (is_eq-slice_cmp q k ∙ sym (bytes_turned k q))
-    ∙ by (bytes_eq k q) refl (find_each f ks q)
-  where
-    by : (b : Bool) → bytes_eq k q ≡ b → find (slice_cmp nat_cmp) q (map (λ k. (k, f k)) ks) ≡ cond (list_any (λ k. bytes_eq k q) ks) (Some (f q)) None
-        → cond b (Some (f k)) (find (slice_cmp nat_cmp) q (map (λ k. (k, f k)) ks)) ≡ cond (b || list_any (λ k. bytes_eq k q) ks) (Some (f q)) None
-    by true same rest = ap (λ (p : List ℕ). Some (f p)) (same_bytes k q same)
-    by false apart rest = rest
-
-pub any_key : (types : List AttributeType) (s : Slot) (es : List EntryContent) (q : List ℕ) → list_any (λ k. bytes_eq k q) (flat_map (λ e. entry_keys types e.attrs s.type_id s.kind) es) ≡ list_any (λ e. has_key types e.attrs s.type_id s.kind q) es
-any_key types s [] q = refl
-any_key types s (e ∷ es) q =
-    list_any-append (λ k. bytes_eq k q) (entry_keys types e.attrs s.type_id s.kind) (flat_map (λ e. entry_keys types e.attrs s.type_id s.kind) es)
-    ∙ ap (λ b. has_key types e.attrs s.type_id s.kind q || b) (any_key types s es q)
+-- ---- rows by their keys
 
 find_row : (ranks : List ℕ) (rows : List Row) (q : List ℕ) → find (slice_cmp nat_cmp) q (map (ranked_row ranks) rows) ≡ option_map (ranks_of ranks) (lookup (bytes_eq q) rows)
 find_row ranks [] q = refl
@@ -121,10 +78,6 @@ sorted_rows : (ranks : List ℕ) (rows : List Row) → IsStrictlySortedBy (slice
 unfolding IsStrictlySortedBy
 sorted_rows ranks [] h = refl
 sorted_rows ranks (row ∷ rows) h = ap (λ b. b && is_sorted (slice_cmp nat_cmp) (map (ranked_row ranks) rows)) (below_keys ranks row.0 rows h.0) ∙ sorted_rows ranks rows h.1
-
-pub is_T : (b : Bool) → b ≡ true → T b
-is_T true h = tt
-is_T false h = absurd cc
 
 -- ---- the rows of a slot
 

@@ -17,7 +17,7 @@ use Rattle.std.proofs.lemmas.List.Filters.{dedup_is}
 use Rattle.std.proofs.lemmas.List.Kept.{IsStrictlySortedBy-dedup}
 use Rattle.std.proofs.lemmas.List.Sorted.{list_any-IsPermutation}
 use Rattle.id_sets.specs.Ascending.{AllAbove, IsAscending}
-use Rattle.id_sets.specs.inner.Lists.{holds}
+use Rattle.id_sets.specs.Lists.{holds}
 use Rattle.id_sets.proofs.Ascending.{ascending_same}
 use Rattle.directory.specs.inner.IndexRows.{ascending}
 

@@ -10,15 +10,15 @@ use Rattle.std.proofs.lemmas.Bool.{and_parts, eqb-true, eq-eqb}
 use Rattle.std.proofs.lemmas.Cmp.{tied_itself}
 use Rattle.std.proofs.lemmas.List.{append-nil, length-map, length-append}
 use Rattle.std.proofs.lemmas.List.Folds.{list_any-append}
-use Rattle.id_sets.specs.inner.Lists.{holds}
+use Rattle.id_sets.specs.Lists.{holds}
 use Rattle.paths.specs.Paths.{Path, path_cmp, begins}
 use Rattle.entries.specs.Entries.{EntryContent}
 use Rattle.tree.specs.Directories.{IsDirectory}
 use Rattle.tree.specs.Trees.{Tree, Placed, unnumbered, seen_entries, number_at, IsNumbered}
 use Rattle.tree.proofs.Ancestors.{some_at}
 use Rattle.directory.specs.inner.IndexRows.{rank_at, AreRanked, numbers_in_order}
-use Rattle.directory.proofs.DumpText.{all_begin}
-use Rattle.directory.proofs.LoadLaw.{all_there}
+use Rattle.databases.proofs.DumpText.{all_begin}
+use Rattle.databases.proofs.LoadLaw.{all_there}
 use Rattle.directory.proofs.RankLists.{is_true}
 
 -- ---- numbers that differ

@@ -17,15 +17,15 @@ use Rattle.entries.specs.StoredEntries.{attributes_of, EntryAttribute}
 use Rattle.tree.specs.Trees.{Tree, Placed, unnumbered, seen_entries, number_at, IsNumbered, HasEntry}
 use Rattle.tree.proofs.Order.{path_exact}
 use Rattle.tree.proofs.Kept.{equal}
-use Rattle.index.specs.declared.slot_key.SlotKey.{SlotKey}
-use Rattle.index.specs.declared.type_norms.Numbered.{Numbered}
-use Rattle.index.specs.Indexes.{Index, members}
-use Rattle.index.specs.EntryKeys.{slot_keys}
-use Rattle.index.specs.NumberedEntries.{has_among}
+use Rattle.index_keys.specs.declared.slot_key.SlotKey.{SlotKey}
+use Rattle.index_keys.specs.declared.type_norms.Numbered.{Numbered}
+use Rattle.index_keys.specs.Indexes.{Index, members}
+use Rattle.index_keys.specs.EntryKeys.{slot_keys}
+use Rattle.index_keys.specs.NumberedEntries.{has_among}
 use Rattle.directory.specs.Indexes.{IsIndexOf}
 use Rattle.directory.specs.inner.Indexes.{has_placed, has_in_tree}
-use Rattle.directory.proofs.DumpText.{all_begin}
-use Rattle.directory.proofs.LoadLaw.{all_there}
+use Rattle.databases.proofs.DumpText.{all_begin}
+use Rattle.databases.proofs.LoadLaw.{all_there}
 use Rattle.directory.proofs.RanksByNumber.{there_number}
 
 or_false : (b : Bool) → (b || false) ≡ b

@@ -1,6 +1,7 @@
 -- The index that is kept with the entries of a directory, and what a change edits of it.
 use Rattle.std.specs.Prelude.{◌≡◌, ℕ, false, Result, Ok, Err}
 use Rattle.std.specs.FinSet as set
+use Rattle.ldif.specs.declared.fault.LdifFaultKind.{LdifFaultKind}
 use Rattle.ldif.specs.declared.record.Mode.{Mode}
 use Rattle.ldif.specs.declared.record.Record.{Record}
 use Rattle.schema.specs.declared.code.Code.{Code}
@@ -11,9 +12,9 @@ use Rattle.tree.specs.Changes.{Change}
 use Rattle.tree.specs.Plans.{entry_before, entry_after}
 use Rattle.tree.specs.Operations.{change_of}
 use Rattle.tree.specs.Trees.{Numbers, HasEntry}
-use Rattle.index.specs.declared.slot_key.SlotKey.{SlotKey}
-use Rattle.index.specs.EntryKeys.{slot_keys, edits}
-use Rattle.index.specs.Indexes.{Index, members}
+use Rattle.index_keys.specs.declared.slot_key.SlotKey.{SlotKey}
+use Rattle.index_keys.specs.EntryKeys.{slot_keys, edits}
+use Rattle.index_keys.specs.Indexes.{Index, members}
 
 -- The index has a number under a key exactly where the entry with that number has the key.
 pub record IsIndexOf (conf : Conf) (d : Entries) (m : Numbers) (x : Index) : Type 0 where
@@ -33,3 +34,8 @@ edits_by conf d (Err code) = 0
 -- those of a record
 abbrev pub record_edits : Conf → Mode → Entries → Record → ℕ
 record_edits conf mode d r = edits_by conf d (change_of conf mode d r)
+
+-- those of what was read of a record; a fault edits nothing
+abbrev pub read_edits : Conf → Mode → Entries → Result Record LdifFaultKind → ℕ
+read_edits conf mode d (Ok r) = record_edits conf mode d r
+read_edits conf mode d (Err fault) = 0

@@ -1,15 +1,4 @@
-pub mod Reports
-pub mod Runs
-pub mod Faults
 pub mod Directories
-pub mod Dumps
 pub mod Indexes
-pub mod IndexTexts
-pub mod Loading
-pub mod Folds
-pub mod RunEdits
-pub mod FailedReads
 pub mod Searches
-pub mod Selections
-pub mod Found
 pub mod inner

@@ -1,10 +1,2 @@
-pub mod Steps
-pub mod Dumps
-pub mod Loading
-pub mod Stands
-pub mod Found
-pub mod Pulls
-pub mod RecordEdits
 pub mod Indexes
 pub mod IndexRows
-pub mod RankedEntries

@@ -1,21 +1,20 @@
-//! One record: on a tree with its index, or on a tree alone.
+//! One record, carried out on a tree and its index.
 
-ghost use Rattle.std.specs.Prelude.{◌≡◌, ◌+◌, Some, None, Err, IfOk, OnOk, OnErr, if◌then◌else◌};
+ghost use Rattle.std.specs.Prelude.{◌≡◌, ◌+◌, Some, None, Err, IfOk, OnOk, OnErr};
 ghost use Rattle.std.specs.FinSet as set;
 ghost use Rattle.ldif.specs.Reading.{reading};
 ghost use Rattle.tree.specs.Changes.{changed};
 ghost use Rattle.tree.specs.Operations.{apply};
 ghost use Rattle.entries.specs.Gives.{Gives};
 ghost use Rattle.tree.specs.Plans.{before, number_of};
-ghost use Rattle.index.specs.EntryKeys.{slot_keys_in, edits};
+ghost use Rattle.index_keys.specs.EntryKeys.{slot_keys_in, edits};
 ghost use Rattle.index.specs.Indexes.{Inserts, Forgets, IsNowhere};
 ghost use Rattle.index.specs.KeyChanges.{IsMadeIn, content_in};
-ghost use Rattle.directory.specs.Indexes.{IsIndexOf, edits_of, record_edits};
+ghost use Rattle.directory.specs.Indexes.{IsIndexOf, edits_of, record_edits, read_edits};
 ghost use Rattle.schema.specs.declared.code.Code.{Code};
-ghost use Rattle.directory.specs.RunEdits.{read_edits};
-ghost use Rattle.directory.specs.Runs.{is_empty, outcome_of};
+ghost use Rattle.databases.specs.Runs.{outcome_of};
 
-use crate::refusal::{Outcome, RecordRefusal};
+use databases::{Outcome, RecordRefusal};
 use entries::{Entry, Refusal};
 use index::{Index, KeyChanges, key_changes};
 use ldif::{LdifFault, Mode, RawRecord, Record, read_record};
@@ -149,26 +148,8 @@ pub(crate) fn apply_record(
     Ok(edits)
 }
 
-// Carries out a record on a tree alone, or refuses it and changes nothing.
-fn apply_alone(
-    alloc: Global,
-    tree: &mut Tree,
-    conf: &Conf,
-    asked: &Record<'_>,
-    mode: Mode,
-) -> Result<(), Refusal>
-    requires { tree.old.conf ≡ conf.now }
-    ensures same_conf { tree.new.conf ≡ tree.old.conf }
-    ensures gives { Gives (λ _. tree.new.entries) result (apply conf.now mode tree.old.entries asked.now) }
-    ensures err { OnErr result (tree.new ≡ tree.old) }
-{
-    let plan = plan(alloc, tree, conf, asked, mode)?;
-    tree.commit(plan)?;
-    Ok(())
-}
-
 // Reads a record from its lines and carries it out on a tree and its index.
-#[tactic(auto, unfolding(crate::specs::Runs::outcome))]
+#[tactic(auto, unfolding(databases::specs::Runs::outcome))]
 pub(crate) fn carry_out(
     alloc: Global,
     tree: &mut Tree,
@@ -191,43 +172,8 @@ pub(crate) fn carry_out(
         Err(LdifFault::OutOfMemory) => return Err(AllocError),
     };
     match apply_record(alloc, tree, index, conf, &asked, mode) {
-        Ok(_) => Ok(accepted(&asked)),
+        Ok(_) => Ok(Outcome::of_accepted(&asked)),
         Err(Refusal::Code(code)) => Ok(Outcome::Refused(RecordRefusal::Code(code))),
         Err(Refusal::OutOfMemory) => Err(AllocError),
-    }
-}
-
-// The same on a tree alone.
-#[tactic(auto, unfolding(crate::specs::Runs::outcome))]
-pub(crate) fn carry_out_alone(
-    alloc: Global,
-    tree: &mut Tree,
-    conf: &Conf,
-    raw: &RawRecord,
-    mode: Mode,
-) -> Result<Outcome, AllocError>
-    requires { tree.old.conf ≡ conf.now }
-    ensures same_conf { tree.new.conf ≡ tree.old.conf }
-    ensures outcome { IfOk result (λ o. outcome_of tree.old.conf mode tree.old.entries raw.now ≡ (tree.new.entries, o)) }
-    ensures err { OnErr result (tree.new ≡ tree.old) }
-{
-    let asked = match read_record(alloc, raw, mode) {
-        Ok(asked) => asked,
-        Err(LdifFault::Fault(fault)) => return Ok(Outcome::Refused(RecordRefusal::Fault(fault))),
-        Err(LdifFault::OutOfMemory) => return Err(AllocError),
-    };
-    match apply_alone(alloc, tree, conf, &asked, mode) {
-        Ok(()) => Ok(accepted(&asked)),
-        Err(Refusal::Code(code)) => Ok(Outcome::Refused(RecordRefusal::Code(code))),
-        Err(Refusal::OutOfMemory) => Err(AllocError),
-    }
-}
-
-fn accepted(asked: &Record<'_>) -> Outcome
-    ensures { result ≡ (if is_empty asked.now then Outcome.Nothing else Outcome.Accepted) }
-{
-    match asked {
-        Record::Empty => Outcome::Nothing,
-        _ => Outcome::Accepted,
     }
 }

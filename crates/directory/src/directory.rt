@@ -1,6 +1,6 @@
 //! Directories.
 
-ghost use Rattle.std.specs.Prelude.{◌≡◌, ◌+◌, true, Err, map, IfOk, IfErr, OnOk, OnErr};
+ghost use Rattle.std.specs.Prelude.{◌≡◌, ◌+◌, ◌<◌, ◌-◌, ◌^◌, true, Err, map, IfOk, IfErr, OnErr};
 ghost use Rattle.std.specs.FinMap as finite;
 ghost use Rattle.tree.specs.Operations.{apply};
 ghost use Rattle.entries.specs.Gives.{Gives};
@@ -8,22 +8,24 @@ ghost use Rattle.filter_text.specs.Spells.{view};
 ghost use Rattle.search.specs.Searches.{scan};
 ghost use Rattle.search.specs.Walks.{seen, counted};
 ghost use Rattle.directory.specs.Directories.{tree_of};
-ghost use Rattle.directory.specs.Found.{AreThere};
-ghost use Rattle.directory.specs.Indexes.{IsIndexOf, record_edits};
-ghost use Rattle.directory.specs.Searches.{IsRefused, AreSteps, IsTestCount};
+ghost use Rattle.databases.specs.Dumps.{Writes};
+ghost use Rattle.databases.specs.Runs.{LoadsBack, dump};
+ghost use Rattle.databases.specs.Found.{AreThere};
+ghost use Rattle.directory.specs.Indexes.{IsIndexOf, record_edits, read_edits};
+ghost use Rattle.databases.specs.Searches.{IsRefused};
+ghost use Rattle.directory.specs.Searches.{AreSteps, IsTestCount};
 ghost use Rattle.schema.specs.declared.code.Code.{Code};
-ghost use Rattle.directory.specs.RunEdits.{read_edits};
 
 use crate::applying::{Edits, apply_record, carry_out};
 use crate::indexing::index_of;
-use crate::refusal::Outcome;
 use crate::searching::search_with_index;
-use crate::target::Target;
+use databases::{Outcome, Target, write_dump};
+use dense_sets::KeySet;
+use device::Sink;
 use entries::Refusal;
 use filter::Prepared;
-use id_sets::KeySet;
 use index::Index;
-use ldif::{Mode, RawRecord, Record};
+use ldif::{Mode, RawRecord, Record, WriteFault};
 use schema::{Conf, Path};
 use search::{Hits, Scope};
 use std::alloc::{AllocError, Global};
@@ -146,6 +148,20 @@ impl Directory {
             asked,
             mode,
         )
+    }
+}
+
+impl Directory {
+    /// Writes each entry as a content record, in the order of paths (RFC 2849), in pieces of some 64 KiB. On a fault a
+    /// beginning was written.
+    ///
+    /// Loading what a whole dump holds gives this directory again, and refuses none of its records.
+    pub fn dump<W: Sink>(&self, alloc: Global, sink: &mut W) -> Result<(), WriteFault>
+        requires { (W.written sink.old).failed < 2 ^ 64 - 1 }
+        ensures writes { Writes result (W.written sink.old) (W.written sink.new) (dump self.now.conf self.now.entries) }
+        ensures loads { LoadsBack self.now.conf self.now.entries }
+    {
+        write_dump(alloc, self.tree(), self.conf(), sink)
     }
 }
 

@@ -1,21 +1,20 @@
 //! The text of a directory's index, as it is written.
 
-ghost use Rattle.std.specs.Prelude.{◌≡◌, ◌<◌, ◌-◌, ◌^◌, ◌++◌, Some, IfOk, OnOk};
+ghost use Rattle.std.specs.Prelude.{◌≡◌, ◌<◌, ◌-◌, ◌^◌, ◌++◌, Some, OnOk};
 ghost use Rattle.std.specs.List.{slice_get};
-ghost use Rattle.directory.specs.Dumps.{Writes};
+ghost use Rattle.databases.specs.Dumps.{Writes, WritesOn};
 ghost use Rattle.directory.specs.Indexes.{IsIndexOf};
-ghost use Rattle.directory.specs.IndexTexts.{stamp as stamp_by, index_text};
-ghost use Rattle.directory.specs.inner.Dumps.{WritesOn};
-ghost use Rattle.directory.specs.inner.IndexRows.{row_text, rows_text, first_line, slot_lines, slots_lines, IsListing};
+ghost use Rattle.databases.specs.IndexTexts.{stamp as stamp_by, index_text, slot_lines, slots_lines};
+ghost use Rattle.directory.specs.inner.IndexRows.{row_text, rows_text, IsListing};
 
 use crate::directory::Directory;
-use crate::dump::{pass_on, pass_on_long};
 use crate::ranks::{ranks_by_number, ranks_of};
-use crate::stamps::{Stamp, stamp_of};
+use databases::{Stamp, begin_index_text, pass_on, pass_on_long, stamp_of};
+use dense_sets::KeySet;
 use device::Sink;
-use id_sets::KeySet;
-use index::{Index, Keys, SlotNumber};
-use index_text::{put_end, put_header, put_key, put_slot};
+use index::{Index, Keys};
+use index_keys::SlotNumber;
+use index_text::{put_end, put_key, put_slot};
 use ldif::WriteFault;
 use schema::{Conf, Slot};
 use std::alloc::{AllocError, Global};
@@ -114,21 +113,6 @@ impl Listing<'_> {
     }
 }
 
-/// A text that begins with the first line.
-pub(crate) fn first_line(
-    alloc: Global,
-    tree: &Tree,
-    conf: &Conf,
-    stamp: &Stamp,
-) -> Result<Vec<u8>, AllocError>
-    requires { stamp.now ≡ stamp_by conf.now tree.now.entries }
-    ensures { IfOk result (λ text. text.items ≡ first_line conf.now tree.now.entries) }
-{
-    let mut text = Vec::new(alloc);
-    put_header(alloc, &mut text, tree.len(), stamp)?;
-    Ok(text)
-}
-
 /// Writes the text of the index of a tree's entries, in pieces of some 64 KiB: how many entries there are, the stamp of their dump, and
 /// for each slot the keys that the entries have, each with the places in the dump of the entries that have it. The tree and the index
 /// were made with this configuration, and this is the stamp of the tree. On a fault a beginning was written.
@@ -146,7 +130,7 @@ pub fn write_index_text<W: Sink>(
     requires can_fail { (W.written sink.old).failed < 2 ^ 64 - 1 }
     ensures writes { Writes result (W.written sink.old) (W.written sink.new) (index_text conf.now tree.now.entries) }
 {
-    let mut text = first_line(alloc, tree, conf, stamp)?;
+    let mut text = begin_index_text(alloc, tree, conf, stamp)?;
     let ranks = ranks_by_number(alloc, tree)?;
     let listing = Listing {
         alloc,

@@ -3,12 +3,13 @@
 ghost use Rattle.std.specs.Prelude.{◌≡◌, [], ℕ, IfOk};
 ghost use Rattle.std.specs.List.{AllByRecursion};
 ghost use Rattle.entries.specs.StoredEntries.{IsMade};
-ghost use Rattle.index.specs.declared.slot_key.SlotKey as seen;
-ghost use Rattle.index.specs.NumberedEntries.{has_among};
+ghost use Rattle.index_keys.specs.declared.slot_key.SlotKey as seen;
+ghost use Rattle.index_keys.specs.NumberedEntries.{has_among};
 ghost use Rattle.directory.specs.Indexes.{IsIndexOf};
 ghost use Rattle.directory.specs.inner.Indexes.{has_in_tree};
 
-use index::{Index, Numbered};
+use index::Index;
+use index_keys::Numbered;
 use schema::{Conf, Path};
 use std::alloc::{AllocError, Global};
 use tree::Tree;

@@ -3,7 +3,8 @@
 ghost use Rattle.std.specs.Prelude.{◌≡◌, ◌==◌, ℕ, if◌then◌else◌, IfOk, OnOk};
 ghost use Rattle.directory.specs.inner.IndexRows.{rank_at, AreRanked, numbers_in_order, ranks_of};
 
-use id_sets::{IdSet, KeySet};
+use dense_sets::KeySet;
+use id_sets::IdSet;
 use schema::Path;
 use std::alloc::{AllocError, Global};
 use tree::Tree;

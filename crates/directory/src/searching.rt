@@ -1,88 +1,27 @@
-//! Searches of a tree: with an index that is kept with it, with postings of ranks, and with neither.
+//! Searches of a tree with the index that is kept with it.
 
-ghost use Rattle.std.specs.Prelude.{◌≡◌, true, is_some, map, IfOk, IfErr, IfSome};
+ghost use Rattle.std.specs.Prelude.{◌≡◌, true, map, IfOk, IfErr};
 ghost use Rattle.std.specs.FinMap as finite;
-ghost use Rattle.schema.specs.Conf.{IsConf};
 ghost use Rattle.filter_text.specs.Spells.{view};
-ghost use Rattle.index.specs.Postings.{Shown};
-ghost use Rattle.search.specs.Searches.{scan, count_in_scope, count_among};
-ghost use Rattle.search.specs.TreeSearches.{found, counted_found};
+ghost use Rattle.search.specs.Searches.{scan};
 ghost use Rattle.search.specs.Walks.{seen, counted};
-ghost use Rattle.directory.specs.Found.{AreThere};
+ghost use Rattle.databases.specs.Found.{AreThere};
 ghost use Rattle.directory.specs.Indexes.{IsIndexOf};
-ghost use Rattle.directory.specs.Searches.{IsRefused, may_by_rank, ShowsTo, AreSteps, IsTestCount, ReflectsDump};
+ghost use Rattle.databases.specs.Searches.{IsRefused};
+ghost use Rattle.directory.specs.Searches.{AreSteps, IsTestCount};
 
-use candidates::{asked_keys_suffice, brackets_hold, indexes_reflect_entries, may_match};
+use candidates::{brackets_hold, indexes_reflect_entries, may_match};
+use dense_sets::KeySet;
 use entries::Refusal;
 use filter::Prepared;
-use id_sets::KeySet;
-use index::{Index, Postings};
+use index::Index;
 use schema::{Code, Conf, Path};
-use search::{Hits, Scope, candidates_suffice, scan, search, search_by_ranks};
+use search::{Hits, Scope, candidates_suffice, search};
 use std::alloc::Global;
 use tree::Tree;
 
-/// The entries of a tree in scope of which the filter is True, in dump order (RFC 4511, 4.5.1), with no index: each entry in scope is
-/// tested. The filter was prepared under the configuration that the tree was made with. `None` where the base isn't there.
-pub fn search_tree<'a>(
-    alloc: Global,
-    tree: &'a Tree,
-    base: &'a Path,
-    scope: Scope,
-    filter: &'a Prepared,
-) -> Option<Hits<'a, KeySet>>
-    requires { filter.now.conf ≡ tree.now.conf }
-    ensures there { is_some result ≡ finite.contains_key tree.now.entries base.now }
-    ensures found { IfSome result (λ h. map seen h.to_come ≡ scan tree.now.conf tree.now.entries base.now scope (view filter.now.filter)) }
-    ensures tested { IfSome result (λ h. h.in_the_end ≡ count_in_scope tree.now.entries base.now scope) }
-    ensures entries { IfSome result (λ h. AreThere tree.now.entries (map seen h.to_come)) }
-{
-    tree.entries_are_a_directory();
-    schema::order_of_paths();
-    scan(alloc, tree, base, scope, filter)
-}
-
-/// The entries of a tree in scope of which the filter is True, as far as it may be True by what postings show of their ranks, in dump order
-/// (RFC 4511, 4.5.1). A rank is an entry's place in the dump. Where each rank stands under exactly the keys of its entry, these are all
-/// entries in scope of which the filter is True. The postings may be a part of a whole, as long as they show the keys that the filter asks
-/// for as the whole does: by the whole the same is found. No entry is tested but those of which the filter may be True. The filter was
-/// prepared under the configuration that the tree was made with. `NoSuchObject` where the base isn't there, and else `OutOfMemory`.
-#[tactic(auto, using(crate::proofs::ByIndex::by_whole))]
-pub fn search_with<'a, P: Postings>(
-    alloc: Global,
-    tree: &'a Tree,
-    postings: &P,
-    base: &'a Path,
-    scope: Scope,
-    filter: &'a Prepared,
-) -> Result<Hits<'a, P::Set>, Refusal>
-    requires { filter.now.conf ≡ tree.now.conf }
-    ensures there { IfOk result (λ h. finite.contains_key tree.now.entries base.now ≡ true) }
-    ensures refused { IfErr result (IsRefused tree.now.entries base.now) }
-    ensures start { IfOk result (λ h. h.tested ≡ 0) }
-    ensures steps { IfOk result (λ h. map counted h.to_come ≡ counted_found tree.now (may_by_rank (P.shown postings.now) filter.now tree.now) base.now scope filter.now) }
-    ensures found { IfOk result (λ h. map seen h.to_come ≡ found tree.now (may_by_rank (P.shown postings.now) filter.now tree.now) base.now scope filter.now) }
-    ensures tested { IfOk result (λ h. h.in_the_end ≡ count_among tree.now.entries (may_by_rank (P.shown postings.now) filter.now tree.now) base.now scope) }
-    ensures part { (whole : Shown) → ShowsTo filter.now (P.shown postings.now) whole
-        → may_by_rank (P.shown postings.now) filter.now tree.now ≡ may_by_rank whole filter.now tree.now }
-    ensures whole { (whole : Shown) → ShowsTo filter.now (P.shown postings.now) whole → IsConf tree.now.conf
-        → ReflectsDump whole tree.now.conf.types tree.now.entries
-        → IfOk result (λ h. map seen h.to_come ≡ scan tree.now.conf tree.now.entries base.now scope (view filter.now.filter)) }
-    ensures entries { IfOk result (λ h. AreThere tree.now.entries (map seen h.to_come)) }
-{
-    asked_keys_suffice();
-    brackets_hold();
-    candidates_suffice();
-    schema::order_of_paths();
-    tree.entries_are_a_directory();
-    let may = may_match(alloc, filter, postings)?;
-    match search_by_ranks(alloc, tree, base, scope, filter, may) {
-        Some(hits) => Ok(hits),
-        None => Err(Refusal::Code(Code::NoSuchObject)),
-    }
-}
-
-/// The same with the index that is kept with the tree, which has the entries' numbers.
+/// The entries of a tree in scope of which the filter is True, in dump order, with the index that is kept with the tree, which has the entries'
+/// numbers. `NoSuchObject` where the base isn't there, and else `OutOfMemory`.
 pub(crate) fn search_with_index<'a>(
     alloc: Global,
     conf: &Conf,

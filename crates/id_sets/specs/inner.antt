@@ -1,5 +1,1 @@
-pub mod Forms
-pub mod Lists
-pub mod Merged
 pub mod Walks
-pub mod Words

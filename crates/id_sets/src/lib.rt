@@ -1,19 +1,12 @@
-//! Sets of entry numbers, as an index keeps them under its keys: ascending lists, bits of words, and a set that is one or the other,
-//! whichever serves. One trait says what each of them does.
+//! Sets of entry numbers: what each of them does, a walk through the members of one, and a set that is an ascending list.
 #![tactic(auto)]
 
-mod forms;
 mod id_set;
-mod key_set;
 mod list_set;
-mod lists;
+pub mod lists;
 mod members;
-mod merges;
-mod word_set;
-mod words;
+pub mod words;
 
 pub use id_set::IdSet;
-pub use key_set::KeySet;
 pub use list_set::ListSet;
 pub use members::Members;
-pub use word_set::WordSet;

@@ -8,8 +8,8 @@ use Rattle.std.proofs.lemmas.List.{take-append-drop}
 use Rattle.std.proofs.lemmas.List.Folds.{list_any-append}
 use Rattle.schema.specs.declared.slots.IndexKind.{IndexKind}
 use Rattle.schema.specs.declared.slots.IndexKind.TheVariants.{Equality, Presence, Substrings}
-use Rattle.index.specs.EntryKeys.{windows, gives_key}
-use Rattle.index.proofs.Keyed.{same_bytes}
+use Rattle.index_keys.specs.EntryKeys.{windows, gives_key}
+use Rattle.index_keys.proofs.SlotKeyOrder.{same_bytes}
 
 -- ---- one more
 

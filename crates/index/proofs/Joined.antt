@@ -7,11 +7,13 @@ use Rattle.std.specs.Cmp.Lexicographic.{slice_cmp, nat_list_cmp_total}
 use Rattle.std.specs.Str.{bytes_eq}
 use Rattle.std.specs.FinMap as finite
 use Rattle.std.specs.FinSet as set
-use Rattle.id_sets.specs.declared.key_set.KeySet.{KeySet}
-use Rattle.index.specs.KeySets.{Members, SetsByKey, Row, members_in, Puts, Takes}
+use Rattle.dense_sets.specs.declared.key_set.KeySet.{KeySet}
+use Rattle.index_keys.specs.KeySets.{Members, SetsByKey, Row, members_in}
+use Rattle.index.specs.KeySets.{Puts, Takes}
 use Rattle.index.specs.inner.JoinedSets.{joined, AreApart}
 use Rattle.std.proofs.lemmas.Result.{on_ok_weaker, on_err_weaker}
-use Rattle.index.proofs.Keyed.{at, find_is, same_bytes, none_in, remove_none, puts_alike, takes_alike}
+use Rattle.index_keys.proofs.SlotKeyOrder.{same_bytes}
+use Rattle.index.proofs.Keyed.{at, find_is, none_in, remove_none, puts_alike, takes_alike}
 
 abbrev pub either : Option Members → Option Members → Option Members
 either None p = p

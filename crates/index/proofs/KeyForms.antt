@@ -1,7 +1,8 @@
 -- Three maps as one: of tiny keys, of short ones, and of long ones.
 use Rattle.std.proofs.Common.{◌≡◌, ℕ, Bool, true, false, List, Result, ap, subst, ◌∙◌}
 use Rattle.std.specs.FinSet as set
-use Rattle.index.specs.KeySets.{SetsByKey, members_in, Puts, Takes}
+use Rattle.index_keys.specs.KeySets.{SetsByKey, members_in}
+use Rattle.index.specs.KeySets.{Puts, Takes}
 use Rattle.index.specs.inner.JoinedSets.{joined, AreApart}
 use Rattle.index.specs.inner.ShortKeys.{fits}
 use Rattle.index.proofs.Joined.{first_members, second_members, put_first, put_second, apart_first, apart_second, take_first, take_second, left_first, left_second, forgets_joined, forgets_apart}

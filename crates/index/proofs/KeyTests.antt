@@ -8,7 +8,7 @@ use Rattle.schema.specs.declared.slots.IndexKind.TheVariants.{Equality, Presence
 use Rattle.schema.specs.Values.{norm_at}
 use Rattle.entries.specs.Entries.{Attributes}
 use Rattle.schema.specs.Subtypes.{is_subtype}
-use Rattle.index.specs.EntryKeys.{norms_under, windows, empty_key, has_key}
+use Rattle.index_keys.specs.EntryKeys.{norms_under, windows, empty_key, has_key}
 
 -- whether an entry has a value of a type or of a subtype whose normal form passes the test
 abbrev pub has_norm_that : List AttributeType → Attributes → ℕ → (List ℕ → Bool) → Bool

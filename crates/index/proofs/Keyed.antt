@@ -6,7 +6,7 @@ use Rattle.std.specs.declared.cmp.Ordering.TheVariants.{Less}
 use Rattle.std.specs.Option.{option_map}
 use Rattle.std.specs.Ordering.{nat_cmp, is_eq, eq_by_cmp}
 use Rattle.std.specs.Cmp.{nat_cmp_total, eq_by_cmp_equiv}
-use Rattle.std.specs.Cmp.Lexicographic.{slice_cmp, nat_list_cmp_total, nat_list_eq_equiv, bytes_decides}
+use Rattle.std.specs.Cmp.Lexicographic.{slice_cmp, nat_list_cmp_total, nat_list_eq_equiv}
 use Rattle.std.specs.Str.{bytes_eq}
 use Rattle.std.specs.Map.{lookup, keys_of, IsKeyTest, AreApart, KeepsOthers}
 use Rattle.std.specs.Map.Calls.{RetainsPairs}
@@ -17,9 +17,11 @@ use Rattle.std.specs.FinMap as finite
 use Rattle.std.specs.FinSet as set
 use Rattle.std.proofs.lemmas.Bool.{ltb-false}
 use Rattle.std.proofs.lemmas.Map.Text.{is_eq-slice_cmp}
-use Rattle.id_sets.specs.declared.key_set.KeySet.{KeySet}
+use Rattle.dense_sets.specs.declared.key_set.KeySet.{KeySet}
 use Rattle.std.proofs.lemmas.Result.{IfOk-weaker, on_ok_weaker, on_err_weaker}
-use Rattle.index.specs.KeySets.{Members, SetsByKey, Row, members_in, members_at, AreRowsOf, Puts, Takes}
+use Rattle.index_keys.specs.KeySets.{Members, SetsByKey, Row, members_in, members_at}
+use Rattle.index.specs.KeySets.{AreRowsOf, Puts, Takes}
+use Rattle.index_keys.proofs.SlotKeyOrder.{same_bytes}
 use Rattle.index.specs.inner.StoredSets.{rows_by, sets_by, HaveMembers}
 
 abbrev pub at : List Row → List ℕ → Option Members
@@ -28,9 +30,6 @@ at rows q = lookup (bytes_eq q) rows
 -- one key has this now, and each other key what it had
 abbrev pub Updated : List Row → List Row → List ℕ → Option Members → Type 0
 Updated old new key o = (q : List ℕ) → at new q ≡ cond (bytes_eq key q) o (at old q)
-
-pub same_bytes : (a b : List ℕ) → bytes_eq a b ≡ true → a ≡ b
-same_bytes a b e = (bytes_decides a b).0 e
 
 -- ---- rows
 

@@ -1,4 +1,3 @@
-pub mod Agreement
 pub mod Changed
 pub mod Counted
 pub mod Distinct
@@ -8,12 +7,11 @@ pub mod KeyTests
 pub mod Joined
 pub mod KeyForms
 pub mod Keyed
+pub mod KnownSlots
 pub mod Listed
 pub mod Merged
 pub mod OneByOne
 pub mod Search
 pub mod ShortKeys
-pub mod SlotKeyOrder
 pub mod StoredKeys
 pub mod WholeEntries
-pub mod WindowSteps

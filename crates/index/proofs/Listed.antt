@@ -1,21 +1,21 @@
 -- Keys under slots in lists, slot by slot.
 use Rattle.std.proofs.Common.{◌≡◌, ℕ, ◌+◌, ◌<◌, Bool, true, false, ◌&&◌, ◌||◌, List, [], ◌∷◌, ◌++◌, map, nat_eq, nat_lt, refl, sym, ap, subst, ◌∙◌, arith}
-use Rattle.std.specs.List.{list_any, AllByRecursion, IsDistinct}
+use Rattle.std.specs.List.{AllByRecursion, IsDistinct}
 use Rattle.std.specs.List.Sorted.{IsStrictlySortedBy}
 use Rattle.std.specs.declared.cmp.Ordering.{Ordering}
 use Rattle.std.specs.declared.cmp.Ordering.TheVariants.{Less, Equal}
 use Rattle.std.specs.Ordering.{nat_cmp, ordering_then}
 use Rattle.std.specs.Cmp.{nat_cmp_is}
 use Rattle.std.specs.Cmp.Lexicographic.{slice_cmp}
-use Rattle.std.specs.Str.{bytes_eq}
 use Rattle.std.proofs.lemmas.Bool.{eqb-true, ltb-true}
 use Rattle.std.proofs.lemmas.Bool.Decides.{nat_tests}
 use Rattle.std.proofs.lemmas.List.Folds.{list_any-append}
 use Rattle.std.proofs.lemmas.Map.Keys.{IsDistinct-from_sorted}
-use Rattle.index.specs.declared.slot_key.SlotKey.{SlotKey}
-use Rattle.index.specs.SlotKeys.{slot_key, slot_key_cmp, same_slot_key, is_among}
+use Rattle.index_keys.specs.declared.slot_key.SlotKey.{SlotKey}
+use Rattle.index_keys.specs.SlotKeys.{slot_key, slot_key_cmp, same_slot_key}
 use Rattle.index.specs.inner.KeyLists.{IsWithKeys, AreSlotKeys}
-use Rattle.index.proofs.SlotKeyOrder.{tied_is}
+use Rattle.index_keys.proofs.Agreement.{among_slot}
+use Rattle.index_keys.proofs.SlotKeyOrder.{tied_is}
 
 -- ---- order
 
@@ -56,18 +56,6 @@ behind n ks (p ∷ ps) a = (each ks, behind n ks ps a.1)
     each (k ∷ others) = (ap (λ r. ordering_then r (slice_cmp nat_cmp p.key k)) (before p.slot.0 n a.0), each others)
 
 -- ---- which ones
-
-pub among_slot : (n : ℕ) (ks : List (List ℕ)) (p : SlotKey) → is_among p (map (slot_key n) ks) ≡ (nat_eq n p.slot.0 && list_any (λ k. bytes_eq k p.key) ks)
-among_slot n [] p = by (nat_eq n p.slot.0)
-  where
-    by : (b : Bool) → false ≡ (b && false)
-    by true = refl
-    by false = refl
-among_slot n (k ∷ ks) p = ap (λ b. same_slot_key (slot_key n k) p || b) (among_slot n ks p) ∙ by (nat_eq n p.slot.0)
-  where
-    by : (b : Bool) → ((b && bytes_eq k p.key) || (b && list_any (λ k. bytes_eq k p.key) ks)) ≡ (b && (bytes_eq k p.key || list_any (λ k. bytes_eq k p.key) ks))
-    by true = refl
-    by false = refl
 
 one_slot_more : (n m : ℕ) → (nat_lt m n || nat_eq n m) ≡ nat_lt m (n + 1)
 one_slot_more n m = grind (arith, nat_tests)

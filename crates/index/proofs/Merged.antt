@@ -13,8 +13,9 @@ use Rattle.std.specs.Map.Iter.{TakesFirst}
 use Rattle.std.specs.Str.{bytes_eq}
 use Rattle.std.specs.FinSet as set
 use Rattle.std.proofs.lemmas.Map.Text.{is_eq-slice_cmp}
-use Rattle.id_sets.specs.declared.key_set.KeySet.{KeySet}
-use Rattle.index.specs.KeySets.{Members, SetsByKey, Row, members_in, members_at, AreRowsOf}
+use Rattle.dense_sets.specs.declared.key_set.KeySet.{KeySet}
+use Rattle.index_keys.specs.KeySets.{Members, SetsByKey, Row, members_in, members_at}
+use Rattle.index.specs.KeySets.{AreRowsOf}
 use Rattle.index.specs.inner.JoinedSets.{joined, AreApart}
 use Rattle.index.specs.inner.MergedRows.{is_before, put_among, merged, row_lent, ahead}
 use Rattle.index.proofs.Keyed.{at}

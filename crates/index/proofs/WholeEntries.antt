@@ -1,114 +1,35 @@
 -- An index that is made of many entries, slot by slot.
 use Rattle.std.proofs.Common.{◌≡◌, ℕ, zero, suc, ◌+◌, ◌<◌, Bool, true, false, cond, ◌&&◌, ◌||◌, nat_eq, List, [], ◌∷◌, ◌++◌, length, get_or, take, refl, sym, ap, subst, ◌∙◌, arith}
 use Rattle.std.specs.Prelude.{slice_index_or}
-use Rattle.std.specs.List.{list_any, slice_get, flat_map, AllByRecursion}
+use Rattle.std.specs.List.{list_any, slice_get}
 use Rattle.std.specs.FinMap as finite
 use Rattle.std.specs.FinSet as set
 use Rattle.std.specs.Ordering.{nat_cmp}
 use Rattle.std.specs.Cmp.{nat_cmp_total, unsigned_tied}
 use Rattle.std.specs.Str.{bytes_eq}
 use Rattle.std.proofs.lemmas.List.{take_more}
-use Rattle.std.proofs.lemmas.List.Folds.{list_any-append}
 use Rattle.values.specs.declared.types.AttributeType.{AttributeType}
 use Rattle.schema.specs.declared.slots.IndexKind.{IndexKind}
-use Rattle.schema.specs.declared.slots.IndexKind.TheVariants.{Equality, Presence, Substrings}
 use Rattle.schema.specs.declared.slots.Slot.{Slot}
 use Rattle.schema.specs.Conf.{Conf}
-use Rattle.entries.specs.StoredEntries.{attributes_of, IsMade}
-use Rattle.index.specs.declared.slot_key.SlotKey.{SlotKey}
-use Rattle.index.specs.declared.type_norms.Numbered.{Numbered}
-use Rattle.index.specs.declared.type_norms.NumberedNorm.{NumberedNorm}
-use Rattle.index.specs.EntryKeys.{windows, gives_key, has_key}
-use Rattle.index.specs.KeySets.{Members, SetsByKey, members_in}
-use Rattle.index.specs.NumberedEntries.{has_among}
-use Rattle.index.specs.inner.SlotTests.{is_slot_that}
-use Rattle.index.specs.inner.StoredKeys.{stored_norms}
-use Rattle.index.specs.TypeNorms.{has_for, has_by, AreNormsOf}
+use Rattle.entries.specs.StoredEntries.{attributes_of}
+use Rattle.index_keys.specs.declared.slot_key.SlotKey.{SlotKey}
+use Rattle.index_keys.specs.declared.type_norms.Numbered.{Numbered}
+use Rattle.index_keys.specs.declared.type_norms.NumberedNorm.{NumberedNorm}
+use Rattle.index_keys.specs.EntryKeys.{has_key}
+use Rattle.index_keys.specs.KeySets.{Members, SetsByKey, members_in}
+use Rattle.index_keys.specs.NumberedEntries.{has_among}
+use Rattle.index_keys.specs.inner.SlotTests.{is_slot_that}
+use Rattle.index_keys.specs.TypeNorms.{has_for, AreNormsOf}
 use Rattle.index.specs.inner.SlotEntries.{IsSetOf, AreSetsOf}
-use Rattle.index.proofs.Agreement.{contains-slot_keys}
-use Rattle.index.proofs.Fronts.{gives_none}
+use Rattle.index_keys.proofs.Agreement.{contains-slot_keys}
 use Rattle.index.proofs.Keyed.{none_in}
-use Rattle.index.proofs.StoredKeys.{norms_are}
-
-or_false : (b : Bool) → (b || false) ≡ b
-or_false true = refl
-or_false false = refl
 
 pub put_has : (s : Members) (n m : ℕ) → set.contains (set.insert s n) m ≡ (nat_eq m n || set.contains s m)
 put_has s n m = set.contains-insert nat_cmp_total s n m ∙ ap (λ b. b || set.contains s m) (unsigned_tied m n)
 
 nothing_has : (q : List ℕ) (n : ℕ) → set.contains (members_in finite.empty q) n ≡ false
 nothing_has q n = ap (λ (s : Members). set.contains s n) (none_in q) ∙ set.contains-empty nat_cmp n
-
--- ---- what a normal form gives
-
-pub gives_more : (kind : IndexKind) (a : List ℕ) (more : List (List ℕ)) (q : List ℕ) → gives_key kind (a ∷ more) q ≡ (gives_key kind (a ∷ []) q || gives_key kind more q)
-gives_more Equality a more q = ap (λ b. b || list_any (λ k. bytes_eq k q) more) (sym (or_false (bytes_eq a q)))
-gives_more Presence a [] q = sym (or_false (bytes_eq [] q || false))
-gives_more Presence a (x ∷ xs) q = twice (bytes_eq [] q || false)
-  where
-    twice : (b : Bool) → b ≡ (b || b)
-    twice true = refl
-    twice false = refl
-gives_more Substrings a more q =
-    list_any-append (λ k. bytes_eq k q) (windows a) (flat_map windows more)
-    ∙ ap (λ b. b || list_any (λ k. bytes_eq k q) (flat_map windows more)) (sym (list_any-append (λ k. bytes_eq k q) (windows a) [] ∙ or_false (list_any (λ k. bytes_eq k q) (windows a))))
-
-pub one_norm : (old new : List NumberedNorm) (x : NumberedNorm) (number : ℕ) (norm : List ℕ) (rest whole : List (List ℕ)) → whole ≡ norm ∷ rest → new ≡ old ++ x ∷ [] → x.number ≡ number → x.norm.now ≡ norm
-    → (kind : IndexKind) (q : List ℕ) (n : ℕ) → (has_by kind new q n || (nat_eq n number && gives_key kind rest q)) ≡ (has_by kind old q n || (nat_eq n number && gives_key kind whole q))
-one_norm old new x number norm rest whole cut pushed number_is norm_is kind q n =
-    ap (λ (ns : List NumberedNorm). has_by kind ns q n || (nat_eq n number && gives_key kind rest q)) pushed
-    ∙ ap (λ b. b || (nat_eq n number && gives_key kind rest q)) (list_any-append (λ (y : NumberedNorm). nat_eq n y.number && gives_key kind (y.norm.now ∷ []) q) old (x ∷ []))
-    ∙ ap (λ m. (has_by kind old q n || ((nat_eq n m && gives_key kind (x.norm.now ∷ []) q) || false)) || (nat_eq n number && gives_key kind rest q)) number_is
-    ∙ ap (λ (t : List ℕ). (has_by kind old q n || ((nat_eq n number && gives_key kind (t ∷ []) q) || false)) || (nat_eq n number && gives_key kind rest q)) norm_is
-    ∙ by (has_by kind old q n) (nat_eq n number) (gives_key kind (norm ∷ []) q) (gives_key kind rest q)
-    ∙ ap (λ b. has_by kind old q n || (nat_eq n number && b)) (sym (ap (λ (ks : List (List ℕ)). gives_key kind ks q) cut ∙ gives_more kind norm rest q))
-  where
-    by : (a e g h : Bool) → ((a || ((e && g) || false)) || (e && h)) ≡ (a || (e && (g || h)))
-    by true e g h = refl
-    by false true true h = refl
-    by false true false h = refl
-    by false false g h = refl
-
-pub no_norm : (old new : List NumberedNorm) (number : ℕ) (rest whole : List (List ℕ)) → rest ≡ []
-    → ((kind : IndexKind) (q : List ℕ) (n : ℕ) → (has_by kind new q n || (nat_eq n number && gives_key kind rest q)) ≡ (has_by kind old q n || (nat_eq n number && gives_key kind whole q)))
-    → (kind : IndexKind) (q : List ℕ) (n : ℕ) → has_by kind new q n ≡ (has_by kind old q n || (nat_eq n number && gives_key kind whole q))
-no_norm old new number rest whole none so_far kind q n =
-    by (has_by kind new q n) (nat_eq n number)
-    ∙ ap (λ b. has_by kind new q n || (nat_eq n number && b)) (sym (ap (λ (ks : List (List ℕ)). gives_key kind ks q) none ∙ gives_none kind q))
-    ∙ so_far kind q n
-  where
-    by : (a b : Bool) → a ≡ (a || (b && false))
-    by true b = refl
-    by false true = refl
-    by false false = refl
-
--- ---- one entry after the other
-
-any_more : {A : Type 0} (test : A → Bool) (xs : List A) (i : ℕ) (d : A) → i < length xs → list_any test (take (i + 1) xs) ≡ (list_any test (take i xs) || test (get_or xs i d))
-any_more test xs i d lt = ap (list_any test) (take_more xs i d lt) ∙ list_any-append test (take i xs) (get_or xs i d ∷ []) ∙ ap (λ b. list_any test (take i xs) || b) (or_false (test (get_or xs i d)))
-
-pub made_at : (P : Numbered → Type 0) (es : List Numbered) (i : ℕ) (e : Numbered) → e ≡ get_or es i e → i < length es → AllByRecursion P es → P e
-made_at P es i e is lt all = subst P (sym is) (there es i e lt all)
-  where
-    there : (xs : List Numbered) (i : ℕ) (d : Numbered) → i < length xs → AllByRecursion P xs → P (get_or xs i d)
-    there [] i d lt all = absurd (omega (arith, lt))
-    there (x ∷ xs) zero d lt all = all.0
-    there (x ∷ xs) (suc i) d lt all = there xs i d (omega (arith, lt)) all.1
-
-pub one_entry : (types : List AttributeType) (t : ℕ) (old new : List NumberedNorm) (es : List Numbered) (i : ℕ) (e : Numbered) (norms : List (List ℕ)) → e ≡ get_or es i e → i < length es
-    → norms ≡ stored_norms types e.entry.now.attrs t → IsMade types e.entry.now.attrs
-    → ((kind : IndexKind) (q : List ℕ) (n : ℕ) → has_by kind new q n ≡ (has_by kind old q n || (nat_eq n e.number && gives_key kind norms q)))
-    → AreNormsOf types (take i es) t old → AreNormsOf types (take (i + 1) es) t new
-one_entry types t old new es i e norms is lt are made came so_far kind q n =
-    came kind q n
-    ∙ ap (λ (ks : List (List ℕ)). has_by kind old q n || (nat_eq n e.number && gives_key kind ks q)) (are ∙ norms_are types e.entry.now.attrs made.each t)
-    ∙ ap (λ b. b || test e) (so_far kind q n)
-    ∙ ap (λ (x : Numbered). list_any test (take i es) || test x) is
-    ∙ sym (any_more test es i e lt)
-  where
-    test : Numbered → Bool
-    test x = nat_eq n x.number && has_key types (attributes_of x.entry.now.attrs) t kind q
 
 -- ---- one key after the other
 
@@ -130,32 +51,7 @@ one_key old new n key rest whole is came q m =
     by true = ap (λ b. b || (nat_eq m n && list_any (λ k. bytes_eq k q) rest)) (put_has (members_in old q) n m) ∙ turn (nat_eq m n) (set.contains (members_in old q) m) (list_any (λ k. bytes_eq k q) rest)
     by false = refl
 
-pub no_key : (old new : SetsByKey) (n : ℕ) (rest whole : List (List ℕ)) → rest ≡ []
-    → ((q : List ℕ) (m : ℕ) → (set.contains (members_in new q) m || (nat_eq m n && list_any (λ k. bytes_eq k q) rest)) ≡ (set.contains (members_in old q) m || (nat_eq m n && list_any (λ k. bytes_eq k q) whole)))
-    → (q : List ℕ) (m : ℕ) → set.contains (members_in new q) m ≡ (set.contains (members_in old q) m || (nat_eq m n && list_any (λ k. bytes_eq k q) whole))
-no_key old new n rest whole none so_far q m =
-    by (set.contains (members_in new q) m) (nat_eq m n)
-    ∙ ap (λ (ks : List (List ℕ)). set.contains (members_in new q) m || (nat_eq m n && list_any (λ k. bytes_eq k q) ks)) (sym none)
-    ∙ so_far q m
-  where
-    by : (a b : Bool) → a ≡ (a || (b && false))
-    by true b = refl
-    by false true = refl
-    by false false = refl
-
 -- ---- one normal form after the other
-
-pub one_more : (kind : IndexKind) (old new : SetsByKey) (ns : List NumberedNorm) (i : ℕ) (x : NumberedNorm) → x ≡ get_or ns i x → i < length ns
-    → ((q : List ℕ) (n : ℕ) → set.contains (members_in new q) n ≡ (set.contains (members_in old q) n || (nat_eq n x.number && gives_key kind (x.norm.now ∷ []) q)))
-    → IsSetOf kind (take i ns) old → IsSetOf kind (take (i + 1) ns) new
-one_more kind old new ns i x is lt came so_far q n =
-    came q n
-    ∙ ap (λ b. b || test x) (so_far q n)
-    ∙ ap (λ (y : NumberedNorm). list_any test (take i ns) || test y) is
-    ∙ sym (any_more test ns i x lt)
-  where
-    test : NumberedNorm → Bool
-    test y = nat_eq n y.number && gives_key kind (y.norm.now ∷ []) q
 
 pub none_yet : (kind : IndexKind) (x : SetsByKey) → x ≡ finite.empty → IsSetOf kind [] x
 none_yet kind x none q n = ap (λ (y : SetsByKey). set.contains (members_in y q) n) none ∙ nothing_has q n
@@ -180,11 +76,6 @@ put_one old new number key came q n = ap (λ (s : Members). set.contains s n) (c
     by : (b : Bool) → set.contains (cond b (set.insert (members_in old q) number) (members_in old q)) n ≡ (set.contains (members_in old q) n || (nat_eq n number && (b || false)))
     by true = put_has (members_in old q) number n ∙ turn (nat_eq n number) (set.contains (members_in old q) n)
     by false = none (nat_eq n number) (set.contains (members_in old q) n)
-
--- what is put under the windows of one text
-pub put_all : (old new : SetsByKey) (number : ℕ) (text : List ℕ) → ((q : List ℕ) (n : ℕ) → set.contains (members_in new q) n ≡ (set.contains (members_in old q) n || (nat_eq n number && list_any (λ k. bytes_eq k q) (windows text))))
-    → (q : List ℕ) (n : ℕ) → set.contains (members_in new q) n ≡ (set.contains (members_in old q) n || (nat_eq n number && gives_key Substrings (text ∷ []) q))
-put_all old new number text came q n = came q n ∙ ap (λ b. set.contains (members_in old q) n || (nat_eq n number && b)) (sym (list_any-append (λ k. bytes_eq k q) (windows text) [] ∙ or_false (list_any (λ k. bytes_eq k q) (windows text))))
 
 -- ---- one slot after the other
 

@@ -1,34 +1,17 @@
--- An index: which numbers stand under which keys.
-use Rattle.std.specs.Prelude.{◌≡◌, ℕ, Bool, true, false, List, refl, slice_index_or, if◌then◌else◌}
+-- What becomes of an index: a number comes under keys, goes from keys, or leaves every key.
+use Rattle.std.specs.Prelude.{◌≡◌, ℕ, Bool, true, false, List, refl, if◌then◌else◌}
 use Rattle.std.specs.Coded.{Coded, code_by, coded×, coded_ℕ, coded_list}
 use Rattle.std.specs.List.{AllByRecursion}
-use Rattle.std.specs.FinMap as finite
 use Rattle.std.specs.FinSet as set
 use Rattle.schema.specs.contracts.conf.Conf as conf_contract
 use Rattle.schema.specs.Conf.{Conf}
-use Rattle.index.specs.declared.slot_key.SlotKey.{SlotKey}
-use Rattle.index.specs.KeySets.{Members, SetsByKey, sets_code, members_in}
-
--- the configuration that an index was made with, the keys of each slot with their members, and how many edits were made
-pub record Index : Type 0 where
-  pub conf : Conf
-  pub slots : List SetsByKey
-  pub edits : ℕ
+use Rattle.index_keys.specs.declared.slot_key.SlotKey.{SlotKey}
+use Rattle.index_keys.specs.KeySets.{SetsByKey}
+use Rattle.index_keys.specs.Indexes.{Index, members}
+use Rattle.index.specs.KeySets.{sets_code}
 
 abbrev pub index_code : Coded Index
 index_code = code_by (Conf × (List SetsByKey × ℕ)) (coded× conf_contract.the_row.coded (coded× (coded_list sets_code) coded_ℕ)) (λ x. (x.conf, (x.slots, x.edits))) (λ p. record { conf = p.0; slots = p.1.0; edits = p.1.1 }) (λ _. refl)
-
--- the keys of one of these slots, with their members
-abbrev pub sets_in : List SetsByKey → ℕ → SetsByKey
-sets_in slots slot = slice_index_or slots slot finite.empty
-
--- the keys of a slot with their members
-abbrev pub sets_at : Index → ℕ → SetsByKey
-sets_at index slot = sets_in index.slots slot
-
--- the members of a key: the numbers of the entries that have it
-abbrev pub members : Index → SlotKey → Members
-members index p = members_in (sets_at index p.slot.0) p.key
 
 -- each of these keys has the number
 abbrev pub AllHave : ℕ → Index → List SlotKey → Type 0

@@ -9,9 +9,9 @@ use Rattle.values.specs.declared.types.AttributeType.{AttributeType}
 use Rattle.schema.specs.Conf.{Conf}
 use Rattle.entries.specs.Entries.{EntryContent}
 use Rattle.entries.specs.StoredEntries.{Entry, content_of, IsMade}
-use Rattle.index.specs.declared.slot_key.SlotKey.{SlotKey}
-use Rattle.index.specs.SlotKeys.{slot_key_cmp, same_slot_key, is_among}
-use Rattle.index.specs.EntryKeys.{slot_keys_in, edits}
+use Rattle.index_keys.specs.declared.slot_key.SlotKey.{SlotKey}
+use Rattle.index_keys.specs.SlotKeys.{slot_key_cmp, same_slot_key, is_among}
+use Rattle.index_keys.specs.EntryKeys.{slot_keys_in, edits}
 
 -- what an entry that is lent has, where one is there
 abbrev pub content_in : Option (Bor Entry) → Option EntryContent

@@ -5,7 +5,6 @@ pub mod EditCounts
 pub mod JoinedSets
 pub mod KeyLists
 pub mod MergedRows
-pub mod NormLists
 pub mod SlotEntries
 pub mod SlotTests
 pub mod ShortKeyOrder

@@ -5,7 +5,8 @@ ghost use Rattle.std.specs.FinMap as finite;
 ghost use Rattle.std.specs.FinSet as set;
 ghost use Rattle.std.specs.Map.Iter.{TakesFirst};
 ghost use Rattle.std.specs.Slice.Iter.{iter_rest};
-ghost use Rattle.index.specs.KeySets.{members_in, AreRowsOf, Puts, Takes};
+ghost use Rattle.index_keys.specs.KeySets.{members_in};
+ghost use Rattle.index.specs.KeySets.{AreRowsOf, Puts, Takes};
 ghost use Rattle.index.specs.inner.MergedRows.{row_lent};
 ghost use Rattle.index.specs.inner.Buckets.{side, bucket_of, AreBuckets, members_within, in_hand, all_rows};
 ghost use Rattle.index.specs.inner.BucketRows.{rows_left};
@@ -15,7 +16,7 @@ use crate::keyed_sets::KeyedSets;
 use crate::rows::Rows;
 use crate::short_key::ShortKey;
 use crate::stored_key::StoredKey;
-use id_sets::KeySet;
+use dense_sets::KeySet;
 use std::alloc::{AllocError, Global};
 use std::collections::btree_map::Iter;
 use std::marker::Model;
@@ -32,12 +33,13 @@ pub(crate) struct Buckets {
 }
 
 impl Model for Buckets {
-    ghost use Rattle.index.specs.KeySets as seen;
+    ghost use Rattle.index_keys.specs.KeySets as seen;
+    ghost use Rattle.index.specs.KeySets.{sets_code};
     ghost use Rattle.index.specs.inner.Buckets.{gathered, AreBuckets};
 
     ghost Value = { seen.SetsByKey };
 
-    ghost coded = { seen.sets_code };
+    ghost coded = { sets_code };
 
     ghost view = { λ b. gathered b.sets.items };
 

@@ -4,12 +4,12 @@ ghost use Rattle.std.specs.Prelude.{◌≡◌, ◌++◌, drop};
 ghost use Rattle.std.specs.List.{flat_map};
 ghost use Rattle.std.specs.Map.Iter.{TakesFirst, deref};
 ghost use Rattle.entries.specs.StoredEntries.{attributes_of, IsMade};
-ghost use Rattle.index.specs.EntryKeys.{windows, norms_under, keys_by, entry_keys};
+ghost use Rattle.index_keys.specs.EntryKeys.{windows, norms_under, keys_by, entry_keys};
 ghost use Rattle.index.specs.inner.StoredKeys.{presence_left};
 
-use crate::norms::Norms;
-use crate::windows::first_window;
+use crate::norm_fronts::norms_behind;
 use entries::Entry;
+use index_keys::{Norms, first_window};
 use schema::{Conf, IndexKind, Slot};
 use std::marker::Model;
 
@@ -97,7 +97,7 @@ impl<'a> EntryKeys<'a> {
         requires { IsMade conf.now.types entry.now.attrs }
         ensures { result ≡ keys_by slot.now.kind (drop front (norms_under conf.now.types (attributes_of entry.now.attrs) slot.now.type_id)) }
     {
-        EntryKeys::by(slot.kind, Norms::behind(conf, entry, slot.type_id, front))
+        EntryKeys::by(slot.kind, norms_behind(conf, entry, slot.type_id, front))
     }
 }
 

@@ -3,13 +3,14 @@
 ghost use Rattle.std.specs.Prelude.{◌≡◌, ℕ, List, MatchOption};
 ghost use Rattle.std.specs.FinMap as finite;
 ghost use Rattle.std.specs.FinSet as set;
-ghost use Rattle.index.specs.KeySets.{members_in, AreRowsOf, Puts, Takes};
+ghost use Rattle.index_keys.specs.KeySets.{members_in};
+ghost use Rattle.index.specs.KeySets.{AreRowsOf, Puts, Takes};
 
 use crate::buckets::{BucketRows, Buckets};
 use crate::keyed_sets::KeyedSets;
 use crate::rows::{Merge, Rows};
 use crate::short_key::ShortKey;
-use id_sets::KeySet;
+use dense_sets::KeySet;
 use std::alloc::{AllocError, Global};
 use std::collections::btree_map::Iter;
 use std::marker::Model;
@@ -25,13 +26,14 @@ pub(crate) struct KeySets {
 }
 
 impl Model for KeySets {
-    ghost use Rattle.index.specs.KeySets as seen;
+    ghost use Rattle.index_keys.specs.KeySets as seen;
+    ghost use Rattle.index.specs.KeySets.{sets_code};
     ghost use Rattle.index.specs.inner.JoinedSets.{joined, AreApart};
     ghost use Rattle.index.specs.inner.ShortKeys.{fits};
 
     ghost Value = { seen.SetsByKey };
 
-    ghost coded = { seen.sets_code };
+    ghost coded = { sets_code };
 
     ghost view = { λ s. joined (fits 4) s.tiny (joined (fits 32) s.short s.long) };
 
@@ -126,7 +128,7 @@ type Long<'a> = Iter<'a, Vec<u8>, KeySet>;
 
 impl<'a> Model for Keys<'a> {
     ghost use Rattle.std.specs.Prelude.{List};
-    ghost use Rattle.index.specs.KeySets.{Row, rows_code};
+    ghost use Rattle.index_keys.specs.KeySets.{Row, rows_code};
     ghost use Rattle.index.specs.inner.MergedRows.{ahead, merged};
     ghost use Rattle.index.specs.inner.StoredSets.{short_rows, long_rows};
     ghost use Rattle.index.specs.inner.BucketRows.{rows_left};

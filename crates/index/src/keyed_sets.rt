@@ -3,12 +3,14 @@
 ghost use Rattle.std.specs.Prelude.{◌≡◌, ℕ, nat_lt, List, MatchOption};
 ghost use Rattle.std.specs.FinMap as finite;
 ghost use Rattle.std.specs.FinSet as set;
-ghost use Rattle.index.specs.KeySets.{members_in, members_at, AreRowsOf, Puts, Takes};
+ghost use Rattle.index_keys.specs.KeySets.{members_in, members_at};
+ghost use Rattle.index.specs.KeySets.{AreRowsOf, Puts, Takes};
 ghost use Rattle.index.specs.inner.Buckets.{IsFull};
 ghost use Rattle.index.specs.inner.StoredSets.{rows_by, HaveMembers};
 
 use crate::stored_key::{StoredKey, Wanted};
-use id_sets::{IdSet, KeySet};
+use dense_sets::KeySet;
+use id_sets::IdSet;
 use std::alloc::{AllocError, Global};
 use std::collections::BTreeMap;
 use std::collections::btree_map::Iter;
@@ -21,12 +23,13 @@ pub struct KeyedSets<K: StoredKey> {
 }
 
 impl<K: StoredKey> Model for KeyedSets<K> {
-    ghost use Rattle.index.specs.KeySets as seen;
+    ghost use Rattle.index_keys.specs.KeySets as seen;
+    ghost use Rattle.index.specs.KeySets.{sets_code};
     ghost use Rattle.index.specs.inner.StoredSets.{rows_by, sets_by, HaveMembers};
 
     ghost Value = { seen.SetsByKey };
 
-    ghost coded = { seen.sets_code };
+    ghost coded = { sets_code };
 
     ghost view = { λ s. sets_by K.bytes s.sets };
 

@@ -2,11 +2,11 @@
 
 ghost use Rattle.std.specs.Prelude.{◌≡◌, List};
 ghost use Rattle.std.specs.Map.Iter.{TakesFirst};
-ghost use Rattle.index.specs.KeySets.{Row};
+ghost use Rattle.index_keys.specs.KeySets.{Row};
 ghost use Rattle.index.specs.inner.MergedRows.{row_lent, ahead, merged, comes_first};
 
 use crate::stored_key::StoredKey;
-use id_sets::KeySet;
+use dense_sets::KeySet;
 use std::collections::btree_map::Iter;
 
 /// Rows that are lent, one after the other.

@@ -4,16 +4,15 @@ ghost use Rattle.std.specs.Prelude.{◌≡◌, ℕ, [], ◌∷◌, IfOk, OnOk};
 ghost use Rattle.std.specs.FinSet as set;
 ghost use Rattle.std.specs.List.{AllByRecursion};
 ghost use Rattle.entries.specs.StoredEntries.{IsMade};
-ghost use Rattle.index.specs.declared.slot_key.SlotKey as seen;
-ghost use Rattle.index.specs.EntryKeys.{is_window, gives_key};
-ghost use Rattle.index.specs.Indexes.{members};
-ghost use Rattle.index.specs.NumberedEntries.{has_among};
+ghost use Rattle.index_keys.specs.declared.slot_key.SlotKey as seen;
+ghost use Rattle.index_keys.specs.EntryKeys.{is_window, gives_key};
+ghost use Rattle.index_keys.specs.Indexes.{members};
+ghost use Rattle.index_keys.specs.NumberedEntries.{has_among};
 ghost use Rattle.index.specs.inner.SlotEntries.{PutsEach, IsSetOf, AreSetsOf};
 
 use crate::index::Index;
 use crate::key_sets::KeySets;
-use crate::type_norms::{Numbered, NumberedNorm, norms_for};
-use crate::windows::first_window;
+use index_keys::{Numbered, NumberedNorm, first_window, norms_for};
 use schema::{Conf, IndexKind, Slot};
 use std::alloc::{AllocError, Global};
 

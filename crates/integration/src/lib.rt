@@ -8,9 +8,9 @@ mod directories;
 #[cfg(test)]
 mod failing_devices;
 #[cfg(test)]
-mod index_keys;
-#[cfg(test)]
 mod indexes;
+#[cfg(test)]
+mod lone_index;
 #[cfg(test)]
 mod places;
 #[cfg(test)]

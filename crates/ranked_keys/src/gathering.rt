@@ -10,7 +10,7 @@ ghost use Rattle.ranked_keys.specs.inner.AddedWindows.{AddsWindows};
 use crate::ranked_key::RankedKey;
 use crate::ranked_norm::RankedNorm;
 use crate::ranked_window::RankedWindow;
-use index::{NumberedNorm, first_window};
+use index_keys::{NumberedNorm, first_window};
 use std::alloc::{AllocError, Global};
 
 // the same in order, each once

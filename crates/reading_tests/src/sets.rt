@@ -1,6 +1,7 @@
 //! Sets of entry numbers: each form of them has what is wanted, and the same as a list has.
 
-use id_sets::{IdSet, KeySet, ListSet, WordSet};
+use dense_sets::{KeySet, WordSet};
+use id_sets::{IdSet, ListSet};
 use std::alloc::{AllocError, Global};
 use std::test::Fail;
 

@@ -1,7 +1,8 @@
 //! A key's set that grows from nothing to words.
 
 use anyhow::{Error, Result};
-use id_sets::{IdSet, KeySet};
+use dense_sets::KeySet;
+use id_sets::IdSet;
 use std::alloc::Global;
 use std::io::Print;
 

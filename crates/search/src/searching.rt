@@ -17,7 +17,7 @@ use crate::ranks::rank_of;
 use crate::scope::Scope;
 use candidates::Numbers;
 use filter::Prepared;
-use id_sets::{IdSet, KeySet};
+use id_sets::{IdSet, ListSet};
 use schema::Path;
 use std::alloc::Global;
 use tree::Tree;
@@ -101,13 +101,13 @@ pub fn scan<'a>(
     base: &'a Path,
     scope: Scope,
     filter: &'a Prepared,
-) -> Option<Hits<'a, KeySet>>
+) -> Option<Hits<'a, ListSet>>
     requires { filter.now.conf ≡ tree.now.conf }
     ensures there { is_some result ≡ finite.contains_key tree.now.entries base.now }
     ensures start { IfSome result (λ h. h.tested ≡ 0) }
     ensures found { IfSome result (λ h. map seen h.to_come ≡ scan tree.now.conf tree.now.entries base.now scope (view filter.now.filter)) }
     ensures tested { IfSome result (λ h. h.in_the_end ≡ count_in_scope tree.now.entries base.now scope) }
 {
-    let none: KeySet = KeySet::new(alloc);
+    let none: ListSet = ListSet::new(alloc);
     search(tree, base, scope, filter, Numbers::AllBut(none))
 }

@@ -5,7 +5,7 @@ ghost use Rattle.std.specs.Prelude.{◌≡◌};
 use anyhow::{Error, Result};
 use directory::Directory;
 use filter::Prepared;
-use id_sets::KeySet;
+use id_sets::IdSet;
 use schema::Path;
 use search::{Hits, Scope, scan};
 use std::alloc::Global;
@@ -31,7 +31,7 @@ pub(crate) struct Row {
 }
 
 /// Walks to the end, and answers how many entries were found and how many were tested.
-fn counts(hits: Hits<'_, KeySet>) -> (u64, u64) {
+fn counts<S: IdSet>(hits: Hits<'_, S>) -> (u64, u64) {
     let mut hits = hits;
     let mut found = 0u64;
     while let Some(_) = hits.next() {
@@ -49,13 +49,15 @@ fn searched(
 ) -> Result<(u64, u64)>
     requires { filter.now.conf ≡ dir.now.conf }
 {
-    let hits = match how {
-        Search::ByIndex => dir.search(base, Scope::Sub, filter).ok(),
-        Search::ByScan => scan(alloc, dir.tree(), base, Scope::Sub, filter),
-    };
-    match hits {
-        Some(hits) => Ok(counts(hits)),
-        None => Err(Error::msg("the base isn't there")),
+    match how {
+        Search::ByIndex => match dir.search(base, Scope::Sub, filter) {
+            Ok(hits) => Ok(counts(hits)),
+            Err(_) => Err(Error::msg("the base isn't there")),
+        },
+        Search::ByScan => match scan(alloc, dir.tree(), base, Scope::Sub, filter) {
+            Some(hits) => Ok(counts(hits)),
+            None => Err(Error::msg("the base isn't there")),
+        },
     }
 }
 

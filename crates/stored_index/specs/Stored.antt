@@ -6,9 +6,9 @@ use Rattle.std.specs.List.{AllByRecursion}
 use Rattle.base.specs.Answers.{◌>>=◌}
 use Rattle.schema.specs.contracts.conf.Conf as conf_contract
 use Rattle.schema.specs.Conf.{Conf}
-use Rattle.index.specs.KeySets as keys
-use Rattle.index.specs.declared.slot_key.SlotKey.{SlotKey}
-use Rattle.index.specs.Postings.{Shown, slot_in}
+use Rattle.index_keys.specs.KeySets as keys
+use Rattle.index_keys.specs.declared.slot_key.SlotKey.{SlotKey}
+use Rattle.index_keys.specs.Postings.{Shown, slot_in}
 use Rattle.index_text.specs.IndexTexts as texts
 use Rattle.stored_index.specs.Reading.{rows_in}
 use Rattle.stored_index.specs.declared.fault.IndexFaultKind.{IndexFaultKind}

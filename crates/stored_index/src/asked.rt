@@ -5,7 +5,7 @@ ghost use Rattle.std.specs.List.{AllByRecursion};
 ghost use Rattle.index_text.specs.IndexTexts.{key_text};
 ghost use Rattle.stored_index.specs.inner.Asked.{has_text, HasAll, Keeps};
 
-use index::SlotKey;
+use index_keys::SlotKey;
 use std::alloc::{AllocError, Global};
 use std::collections::BTreeSet;
 

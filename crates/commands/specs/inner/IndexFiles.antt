@@ -8,8 +8,8 @@ use Rattle.tree.specs.Directories.{Entries}
 use Rattle.tree.specs.Trees.{Tree}
 use Rattle.filter.specs.Made.{Made}
 use Rattle.stored_index.specs.Stored.{Stored, shown_by}
-use Rattle.directory.specs.IndexTexts.{index_text}
-use Rattle.directory.specs.Searches.{ReflectsDump, ShowsTo}
+use Rattle.databases.specs.IndexTexts.{index_text}
+use Rattle.databases.specs.Searches.{ReflectsDump, ShowsTo}
 use Rattle.filter_text.specs.Spells.{view}
 use Rattle.command_line.specs.declared.request.SearchOptions.{SearchOptions}
 use Rattle.commands.specs.Asked.{IsFilter}

@@ -1,7 +1,7 @@
 -- The command's fault that a fault of loading the file of this name becomes.
 use Rattle.std.specs.Prelude.{◌≡◌, ℕ, List}
-use Rattle.directory.specs.declared.loading.LoadFault.{LoadFault}
-use Rattle.directory.specs.declared.loading.LoadFault.TheVariants as loads
+use Rattle.databases.specs.declared.loading.LoadFault.{LoadFault}
+use Rattle.databases.specs.declared.loading.LoadFault.TheVariants as loads
 use Rattle.commands.specs.Failures.{IsMemory, FailsToRead}
 use Rattle.commands.specs.declared.messages.CommandFault.{CommandFault}
 use Rattle.commands.specs.declared.messages.CommandFault.TheVariants as faults

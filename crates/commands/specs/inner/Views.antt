@@ -3,8 +3,8 @@ use Rattle.std.specs.Prelude.{Result}
 use Rattle.tree.specs.Trees.{Tree}
 use Rattle.filter_text.specs.Spells.{view}
 use Rattle.filter_text.specs.declared.filters.Filter.{Filter}
-use Rattle.directory.specs.declared.runs.Tally.{Tally}
-use Rattle.directory.specs.declared.runs.RunFault.{RunFault}
+use Rattle.databases.specs.declared.runs.Tally.{Tally}
+use Rattle.databases.specs.declared.runs.RunFault.{RunFault}
 use Rattle.commands.specs.Queries.{Basis}
 use Rattle.commands.specs.Changes.{Run}
 

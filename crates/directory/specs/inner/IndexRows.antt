@@ -5,15 +5,12 @@ use Rattle.std.specs.Ordering.{nat_cmp}
 use Rattle.std.specs.FinMap as finite
 use Rattle.std.specs.FinSet as set
 use Rattle.schema.specs.Conf.{Conf}
-use Rattle.schema.specs.declared.slots.Slot.{Slot}
-use Rattle.tree.specs.Directories.{Entries}
 use Rattle.tree.specs.Trees.{Tree, number_at}
-use Rattle.index.specs.Indexes.{Index}
-use Rattle.index.specs.KeySets.{Members, Row}
-use Rattle.index_text.specs.IndexTexts.{ended, header_line, key_line, slot_text}
+use Rattle.index_keys.specs.Indexes.{Index}
+use Rattle.index_keys.specs.KeySets.{Members, Row}
+use Rattle.index_text.specs.IndexTexts.{ended, key_line}
 use Rattle.index_text.specs.IndexTexts as texts
 use Rattle.directory.specs.Indexes.{IsIndexOf}
-use Rattle.directory.specs.IndexTexts.{stamp, slot_rows, contents}
 
 -- the rank of the entry with a number, or 0 where none stands for it
 abbrev pub rank_at : List ℕ → ℕ → ℕ
@@ -45,20 +42,6 @@ row_text ranks row = ended (key_line (ranked_row ranks row))
 
 abbrev pub rows_text : List ℕ → List Row → List ℕ
 rows_text ranks rows = flat_map (row_text ranks) rows
-
-abbrev pub first_line : Conf → Entries → List ℕ
-first_line conf d = ended (header_line (finite.len d) (stamp conf d))
-
--- the keys of a slot as they are written
-abbrev pub keys_lines : Conf → Entries → Slot → List ℕ
-keys_lines conf d s = flat_map (λ row. ended (key_line row)) (slot_rows conf.types (contents d) s)
-
--- a slot as it is written
-abbrev pub slot_lines : Conf → Entries → Slot → List ℕ
-slot_lines conf d s = slot_text conf.types (s, slot_rows conf.types (contents d) s)
-
-abbrev pub slots_lines : Conf → Entries → List Slot → List ℕ
-slots_lines conf d ss = flat_map (slot_text conf.types) (map (λ s. (s, slot_rows conf.types (contents d) s)) ss)
 
 -- what the rows are made of: the index of a tree's entries, and the rank of each entry at its number
 pub record IsListing (conf : Conf) (t : Tree) (x : Index) (ranks : List ℕ) : Type 0 where

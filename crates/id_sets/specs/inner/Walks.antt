@@ -6,7 +6,7 @@ use Rattle.std.specs.Slice.Iter.{iter_rest}
 use Rattle.id_sets.specs.declared.members.Left.{Left}
 use Rattle.id_sets.specs.declared.members.Left.TheVariants.{List as Listed, Words}
 use Rattle.id_sets.specs.Walk.{ids_from}
-use Rattle.id_sets.specs.inner.Words.{FitsIds, set_of_words}
+use Rattle.id_sets.specs.Words.{FitsIds, set_of_words}
 
 -- the members from a number on, or none where no number is left
 abbrev pub ids_left : FinSet nat_cmp → Option ℕ → List ℕ

@@ -2,8 +2,8 @@
 use Rattle.std.specs.Prelude.{◌≡◌, ◌≢◌, ℕ, ◌+◌, ◌-◌, ◌*◌, min, List, [], ◌∷◌, ◌++◌, Option, None, Some, slice_index_or}
 use Rattle.std.specs.FinMap as finite
 use Rattle.std.specs.FinSet as set
-use Rattle.id_sets.specs.declared.key_set.KeySet.{KeySet}
-use Rattle.index.specs.KeySets.{Members, SetsByKey, Row, members_in}
+use Rattle.dense_sets.specs.declared.key_set.KeySet.{KeySet}
+use Rattle.index_keys.specs.KeySets.{Members, SetsByKey, Row, members_in}
 use Rattle.index.specs.declared.short_key.ShortKey.{ShortKey}
 use Rattle.index.specs.inner.StoredSets.{short_rows}
 

@@ -3,8 +3,8 @@ use Rattle.std.specs.Prelude.{ℕ, Bool, true, false, List, [], ◌∷◌, Optio
 use Rattle.std.specs.Borrow.{Bor}
 use Rattle.std.specs.Ordering.{nat_cmp, is_lt}
 use Rattle.std.specs.Cmp.Lexicographic.{slice_cmp}
-use Rattle.id_sets.specs.declared.key_set.KeySet.{KeySet}
-use Rattle.index.specs.KeySets.{Row}
+use Rattle.dense_sets.specs.declared.key_set.KeySet.{KeySet}
+use Rattle.index_keys.specs.KeySets.{Row}
 
 abbrev pub is_before : Row → Row → Bool
 is_before w o = is_lt (slice_cmp nat_cmp w.0 o.0)

@@ -4,10 +4,10 @@ use Rattle.std.specs.FinSet as set
 use Rattle.values.specs.declared.types.AttributeType.{AttributeType}
 use Rattle.schema.specs.declared.slots.IndexKind.{IndexKind}
 use Rattle.schema.specs.declared.slots.Slot.{Slot}
-use Rattle.index.specs.declared.type_norms.Numbered.{Numbered}
-use Rattle.index.specs.declared.type_norms.NumberedNorm.{NumberedNorm}
-use Rattle.index.specs.TypeNorms.{has_for, has_by}
-use Rattle.index.specs.KeySets.{SetsByKey, members_in}
+use Rattle.index_keys.specs.declared.type_norms.Numbered.{Numbered}
+use Rattle.index_keys.specs.declared.type_norms.NumberedNorm.{NumberedNorm}
+use Rattle.index_keys.specs.TypeNorms.{has_for, has_by}
+use Rattle.index_keys.specs.KeySets.{SetsByKey, members_in}
 
 -- the number came under each key that passes the test, and each other key has the members that it had
 abbrev pub PutsEach : (List ℕ → Bool) → ℕ → SetsByKey → SetsByKey → Type 0

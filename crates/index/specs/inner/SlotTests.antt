@@ -1,12 +1,13 @@
 -- Whether an entry, or none, has a key under a slot.
-use Rattle.std.specs.Prelude.{◌≡◌, ℕ, Bool, false, not, ◌&&◌, List, [], take, drop, Option, Some, None}
+use Rattle.std.specs.Prelude.{◌≡◌, ℕ, Bool, not, ◌&&◌, List, [], take, drop, Option, Some, None}
 use Rattle.std.specs.List.{slice_get}
 use Rattle.values.specs.declared.types.AttributeType.{AttributeType}
 use Rattle.schema.specs.declared.slots.Slot.{Slot}
 use Rattle.schema.specs.Conf.{Conf}
 use Rattle.entries.specs.Entries.{EntryContent}
-use Rattle.index.specs.declared.slot_key.SlotKey.{SlotKey}
-use Rattle.index.specs.EntryKeys.{norms_under, gives_key}
+use Rattle.index_keys.specs.declared.slot_key.SlotKey.{SlotKey}
+use Rattle.index_keys.specs.EntryKeys.{norms_under, gives_key}
+use Rattle.index_keys.specs.inner.SlotTests.{is_slot_that}
 
 abbrev pub norms_in : List AttributeType → Option EntryContent → ℕ → List (List ℕ)
 norms_in types None t = []
@@ -23,10 +24,6 @@ has_under types s e key = gives_key s.kind (norms_in types e s.type_id) key
 -- whether the normal forms behind so many do
 abbrev pub has_behind : List AttributeType → Slot → ℕ → Option EntryContent → List ℕ → Bool
 has_behind types s front e key = gives_key s.kind (drop front (norms_in types e s.type_id)) key
-
-abbrev pub is_slot_that : (Slot → Bool) → Option Slot → Bool
-is_slot_that test None = false
-is_slot_that test (Some s) = test s
 
 abbrev pub has_slot_key : Conf → Option EntryContent → SlotKey → Bool
 has_slot_key conf e p = is_slot_that (λ s. has_under conf.types s e p.key) (slice_get conf.slots p.slot.0)

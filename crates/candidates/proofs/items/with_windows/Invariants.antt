@@ -1,6 +1,6 @@
 use Rattle.std.proofs.Common.{◌≡◌, ◌&&◌, ℕ, List, length}
 use Rattle.std.specs.List.{list_all}
-use Rattle.index.specs.EntryKeys.{windows}
+use Rattle.index_keys.specs.EntryKeys.{windows}
 use Rattle.candidates.specs.Numbers.{numbers_contain}
 use Rattle.candidates.specs.Sides.{is_member}
 use Rattle.candidates.specs.inner.Held.{members_of}

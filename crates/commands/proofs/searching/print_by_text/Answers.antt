@@ -3,7 +3,7 @@ use Rattle.std.specs.Prelude.{codes, None}
 use Rattle.std.specs.Option.{option_copied}
 use Rattle.schema.specs.Conf.{Conf, IsConf}
 use Rattle.search.specs.Walks.{seen}
-use Rattle.directory.specs.Found.{found_text, up_to, goes_past}
+use Rattle.databases.specs.Found.{found_text, up_to, goes_past}
 use Rattle.commands.specs.Asked.{IsBase}
 use Rattle.commands.specs.Prints.{IsFoundText}
 use Rattle.commands.specs.inner.Views.{basis_of}

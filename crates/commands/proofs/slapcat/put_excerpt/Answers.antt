@@ -1,7 +1,7 @@
 use Rattle.std.proofs.Common.{ap, ◌∙◌}
 use Rattle.std.specs.Option.{option_copied}
 use Rattle.std.proofs.lemmas.Result.{on_ok_weaker}
-use Rattle.directory.specs.declared.database.Database.{Database}
+use Rattle.databases.specs.declared.database.Database.{Database}
 use Rattle.commands.specs.Prints.{IsExcerpt}
 use Rattle.commands.specs.Queries.{target_of}
 use Rattle.commands.specs.inner.Views.{basis_of}

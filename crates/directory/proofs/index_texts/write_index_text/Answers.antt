@@ -3,11 +3,10 @@ use Rattle.std.proofs.lemmas.Result.{err_from_is_err_and}
 use Rattle.schema.specs.Conf.{Conf}
 use Rattle.tree.specs.Directories.{Entries}
 use Rattle.index_text.specs.IndexTexts.{ended, end_line}
-use Rattle.directory.specs.Dumps.{SoFar}
-use Rattle.directory.specs.IndexTexts.{index_text}
-use Rattle.directory.specs.inner.IndexRows.{slots_lines}
-use Rattle.directory.proofs.Pieces.{wants_memory, ends}
-use Rattle.directory.proofs.WrittenLines.{longer, stopped_early, in_parts}
+use Rattle.databases.specs.Dumps.{SoFar}
+use Rattle.databases.specs.IndexTexts.{index_text, slots_lines}
+use Rattle.databases.proofs.Pieces.{wants_memory, ends}
+use Rattle.databases.proofs.WrittenLines.{longer, stopped_early, in_parts}
 use Rattle.directory.proofs.index_texts.write_index_text.Goals as goal
 
 pub returns-in_err-text : goal.returns-in_err-text

@@ -1,6 +1,6 @@
 use Rattle.std.proofs.Common.{◌++◌}
 use Rattle.directory.specs.inner.IndexRows.{row_text}
-use Rattle.directory.proofs.Pieces.{wants_memory_on}
+use Rattle.databases.proofs.Pieces.{wants_memory_on}
 use Rattle.directory.proofs.index_texts.write_row.Goals as goal
 
 pub returns-in_err-put_row : goal.returns-in_err-put_row

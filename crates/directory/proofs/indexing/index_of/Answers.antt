@@ -1,6 +1,6 @@
 use Rattle.std.proofs.Common.{List, ap, ◌∙◌}
-use Rattle.index.specs.declared.type_norms.Numbered.{Numbered}
-use Rattle.index.specs.NumberedEntries.{has_among}
+use Rattle.index_keys.specs.declared.type_norms.Numbered.{Numbered}
+use Rattle.index_keys.specs.NumberedEntries.{has_among}
 use Rattle.directory.proofs.WholeIndex.{whole, by_both}
 use Rattle.directory.proofs.indexing.index_of.Goals as goal
 

@@ -6,8 +6,8 @@ use Rattle.std.specs.List.{AllByRecursion}
 use Rattle.schema.specs.Conf.{Conf}
 use Rattle.entries.specs.StoredEntries.{IsMade}
 use Rattle.tree.specs.Trees.{Placed, unnumbered, seen_entries}
-use Rattle.index.specs.declared.type_norms.Numbered.{Numbered}
-use Rattle.index.specs.NumberedEntries.{has_among}
+use Rattle.index_keys.specs.declared.type_norms.Numbered.{Numbered}
+use Rattle.index_keys.specs.NumberedEntries.{has_among}
 use Rattle.directory.specs.inner.Indexes.{has_placed, has_in_tree}
 use Rattle.directory.proofs.WholeIndex.{none_yet, one_more, no_more}
 use Rattle.directory.proofs.indexing.numbered_entries.Goals as goal

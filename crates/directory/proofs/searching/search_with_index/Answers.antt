@@ -2,13 +2,14 @@ use Rattle.std.proofs.Common.{◌∙◌, sym, subst}
 use Rattle.schema.specs.Conf.{Conf, IsConf}
 use Rattle.tree.specs.Trees.{Tree, number_at}
 use Rattle.filter_text.specs.Spells.{view}
-use Rattle.index.specs.Postings.{shown_by}
+use Rattle.index_keys.specs.Postings.{shown_by}
 use Rattle.candidates.specs.Brackets.{Reflects}
 use Rattle.search.specs.Searches.{scan_among, counted_scan, count_among}
-use Rattle.directory.specs.Found.{AreThere}
+use Rattle.databases.specs.Found.{AreThere}
 use Rattle.directory.specs.Searches.{may_by_number}
-use Rattle.directory.proofs.ByIndex.{same_count, same_steps, same_may, reflected, is_candidate}
-use Rattle.directory.proofs.FoundText.{found_are_there}
+use Rattle.databases.proofs.ByPostings.{is_candidate}
+use Rattle.directory.proofs.ByIndex.{same_count, same_steps, same_may, reflected}
+use Rattle.databases.proofs.FoundText.{found_are_there}
 use Rattle.directory.proofs.searching.search_with_index.Goals as goal
 
 pub returns-in-Some-clause-steps : goal.returns-in-Some-clause-steps

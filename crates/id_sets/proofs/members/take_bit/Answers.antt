@@ -1,6 +1,6 @@
 use Rattle.std.proofs.Common.{◌≡◌, [], ap, ◌∙◌}
 use Rattle.id_sets.specs.inner.Walks.{ids_left}
-use Rattle.id_sets.specs.inner.Words.{set_of_words}
+use Rattle.id_sets.specs.Words.{set_of_words}
 use Rattle.id_sets.proofs.Ids.{ids_none, ids_step}
 use Rattle.id_sets.proofs.members.take_bit.Goals as goal
 

@@ -2,7 +2,7 @@ use Rattle.std.proofs.Common.{List, ℕ, take, Option, ap, subst, sym, ◌∙◌
 use Rattle.std.specs.Borrow.{Bor}
 use Rattle.entries.specs.StoredEntries.{Entry}
 use Rattle.index.specs.KeyChanges.{IsMadeIn}
-use Rattle.index.proofs.StoredKeys.{norms_are}
+use Rattle.index_keys.proofs.StoredNorms.{norms_are}
 use Rattle.index.proofs.changes.same_front.Goals as goal
 
 pub returns-in-Some-after : goal.returns-in-Some-after

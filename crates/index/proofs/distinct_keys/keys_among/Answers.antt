@@ -3,7 +3,7 @@ use Rattle.std.specs.List.{list_any}
 use Rattle.std.specs.Str.{bytes_eq}
 use Rattle.std.specs.Borrow.{Bor}
 use Rattle.entries.specs.StoredEntries.{Entry}
-use Rattle.index.specs.EntryKeys.{gives_key}
+use Rattle.index_keys.specs.EntryKeys.{gives_key}
 use Rattle.index.specs.KeyChanges.{content_in}
 use Rattle.index.specs.inner.KeyLists.{AreKeys}
 use Rattle.index.specs.inner.SlotTests.{norms_in}

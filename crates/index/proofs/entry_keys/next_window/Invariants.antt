@@ -1,6 +1,6 @@
 use Rattle.std.proofs.Common.{◌≡◌, ◌++◌, []}
 use Rattle.std.specs.List.{flat_map}
-use Rattle.index.specs.EntryKeys.{windows}
+use Rattle.index_keys.specs.EntryKeys.{windows}
 use Rattle.index.proofs.entry_keys.next_window.Given as goal
 
 abbrev pub invariant-loop-norm : goal.invariant-loop-norm

@@ -1,7 +1,7 @@
 use Rattle.std.proofs.Common.{◌≡◌, nat_lt, refl, sym, ap, ◌∙◌}
 use Rattle.std.specs.FinSet as set
 use Rattle.std.specs.Map.{keys_of}
-use Rattle.id_sets.specs.declared.key_set.KeySet.{KeySet}
+use Rattle.dense_sets.specs.declared.key_set.KeySet.{KeySet}
 use Rattle.index.proofs.Keyed.{retained, in_order}
 use Rattle.index.proofs.keyed_sets.forget_in.Goals as goal
 

@@ -1,8 +1,8 @@
 use Rattle.std.proofs.Common.{◌∙◌, ◌&&◌, ◌||◌, [], ◌∷◌, nat_eq, ap, sym}
 use Rattle.std.specs.FinSet as set
 use Rattle.schema.specs.declared.slots.IndexKind.{IndexKind}
-use Rattle.index.specs.EntryKeys.{gives_key}
-use Rattle.index.specs.KeySets.{members_in}
+use Rattle.index_keys.specs.EntryKeys.{gives_key}
+use Rattle.index_keys.specs.KeySets.{members_in}
 use Rattle.index.proofs.WholeEntries.{put_one}
 use Rattle.index.proofs.whole_entries.put_norm.Goals as goal
 

@@ -1,5 +1,5 @@
 use Rattle.std.proofs.Common.{◌∙◌}
-use Rattle.index.specs.EntryKeys.{windows}
+use Rattle.index_keys.specs.EntryKeys.{windows}
 use Rattle.index.proofs.WholeEntries.{one_key}
 use Rattle.index.proofs.whole_entries.put_windows.Goals as goal
 

@@ -1,5 +1,5 @@
 use Rattle.std.proofs.Common.{List, subst}
-use Rattle.index.specs.declared.type_norms.NumberedNorm.{NumberedNorm}
+use Rattle.index_keys.specs.declared.type_norms.NumberedNorm.{NumberedNorm}
 use Rattle.index.specs.inner.SlotEntries.{IsSetOf}
 use Rattle.index.proofs.WholeEntries.{sets_more}
 use Rattle.index.proofs.whole_entries.sets_of_slots.Goals as goal

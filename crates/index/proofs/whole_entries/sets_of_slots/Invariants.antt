@@ -1,6 +1,6 @@
 use Rattle.std.proofs.Common.{take}
 use Rattle.std.specs.Prelude.{IfSome}
-use Rattle.index.specs.TypeNorms.{AreNormsOf}
+use Rattle.index_keys.specs.TypeNorms.{AreNormsOf}
 use Rattle.index.specs.inner.SlotEntries.{AreSetsOf}
 use Rattle.index.proofs.whole_entries.sets_of_slots.Given as goal
 

@@ -1,7 +1,7 @@
 use Rattle.std.proofs.Common.{◌≡◌, ◌&&◌, ◌||◌, ℕ, List, nat_eq, length}
 use Rattle.std.specs.List.{list_any}
 use Rattle.std.specs.Str.{bytes_eq}
-use Rattle.index.specs.EntryKeys.{windows}
+use Rattle.index_keys.specs.EntryKeys.{windows}
 use Rattle.ranked_keys.specs.RankedKeys.{is_among}
 use Rattle.ranked_keys.specs.Pairs.{window_pairs}
 use Rattle.ranked_keys.proofs.gathering.push_windows.Given as goal

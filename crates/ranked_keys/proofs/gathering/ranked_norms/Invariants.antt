@@ -1,6 +1,6 @@
 use Rattle.std.proofs.Common.{◌≡◌, ℕ, List, take, drop}
 use Rattle.schema.specs.declared.slots.IndexKind.TheVariants.{Equality}
-use Rattle.index.specs.TypeNorms.{has_by}
+use Rattle.index_keys.specs.TypeNorms.{has_by}
 use Rattle.ranked_keys.specs.RankedKeys.{is_among, joined}
 use Rattle.ranked_keys.specs.Pairs.{norm_pairs}
 use Rattle.ranked_keys.proofs.gathering.ranked_norms.Given as goal

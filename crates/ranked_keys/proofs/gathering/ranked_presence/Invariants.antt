@@ -1,6 +1,6 @@
 use Rattle.std.proofs.Common.{◌≡◌, ℕ, List, take}
 use Rattle.schema.specs.declared.slots.IndexKind.TheVariants.{Presence}
-use Rattle.index.specs.TypeNorms.{has_by}
+use Rattle.index_keys.specs.TypeNorms.{has_by}
 use Rattle.ranked_keys.specs.RankedKeys.{is_among}
 use Rattle.ranked_keys.specs.Pairs.{norm_pairs}
 use Rattle.ranked_keys.proofs.gathering.ranked_presence.Given as goal

@@ -1,5 +1,5 @@
-use Rattle.directory.specs.IndexTexts.{index_text}
-use Rattle.directory.proofs.Pieces.{wants_memory}
+use Rattle.databases.specs.IndexTexts.{index_text}
+use Rattle.databases.proofs.Pieces.{wants_memory}
 use Rattle.directory.proofs.directory.Directory.index_text.Goals as goal
 
 pub returns-in_err-stamp : goal.returns-in_err-stamp

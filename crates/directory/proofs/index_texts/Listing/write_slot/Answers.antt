@@ -5,11 +5,11 @@ use Rattle.schema.specs.Conf.{Conf}
 use Rattle.tree.specs.Trees.{Tree}
 use Rattle.tree.proofs.Order.{path_total}
 use Rattle.index_text.specs.IndexTexts.{ended, slot_line, key_line}
-use Rattle.directory.specs.IndexTexts.{slot_rows, contents}
-use Rattle.directory.specs.inner.Dumps.{WritesOn}
-use Rattle.directory.specs.inner.IndexRows.{slot_lines, rows_text}
+use Rattle.databases.specs.IndexTexts.{slot_rows, contents, slot_lines}
+use Rattle.databases.specs.Dumps.{WritesOn}
+use Rattle.directory.specs.inner.IndexRows.{rows_text}
 use Rattle.directory.proofs.IndexRows.{lines_are}
-use Rattle.directory.proofs.Pieces.{wants_memory_on}
+use Rattle.databases.proofs.Pieces.{wants_memory_on}
 use Rattle.directory.proofs.index_texts.Listing.write_slot.Goals as goal
 
 pub returns-in_err-put_slot : goal.returns-in_err-put_slot

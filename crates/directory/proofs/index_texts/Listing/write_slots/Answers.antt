@@ -7,10 +7,10 @@ use Rattle.std.proofs.lemmas.Result.{err_from_is_err_and}
 use Rattle.schema.specs.declared.slots.Slot.{Slot}
 use Rattle.schema.specs.Conf.{Conf}
 use Rattle.tree.specs.Directories.{Entries}
-use Rattle.directory.specs.Dumps.{SoFar}
-use Rattle.directory.specs.inner.IndexRows.{slot_lines, slots_lines}
-use Rattle.directory.proofs.Pieces.{nothing_yet}
-use Rattle.directory.proofs.WrittenLines.{further, stopped, next_slot}
+use Rattle.databases.specs.Dumps.{SoFar}
+use Rattle.databases.specs.IndexTexts.{slot_lines, slots_lines}
+use Rattle.databases.proofs.Pieces.{nothing_yet}
+use Rattle.databases.proofs.WrittenLines.{further, stopped, next_slot}
 use Rattle.directory.proofs.index_texts.Listing.write_slots.Goals as goal
 
 pub loop-place-init : goal.loop-place-init

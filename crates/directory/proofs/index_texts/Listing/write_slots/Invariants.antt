@@ -1,6 +1,6 @@
 use Rattle.std.proofs.Common.{◌≡◌, ◌++◌, drop}
-use Rattle.directory.specs.Dumps.{SoFar}
-use Rattle.directory.specs.inner.IndexRows.{slots_lines}
+use Rattle.databases.specs.Dumps.{SoFar}
+use Rattle.databases.specs.IndexTexts.{slots_lines}
 use Rattle.directory.proofs.index_texts.Listing.write_slots.Given as goal
 
 abbrev pub invariant-loop-place : goal.invariant-loop-place

@@ -1,7 +1,7 @@
 use Rattle.std.proofs.Common.{List, ℕ, drop, ap, ◌∙◌}
-use Rattle.index.specs.EntryKeys.{keys_by}
-use Rattle.index.proofs.StoredKeys.{norms_are}
+use Rattle.index_keys.specs.EntryKeys.{keys_by}
+use Rattle.index_keys.proofs.StoredNorms.{norms_are}
 use Rattle.index.proofs.entry_keys.EntryKeys.behind.Goals as goal
 
 pub returns : goal.returns
-returns c = c.by.ensures ∙ ap (keys_by c.args.slot.now.kind) (c.behind.ensures ∙ ap (λ (norms : List (List ℕ)). drop c.args.front norms) (norms_are c.args.conf.now.types c.args.entry.now.attrs c.requires.each c.args.slot.now.type_id))
+returns c = c.by.ensures ∙ ap (keys_by c.args.slot.now.kind) (c.norms_behind.ensures ∙ ap (λ (norms : List (List ℕ)). drop c.args.front norms) (norms_are c.args.conf.now.types c.args.entry.now.attrs c.requires.each c.args.slot.now.type_id))

@@ -1,6 +1,6 @@
 use Rattle.std.proofs.Common.{ap, ◌∙◌}
-use Rattle.index.specs.EntryKeys.{keys_by}
-use Rattle.index.proofs.StoredKeys.{norms_are}
+use Rattle.index_keys.specs.EntryKeys.{keys_by}
+use Rattle.index_keys.proofs.StoredNorms.{norms_are}
 use Rattle.index.proofs.entry_keys.EntryKeys.of.Goals as goal
 
 pub returns : goal.returns

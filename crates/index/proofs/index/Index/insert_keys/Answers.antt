@@ -5,9 +5,10 @@ use Rattle.std.specs.FinSet as set
 use Rattle.schema.specs.Conf.{Conf}
 use Rattle.schema.specs.declared.slots.Slot.{Slot}
 use Rattle.entries.specs.StoredEntries.{attributes_of}
-use Rattle.index.specs.EntryKeys.{slot_keys}
-use Rattle.index.specs.Indexes.{members}
-use Rattle.index.proofs.Agreement.{known_key, told_there}
+use Rattle.index_keys.specs.EntryKeys.{slot_keys}
+use Rattle.index_keys.specs.Indexes.{members}
+use Rattle.index.proofs.KnownSlots.{known_key}
+use Rattle.index_keys.proofs.Agreement.{told_there}
 use Rattle.index.proofs.Changed.{slot_read, all_read}
 use Rattle.index.proofs.Counted.{others_kept, then_kept, at_err}
 use Rattle.index.proofs.Listed.{which}

@@ -1,7 +1,7 @@
 use Rattle.std.proofs.Common.{◌≡◌, ◌+◌, ◌&&◌, nat_lt}
 use Rattle.std.specs.FinSet as set
 use Rattle.entries.specs.StoredEntries.{attributes_of}
-use Rattle.index.specs.EntryKeys.{slot_keys}
+use Rattle.index_keys.specs.EntryKeys.{slot_keys}
 use Rattle.index.specs.Indexes.{Inserts}
 use Rattle.index.specs.inner.Counts.{HaveNumber}
 use Rattle.index.proofs.index.Index.insert_keys.Given as goal

@@ -1,8 +1,9 @@
 use Rattle.std.proofs.Common.{◌≡◌, ◌+◌, true, take}
 use Rattle.std.specs.List.{AllByRecursion, IsDistinct}
 use Rattle.std.specs.FinSet as set
-use Rattle.index.specs.SlotKeys.{same_slot_key, is_among}
-use Rattle.index.specs.Indexes.{members, Removes}
+use Rattle.index_keys.specs.SlotKeys.{same_slot_key, is_among}
+use Rattle.index_keys.specs.Indexes.{members}
+use Rattle.index.specs.Indexes.{Removes}
 use Rattle.index.proofs.index.Index.remove_all.Given as goal
 
 abbrev pub invariant-loop-key : goal.invariant-loop-key

@@ -1,0 +1,15 @@
+use Rattle.std.proofs.Common.{List, map, sym, ap, subst, ◌∙◌, arith}
+use Rattle.std.specs.List.Sorted.{IsPermutation}
+use Rattle.std.proofs.lemmas.List.{take_all}
+use Rattle.std.proofs.lemmas.List.Sorted.{IsPermutation-map}
+use Rattle.index_keys.specs.declared.type_norms.Numbered.{Numbered}
+use Rattle.databases.specs.declared.placed_entries.PlacedEntry.{PlacedEntry}
+use Rattle.databases.proofs.placed_entries.by_number.Goals as goal
+
+pub returns : goal.returns
+returns c =
+    let ranked : List PlacedEntry → List Numbered = λ es. map (λ e. e.ranked) es in
+    let past = c.loop-entry-test.false in
+    let all = ap ranked (sym c.deref-entry-items.ensures.value ∙ sym (take_all c.loop-entry.entry-index c.deref-entry-items.result.now (omega (arith, past)))) in
+    subst (IsPermutation (ranked c.args.placed.items)) (all ∙ sym c.loop-entry.invariant.so_far)
+    (IsPermutation-map (λ (e : PlacedEntry). e.ranked) c.args.placed.items c.sort_unstable_by_key.new.self.items c.sort_unstable_by_key.ensures.permutation)

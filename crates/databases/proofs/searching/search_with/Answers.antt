@@ -1,0 +1,40 @@
+use Rattle.std.proofs.Common.{◌∙◌, sym, subst}
+use Rattle.tree.specs.Trees.{Tree}
+use Rattle.filter_text.specs.Spells.{view}
+use Rattle.search.specs.Ranks.{rank_in}
+use Rattle.search.specs.Searches.{scan_among, counted_scan, count_among}
+use Rattle.databases.specs.Found.{AreThere}
+use Rattle.databases.specs.Searches.{may_by_rank}
+use Rattle.databases.proofs.ByPostings.{by_whole, is_candidate}
+use Rattle.databases.proofs.FoundText.{found_are_there}
+use Rattle.databases.proofs.searching.search_with.Goals as goal
+
+pub returns-in-Some-clause-steps : goal.returns-in-Some-clause-steps
+returns-in-Some-clause-steps g c =
+    let d : Tree = c.args.tree.now in
+    c.in-Some.ensures.steps ∙ (λ i. counted_scan d.conf d.entries (λ p. c.in_ok-may.ensures (rank_in d.entries p) i) c.args.base.now c.args.scope (view c.args.filter.now.filter))
+
+pub returns-in-Some-clause-found : goal.returns-in-Some-clause-found
+returns-in-Some-clause-found g c =
+    let d : Tree = c.args.tree.now in
+    c.in-Some.ensures.found ∙ (λ i. scan_among d.conf d.entries (λ p. c.in_ok-may.ensures (rank_in d.entries p) i) c.args.base.now c.args.scope (view c.args.filter.now.filter))
+
+pub returns-in-Some-clause-tested : goal.returns-in-Some-clause-tested
+returns-in-Some-clause-tested g c =
+    let d : Tree = c.args.tree.now in
+    c.in-Some.ensures.tested ∙ (λ i. count_among d.entries (λ p. c.in_ok-may.ensures (rank_in d.entries p) i) c.args.base.now c.args.scope)
+
+pub returns-in-Some-clause-whole : goal.returns-in-Some-clause-whole
+returns-in-Some-clause-whole g c = λ whole shows is_conf reflects.
+    let d : Tree = c.args.tree.now in
+    let f = c.args.filter.now in
+    c.in-Some.ensures.found
+    ∙ (λ i. scan_among d.conf d.entries (λ p. c.in_ok-may.ensures (rank_in d.entries p) i) c.args.base.now c.args.scope (view f.filter))
+    ∙ (λ i. scan_among d.conf d.entries (by_whole c.asked_keys_suffice.ensures f d (g.P.Postings.shown c.args.postings.now) whole shows i) c.args.base.now c.args.scope (view f.filter))
+    ∙ c.candidates_suffice.ensures d.conf d.entries (may_by_rank whole f d) c.args.base.now c.args.scope (view f.filter)
+    (λ p e at is. is_candidate d whole f c.requires is_conf c.entries_are_a_directory.ensures c.brackets_hold.ensures (rank_in d.entries p) p e at (reflects.each p e at) is)
+
+pub returns-in-Some-clause-entries : goal.returns-in-Some-clause-entries
+returns-in-Some-clause-entries g c =
+    let d : Tree = c.args.tree.now in
+    subst (AreThere d.entries) (sym c.in-Some.ensures.found) (found_are_there d.conf d.entries _ c.args.base.now c.args.scope (view c.args.filter.now.filter) c.order_of_paths.ensures.total c.entries_are_a_directory.ensures)

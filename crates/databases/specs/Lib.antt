@@ -1,0 +1,13 @@
+pub mod Reports
+pub mod Runs
+pub mod Faults
+pub mod Dumps
+pub mod IndexTexts
+pub mod Loading
+pub mod Folds
+pub mod RunEdits
+pub mod FailedReads
+pub mod Searches
+pub mod Selections
+pub mod Found
+pub mod inner

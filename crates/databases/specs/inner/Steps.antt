@@ -1,0 +1,51 @@
+-- One record of a run: what it does to the counts and to the report.
+use Rattle.std.specs.Prelude.{◌≡◌, ℕ, ◌+◌, ◌⊎◌, Bool, false, not, List, []}
+use Rattle.device.specs.Device.{Written, Took, Broke}
+use Rattle.tree.specs.Directories.{Entries}
+use Rattle.databases.specs.Reports.{report_line}
+use Rattle.databases.specs.declared.refusal.RecordRefusal.{RecordRefusal}
+use Rattle.databases.specs.declared.refusal.Outcome.{Outcome}
+use Rattle.databases.specs.declared.refusal.Outcome.TheVariants.{Nothing, Accepted, Refused}
+use Rattle.databases.specs.declared.runs.Tally.{Tally}
+use Rattle.databases.specs.declared.runs.RunFault.{RunFault}
+use Rattle.databases.specs.declared.runs.RunFault.TheVariants as faults
+
+abbrev pub counts_after : Outcome → Tally → Tally
+counts_after Nothing t = t
+counts_after Accepted t = record { accepted = t.accepted + 1; refused = t.refused }
+counts_after (Refused why) t = record { accepted = t.accepted; refused = t.refused + 1 }
+
+-- what is reported
+abbrev pub reported : ℕ → Outcome → List ℕ
+reported line Nothing = []
+reported line Accepted = []
+reported line (Refused why) = report_line (line, why)
+
+abbrev pub ends : Bool → Outcome → Bool
+ends go_on Nothing = false
+ends go_on Accepted = false
+ends go_on (Refused why) = not go_on
+
+-- the record was carried out, counted and reported
+pub record IsTaken (o : Entries × Outcome) (go_on : Bool) (line : ℕ) (new : Entries) (t t' : Tally) (a b : Written) (ended : Bool) : Type 0 where
+  pub entries : new ≡ o.0
+  pub counts : t' ≡ counts_after o.1 t
+  pub written : Took a b (reported line o.1)
+  pub ended_is : ended ≡ ends go_on o.1
+
+-- it was refused and counted, and its report line was broken off
+pub record IsCounted (o : Entries × Outcome) (new : Entries) (t t' : Tally) (why : RecordRefusal) : Type 0 where
+  pub is : o.1 ≡ Refused why
+  pub entries : new ≡ o.0
+  pub counts : t' ≡ counts_after o.1 t
+
+-- nothing was done
+pub record IsUntouched (old new : Entries) (t t' : Tally) (a b : Written) : Type 0 where
+  pub entries : new ≡ old
+  pub counts : t' ≡ t
+  pub written : b ≡ a
+
+abbrev pub IsBrokenOff : Entries × Outcome → ℕ → Entries → Entries → Tally → Written → Written → RunFault → Type 0
+IsBrokenOff o line old new t a b (faults.Read t') = ⊥
+IsBrokenOff o line old new t a b (faults.Write t') = (why : RecordRefusal) × IsCounted o new t t' why × Broke a b (report_line (line, why))
+IsBrokenOff o line old new t a b (faults.OutOfMemory t') = IsUntouched old new t t' a b ⊎ ((why : RecordRefusal) × IsCounted o new t t' why × (b ≡ a))

@@ -1,0 +1,196 @@
+//! The dump of a directory.
+
+ghost use Rattle.std.specs.Prelude.{◌≡◌, ◌<◌, ◌-◌, ◌^◌, ◌++◌, ◌∷◌, [], Some, OnOk, length};
+ghost use Rattle.std.specs.FinMap as finite;
+ghost use Rattle.ldif.specs.Writing.{written_line};
+ghost use Rattle.entries.specs.StoredEntries.{content_of};
+ghost use Rattle.databases.specs.Runs.{dump, LoadsBack};
+ghost use Rattle.databases.specs.Dumps.{Writes, WritesOn};
+ghost use Rattle.databases.specs.inner.Dumps.{AreKnown, values_text, attribute_text, selected_text, entry_text, tree_entry_text};
+
+use crate::laws::loading_a_dump;
+use crate::selection::Selection;
+use device::{Sink, push_all};
+use entries::{Entry, Values};
+use ldif::{WriteFault, put_line};
+use schema::{Conf, Path, TypeId};
+use std::alloc::{AllocError, Global};
+use tree::{Names, Tree};
+
+// so many bytes are handed on at once
+pub(crate) const PIECE: usize = 65536;
+
+// the lines of values under one name
+fn put_values(
+    alloc: Global,
+    out: &mut Vec<u8>,
+    name: &[u8],
+    values: &Values,
+) -> Result<(), AllocError>
+    ensures { OnOk result (out.new.items ≡ out.old.items ++ values_text name.now values.now) }
+{
+    for value in values.iter() {
+        put_line(alloc, out, name, value.raw())?;
+    }
+    Ok(())
+}
+
+// the lines of an attribute, where it is selected
+fn put_attribute(
+    alloc: Global,
+    out: &mut Vec<u8>,
+    conf: &Conf,
+    selection: &Selection,
+    t: TypeId,
+    values: &Values,
+) -> Result<(), AllocError>
+    requires { t < length conf.now.types }
+    ensures { OnOk result (out.new.items ≡ out.old.items ++ attribute_text conf.now.types selection.now (t, values.now)) }
+{
+    if !selection.has(t) {
+        return Ok(());
+    }
+    put_values(alloc, out, conf.name(t), values)
+}
+
+// the lines of the attributes that are selected, and an empty line
+fn put_attributes(
+    alloc: Global,
+    out: &mut Vec<u8>,
+    conf: &Conf,
+    selection: &Selection,
+    entry: &Entry,
+) -> Result<(), AllocError>
+    requires { AreKnown conf.now.types entry.now.attrs }
+    ensures { OnOk result (out.new.items ≡ out.old.items ++ selected_text conf.now.types selection.now entry.now.attrs) }
+{
+    for (t, values) in entry.attrs() {
+        put_attribute(alloc, out, conf, selection, *t, values)?;
+    }
+    out.push(b'\n')?;
+    Ok(())
+}
+
+// the content record of an entry with this name, and an empty line
+fn put_entry(
+    alloc: Global,
+    out: &mut Vec<u8>,
+    conf: &Conf,
+    selection: &Selection,
+    name: &[u8],
+    entry: &Entry,
+) -> Result<(), AllocError>
+    requires { AreKnown conf.now.types entry.now.attrs }
+    ensures { OnOk result (out.new.items ≡ out.old.items ++ written_line (100 ∷ 110 ∷ []) name.now ++ selected_text conf.now.types selection.now entry.now.attrs) }
+{
+    put_line(alloc, out, b"dn", name)?;
+    put_attributes(alloc, out, conf, selection, entry)
+}
+
+/// Hands all bytes of a text on to a sink, and clears it. On a fault a beginning was written.
+pub fn pass_on<W: Sink>(sink: &mut W, text: &mut Vec<u8>) -> Result<(), WriteFault>
+    requires { (W.written sink.old).failed < 2 ^ 64 - 1 }
+    ensures writes { Writes result (W.written sink.old) (W.written sink.new) text.old.items }
+    ensures empty { OnOk result (text.new.items ≡ []) }
+{
+    push_all(sink, text.as_slice())?;
+    text.clear();
+    Ok(())
+}
+
+/// The same where the text has 64 KiB or more; a shorter one is left as it is.
+pub fn pass_on_long<W: Sink>(sink: &mut W, text: &mut Vec<u8>) -> Result<(), WriteFault>
+    requires { (W.written sink.old).failed < 2 ^ 64 - 1 }
+    ensures { WritesOn result (W.written sink.old) (W.written sink.new) text.old.items text.new.items }
+{
+    if text.len() < PIECE {
+        return Ok(());
+    }
+    pass_on(sink, text)
+}
+
+/// The entries of a tree, and the configuration that they are printed under: the one that they were made with.
+#[derive(Drop)]
+pub(crate) struct Printer<'a> {
+    pub(crate) alloc: Global,
+    pub(crate) tree: &'a Tree,
+    pub(crate) conf: &'a Conf,
+    ghost same_conf: { tree.now.conf ≡ conf.now },
+}
+
+impl Printer<'_> {
+    // the content record of the entry at a path, behind what `out` holds
+    pub(crate) fn put_record(
+        &self,
+        names: &mut Names<'_>,
+        selection: &Selection,
+        path: &Path,
+        entry: &Entry,
+        out: &mut Vec<u8>,
+    ) -> Result<(), AllocError>
+        requires names { names.old ≡ self.now.tree.now }
+        requires there { finite.get self.now.tree.now.entries path.now ≡ Some (content_of entry.now) }
+        ensures names { names.new ≡ self.now.tree.now }
+        ensures text { OnOk result (out.new.items ≡ out.old.items ++ entry_text self.now.tree.now.conf self.now.tree.now.entries selection.now (path.now, entry.now)) }
+    {
+        self.tree.entries_are_a_directory();
+        let name = names.name_of(self.alloc, path, entry)?;
+        put_entry(
+            self.alloc,
+            out,
+            self.conf,
+            selection,
+            name.as_slice(),
+            entry,
+        )
+    }
+
+    // puts the content record of the entry at a path behind a text, and hands the text on where it is long
+    pub(crate) fn write_entry<W: Sink>(
+        &self,
+        sink: &mut W,
+        names: &mut Names<'_>,
+        selection: &Selection,
+        found: (&Path, &Entry),
+        text: &mut Vec<u8>,
+    ) -> Result<(), WriteFault>
+        requires can_fail { (W.written sink.old).failed < 2 ^ 64 - 1 }
+        requires names { names.old ≡ self.now.tree.now }
+        requires there { finite.get self.now.tree.now.entries found.0.now ≡ Some (content_of found.1.now) }
+        ensures names { names.new ≡ self.now.tree.now }
+        ensures writes { WritesOn result (W.written sink.old) (W.written sink.new) (text.old.items ++ tree_entry_text self.now.tree.now selection.now found.entry) text.new.items }
+    {
+        let (path, entry) = found;
+        self.put_record(names, selection, path, entry, text)?;
+        pass_on_long(sink, text)
+    }
+}
+
+/// Writes each entry of a tree as a content record, in the order of paths (RFC 2849), in pieces of some 64 KiB. The tree was made with
+/// this configuration. On a fault a beginning was written.
+///
+/// Loading what a whole dump holds gives these entries again, and refuses none of its records.
+pub fn write_dump<W: Sink>(
+    alloc: Global,
+    tree: &Tree,
+    conf: &Conf,
+    sink: &mut W,
+) -> Result<(), WriteFault>
+    requires made { tree.now.conf ≡ conf.now }
+    requires can_fail { (W.written sink.old).failed < 2 ^ 64 - 1 }
+    ensures writes { Writes result (W.written sink.old) (W.written sink.new) (dump tree.now.conf tree.now.entries) }
+    ensures loads { LoadsBack tree.now.conf tree.now.entries }
+{
+    tree.entries_are_a_directory();
+    conf.rules_are_kept();
+    loading_a_dump();
+    schema::order_of_paths();
+    let root = Path::root(alloc);
+    let printer = Printer { alloc, tree, conf };
+    let mut names = Names::new(alloc, tree, conf);
+    let mut text = Vec::new(alloc);
+    for found in tree.range(&root) {
+        printer.write_entry(sink, &mut names, &Selection::all(), found, &mut text)?;
+    }
+    pass_on(sink, &mut text)
+}

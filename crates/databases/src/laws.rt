@@ -1,0 +1,38 @@
+//! What holds of dumps, and of index texts.
+
+ghost use Rattle.std.specs.Prelude.{◌≡◌, length, Ok};
+ghost use Rattle.std.specs.List.{AllByRecursion};
+ghost use Rattle.std.specs.FinMap as finite;
+ghost use Rattle.schema.specs.Conf.{Conf, IsConf};
+ghost use Rattle.tree.specs.Directories.{Entries, IsDirectory};
+ghost use Rattle.index_keys.specs.Postings.{Shown};
+ghost use Rattle.stored_index.specs.Rows.{IsByte};
+ghost use Rattle.stored_index.specs.Stored.{index_in, stored, shown_by};
+ghost use Rattle.databases.specs.IndexTexts.{index_rows, index_text, stamp};
+ghost use Rattle.databases.specs.Runs.{LoadsBack};
+ghost use Rattle.databases.specs.Searches.{ReflectsDump, ShowsIndexText};
+
+/// Loading the dump of a directory gives the same directory, and refuses none of its records.
+#[tactic(auto, using(crate::proofs::LoadLaw::loads_back))]
+pub fn loading_a_dump()
+    ensures { (conf : Conf) (d : Entries) → IsConf conf → IsDirectory conf d → LoadsBack conf d }
+{
+    ldif::written_contents_are_read();
+    tree::own_content_is_written();
+    tree::an_entry_adds_itself();
+    schema::order_of_paths();
+}
+
+/// Postings that show what the index text of a dump says have the rank of each entry under exactly its keys.
+pub fn index_texts_reflect_dumps()
+    ensures { (conf : Conf) (d : Entries) (shown : Shown) → ShowsIndexText shown conf d → ReflectsDump shown conf.types d }
+{}
+
+/// The text of a directory's index is read as its rows, and postings that show these show what the text says.
+pub fn kept_index_texts_are_read()
+    ensures read { (conf : Conf) (d : Entries) → IsConf conf → IsDirectory conf d → length (stamp conf d) ≡ 32 → AllByRecursion IsByte (stamp conf d)
+        → index_in conf (finite.len d) (stamp conf d) (index_text conf d) ≡ Ok (stored conf (index_rows conf d)) }
+    ensures shows { (conf : Conf) (d : Entries) → ShowsIndexText (shown_by (stored conf (index_rows conf d))) conf d }
+{
+    stored_index::written_texts_are_read();
+}

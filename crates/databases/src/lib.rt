@@ -1,0 +1,34 @@
+//! Entries under a configuration, without an index that is kept with them: records carried out in turn, searches, the dump, loading it, and the
+//! text of an index.
+//!
+//! The functions of `laws` do nothing: a call of one is made for what it states alone.
+#![tactic(auto)]
+
+mod applying;
+mod database;
+mod dump;
+mod found;
+mod index_of_entries;
+mod laws;
+mod loading;
+mod placed_entries;
+mod refusal;
+mod runs;
+mod searching;
+mod selection;
+mod stamps;
+mod target;
+
+pub use database::Database;
+pub use dump::{pass_on, pass_on_long, write_dump};
+pub use found::write_found;
+pub use index_of_entries::{begin_index_text, write_index_of_entries};
+pub use laws::{index_texts_reflect_dumps, kept_index_texts_are_read, loading_a_dump};
+pub use loading::{LoadFault, load_tree};
+pub use refusal::{Outcome, RecordRefusal};
+pub use runs::{RunFault, Tally, run};
+pub use search::{Hits, Scope};
+pub use searching::{search_tree, search_with};
+pub use selection::Selection;
+pub use stamps::{Stamp, stamp_of, write_stamped_dump};
+pub use target::Target;

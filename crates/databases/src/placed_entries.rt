@@ -1,0 +1,74 @@
+//! The entries of a tree with their ranks, in the order in which they lie in memory.
+
+ghost use Rattle.std.specs.Prelude.{◌≡◌, [], map, IfOk};
+ghost use Rattle.std.specs.List.Sorted.{IsPermutation};
+ghost use Rattle.databases.specs.inner.RankedEntries.{AreRankedEntries};
+
+use index_keys::Numbered;
+use schema::{Conf, Path};
+use std::alloc::{AllocError, Global};
+use tree::Tree;
+
+/// An entry by its number in the tree, and with its rank in the place of that number.
+#[derive(Clone, Copy, Drop)]
+struct PlacedEntry<'a> {
+    number: u32,
+    ranked: Numbered<'a>,
+}
+
+// all entries of a tree below its root, in the order of its dump
+fn placed_entries<'a>(
+    alloc: Global,
+    conf: &Conf,
+    tree: &'a Tree,
+    root: &'a Path,
+) -> Result<Vec<PlacedEntry<'a>>, AllocError>
+    requires same_conf { tree.now.conf ≡ conf.now }
+    requires root { root.now ≡ [] }
+    ensures { IfOk result (λ es. AreRankedEntries conf.now tree.now.entries (map (λ e. e.ranked) es.items)) }
+{
+    tree.entries_are_a_directory();
+    let mut entries = Vec::with_capacity(alloc, tree.len())?;
+    let mut rank: u32 = 0;
+    for found in tree.numbered(root) {
+        let (_, number, entry) = found;
+        let ranked = Numbered {
+            number: rank,
+            entry,
+        };
+        entries.push(PlacedEntry { number, ranked })?;
+        rank += 1;
+    }
+    Ok(entries)
+}
+
+// the same by their numbers in the tree
+fn by_number<'a>(
+    alloc: Global,
+    placed: Vec<PlacedEntry<'a>>,
+) -> Result<Vec<Numbered<'a>>, AllocError>
+    ensures { IfOk result (λ es. IsPermutation (map (λ e. e.ranked) placed.entry.items) es.items) }
+{
+    let mut sorted = placed;
+    sorted.sort_unstable_by_key(|entry| entry.number);
+    let mut entries = Vec::with_capacity(alloc, sorted.len())?;
+    for entry in &sorted {
+        entries.push(entry.ranked)?;
+    }
+    Ok(entries)
+}
+
+/// All entries of a tree below its root, each with its rank as its number. They stand by their numbers in the tree, since so they lie in memory.
+pub(crate) fn ranked_entries<'a>(
+    alloc: Global,
+    conf: &Conf,
+    tree: &'a Tree,
+    root: &'a Path,
+) -> Result<Vec<Numbered<'a>>, AllocError>
+    requires same_conf { tree.now.conf ≡ conf.now }
+    requires root { root.now ≡ [] }
+    ensures { IfOk result (λ es. AreRankedEntries conf.now tree.now.entries es.items) }
+{
+    let placed = placed_entries(alloc, conf, tree, root)?;
+    by_number(alloc, placed)
+}

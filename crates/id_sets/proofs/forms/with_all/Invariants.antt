@@ -1,7 +1,0 @@
-use Rattle.std.proofs.Common.{◌≡◌, ◌||◌, ℕ, take}
-use Rattle.std.specs.FinSet as set
-use Rattle.id_sets.specs.inner.Lists.{holds}
-use Rattle.id_sets.proofs.forms.with_all.Given as goal
-
-abbrev pub invariant-loop-id : goal.invariant-loop-id
-invariant-loop-id l = (q : ℕ) → set.contains l.words q ≡ (set.contains l.initial.words q || holds (take l.id-index l.ids) q)

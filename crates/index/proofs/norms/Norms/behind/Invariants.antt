@@ -1,6 +1,0 @@
-use Rattle.std.proofs.Common.{◌≡◌, drop}
-use Rattle.index.specs.inner.StoredKeys.{stored_norms}
-use Rattle.index.proofs.norms.Norms.behind.Given as goal
-
-abbrev pub invariant-loop : goal.invariant-loop
-invariant-loop l = record { passed : l.norms ≡ drop l.counter (stored_norms l.conf.types l.entry.attrs l.fn.above) }

@@ -1,0 +1,5 @@
+pub mod Agreement
+pub mod NormLists
+pub mod SlotKeyOrder
+pub mod StoredNorms
+pub mod WindowSteps

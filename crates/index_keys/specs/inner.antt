@@ -1,0 +1,3 @@
+pub mod NormLists
+pub mod NormsLeft
+pub mod SlotTests
