@@ -4,3 +4,5 @@ pub mod Each
 pub mod Through
 pub mod Bound
 pub mod Extended
+pub mod TestedEnds
+pub mod Groups

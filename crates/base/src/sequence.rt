@@ -8,7 +8,7 @@ use std::cmp::Ordering;
 use std::marker::Model;
 
 /// Values in order. A contract sees them as the list of what it sees of each.
-#[derive(Debug, Drop)]
+#[derive(Drop)]
 pub struct Sequence<T> {
     items: Vec<T>,
 }

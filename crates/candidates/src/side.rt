@@ -4,7 +4,7 @@ ghost use Rattle.std.specs.Prelude.{◌≡◌};
 ghost use Rattle.candidates.specs.inner.OneSide.{is_may_be_true, other};
 
 /// What a filter may be of an entry: True, or False.
-#[derive(Clone, Copy, Debug)]
+#[derive(Clone, Copy)]
 pub(crate) enum Side {
     MayBeTrue,
     MayBeFalse,

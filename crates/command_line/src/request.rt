@@ -6,7 +6,7 @@ use search::Scope;
 use std::alloc::{AllocError, AllocFailed};
 
 /// What slapadd is asked for.
-#[derive(Clone, Copy, Debug, Drop)]
+#[derive(Clone, Copy, Drop)]
 pub struct AddOptions<'a> {
     /// The folder of the directory.
     pub db: &'a str,
@@ -19,7 +19,7 @@ pub struct AddOptions<'a> {
 }
 
 /// What ldapmodify is asked for.
-#[derive(Clone, Copy, Debug, Drop)]
+#[derive(Clone, Copy, Drop)]
 pub struct ModifyOptions<'a> {
     /// The folder of the directory.
     pub db: &'a str,
@@ -34,14 +34,14 @@ pub struct ModifyOptions<'a> {
 }
 
 /// What slapindex is asked for.
-#[derive(Clone, Copy, Debug, Drop)]
+#[derive(Clone, Copy, Drop)]
 pub struct IndexOptions<'a> {
     /// The folder of the directory.
     pub db: &'a str,
 }
 
 /// What search is asked for (RFC 4511, 4.5.1).
-#[derive(Debug, Drop)]
+#[derive(Drop)]
 pub struct SearchOptions<'a> {
     /// The folder of the directory.
     pub db: &'a str,
@@ -58,7 +58,7 @@ pub struct SearchOptions<'a> {
 }
 
 /// What slapcat is asked for.
-#[derive(Clone, Copy, Debug, Drop)]
+#[derive(Clone, Copy, Drop)]
 pub struct CatOptions<'a> {
     /// The folder of the directory.
     pub db: &'a str,
@@ -71,7 +71,7 @@ pub struct CatOptions<'a> {
 }
 
 /// What a command line asks for.
-#[derive(Debug, Drop)]
+#[derive(Drop)]
 pub enum Request<'a> {
     /// This text, for standard output.
     Help(String),
@@ -83,7 +83,7 @@ pub enum Request<'a> {
 }
 
 /// Why a command line asks for nothing that can be done.
-#[derive(Debug, Drop)]
+#[derive(Drop)]
 pub enum UsageFault {
     /// Its words are wrong: as this text says, for standard error.
     Words(String),

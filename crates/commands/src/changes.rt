@@ -19,7 +19,7 @@ use std::alloc::Global;
 use std::mem;
 
 /// Which records are to run over which directory, and how.
-#[derive(Clone, Copy, Debug, Drop)]
+#[derive(Clone, Copy, Drop)]
 pub struct Task<'a> {
     db: &'a str,
     // none for the input

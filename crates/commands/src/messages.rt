@@ -170,7 +170,7 @@ impl<T: Drop> From<AllocFailed<T>> for CommandFault {
 }
 
 /// Why a command stops before its work is done, and what it reports of that.
-#[derive(Debug, Drop)]
+#[derive(Drop)]
 pub enum Stop {
     /// This fault, of which the line is reported.
     Fault(CommandFault),

@@ -10,7 +10,7 @@ use std::alloc::{AllocError, Global};
 use std::marker::Model;
 
 /// The attribute types whose values are printed.
-#[derive(Debug, Drop)]
+#[derive(Drop)]
 pub struct Selection {
     // of each type by its number, whether it is selected; none where all are
     flags: Option<Sequence<bool>>,

@@ -7,7 +7,7 @@ use Rattle.definitions.specs.declared.element.Element.{Element}
 use Rattle.definitions.specs.declared.element.ElementField.{ElementField}
 use Rattle.definitions.specs.declared.element.ElementField.TheVariants as element_fields
 use Rattle.definitions.specs.declared.class_definition.ClassList.TheVariants as lists
-use Rattle.terms.specs.declared.class_kind.ClassKind.{ClassKind}
+use Rattle.base.specs.declared.class_kind.ClassKind.{ClassKind}
 use Rattle.definitions.specs.declared.class_definition.ClassField.{ClassField}
 use Rattle.definitions.specs.declared.class_definition.ClassField.TheVariants as fields
 use Rattle.definitions.specs.declared.class_definition.ClassDefinition.{ClassDefinition}

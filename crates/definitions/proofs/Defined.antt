@@ -13,7 +13,7 @@ use Rattle.definitions.specs.declared.type_field.Flag.TheVariants as flags
 use Rattle.definitions.specs.declared.type_field.TypeField.{TypeField}
 use Rattle.definitions.specs.declared.type_field.TypeField.TheVariants as fields
 use Rattle.definitions.specs.declared.type_definition.TypeDefinition.{TypeDefinition}
-use Rattle.terms.specs.Naming.{is_oid, is_type_name}
+use Rattle.base.specs.Naming.{is_oid, is_type_name}
 use Rattle.definitions.specs.Words.{◌>>>◌, Cut, sign_at, word_at, quoted_at}
 use Rattle.definitions.specs.Texts.{quoted_texts_at}
 use Rattle.definitions.specs.Elements as elements

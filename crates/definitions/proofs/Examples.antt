@@ -3,9 +3,9 @@ use Rattle.std.proofs.Common.{◌≡◌, ℕ, false, true, List, [], ◌∷◌, 
 use Rattle.std.specs.Prelude.{⊤, codes}
 use Rattle.definitions.specs.declared.type_field.Usage.TheVariants as usages
 use Rattle.definitions.specs.declared.type_definition.TypeDefinition.{TypeDefinition}
-use Rattle.terms.specs.declared.class_kind.ClassKind.TheVariants as kinds
+use Rattle.base.specs.declared.class_kind.ClassKind.TheVariants as kinds
 use Rattle.definitions.specs.declared.class_definition.ClassDefinition.{ClassDefinition}
-use Rattle.terms.specs.Naming.{are_groups}
+use Rattle.base.specs.Naming.{are_groups}
 use Rattle.definitions.specs.Words.{word_at, sign_at, quoted_at, plain_or_quoted_at, plain_or_named_at}
 use Rattle.definitions.specs.Texts.{to_close, quoted_texts_at, names_to_close, names_at}
 use Rattle.definitions.specs.Elements.{element_field, with_element_field, fields_to_end, head_at}

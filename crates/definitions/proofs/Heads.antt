@@ -1,6 +1,6 @@
 -- The beginning of a definition is read exactly where it stands.
 use Rattle.std.proofs.Common.{◌≡◌, ℕ, Bool, cond, List, ◌∷◌, Option, Some, None, ap, ◌∙◌}
-use Rattle.terms.specs.Naming.{is_oid}
+use Rattle.base.specs.Naming.{is_oid}
 use Rattle.definitions.specs.Words.{◌>>>◌, Cut, sign_at, word_at}
 use Rattle.definitions.specs.Elements.{numeric, head_at}
 use Rattle.definitions.specs.Tokens.{Token, Opening, Word, Begins, AreTokens}

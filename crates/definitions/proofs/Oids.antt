@@ -3,7 +3,7 @@ use Rattle.std.proofs.Common.{◌≡◌, ℕ, ◌<◌, Bool, true, false, cond, 
 use Rattle.std.specs.List.{list_all, join_with_byte}
 use Rattle.std.specs.Char.{is_ascii_digit}
 use Rattle.std.proofs.lemmas.Bool.{and_parts, eqb-true}
-use Rattle.terms.specs.Naming.{is_name, are_groups, is_oid, is_name_or_oid}
+use Rattle.base.specs.Naming.{is_name, are_groups, is_oid, is_name_or_oid}
 use Rattle.definitions.specs.Grammar.{is_number, IsOid, IsNameOrOid}
 
 -- ---- numbers joined by dots are groups

@@ -7,7 +7,7 @@ use Rattle.std.proofs.lemmas.Bool.Decides.{nat_tests}
 use Rattle.std.proofs.lemmas.List.{take-append-drop, length-append, length-drop, length_push}
 use Rattle.std.proofs.Math.Seq.{drop-append_seam, take-append_seam}
 use Rattle.base.specs.Ends.{begins_with}
-use Rattle.terms.specs.Naming.{are_groups, is_oid}
+use Rattle.base.specs.Naming.{are_groups, is_oid}
 use Rattle.definitions.specs.Words.{end_of}
 use Rattle.definitions.specs.TypeFields.{is_brace, is_closed, is_length, syntax_oid}
 use Rattle.definitions.specs.Grammar.{is_number, IsOid}

@@ -7,7 +7,7 @@ use Rattle.std.proofs.lemmas.List.{take-append-drop, drop_more, length-append, l
 use Rattle.std.proofs.Math.Seq.{drop-append_seam, take-append_seam}
 use Rattle.base.specs.Ends.{begins_with}
 use Rattle.definitions.specs.Words.{◌>>>◌, Cut, is_blank, is_no_blank, end_of, skip, ends_word, cut_word, word_at, sign_at, is_quote, cut_quoted, quoted_at, plain_or_quoted_at, named, plain_or_named_at}
-use Rattle.terms.specs.Naming.{is_name_or_oid}
+use Rattle.base.specs.Naming.{is_name_or_oid}
 use Rattle.definitions.specs.Texts.{name_at}
 use Rattle.definitions.specs.Tokens.{Token, Opening, Closing, Dollar, Quoted, Word, written, is_in_word, is_in_quotes, ends_here, CanStand, Begins}
 use Rattle.definitions.specs.Grammar.{IsNameOrOid, IsName}

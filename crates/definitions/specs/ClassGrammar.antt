@@ -4,8 +4,8 @@ use Rattle.definitions.specs.declared.element.Sort.TheVariants as sorts
 use Rattle.definitions.specs.declared.element.ElementField.{ElementField}
 use Rattle.definitions.specs.declared.class_definition.ClassList.{ClassList}
 use Rattle.definitions.specs.declared.class_definition.ClassList.TheVariants as lists
-use Rattle.terms.specs.declared.class_kind.ClassKind.{ClassKind}
-use Rattle.terms.specs.declared.class_kind.ClassKind.TheVariants as kinds
+use Rattle.base.specs.declared.class_kind.ClassKind.{ClassKind}
+use Rattle.base.specs.declared.class_kind.ClassKind.TheVariants as kinds
 use Rattle.definitions.specs.declared.class_definition.ClassField.{ClassField}
 use Rattle.definitions.specs.declared.class_definition.ClassField.TheVariants as fields
 use Rattle.definitions.specs.declared.class_definition.ClassDefinition.{ClassDefinition}

@@ -8,7 +8,7 @@ use Rattle.definitions.specs.declared.element.Sort.TheVariants as sorts
 use Rattle.definitions.specs.declared.element.Element.{Element}
 use Rattle.definitions.specs.declared.element.ElementField.{ElementField}
 use Rattle.definitions.specs.declared.element.ElementField.TheVariants as fields
-use Rattle.terms.specs.Naming.{is_oid, is_name, is_type_name}
+use Rattle.base.specs.Naming.{is_oid, is_name, is_type_name}
 use Rattle.definitions.specs.Words.{◌>>>◌, Cut, skip, sign_at, word_at, quoted_at}
 use Rattle.definitions.specs.Texts.{Cuts, quoted_texts_at}
 

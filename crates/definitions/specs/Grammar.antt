@@ -7,7 +7,7 @@ use Rattle.definitions.specs.declared.element.Sort.{Sort}
 use Rattle.definitions.specs.declared.element.Element.{Element}
 use Rattle.definitions.specs.declared.element.ElementField.{ElementField}
 use Rattle.definitions.specs.declared.element.ElementField.TheVariants as fields
-use Rattle.terms.specs.Naming.{is_name}
+use Rattle.base.specs.Naming.{is_name}
 use Rattle.definitions.specs.Elements.{is_word, is_allowed, is_some_list}
 use Rattle.definitions.specs.Tokens.{Token, Opening, Closing, Quoted, Word, AreTokens}
 

@@ -12,7 +12,7 @@ use Rattle.definitions.specs.declared.type_field.Usage.{Usage}
 use Rattle.definitions.specs.declared.type_field.Usage.TheVariants as usages
 use Rattle.definitions.specs.declared.type_field.TypeField.{TypeField}
 use Rattle.definitions.specs.declared.type_field.TypeField.TheVariants as fields
-use Rattle.terms.specs.Naming.{is_oid}
+use Rattle.base.specs.Naming.{is_oid}
 use Rattle.base.specs.Ends.{begins_with}
 use Rattle.definitions.specs.Words.{◌>>>◌, Cut, end_of, word_at, plain_or_quoted_at, plain_or_named_at}
 use Rattle.definitions.specs.Elements as elements

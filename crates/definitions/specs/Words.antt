@@ -2,7 +2,7 @@
 use Rattle.std.specs.Prelude.{ℕ, ◌+◌, Bool, not, ◌||◌, ◌==◌, nat_lt, if◌then◌else◌, List, take, drop, length, position, unwrap_or, Option, Some, None}
 use Rattle.base.specs.Ascii.{tab, space, dollar_sign, apostrophe, left_parenthesis, right_parenthesis}
 use Rattle.base.specs.Ends.{begins_with}
-use Rattle.terms.specs.Naming.{is_name_or_oid}
+use Rattle.base.specs.Naming.{is_name_or_oid}
 
 infixl 10 ◌>>>◌
 abbrev pub ◌>>>◌ : {A B : Type 0} → Option A → (A → Option B) → Option B

@@ -10,12 +10,11 @@ use crate::element::{Element, ElementField, Sort, element_field, ends_there, hea
 use crate::fault::DefinitionFault;
 use crate::texts::names_at;
 use crate::words::word_at;
-use base::{Bytes, Sequence};
+use base::{Bytes, ClassKind, Sequence};
 use std::alloc::{AllocError, Global};
-use terms::ClassKind;
 
 /// A field that names classes or types.
-#[derive(Clone, Copy, Debug, PartialEq, Eq)]
+#[derive(Clone, Copy, PartialEq, Eq)]
 pub(crate) enum ClassList {
     /// SUP
     Superiors,
@@ -26,7 +25,7 @@ pub(crate) enum ClassList {
 }
 
 /// A field of a definition.
-#[derive(Debug, Drop)]
+#[derive(Drop)]
 pub(crate) enum ClassField {
     Element(ElementField),
     List(ClassList, Sequence<Bytes>),
@@ -34,7 +33,7 @@ pub(crate) enum ClassField {
 }
 
 /// What a definition says of an object class. Names of classes and types are as written.
-#[derive(Debug, Drop)]
+#[derive(Drop)]
 pub struct ClassDefinition {
     pub element: Element,
     /// The classes that it is derived from (SUP).

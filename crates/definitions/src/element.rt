@@ -11,19 +11,18 @@ ghost use Rattle.definitions.specs.Gives.{Gives};
 use crate::fault::DefinitionFault;
 use crate::texts::quoted_texts_at;
 use crate::words::{quoted_at, sign_at, skip, word_at};
-use base::{Bytes, Sequence};
+use base::{Bytes, Sequence, is_name, is_oid, is_type_name};
 use std::alloc::{AllocError, Global};
-use terms::{is_name, is_oid, is_type_name};
 
 /// What a definition defines.
-#[derive(Clone, Copy, Debug, PartialEq, Eq)]
+#[derive(Clone, Copy, PartialEq, Eq)]
 pub(crate) enum Sort {
     AttributeType,
     ObjectClass,
 }
 
 /// What a definition says of a type or class as such.
-#[derive(Debug, Drop)]
+#[derive(Drop)]
 pub struct Element {
     /// Its numeric OID.
     pub oid: Bytes,
@@ -37,7 +36,7 @@ pub struct Element {
 }
 
 /// A field that says something of a type or class as such.
-#[derive(Debug, Drop)]
+#[derive(Drop)]
 pub(crate) enum ElementField {
     Names(Sequence<Bytes>),
     Description,

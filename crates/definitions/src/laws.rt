@@ -7,7 +7,7 @@ ghost use Rattle.definitions.specs.declared.type_definition.TypeDefinition.{Type
 ghost use Rattle.definitions.specs.declared.lines.Line.{Line};
 ghost use Rattle.definitions.specs.Lines.{lines_of};
 ghost use Rattle.definitions.specs.LineGrammar.{AreLines};
-ghost use Rattle.terms.specs.Naming.{is_oid, is_type_name};
+ghost use Rattle.base.specs.Naming.{is_oid, is_type_name};
 ghost use Rattle.definitions.specs.TypeDefinitions.{type_definition_of};
 ghost use Rattle.definitions.specs.TypeGrammar.{IsTypeField, SpellsType, AreTypeFieldsMoved};
 ghost use Rattle.definitions.specs.ClassDefinitions.{class_definition_of};

@@ -10,7 +10,7 @@ use base::{Bytes, begins_with};
 use std::alloc::{AllocError, Global};
 
 /// A line with those that it goes on on.
-#[derive(Debug, Drop)]
+#[derive(Drop)]
 pub struct Line {
     /// The number of the first one, from 1.
     pub number: u64,

@@ -14,7 +14,7 @@ use base::Bytes;
 use std::alloc::{AllocError, Global};
 
 /// What a definition says of an attribute type. Names of types, rules and syntaxes are as written.
-#[derive(Debug, Drop)]
+#[derive(Drop)]
 pub struct TypeDefinition {
     pub element: Element,
     /// The type that it is derived from (SUP).

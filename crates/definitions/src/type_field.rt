@@ -12,9 +12,8 @@ ghost use Rattle.definitions.specs.Gives.{Gives};
 use crate::element::{ElementField, Sort, element_field};
 use crate::fault::DefinitionFault;
 use crate::words::{plain_or_named_at, plain_or_quoted_at, word_at};
-use base::Bytes;
+use base::{Bytes, is_oid};
 use std::alloc::Global;
-use terms::is_oid;
 
 /// A field that names a type, a rule or a syntax.
 #[derive(Clone, Copy, Debug, PartialEq, Eq)]
@@ -56,7 +55,7 @@ pub enum Usage {
 }
 
 /// A field of a definition.
-#[derive(Debug, Drop)]
+#[derive(Drop)]
 pub(crate) enum TypeField {
     Element(ElementField),
     Flag(Flag),

@@ -4,8 +4,7 @@ ghost use Rattle.std.specs.Prelude.{◌≡◌, ◌<◌, IfSome, length, position
 ghost use Rattle.std.specs.Option.{option_map};
 ghost use Rattle.definitions.specs.Words.{is_blank, is_no_blank, end_of, skip, first_word, after_word, ends_word, word_at, sign_at, is_quote, cut_quoted, quoted_at, plain_or_quoted_at, plain_or_named_at, named, ◌>>>◌};
 
-use base::begins_with;
-use terms::is_name_or_oid;
+use base::{begins_with, is_name_or_oid};
 
 fn is_blank(b: u8) -> bool
     ensures { result ≡ is_blank b }

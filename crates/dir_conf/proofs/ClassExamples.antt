@@ -3,9 +3,9 @@ use Rattle.std.proofs.Common.{◌≡◌, ℕ, List, [], ◌∷◌, Result, refl}
 use Rattle.std.specs.Prelude.{⊤, codes, Some, Ok, Err}
 use Rattle.base.specs.Answers.{each, through}
 use Rattle.values.specs.Types.{type_of}
-use Rattle.terms.specs.declared.class_kind.ClassKind.TheVariants.{Structural, Auxiliary}
+use Rattle.base.specs.declared.class_kind.ClassKind.TheVariants.{Structural, Auxiliary}
 use Rattle.definitions.specs.declared.lines.Line.{Line}
-use Rattle.terms.specs.Naming.{are_groups}
+use Rattle.base.specs.Naming.{are_groups}
 use Rattle.definitions.specs.Words.{word_at, sign_at, quoted_at, plain_or_named_at}
 use Rattle.definitions.specs.Texts.{to_close, quoted_texts_at, names_to_close, names_at}
 use Rattle.definitions.specs.Elements.{element_field, with_element_field, fields_to_end, head_at}

@@ -18,7 +18,7 @@ use Rattle.definitions.specs.declared.element.Element.{Element}
 use Rattle.definitions.specs.declared.lines.Line.{Line}
 use Rattle.definitions.specs.declared.type_definition.TypeDefinition.{TypeDefinition}
 use Rattle.definitions.specs.Lines.{begins_blank}
-use Rattle.terms.specs.Naming.{is_oid, is_type_name, are_groups}
+use Rattle.base.specs.Naming.{is_oid, is_type_name, are_groups}
 use Rattle.definitions.specs.Words.{after_word}
 use Rattle.definitions.specs.TypeDefinitions.{type_definition_of}
 use Rattle.schema.specs.declared.code.Code.{Code}

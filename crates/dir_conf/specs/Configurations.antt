@@ -17,8 +17,8 @@ use Rattle.definitions.specs.declared.type_definition.TypeDefinition.{TypeDefini
 use Rattle.definitions.specs.Words.{skip, first_word, after_word}
 use Rattle.definitions.specs.Lines.{begins_blank, lines_of}
 use Rattle.definitions.specs.declared.class_definition.ClassDefinition.{ClassDefinition}
-use Rattle.terms.specs.declared.class_kind.ClassKind.{ClassKind}
-use Rattle.terms.specs.declared.class_kind.ClassKind.TheVariants as kinds
+use Rattle.base.specs.declared.class_kind.ClassKind.{ClassKind}
+use Rattle.base.specs.declared.class_kind.ClassKind.TheVariants as kinds
 use Rattle.definitions.specs.TypeDefinitions.{type_definition_of}
 use Rattle.definitions.specs.ClassDefinitions.{class_definition_of}
 use Rattle.dir_conf.specs.DerivedTypes.{type_with}

@@ -14,11 +14,10 @@ use crate::conf_fault::{ConfFault, ConfFaultKind};
 use crate::conf_lines::fault;
 use crate::type_lines::{has_twin, is_built_in, one_name, type_named};
 use crate::type_rules::copied;
-use base::{Bytes, Sequence};
+use base::{Bytes, ClassKind, Sequence};
 use definitions::{ClassDefinition, DefinitionFault, Element, read_class_definition};
 use schema::{ClassTable, ObjectClass};
 use std::alloc::{AllocError, Global};
-use terms::ClassKind;
 use values::{TypeId, TypeTable};
 
 /// The numbers of the classes and types that a definition of a class names.

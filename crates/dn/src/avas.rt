@@ -53,7 +53,7 @@ fn in_range(bytes: &[u8]) -> &[u8]
 }
 
 /// A type as written and a value: one AVA of an RDN (RFC 4512, 2.3.2). A contract sees the pair of them.
-#[derive(Debug, Drop)]
+#[derive(Drop)]
 pub struct Ava {
     // the type, an equals sign and the value
     text: AvaText,

@@ -17,7 +17,6 @@ fn are_avas(avas: &[Ava]) -> bool
 }
 
 /// The AVAs of an RDN, one or more. A contract sees the list of them.
-#[derive(Debug)]
 pub struct Rdn {
     avas: SmallVec<Ava, 2>,
 }
@@ -92,7 +91,7 @@ impl Rdn {
 }
 
 /// A name: its RDNs, the entry's own first. A contract sees the list of them.
-#[derive(Debug, Drop)]
+#[derive(Drop)]
 pub struct Name {
     rdns: Vec<Rdn>,
 }

@@ -9,7 +9,7 @@ use std::marker::Model;
 /// As many bytes as need no allocation.
 const FEW: usize = 24;
 
-#[derive(Debug, Drop)]
+#[derive(Drop)]
 enum Place {
     // how many there are, in a word of their own: bytes behind an odd one are slow to move
     Few(u32, [u8; FEW]),
@@ -17,7 +17,6 @@ enum Place {
 }
 
 /// Bytes in order; a few of them take no allocation. A contract sees the list of them.
-#[derive(Debug)]
 pub(crate) struct AvaText {
     place: Place,
 }

@@ -2,7 +2,7 @@
 use Rattle.std.proofs.Common.{◌≡◌, ℕ, Bool, true, false, List, [], ◌∷◌, Some, None, Result, Err, refl}
 use Rattle.std.specs.Prelude.{codes, ⊤}
 use Rattle.base.specs.Answers.{through}
-use Rattle.terms.specs.declared.class_kind.ClassKind.TheVariants.{Structural}
+use Rattle.base.specs.declared.class_kind.ClassKind.TheVariants.{Structural}
 use Rattle.ldif.specs.declared.record.Op.TheVariants.{Delete}
 use Rattle.matching.specs.declared.family.Family.TheVariants as families
 use Rattle.matching.specs.declared.syntax.Syntax.TheVariants as syntaxes

@@ -9,7 +9,7 @@ use base::Bytes;
 use schema::{Family, Pieces, contains_pieces, is_less};
 
 /// What a prepared item asks of a value, by normal forms.
-#[derive(Debug, Drop)]
+#[derive(Drop)]
 pub enum Assertion {
     Equality(Bytes),
     GreaterOrEqual { family: Family, value: Bytes },

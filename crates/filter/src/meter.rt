@@ -5,7 +5,7 @@ ghost use Rattle.std.specs.Prelude.{◌≡◌, ◌+◌, ◌<◌, ◌^◌};
 use std::marker::Model;
 
 /// A count of the tests that were made. A contract sees it as that number.
-#[derive(Debug, Drop)]
+#[derive(Drop)]
 pub struct Meter {
     count: u64,
 }

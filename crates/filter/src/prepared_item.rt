@@ -11,7 +11,7 @@ use entries::{Entry, Values};
 use schema::TypeId;
 
 /// An item of a filter, prepared under a configuration.
-#[derive(Debug, Drop)]
+#[derive(Drop)]
 pub enum PreparedItem {
     /// Of no entry it can be told.
     Undefined,

@@ -5,7 +5,7 @@ ghost use Rattle.std.specs.Prelude.{◌≡◌};
 use std::alloc::{AllocError, AllocFailed};
 
 /// Why a part of a text can't be read.
-#[derive(Debug, Drop)]
+#[derive(Drop)]
 pub enum Fault {
     OutOfMemory,
     /// No byte goes on from here; so many bytes are left.

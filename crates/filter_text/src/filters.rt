@@ -2,7 +2,7 @@
 use crate::items::Item;
 
 /// A search filter (RFC 4515, section 3; RFC 4511, section 4.5.1.7). One that was read is nested at most 512 deep.
-#[derive(Debug, Drop)]
+#[derive(Drop)]
 pub enum Filter {
     /// `(&..)`: each of these, of which there may be none.
     And(Vec<Filter>),

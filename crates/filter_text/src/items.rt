@@ -3,7 +3,7 @@ use base::{Bytes, Sequence};
 
 /// What a filter asks of an attribute (RFC 4515, section 3: simple, present, substring and extensible). Attributes are written as in
 /// the text; values have their escapes undone.
-#[derive(Debug, Drop)]
+#[derive(Drop)]
 pub enum Item {
     /// `cn=Bob`
     Equality {

@@ -6,4 +6,5 @@ pub mod Postings
 pub mod SlotKeys
 pub mod StoredNorms
 pub mod TypeNorms
+pub mod IndexTexts
 pub mod inner

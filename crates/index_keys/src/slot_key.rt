@@ -7,7 +7,7 @@ use base::Bytes;
 pub struct SlotNumber(pub usize);
 
 /// A key under a slot. They are ordered by slot, and then by the bytes of the key.
-#[derive(Debug, Drop, PartialEq, Eq, PartialOrd, Ord)]
+#[derive(Drop, PartialEq, Eq, PartialOrd, Ord)]
 pub struct SlotKey {
     pub slot: SlotNumber,
     pub key: Bytes,

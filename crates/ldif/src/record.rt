@@ -13,7 +13,7 @@ pub enum Mode {
 }
 
 /// A control that a change comes with (RFC 2849, "control").
-#[derive(Debug, Drop)]
+#[derive(Drop)]
 pub struct Control {
     pub oid: Bytes,
     pub critical: bool,
@@ -29,7 +29,7 @@ pub enum Op {
 }
 
 /// A block of a modify (RFC 2849, "mod-spec").
-#[derive(Debug, Drop)]
+#[derive(Drop)]
 pub struct Mod {
     pub op: Op,
     pub attr: Bytes,
@@ -37,7 +37,7 @@ pub struct Mod {
 }
 
 /// A record (RFC 2849, "ldif-attrval-record" and "ldif-change-record").
-#[derive(Debug, Drop)]
+#[derive(Drop)]
 pub enum Record<'a> {
     /// A version line alone.
     Empty,

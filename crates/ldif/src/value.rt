@@ -8,7 +8,7 @@ use std::alloc::{AllocError, Global};
 use std::marker::Model;
 
 /// The value of a line.
-#[derive(Debug, Drop)]
+#[derive(Drop)]
 pub enum LineValue<'a> {
     /// A part of the line.
     Plain(&'a [u8]),
@@ -37,7 +37,6 @@ impl<'a> LineValue<'a> {
 }
 
 /// An attribute's name and one value of it, as a line has them. A contract sees the two as lists of bytes.
-#[derive(Debug)]
 pub struct Attr<'a> {
     name: &'a [u8],
     value: LineValue<'a>,

@@ -11,9 +11,8 @@ ghost use Rattle.ldif_lines.specs.Folding.{folded};
 ghost use Rattle.ldif.specs.Writing.{is_safe_byte, is_common_byte, has_plain_ends, is_plain, line_text, written_line};
 ghost use Rattle.ldif.specs.declared.write.WriteFault.TheVariants as faults;
 
-use base::{begins_with, ends_with};
+use base::{ByteTest, any_byte, begins_with, ends_with};
 use base64::engine::general_purpose::STANDARD;
-use byte_tests::{ByteTest, any_byte};
 use device::{Device, Sink, push_all};
 use std::alloc::{AllocError, Global};
 use thiserror::Error;

@@ -1,7 +1,7 @@
 -- A search for a space that follows a space at the two ends of a text, which cover it.
 use Rattle.std.proofs.Common.{◌≡◌, ℕ, zero, suc, ◌≤◌, ◌<◌, ◌-◌, ◌*◌, Bool, true, false, ◌||◌, ◌&&◌, List, [], ◌∷◌, take, drop, length, refl, ◌∙◌, arith}
 use Rattle.base.specs.Ends.{is_space}
-use Rattle.byte_tests.proofs.Ends.{back_of}
+use Rattle.base.proofs.TestedEnds.{back_of}
 use Rattle.matching.specs.inner.Gaps.{has_wide_gap_after}
 
 gap_absorbed : (spaced : Bool) (xs : List ℕ) (k : ℕ) → (has_wide_gap_after spaced (take k xs) || has_wide_gap_after spaced xs) ≡ has_wide_gap_after spaced xs

@@ -12,7 +12,7 @@ ghost use Rattle.matching.specs.inner.Numbers.{number};
 const LIMIT: u128 = 1 << 127;
 
 /// A whole number of 128 signed bits.
-#[derive(Clone, Copy, Debug)]
+#[derive(Clone, Copy)]
 pub(crate) struct Integer {
     negative: bool,
     magnitude: u128,

@@ -9,8 +9,7 @@ ghost use Rattle.matching.specs.inner.Gaps.{with_gap};
 use crate::family::Family;
 use crate::tested_bytes::{Capital, Space};
 use crate::wide_gaps::has_wide_gap;
-use base::Bytes;
-use byte_tests::any_byte;
+use base::{Bytes, any_byte};
 use std::alloc::{AllocError, Global};
 
 fn put_gap(out: &mut Vec<u8>, gap: bool) -> Result<(), AllocError>

@@ -13,7 +13,7 @@ use memchr::memmem;
 use std::alloc::{AllocError, Global};
 
 /// The pieces of a substring assertion in their normal forms (RFC 4511, 4.5.1.7.2).
-#[derive(Debug, Drop)]
+#[derive(Drop)]
 pub struct Pieces {
     pub pieces: Sequence<Bytes>,
     /// Whether a star stands before the first.

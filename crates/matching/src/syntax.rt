@@ -8,7 +8,7 @@ ghost use Rattle.matching.specs.Integers.{is_integer};
 
 use crate::integer::Integer;
 use crate::tested_bytes::{NotAscii, NotOid};
-use byte_tests::any_byte;
+use base::any_byte;
 
 /// Which values an attribute type takes (RFC 4517, 3.3), where that can be told without knowing types. So DN isn't among these.
 #[derive(Clone, Copy, Debug, PartialEq, Eq)]

@@ -1,6 +1,6 @@
 //! Tests of bytes.
 
-use byte_tests::ByteTest;
+use base::ByteTest;
 
 /// Whether a byte is a space.
 pub(crate) struct Space;

@@ -14,7 +14,7 @@ use Rattle.schema.specs.declared.code.Code.{Code}
 use Rattle.schema.specs.declared.code.Code.TheVariants.{InvalidDnSyntax, NamingViolation, NoSuchObject}
 use Rattle.base.specs.Answers.{◌>>=◌}
 use Rattle.values.specs.Types.{printed_name, name_of, type_at, is_known, has_equality, first_or}
-use Rattle.terms.specs.Naming.{is_oid, are_groups, is_name, is_name_byte, is_type_name, is_reserved}
+use Rattle.base.specs.Naming.{is_oid, are_groups, is_name, is_name_byte, is_type_name, is_reserved}
 use Rattle.schema.specs.Rdns.{Ava, TypedRdn, is_valid_ava, has_type, ava_type, type_among, avas_from, rdns_from, rdn_key_of}
 use Rattle.schema.specs.GoodRdns.{IsAva, IsRdn, type_in}
 use Rattle.dn.specs.Names as names

@@ -2,7 +2,7 @@
 use Rattle.std.specs.Prelude.{◌≡◌, ℕ, ◌<◌, Bool, true, false, List, [], ◌∷◌, Option, position, slice_index_or, codes}
 use Rattle.std.specs.List.{list_any, AllByRecursion}
 use Rattle.std.specs.Str.{str_eq_ignore_ascii_case}
-use Rattle.terms.specs.declared.class_kind.ClassKind.TheVariants as kinds
+use Rattle.base.specs.declared.class_kind.ClassKind.TheVariants as kinds
 use Rattle.values.specs.declared.types.AttributeType.{AttributeType}
 use Rattle.values.specs.Types.{is_known}
 use Rattle.schema.specs.declared.object_class.ObjectClass.{ObjectClass}

@@ -7,7 +7,7 @@ use Rattle.values.specs.declared.types.AttributeType.{AttributeType}
 use Rattle.schema.specs.declared.code.Code.{Code}
 use Rattle.schema.specs.declared.code.Code.TheVariants.{NoSuchObject}
 use Rattle.values.specs.Types.{names_of, is_named, type_at}
-use Rattle.terms.specs.Naming.{is_oid, is_type_name}
+use Rattle.base.specs.Naming.{is_oid, is_type_name}
 use Rattle.paths.specs.Paths.{RdnKey, Path, rdn_key_cmp}
 use Rattle.schema.specs.TypeRules.{object_class, FitsBehind}
 use Rattle.schema.specs.declared.object_class.ObjectClass.{ObjectClass}

@@ -11,7 +11,7 @@ use std::marker::Model;
 use values::NameIndex;
 
 /// Object classes, each at its number. A contract sees them as a list.
-#[derive(Debug, Drop)]
+#[derive(Drop)]
 pub struct ClassTable {
     classes: Sequence<ObjectClass>,
     // the number of the first class with a name or OID

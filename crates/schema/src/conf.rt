@@ -9,32 +9,24 @@ ghost use Rattle.schema.specs.Values.{normal_text};
 ghost use Rattle.values.specs.Types.{type_of, name_of, type_at};
 
 use crate::class_table::ClassTable;
-use crate::dn_values::normal_text;
-use crate::locate::path_of;
-use crate::names::rdns_text;
+use crate::derived::Derived;
 use crate::object_class::ObjectClass;
-use crate::settled::{Settled, settle};
+use crate::settled::Settled;
 use crate::slots::Slot;
-use base::{Bytes, Sequence};
+use base::Sequence;
 use paths::{Path, TypedRdn};
 use std::alloc::{AllocError, Global};
 use std::marker::Model;
 use values::{AttributeType, TypeId, TypeTable};
 
 /// The configuration of a directory. A contract sees its attribute types, its suffix, its slots and its object classes.
-#[derive(Debug, Drop)]
+#[derive(Drop)]
 pub struct Conf {
     types: TypeTable,
     suffix: Sequence<TypedRdn>,
     slots: Sequence<Slot>,
-    // what the suffix's RDNs come to, from the root of the tree down
-    root: Path,
-    // the suffix as it is written, and its normal form as a value
-    suffix_text: Bytes,
-    suffix_norm: Bytes,
     classes: ClassTable,
-    // what each class asks, with all of its superclasses
-    settled: Sequence<Settled>,
+    derived: Derived,
 }
 
 impl Model for Conf {
@@ -45,7 +37,7 @@ impl Model for Conf {
 
     ghost view = { λ c. record { types = c.types; suffix = c.suffix; slots = c.slots; classes = c.classes } };
 
-    ghost invariant = { λ c. Keeps (record { types = c.types; suffix = c.suffix; slots = c.slots; classes = c.classes }) c.root c.settled c.suffix_text c.suffix_norm };
+    ghost invariant = { λ c. Keeps (record { types = c.types; suffix = c.suffix; slots = c.slots; classes = c.classes }) c.derived };
 }
 
 impl Conf {
@@ -63,19 +55,13 @@ impl Conf {
         requires { IsConf (record { types = types; suffix = suffix; slots = slots; classes = classes }) }
         ensures { IfOk result (λ conf. conf ≡ record { types = types; suffix = suffix; slots = slots; classes = classes }) }
     {
-        let root = path_of(alloc, &types, suffix.as_slice())?;
-        let suffix_text = rdns_text(alloc, &types, suffix.as_slice())?;
-        let suffix_norm = normal_text(alloc, &types, suffix.as_slice(), suffix_text.len())?;
-        let settled = settle(alloc, classes.as_slice())?;
+        let derived = Derived::of(alloc, &types, suffix.as_slice(), classes.as_slice())?;
         Ok(Conf {
             types,
             suffix,
             slots,
-            root,
-            suffix_text,
-            suffix_norm,
             classes,
-            settled,
+            derived,
         })
     }
 
@@ -127,7 +113,7 @@ impl Conf {
         requires { class < length self.now.classes }
         ensures { IsSettled self.now.classes class result.now }
     {
-        &self.settled.as_slice()[class]
+        &self.derived.settled.as_slice()[class]
     }
 
     /// The number of the object class with this name or OID, without ASCII case.
@@ -149,14 +135,14 @@ impl Conf {
     pub fn suffix_text(&self) -> &[u8]
         ensures { result.now ≡ text_of (map (written_rdn self.now.types) self.now.suffix) }
     {
-        self.suffix_text.as_slice()
+        self.derived.suffix_text.as_slice()
     }
 
     /// The normal form of the suffix as a value of DN syntax.
     pub(crate) fn suffix_norm(&self) -> &[u8]
         ensures { result.now ≡ normal_text self.now.types self.now.suffix }
     {
-        self.suffix_norm.as_slice()
+        self.derived.suffix_norm.as_slice()
     }
 
     /// What is indexed: each slot once, by the number of its type, and then by its kind: equality, presence, substrings.
@@ -170,7 +156,7 @@ impl Conf {
     pub(crate) fn root(&self) -> &Path
         ensures { result.now ≡ map (rdn_key_of self.now.types) (reverse self.now.suffix) }
     {
-        &self.root
+        &self.derived.root
     }
 
     /// The RDN of the suffix's own entry.

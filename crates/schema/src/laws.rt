@@ -4,7 +4,7 @@ ghost use Rattle.std.specs.Prelude.{◌≡◌, ◌<◌, ◌↔◌, ℕ, true, fa
 ghost use Rattle.std.specs.List.{list_all, AllByRecursion};
 ghost use Rattle.std.specs.List.Sorted.{IsNonDecreasingBy, IsPermutation};
 ghost use Rattle.values.specs.Types.{type_of, name_of, is_known};
-ghost use Rattle.terms.specs.Naming.{is_reserved};
+ghost use Rattle.base.specs.Naming.{is_reserved};
 ghost use Rattle.values.specs.declared.types.AttributeType.{AttributeType};
 ghost use Rattle.schema.specs.declared.code.Code.{Code};
 ghost use Rattle.schema.specs.Rdns.{TypedRdn, type_of_pair, pair_of, rdn_key_of, typed};

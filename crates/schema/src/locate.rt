@@ -22,7 +22,7 @@ use std::alloc::{AllocError, Global};
 use values::TypeTable;
 
 /// Where a name stands: its path, and its RDNs below the suffix, from the suffix down.
-#[derive(Debug, Drop)]
+#[derive(Drop)]
 pub struct Located {
     pub path: Path,
     pub rdns: Sequence<TypedRdn>,

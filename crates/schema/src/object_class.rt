@@ -1,11 +1,10 @@
 //! Object classes.
 
-use base::{Bytes, Sequence};
-use terms::ClassKind;
+use base::{Bytes, ClassKind, Sequence};
 use values::TypeId;
 
 /// An object class (RFC 4512, 4.1.1), with what its definition names.
-#[derive(Debug, Drop)]
+#[derive(Drop)]
 pub struct ObjectClass {
     /// Its numeric OID.
     pub oid: Bytes,

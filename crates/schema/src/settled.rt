@@ -14,7 +14,7 @@ use std::alloc::{AllocError, Global};
 const EXTENSIBLE_OBJECT: usize = 1;
 
 /// What a class asks of an entry, by itself and by its superclasses.
-#[derive(Debug, Drop)]
+#[derive(Drop)]
 pub(crate) struct Settled {
     /// The types that an entry of it has.
     pub(crate) required: TypeSet,

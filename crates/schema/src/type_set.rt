@@ -9,7 +9,7 @@ use std::marker::Model;
 use values::TypeId;
 
 /// Attribute types, each once. A contract sees them as the list of their numbers.
-#[derive(Debug, Drop)]
+#[derive(Drop)]
 pub(crate) struct TypeSet {
     types: Vec<TypeId>,
     // at the number of a type, whether it is one of them; behind the end none is

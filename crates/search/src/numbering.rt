@@ -4,7 +4,7 @@ ghost use Rattle.std.specs.Prelude.{◌≡◌};
 ghost use Rattle.search.specs.inner.Marks.{number_by};
 
 /// Which numbers of entries candidates have.
-#[derive(Clone, Copy, Debug)]
+#[derive(Clone, Copy)]
 pub(crate) enum Numbering {
     /// Those in the tree.
     InTree,

@@ -18,7 +18,7 @@ use schema::Slot;
 use std::alloc::{AllocError, Global};
 
 /// What stands next in an index text.
-#[derive(Clone, Copy, Debug)]
+#[derive(Clone, Copy)]
 pub(crate) enum Place {
     /// The first line.
     Header,

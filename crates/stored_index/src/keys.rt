@@ -6,7 +6,7 @@ ghost use Rattle.stored_index.specs.Words.{is_hex_byte, bytes_in, key_in};
 ghost use Rattle.stored_index.specs.Gives.{Gives};
 
 use crate::fault::{LineFault, form};
-use byte_tests::{ByteTest, any_byte};
+use base::{ByteTest, any_byte};
 use std::alloc::Global;
 
 /// Whether a byte is no hexadecimal digit, or is a capital.

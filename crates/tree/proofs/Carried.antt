@@ -5,7 +5,7 @@ use Rattle.std.specs.Ordering.{eq_by_cmp}
 use Rattle.std.specs.Map.{remove_entry}
 use Rattle.std.specs.BTreeMap.{insert_entry, is_at}
 use Rattle.std.specs.FinMap as finite
-use Rattle.cells.specs.Cells.{cell, IsTaken, taken, most, IsSet}
+use Rattle.tree.specs.Cells.{cell, IsTaken, taken, most, IsSet}
 use Rattle.paths.specs.Paths.{Path, path_cmp}
 use Rattle.schema.specs.Conf.{Conf}
 use Rattle.entries.specs.Entries.{EntryContent}

@@ -22,3 +22,4 @@ pub mod Planned
 pub mod ChangeExamples
 pub mod Followed
 mod LastUpTo
+pub mod Chains

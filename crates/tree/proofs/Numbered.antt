@@ -15,7 +15,7 @@ use Rattle.entries.specs.Entries.{EntryContent}
 use Rattle.tree.specs.Directories.{Entries}
 use Rattle.entries.specs.StoredEntries.{Entry, content_of, IsMade}
 use Rattle.tree.specs.Trees.{Numbers, seen_entries}
-use Rattle.cells.specs.Cells.{cell, IsSet}
+use Rattle.tree.specs.Cells.{cell, IsSet}
 use Rattle.tree.specs.inner.Trees.{Cells, entry_at, joined, numbers_of, entries_in, AreNumbered}
 use Rattle.tree.proofs.Kept.{equal}
 use Rattle.tree.proofs.Order.{path_total, path_exact}

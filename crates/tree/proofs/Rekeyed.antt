@@ -4,7 +4,7 @@ use Rattle.std.specs.Prelude.{if◌then◌else◌, true, false}
 use Rattle.std.specs.Ordering.{eq_by_cmp}
 use Rattle.std.specs.Option.{option_map}
 use Rattle.std.specs.FinMap as finite
-use Rattle.cells.specs.Cells.{taken, IsSet}
+use Rattle.tree.specs.Cells.{taken, IsSet}
 use Rattle.paths.specs.Paths.{Path, path_cmp, begins}
 use Rattle.schema.specs.Conf.{Conf}
 use Rattle.tree.specs.Directories.{Entries, IsDirectory}

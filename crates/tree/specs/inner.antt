@@ -2,3 +2,4 @@ pub mod Above
 pub mod Trees
 pub mod Plans
 pub mod Moves
+pub mod Chain

@@ -4,6 +4,7 @@
 //! made for what it states alone.
 #![tactic(auto)]
 
+mod cells;
 mod laws;
 mod moves;
 mod names;

@@ -20,14 +20,14 @@ const SPREAD: u64 = 11_400_714_819_323_198_485;
 const MOST_BUCKETS: usize = 1 << 24;
 
 /// A name and its number.
-#[derive(Debug, Drop)]
+#[derive(Drop)]
 pub(crate) struct NameEntry {
     name: Bytes,
     number: usize,
 }
 
 /// Names with numbers. A contract sees the list of them, in the order in which they were added.
-#[derive(Debug, Drop)]
+#[derive(Drop)]
 pub struct NameIndex {
     entries: Vec<NameEntry>,
     // the places of entries; which bucket a name's is in, its key says, which doesn't see ASCII case

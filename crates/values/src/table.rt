@@ -12,7 +12,7 @@ use std::alloc::{AllocError, Global};
 use std::marker::Model;
 
 /// Attribute types, each at its number. A contract sees them as a list.
-#[derive(Debug, Drop)]
+#[derive(Drop)]
 pub struct TypeTable {
     types: Sequence<AttributeType>,
     // the number of the first type with a name or OID

@@ -28,7 +28,7 @@ pub enum EqualityRule {
 }
 
 /// An attribute type (RFC 4512, 4.1.2).
-#[derive(Debug, Drop)]
+#[derive(Drop)]
 pub struct AttributeType {
     /// Its numeric OID.
     pub oid: Bytes,

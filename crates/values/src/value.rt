@@ -15,7 +15,7 @@ use thiserror::Error;
 const FEW: usize = 8;
 
 /// A value as written, and its normal form under the equality rule of its type. A contract sees the two.
-#[derive(Debug, Drop)]
+#[derive(Drop)]
 pub struct Value {
     // the normal form, and behind it the value as written, unless that is the same
     bytes: Bytes,

@@ -3,7 +3,7 @@ use Rattle.std.specs.Prelude.{◌≡◌, ℕ, Bool, List, [], map, T, if◌then�
 use Rattle.std.specs.List.{AllByRecursion}
 use Rattle.std.specs.FinMap as finite
 use Rattle.std.specs.FinMap.Entries.{is_sorted}
-use Rattle.cells.specs.Cells.{cell, taken}
+use Rattle.tree.specs.Cells.{cell, taken}
 use Rattle.paths.specs.Paths.{Path, path_cmp, begins}
 use Rattle.schema.specs.Conf.{Conf}
 use Rattle.tree.specs.Directories.{Entries, IsDirectory}

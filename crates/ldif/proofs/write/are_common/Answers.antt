@@ -1,5 +1,5 @@
 use Rattle.std.proofs.Common.{not, ap, ◌∙◌}
-use Rattle.byte_tests.proofs.Ends.{none_fails}
+use Rattle.base.proofs.TestedEnds.{none_fails}
 use Rattle.ldif.specs.Writing.{is_common_byte}
 use Rattle.ldif.proofs.write.are_common.Goals as goal
 

@@ -1,6 +1,6 @@
 use Rattle.std.proofs.Common.{not, ap, ◌∙◌}
 use Rattle.matching.specs.Syntaxes.{is_ascii}
-use Rattle.byte_tests.proofs.Ends.{none_fails}
+use Rattle.base.proofs.TestedEnds.{none_fails}
 use Rattle.matching.proofs.syntax.are_ascii.Goals as goal
 
 pub returns : goal.returns

@@ -1,5 +1,5 @@
 use Rattle.std.proofs.Common.{not, ap, ◌∙◌}
-use Rattle.byte_tests.proofs.Ends.{none_fails}
+use Rattle.base.proofs.TestedEnds.{none_fails}
 use Rattle.stored_index.specs.Words.{is_hex_byte}
 use Rattle.stored_index.proofs.keys.are_hex_bytes.Goals as goal
 

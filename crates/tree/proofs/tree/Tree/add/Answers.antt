@@ -1,7 +1,7 @@
 use Rattle.std.proofs.Common.{◌≡◌, ◌∙◌, ◌+◌, ◌<◌, sym, ap, subst, Some}
 use Rattle.std.specs.FinMap as finite
-use Rattle.cells.specs.Cells as seen
-use Rattle.cells.specs.Cells.{cell, taken, most, IsSet}
+use Rattle.tree.specs.Cells as seen
+use Rattle.tree.specs.Cells.{cell, taken, most, IsSet}
 use Rattle.entries.specs.StoredEntries.{Entry, content_of}
 use Rattle.tree.specs.Trees.{Tree}
 use Rattle.tree.specs.inner.Trees.{Cells}

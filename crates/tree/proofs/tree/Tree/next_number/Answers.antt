@@ -1,7 +1,7 @@
 use Rattle.std.proofs.Common.{sym, ap, subst, Some, ◌≢◌, ◌∙◌}
 use Rattle.std.specs.Prelude.{IsSomeAnd}
 use Rattle.std.specs.FinMap as finite
-use Rattle.cells.specs.Cells.{cell}
+use Rattle.tree.specs.Cells.{cell}
 use Rattle.paths.specs.Paths.{Path}
 use Rattle.entries.specs.StoredEntries.{Entry, IsMade}
 use Rattle.tree.specs.Trees.{Tree}

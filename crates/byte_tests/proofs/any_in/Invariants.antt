@@ -1,6 +1,0 @@
-use Rattle.std.proofs.Common.{◌≡◌, ◌||◌, drop}
-use Rattle.std.specs.List.{list_any}
-use Rattle.byte_tests.proofs.any_in.Given as goal
-
-abbrev pub invariant-loop-b : goal.invariant-loop-b
-invariant-loop-b g l = (l.found || list_any g.T.ByteTest.holds (drop l.b-index l.run)) ≡ list_any g.T.ByteTest.holds l.run

@@ -1,0 +1,21 @@
+use Rattle.std.proofs.Common.{arith}
+use Rattle.std.proofs.lemmas.Option.{slice_get_within}
+use Rattle.tree.specs.declared.cells.Cell.TheVariants.{Taken}
+use Rattle.tree.proofs.Chains.{set_is, taken_at, count_set, replaced}
+use Rattle.tree.proofs.cells.Cells.replace.Goals as goal
+
+pub invariant_of-self : goal.invariant_of-self
+invariant_of-self g c =
+    let found = taken_at c.self.inside.cells.items c.args.number (rw (← c.self.view_is) at c.requires) in
+    rw c.replace.ensures.after (replaced _ _ _ c.args.number found.0 c.args.value c.self.invariant found.1)
+
+pub returns-clause-set : goal.returns-clause-set
+returns-clause-set g c =
+    let found = taken_at c.self.inside.cells.items c.args.number (rw (← c.self.view_is) at c.requires) in
+    rw (← c.self.view_is, c.replace.ensures.after) (set_is c.self.inside.cells.items c.args.number (Taken c.args.value) (slice_get_within c.self.inside.cells.items c.args.number (Taken found.0) found.1))
+
+pub returns-clause-taken : goal.returns-clause-taken
+returns-clause-taken g c =
+    let found = taken_at c.self.inside.cells.items c.args.number (rw (← c.self.view_is) at c.requires) in
+    let counted = count_set c.self.inside.cells.items c.args.number (Taken found.0) (Taken c.args.value) found.1 in
+    rw (← c.self.view_is, c.replace.ensures.after) (omega arith)
