@@ -14,21 +14,15 @@ fn is_raw(byte: u8) -> bool
     byte != 0 && byte != b'(' && byte != b')' && byte != b'*' && byte != b'\\'
 }
 
-/// The first byte, and the rest.
-fn next(bytes: &[u8]) -> Option<(u8, &[u8])>
-    ensures { MatchOption result (bytes.now ≡ []) (λ x. bytes.now ≡ x.0 ∷ x.1.now) }
-{
-    let (first, rest) = bytes.split_first()?;
-    Some((*first, rest))
-}
-
 /// The hexadecimal digit at the front, and the rest.
 fn digit_at(bytes: &[u8]) -> Option<(u8, &[u8])>
     ensures read { MatchOption result ((h : ℕ) (rest : List ℕ) → bytes.now ≡ h ∷ rest → digit_of h ≡ None)
         (λ x. (h : ℕ) × (bytes.now ≡ h ∷ x.1.now) × (digit_of h ≡ Some x.0)) }
     ensures small { IfSome result (λ x. x.0 < 16) }
 {
-    let (first, rest) = bytes.split_first()?;
+    let [first, rest @ ..] = bytes else {
+        return None;
+    };
     let digit = char::from(*first).to_digit(16)?;
     Some((digit as u8, rest))
 }
@@ -41,12 +35,12 @@ fn byte_at(bytes: &[u8]) -> Result<Option<(u8, &[u8])>, Fault>
     ensures begins { IfErr result (λ _. Stops is_value_byte bytes.now → ⊥) }
     ensures front { IfErr result (Faulty SomeByte bytes.now) }
 {
-    let Some((first, more)) = next(bytes) else {
+    let Some((first, more)) = bytes.split_first() else {
         return Ok(None);
     };
-    if first != b'\\' {
-        if is_raw(first) {
-            return Ok(Some((first, more)));
+    if *first != b'\\' {
+        if is_raw(*first) {
+            return Ok(Some((*first, more)));
         }
         return Ok(None);
     }
