@@ -1,7 +1,8 @@
 -- Runs of bytes, and results of readers.
 use Rattle.std.proofs.Common.{◌≡◌, ℕ, ◌+◌, Bool, true, false, cond, List, [], ◌∷◌, ◌++◌, Result, Ok, Err, refl, sym, ap, subst, ◌∙◌, append_assoc, length, arith, length-append, ◌≤◌, ◌<◌, ◌==◌}
 use Rattle.std.proofs.lemmas.Bool.Decides.{nat_tests}
-use Rattle.std.specs.Result.{MatchResult, IfErr, IsErrAnd}
+use Rattle.std.proofs.lemmas.List.{append-nil}
+use Rattle.std.specs.Result.{MatchResult, IfErr, IfOk, IsErrAnd}
 use Rattle.filter_text.specs.declared.fault.Fault.{Fault}
 use Rattle.filter_text.specs.declared.fault.Fault.TheVariants.{OutOfMemory, Syntax}
 use Rattle.filter_text.specs.inner.Begins.{IsMemory, Faulty, Begins}
@@ -82,6 +83,23 @@ begins_also P Q bytes left f b = record { done = b.done; rest = b.rest; all = b.
 pub exit_err : {T : Type 0} (Q : Fault → Type 0) (r : Result T Fault) (e : Fault) → IsErrAnd r (λ y. y ≡ e) → Q e → IfErr r Q
 exit_err Q (Ok x) e h m = tt
 exit_err Q (Err y) e h m = subst Q (sym h) m
+
+-- where the text must have been read to its end
+pub only_done : {T : Type 0} (P Q : T → Type 0) (F : Fault → Type 0) (r : Result T Fault) → IfOk r P → IfErr r F → ((x : T) → P x → Q x) → ((e : Fault) → F e → ⊥) → MatchResult r Q IsMemory
+only_done P Q F (Ok x) done left read more = read x done
+only_done P Q F (Err e) done left read more = absurd (more e left)
+
+pub only_read : {T : Type 0} (P : T → Type 0) (r : Result T Fault) (x : T) (rest : List ℕ)
+    → IfOk r (λ y. (y ≡ x) × (rest ≡ [])) → IfErr r (λ e. (e ≡ Syntax (length rest)) × (0 < length rest)) → P x → rest ≡ [] → MatchResult r P IsMemory
+only_read P (Ok y) x rest done left p none = subst P (sym done.0) p
+only_read P (Err e) x rest done left p none = absurd (let long = left.1 in let end = ap (λ xs. length xs) none in omega (arith, long, end))
+
+-- where something is left, what was read begins a text
+pub front_left : {T : Type 0} (P : List ℕ → Type 0) (bytes : List ℕ) (r : Result T Fault) (done rest : List ℕ)
+    → IfErr r (λ e. (e ≡ Syntax (length rest)) × (0 < length rest)) → bytes ≡ done ++ rest → P done → IfErr r (Faulty P bytes)
+front_left P bytes (Ok x) done rest left e p = tt
+front_left P bytes (Err y) done rest left e p =
+    subst (Faulty P bytes) (sym left.0) record { done = done; rest = rest; all = e; from_end = refl; more = []; viable = subst P (sym (append-nil done)) p }
 
 pub none_left : (xs : List ℕ) → length xs ≤ 0 → xs ≡ []
 none_left [] h = refl

@@ -1,5 +1,5 @@
 -- Texts of values.
-use Rattle.std.proofs.Common.{◌≡◌, ◌⊎◌, ℕ, ◌+◌, ◌*◌, List, [], ◌∷◌, ◌++◌, Some, refl, sym, ap, subst, ◌∙◌, arith, true, inl, inr}
+use Rattle.std.proofs.Common.{◌≡◌, ◌⊎◌, ℕ, ◌+◌, ◌*◌, List, [], ◌∷◌, ◌++◌, Option, Some, None, refl, sym, ap, subst, ◌∙◌, arith, true, inl, inr}
 use Rattle.std.proofs.lemmas.List.{append-nil}
 use Rattle.std.proofs.lemmas.Grind.{common_steps}
 use Rattle.filter_text.specs.Runs.{Stops}
@@ -29,6 +29,9 @@ pub escape_of : (b : ℕ) (bytes more rest : List ℕ) → bytes ≡ 92 ∷ more
     → (h : ℕ) × (l : ℕ) × (m : ℕ) × (n : ℕ) × (more ≡ h ∷ l ∷ rest) × (digit_of h ≡ Some m) × (digit_of l ≡ Some n) × (b ≡ m * 16 + n)
 escape_of b bytes more rest e (inl h) = absurd (raw_not_92 b h.1 (head_eq (sym h.0 ∙ e)))
 escape_of b bytes more rest e (inr h) = (h.0, h.1, h.2, h.3, tail_eq (sym e ∙ h.4), h.5, h.6, h.7)
+
+pub no_digit : {o : Option ℕ} {m : ℕ} → o ≡ None → o ≡ Some m → ⊥
+no_digit e f = let clash : None ≡ Some _ = sym e ∙ f in cc
 
 pub byte_same : (b c : ℕ) (text r s : List ℕ) → ByteAt b text r → ByteAt c text s → (b ≡ c) × (r ≡ s)
 byte_same b c text r s (inl h) (inl k) = (head_eq (sym h.0 ∙ k.0), tail_eq (sym h.0 ∙ k.0))

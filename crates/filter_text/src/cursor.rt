@@ -9,8 +9,10 @@ use base::without_front;
 pub fn after(bytes: &[u8], byte: u8) -> Option<&[u8]>
     ensures { MatchOption result (Stops (λ b. b == byte) bytes.now) (λ rest. bytes.now ≡ byte ∷ rest.now) }
 {
-    let (first, rest) = bytes.split_first()?;
-    if *first == byte { Some(rest) } else { None }
+    match bytes {
+        [first, rest @ ..] => { if *first == byte { Some(rest) } else { None } }
+        [] => None,
+    }
 }
 
 /// Whether a parenthesis opens.

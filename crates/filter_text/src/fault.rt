@@ -1,6 +1,6 @@
 //! Why a part of a text can't be read.
-ghost use Rattle.filter_text.specs.declared.fault.Fault.TheVariants.{OutOfMemory};
-ghost use Rattle.std.specs.Prelude.{◌≡◌};
+ghost use Rattle.filter_text.specs.declared.fault.Fault.TheVariants.{OutOfMemory, Syntax};
+ghost use Rattle.std.specs.Prelude.{◌≡◌, ◌<◌, [], length, IfOk, IfErr};
 
 use std::alloc::{AllocError, AllocFailed};
 
@@ -25,5 +25,17 @@ impl<T: Drop> From<AllocFailed<T>> for Fault {
 
     fn from(_: AllocFailed<T>) -> Fault {
         Fault::OutOfMemory
+    }
+}
+
+/// What was read, where nothing is left behind it.
+pub fn read_whole<T: Drop>(read: T, rest: &[u8]) -> Result<T, Fault>
+    ensures done { IfOk result (λ x. (x ≡ read) × (rest.now ≡ [])) }
+    ensures left { IfErr result (λ f. (f ≡ Syntax (length rest.now)) × (0 < length rest.now)) }
+{
+    if rest.is_empty() {
+        Ok(read)
+    } else {
+        Err(Fault::Syntax(rest.len()))
     }
 }

@@ -34,8 +34,8 @@ impl fmt::Display for FilterFault {
             FilterFault::At {
                 kind: FilterFaultKind::Deep,
                 ..
-            } => write!(f, "deeper than 512"),
-            FilterFault::OutOfMemory => write!(f, "out of memory"),
+            } => f.write_str("deeper than 512"),
+            FilterFault::OutOfMemory => f.write_str("out of memory"),
         }
     }
 }

@@ -19,11 +19,10 @@ use std::alloc::Global;
 fn comparison_at(bytes: &[u8]) -> Option<(Comparison, &[u8])>
     ensures { MatchOption result (Stops is_sign bytes.now) (λ x. bytes.now ≡ sign x.0 ∷ x.1.now) }
 {
-    let (first, rest) = bytes.split_first()?;
-    match *first {
-        b'~' => Some((Comparison::Approx, rest)),
-        b'>' => Some((Comparison::Greater, rest)),
-        b'<' => Some((Comparison::Less, rest)),
+    match bytes {
+        [b'~', rest @ ..] => Some((Comparison::Approx, rest)),
+        [b'>', rest @ ..] => Some((Comparison::Greater, rest)),
+        [b'<', rest @ ..] => Some((Comparison::Less, rest)),
         _ => None,
     }
 }

@@ -12,6 +12,7 @@ mod filter_fault;
 mod filters;
 mod item_text;
 mod items;
+mod joining;
 mod laws;
 mod pieces;
 mod read;

@@ -5,7 +5,7 @@ ghost use Rattle.filter_text.specs.inner.Pieces.{IsPieces, SomePieces};
 ghost use Rattle.filter_text.specs.Runs.{Run, Stops, is_star};
 
 use crate::cursor::after;
-use crate::fault::Fault;
+use crate::fault::{Fault, read_whole};
 use crate::values::value_at;
 use base::Bytes;
 use std::alloc::Global;
@@ -37,8 +37,5 @@ pub fn pieces_of(alloc: Global, text: &[u8]) -> Result<(Bytes, Vec<Bytes>), Faul
         others.push(piece)?;
         rest = end;
     }
-    if !rest.is_empty() {
-        return Err(Fault::Syntax(rest.len()));
-    }
-    Ok((first, others))
+    read_whole((first, others), rest)
 }

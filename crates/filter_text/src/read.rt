@@ -9,7 +9,7 @@ ghost use Rattle.filter_text.specs.declared.filter_fault.FilterFaultKind.TheVari
 use crate::cursor::{after_spaces, opens};
 use crate::depth::deep_at;
 use crate::descent::{comp_at, filter_at};
-use crate::fault::Fault;
+use crate::fault::{Fault, read_whole};
 use crate::filter_fault::{FilterFault, FilterFaultKind};
 use crate::filters::Filter;
 use std::alloc::Global;
@@ -23,17 +23,10 @@ fn whole(alloc: Global, text: &[u8]) -> Result<Filter, Fault>
     let start = after_spaces(text);
     if opens(start) {
         let (filter, end) = filter_at(alloc, start)?;
-        let rest = after_spaces(end);
-        if !rest.is_empty() {
-            return Err(Fault::Syntax(rest.len()));
-        }
-        return Ok(filter);
+        return read_whole(filter, after_spaces(end));
     }
     let (filter, end) = comp_at(alloc, start)?;
-    if !end.is_empty() {
-        return Err(Fault::Syntax(end.len()));
-    }
-    Ok(filter)
+    read_whole(filter, end)
 }
 
 /// The filter that a text spells (RFC 4515, section 3). Spaces round the whole, behind `&`, `|` and `!`, and behind a filter are skipped. A

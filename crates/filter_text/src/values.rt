@@ -1,20 +1,12 @@
 //! Values with escapes (RFC 4515, section 3: `assertionvalue`).
-ghost use Rattle.std.specs.Prelude.{◌≡◌, ℕ, ◌<◌, ◌≤◌, ◌==◌, List, [], length, ◌++◌, ◌∷◌, IfOk, IfErr, IfSome, MatchOption, MatchResult};
+ghost use Rattle.std.specs.Prelude.{◌≡◌, ℕ, ◌<◌, ◌≤◌, ◌==◌, List, [], length, ◌++◌, ◌∷◌, IfOk, IfErr, IfSome, MatchOption, MatchResult, Some, None};
 ghost use Rattle.filter_text.specs.inner.Begins.{IsMemory, Faulty};
 ghost use Rattle.filter_text.specs.Runs.{Stops};
 ghost use Rattle.filter_text.specs.Values.{digit_of, is_raw, is_value_byte, ByteAt, SomeByte, IsValue, SomeValue};
 
-use crate::fault::Fault;
+use crate::fault::{Fault, read_whole};
 use base::Bytes;
 use std::alloc::Global;
-
-fn digit(byte: u8) -> Option<u8>
-    ensures same { result ≡ digit_of byte }
-    ensures small { IfSome result (λ d. d < 16) }
-{
-    let digit = char::from(byte).to_digit(16)?;
-    Some(digit as u8)
-}
 
 fn is_raw(byte: u8) -> bool
     ensures { result ≡ is_raw byte }
@@ -22,12 +14,17 @@ fn is_raw(byte: u8) -> bool
     byte != 0 && byte != b'(' && byte != b')' && byte != b'*' && byte != b'\\'
 }
 
-/// The first byte, and the rest.
-fn next(bytes: &[u8]) -> Option<(u8, &[u8])>
-    ensures { MatchOption result (bytes.now ≡ []) (λ x. bytes.now ≡ x.0 ∷ x.1.now) }
+/// The hexadecimal digit at the front, and the rest.
+fn digit_at(bytes: &[u8]) -> Option<(u8, &[u8])>
+    ensures read { MatchOption result ((h : ℕ) (rest : List ℕ) → bytes.now ≡ h ∷ rest → digit_of h ≡ None)
+        (λ x. (h : ℕ) × (bytes.now ≡ h ∷ x.1.now) × (digit_of h ≡ Some x.0)) }
+    ensures small { IfSome result (λ x. x.0 < 16) }
 {
-    let (first, rest) = bytes.split_first()?;
-    Some((*first, rest))
+    let [first, rest @ ..] = bytes else {
+        return None;
+    };
+    let digit = char::from(*first).to_digit(16)?;
+    Some((digit as u8, rest))
 }
 
 /// The byte that is spelled at the front, where a byte of a value begins there.
@@ -38,25 +35,19 @@ fn byte_at(bytes: &[u8]) -> Result<Option<(u8, &[u8])>, Fault>
     ensures begins { IfErr result (λ _. Stops is_value_byte bytes.now → ⊥) }
     ensures front { IfErr result (Faulty SomeByte bytes.now) }
 {
-    let Some((first, more)) = next(bytes) else {
+    let Some((first, more)) = bytes.split_first() else {
         return Ok(None);
     };
-    if first != b'\\' {
-        if is_raw(first) {
-            return Ok(Some((first, more)));
+    if *first != b'\\' {
+        if is_raw(*first) {
+            return Ok(Some((*first, more)));
         }
         return Ok(None);
     }
-    let Some((high, low)) = next(more) else {
-        return Err(Fault::Syntax(0));
-    };
-    let Some(tens) = digit(high) else {
+    let Some((tens, low)) = digit_at(more) else {
         return Err(Fault::Syntax(more.len()));
     };
-    let Some((last, rest)) = next(low) else {
-        return Err(Fault::Syntax(0));
-    };
-    let Some(ones) = digit(last) else {
+    let Some((ones, rest)) = digit_at(low) else {
         return Err(Fault::Syntax(low.len()));
     };
     Ok(Some((tens * 16 + ones, rest)))
@@ -86,8 +77,5 @@ pub fn value_of(alloc: Global, text: &[u8]) -> Result<Bytes, Fault>
     ensures front { IfErr result (Faulty SomeValue text.now) }
 {
     let (value, rest) = value_at(alloc, text)?;
-    if !rest.is_empty() {
-        return Err(Fault::Syntax(rest.len()));
-    }
-    Ok(value)
+    read_whole(value, rest)
 }

@@ -1,12 +1,15 @@
 use Rattle.std.proofs.Common.{◌≡◌, ℕ, List, [], ◌∷◌, ◌++◌, map, refl, sym, ap, subst, ◌∙◌, append_assoc, arith}
 use Rattle.std.proofs.lemmas.List.{append-nil}
+use Rattle.std.proofs.lemmas.Result.{IfErr-weaker, IfOk-weaker}
+use Rattle.std.specs.Result.{MatchResult}
 use Rattle.filter_text.specs.declared.filters.Filter.{Filter}
 use Rattle.filter_text.specs.inner.Begins.{Faulty, IsMemory}
+use Rattle.filter_text.specs.inner.Joins.{joined}
 use Rattle.filter_text.specs.Items.{IsItem, SomeItem}
 use Rattle.base.specs.Ends.{is_space}
 use Rattle.filter_text.specs.Spells.{FilterContent, FilterContents, All_of, Any_of, Not_of, Leaf, No_more, And_then, contents_then, view, IsFilterComp, IsFilterList, IsSpacedList, SomeFilter, SomeFilterComp, SomeSpacedList}
-use Rattle.filter_text.proofs.Runs.{exit_only, exit_front, faulty_in, begins_before, tail_eq, same_span, closed_space, begins_also}
-use Rattle.filter_text.proofs.Texts.{view_and, view_or, view_not, view_item, views_push, comp_and, comp_or, comp_not, comp_item, item_only, list_only, filter_after, list_goes_on, list_ends, empty_filter, not_first}
+use Rattle.filter_text.proofs.Runs.{exit_only, exit_front, only_done, faulty_in, begins_before, tail_eq, same_span, closed_space, begins_also}
+use Rattle.filter_text.proofs.Texts.{view_not, view_item, views_push, comp_and, comp_or, comp_not, comp_item, item_only, list_only, filter_after, list_goes_on, list_ends, empty_filter, not_first}
 use Rattle.filter_text.proofs.descent.+reader.Goals as goal
 
 -- filter_at
@@ -25,15 +28,29 @@ filter_at-returns-in_err-filter-clause-front t c =
     exit_front SomeFilter c.args.bytes.now c.from_residual.result _ c.from_residual.ensures.1
     (faulty_in SomeFilterComp SomeFilter (40 ∷ []) c.args.bytes.now c.in-Some.inside.now c.in-Some.ensures (λ t h. (41 ∷ [], (h.0, (t, refl, h.1)))) _ c.in_err-filter.ensures.front)
 
-pub filter_at-returns-in_default-after-clause-only : goal.filter_at-returns-in_default-after-clause-only
-filter_at-returns-in_default-after-clause-only t c f text more h e =
+pub filter_at-returns-clause-found : goal.filter_at-returns-clause-found
+filter_at-returns-clause-found t c =
+    let found = c.in_ok-filter.ensures.found in
+    IfOk-weaker c.closed.result _ _
+    (λ x done. (
+      40 ∷ (found.0 ++ 41 ∷ []),
+      (found.0, refl, subst (λ (f : Filter). IsFilterComp (view f) found.0) (sym done.0) found.1),
+      c.in-Some.ensures ∙ ap (λ xs. 40 ∷ xs) (found.2 ∙ ap (λ xs. found.0 ++ xs) done.1 ∙ sym (append_assoc found.0 (41 ∷ []) x.1.now)),
+    ))
+    c.closed.ensures.done
+
+pub filter_at-returns-clause-only : goal.filter_at-returns-clause-only
+filter_at-returns-clause-only t c f text more h e =
     let read = c.in_ok-filter.ensures.only f h.0 (41 ∷ more) h.2 refl
     (tail_eq (sym c.in-Some.ensures ∙ e ∙ ap (λ xs. xs ++ more) h.1) ∙ append_assoc h.0 (41 ∷ []) more) in
-    not_first 41 c.in_ok-filter.end.now more refl c.in_default-after.ensures read.1
+    only_done _ _ _ c.closed.result c.closed.ensures.done c.closed.ensures.left (λ x done. (ap view done.0 ∙ read.0, tail_eq (sym done.1 ∙ read.1)))
+    (λ fault left. not_first 41 c.in_ok-filter.end.now more refl left.1 read.1)
 
-pub filter_at-returns-in_default-after-clause-front : goal.filter_at-returns-in_default-after-clause-front
-filter_at-returns-in_default-after-clause-front t c =
+pub filter_at-returns-clause-front : goal.filter_at-returns-clause-front
+filter_at-returns-clause-front t c =
     let found = c.in_ok-filter.ensures.found in
+    IfErr-weaker c.closed.result _ _
+    (λ fault left. subst (Faulty SomeFilter c.args.bytes.now) (sym left.0)
     record {
       done = 40 ∷ found.0;
       rest = c.in_ok-filter.end.now;
@@ -41,78 +58,55 @@ filter_at-returns-in_default-after-clause-front t c =
       from_end = refl;
       more = 41 ∷ [];
       viable = (view c.in_ok-filter.filter, (found.0, refl, found.1));
-    }
-
-pub filter_at-returns-clause-found : goal.filter_at-returns-clause-found
-filter_at-returns-clause-found t c =
-    let found = c.in_ok-filter.ensures.found in (
-      40 ∷ (found.0 ++ 41 ∷ []),
-      (found.0, refl, found.1),
-      c.in-Some.ensures ∙ ap (λ xs. 40 ∷ xs) (found.2 ∙ ap (λ xs. found.0 ++ xs) c.in-Some-after.ensures ∙ sym (append_assoc found.0 (41 ∷ []) c.in-Some-after.rest.now)),
-    )
-
-pub filter_at-returns-clause-only : goal.filter_at-returns-clause-only
-filter_at-returns-clause-only t c f text more h e =
-    let read = c.in_ok-filter.ensures.only f h.0 (41 ∷ more) h.2 refl
-    (tail_eq (sym c.in-Some.ensures ∙ e ∙ ap (λ xs. xs ++ more) h.1) ∙ append_assoc h.0 (41 ∷ []) more) in
-    (read.0, tail_eq (sym c.in-Some-after.ensures ∙ read.1))
+    })
+    c.closed.ensures.left
 
 -- comp_at
 
-pub comp_at-returns-in_err-operands-clause-only : goal.comp_at-returns-in_err-operands-clause-only
-comp_at-returns-in_err-operands-clause-only t c f text more h closed e =
-    let operands = comp_and f text more c.in-Some.list.now h (sym c.in-Some.ensures ∙ e) in
-    exit_only _ c.from_residual.result _ c.from_residual.ensures.1 (c.in_err-operands.ensures.only operands.0 operands.1 more operands.3 closed operands.4)
-
-pub comp_at-returns-in_err-operands-clause-front : goal.comp_at-returns-in_err-operands-clause-front
-comp_at-returns-in_err-operands-clause-front t c =
-    exit_front SomeFilterComp c.args.bytes.now c.from_residual.result _ c.from_residual.ensures.1
-    (faulty_in SomeSpacedList SomeFilterComp (38 ∷ []) c.args.bytes.now c.in-Some.list.now c.in-Some.ensures (λ t h. ([], (All_of h.0, (t ++ [], refl, subst (IsSpacedList h.0) (sym (append-nil t)) h.1)))) _ c.in_err-operands.ensures.front)
-
 pub comp_at-returns-in-Some-clause-found : goal.comp_at-returns-in-Some-clause-found
 comp_at-returns-in-Some-clause-found t c =
-    let found = c.in_ok-operands.ensures.found in
-    (38 ∷ found.0, subst (λ (f : FilterContent). IsFilterComp f (38 ∷ found.0)) (sym (view_and c.in_ok-operands.operands)) (found.0, refl, found.1), c.in-Some.ensures ∙ ap (λ xs. 38 ∷ xs) found.2)
+    IfOk-weaker c.list_at.result _ _
+    (λ x h. (38 ∷ h.1, subst (λ (f : FilterContent). IsFilterComp f (38 ∷ h.1)) (sym h.2) (h.1, refl, h.3), c.in-Some.ensures ∙ ap (λ xs. 38 ∷ xs) h.4)) c.list_at.ensures.found
 
 pub comp_at-returns-in-Some-clause-only : goal.comp_at-returns-in-Some-clause-only
 comp_at-returns-in-Some-clause-only t c f text more h closed e =
     let operands = comp_and f text more c.in-Some.list.now h (sym c.in-Some.ensures ∙ e) in
-    let read = c.in_ok-operands.ensures.only operands.0 operands.1 more operands.3 closed operands.4 in
-    (view_and c.in_ok-operands.operands ∙ ap All_of read.0 ∙ sym operands.2, read.1)
+    subst (λ (g : FilterContent). MatchResult c.list_at.result (λ x. (view x.0 ≡ g) × (x.1.now ≡ more)) IsMemory) (sym operands.2) (c.list_at.ensures.only operands.0 operands.1 more operands.3 closed operands.4)
 
-pub comp_at-returns-in_err-operands-2-clause-only : goal.comp_at-returns-in_err-operands-2-clause-only
-comp_at-returns-in_err-operands-2-clause-only t c f text more h closed e =
-    let operands = comp_or f text more c.in-Some-after.list.now h (sym c.in-Some-after.ensures ∙ e) in
-    exit_only _ c.from_residual-in_err-operands-2.result _ c.from_residual-in_err-operands-2.ensures.1 (c.in_err-operands-2.ensures.only operands.0 operands.1 more operands.3 closed operands.4)
-
-pub comp_at-returns-in_err-operands-2-clause-front : goal.comp_at-returns-in_err-operands-2-clause-front
-comp_at-returns-in_err-operands-2-clause-front t c =
-    exit_front SomeFilterComp c.args.bytes.now c.from_residual-in_err-operands-2.result _ c.from_residual-in_err-operands-2.ensures.1
-    (faulty_in SomeSpacedList SomeFilterComp (124 ∷ []) c.args.bytes.now c.in-Some-after.list.now c.in-Some-after.ensures (λ t h. ([], (Any_of h.0, (t ++ [], refl, subst (IsSpacedList h.0) (sym (append-nil t)) h.1)))) _ c.in_err-operands-2.ensures.front)
+pub comp_at-returns-in-Some-clause-front : goal.comp_at-returns-in-Some-clause-front
+comp_at-returns-in-Some-clause-front t c =
+    IfErr-weaker c.list_at.result _ _
+    (faulty_in SomeSpacedList SomeFilterComp (38 ∷ []) c.args.bytes.now c.in-Some.list.now c.in-Some.ensures (λ t h. ([], (All_of h.0, (t ++ [], refl, subst (IsSpacedList h.0) (sym (append-nil t)) h.1)))))
+    c.list_at.ensures.front
 
 pub comp_at-returns-in-Some-after-clause-found : goal.comp_at-returns-in-Some-after-clause-found
 comp_at-returns-in-Some-after-clause-found t c =
-    let found = c.in_ok-operands-2.ensures.found in
-    (124 ∷ found.0, subst (λ (f : FilterContent). IsFilterComp f (124 ∷ found.0)) (sym (view_or c.in_ok-operands-2.operands)) (found.0, refl, found.1), c.in-Some-after.ensures ∙ ap (λ xs. 124 ∷ xs) found.2)
+    IfOk-weaker c.list_at-in-Some-after.result _ _
+    (λ x h. (124 ∷ h.1, subst (λ (f : FilterContent). IsFilterComp f (124 ∷ h.1)) (sym h.2) (h.1, refl, h.3), c.in-Some-after.ensures ∙ ap (λ xs. 124 ∷ xs) h.4)) c.list_at-in-Some-after.ensures.found
 
 pub comp_at-returns-in-Some-after-clause-only : goal.comp_at-returns-in-Some-after-clause-only
 comp_at-returns-in-Some-after-clause-only t c f text more h closed e =
     let operands = comp_or f text more c.in-Some-after.list.now h (sym c.in-Some-after.ensures ∙ e) in
-    let read = c.in_ok-operands-2.ensures.only operands.0 operands.1 more operands.3 closed operands.4 in
-    (view_or c.in_ok-operands-2.operands ∙ ap Any_of read.0 ∙ sym operands.2, read.1)
+    subst (λ (g : FilterContent). MatchResult c.list_at-in-Some-after.result (λ x. (view x.0 ≡ g) × (x.1.now ≡ more)) IsMemory) (sym operands.2) (c.list_at-in-Some-after.ensures.only operands.0 operands.1 more operands.3 closed operands.4)
+
+pub comp_at-returns-in-Some-after-clause-front : goal.comp_at-returns-in-Some-after-clause-front
+comp_at-returns-in-Some-after-clause-front t c =
+    IfErr-weaker c.list_at-in-Some-after.result _ _
+    (faulty_in SomeSpacedList SomeFilterComp (124 ∷ []) c.args.bytes.now c.in-Some-after.list.now c.in-Some-after.ensures (λ t h. ([], (Any_of h.0, (t ++ [], refl, subst (IsSpacedList h.0) (sym (append-nil t)) h.1)))))
+    c.list_at-in-Some-after.ensures.front
 
 pub comp_at-returns-in_err-operand-clause-only : goal.comp_at-returns-in_err-operand-clause-only
 comp_at-returns-in_err-operand-clause-only t c f text more h closed e =
     let run = c.after_spaces.ensures.run in
     let not = comp_not f text more c.in-Some-after-2.one.now h (sym c.in-Some-after-2.ensures ∙ e) in
-    exit_only _ c.from_residual-in_err-operand.result _ c.from_residual-in_err-operand.ensures.1
+    exit_only _ c.from_residual.result _ c.from_residual.ensures.1
     (c.in_err-operand.ensures.only not.0 not.2 (not.3 ++ more) not.6
     (filter_after not.0 c.in-Some-after-2.one.now run.0 c.after_spaces.result.now not.1 not.2 (not.3 ++ more) run.1 run.2 c.after_spaces.ensures.stops not.5 not.6 not.8))
 
 pub comp_at-returns-in_err-operand-clause-front : goal.comp_at-returns-in_err-operand-clause-front
 comp_at-returns-in_err-operand-clause-front t c =
     let run = c.after_spaces.ensures.run in
-    exit_front SomeFilterComp c.args.bytes.now c.from_residual-in_err-operand.result _ c.from_residual-in_err-operand.ensures.1
+    exit_front SomeFilterComp c.args.bytes.now c.from_residual.result _ c.from_residual.ensures.1
     (faulty_in SomeFilter SomeFilterComp (33 ∷ run.0) c.args.bytes.now c.after_spaces.result.now (c.in-Some-after-2.ensures ∙ ap (λ xs. 33 ∷ xs) run.2)
     (λ t h. ([], (Not_of h.0, (run.0, t, [], refl, run.1, h.1, tt)))) _ c.in_err-operand.ensures.front)
 
@@ -209,13 +203,13 @@ list_at-operands-preserved t c =
 pub list_at-returns-clause-found : goal.list_at-returns-clause-found
 list_at-returns-clause-found t c =
     let old = c.operands.invariant.found in
-    (old.0 ++ [], old.2 No_more [] refl, old.1 ∙ ap (λ xs. xs ++ c.operands.rest.now) (sym (append-nil old.0)))
+    (contents_then (map view c.operands.operands.items) No_more, old.0 ++ [], c.joined.ensures, old.2 No_more [] refl, old.1 ∙ ap (λ xs. xs ++ c.operands.rest.now) (sym (append-nil old.0)))
 
 pub list_at-returns-clause-only : goal.list_at-returns-clause-only
 list_at-returns-clause-only t c fs text more h closed e =
     let o = c.operands.invariant.only fs text more h closed e in
     let none = list_ends o.0 c.operands.rest.now o.1 more o.2 (c.operands-test.ensures.no refl) o.3 in
-    (sym (o.4 ∙ ap (contents_then (map view c.operands.operands.items)) none.0), none.1)
+    (c.joined.ensures ∙ ap (joined c.args.joining) (sym (o.4 ∙ ap (contents_then (map view c.operands.operands.items)) none.0)), none.1)
 
 pub list_at-returns-in_err-operand-clause-only : goal.list_at-returns-in_err-operand-clause-only
 list_at-returns-in_err-operand-clause-only t c fs text more h closed e =

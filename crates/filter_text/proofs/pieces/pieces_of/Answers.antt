@@ -1,9 +1,10 @@
-use Rattle.std.proofs.Common.{ℕ, List, [], ◌∷◌, ◌++◌, refl, sym, ap, subst, ◌∙◌, append_assoc, arith, length}
+use Rattle.std.proofs.Common.{ℕ, List, [], ◌∷◌, ◌++◌, refl, sym, ap, subst, ◌∙◌, append_assoc}
 use Rattle.std.proofs.lemmas.List.{append-nil}
+use Rattle.std.proofs.lemmas.Result.{IfOk-weaker}
 use Rattle.filter_text.specs.Runs.{Stops, is_star}
 use Rattle.filter_text.specs.Values.{SomeValue}
 use Rattle.filter_text.specs.inner.Pieces.{IsStarred, IsPieces, SomePieces}
-use Rattle.filter_text.proofs.Runs.{exit_only, exit_front, faulty_in, both_ways, stops_at, none_is_left, some_left}
+use Rattle.filter_text.proofs.Runs.{exit_only, exit_front, faulty_in, both_ways, stops_at, only_read, front_left}
 use Rattle.filter_text.proofs.ValueTexts.{one_value}
 use Rattle.filter_text.proofs.PieceTexts.{tail_stops, stops_after, value_stops_star, tail_goes_on, tail_ends, pattern_first, pattern_value}
 use Rattle.filter_text.proofs.pieces.pieces_of.Goals as goal
@@ -88,26 +89,26 @@ stars-preserved c =
           (next.1, subst (IsStarred next.1) (sym one.1) next.6, o.2 ∙ ap (λ xs. c.in_ok-first.first ∷ c.stars.others.items ++ xs) (next.4 ∙ ap (λ z. z ∷ next.1) (sym one.0)) ∙ sym (same next.1));
     }
 
-pub returns-then-not-is_empty-clause-only : goal.returns-then-not-is_empty-clause-only
-returns-then-not-is_empty-clause-only c ps h =
-    let o = c.stars.invariant.only ps h in
-    let none = ap (λ xs. length xs) (tail_ends o.0 c.stars.rest.now o.1 c.in_default.ensures).1 in
-    let some = some_left c.stars.rest.now c.is_empty.ensures c.if-not-is_empty.true in
-    omega (arith, none, some)
-
-pub returns-then-not-is_empty-clause-front : goal.returns-then-not-is_empty-clause-front
-returns-then-not-is_empty-clause-front c =
-    let old = c.stars.invariant.found in
-    record { done = old.0; rest = c.stars.rest.now; all = old.1; from_end = refl; more = []; viable = (c.in_ok-first.first ∷ c.stars.others.items ++ [], old.2 [] [] refl (λ _. tt)) }
-
 pub returns-clause-found : goal.returns-clause-found
 returns-clause-found c =
     let old = c.stars.invariant.found in
-    let none = none_is_left c.stars.rest.now c.is_empty.ensures c.if-not-is_empty.false in
-    subst (λ (ps : List (List ℕ)). IsPieces ps c.args.text.now) (append-nil (c.in_ok-first.first ∷ c.stars.others.items))
-    (subst (IsPieces (c.in_ok-first.first ∷ c.stars.others.items ++ [])) (ap (λ xs. old.0 ++ xs) (sym none) ∙ sym old.1) (old.2 [] [] refl (λ _. tt)))
+    let pieces = c.in_ok-first.first ∷ c.stars.others.items in
+    IfOk-weaker c.read_whole.result _ _
+    (λ x done. subst (λ (ps : List (List ℕ)). IsPieces ps c.args.text.now) (append-nil pieces ∙ sym (ap (λ y. y.0 ∷ y.1.items) done.0))
+    (subst (IsPieces (pieces ++ [])) (ap (λ xs. old.0 ++ xs) (sym done.1) ∙ sym old.1) (old.2 [] [] refl (λ _. tt))))
+    c.read_whole.ensures.done
 
 pub returns-clause-only : goal.returns-clause-only
 returns-clause-only c ps h =
     let o = c.stars.invariant.only ps h in
-    sym (o.2 ∙ ap (λ xs. c.in_ok-first.first ∷ c.stars.others.items ++ xs) (tail_ends o.0 c.stars.rest.now o.1 c.in_default.ensures).0 ∙ append-nil (c.in_ok-first.first ∷ c.stars.others.items))
+    let ends = tail_ends o.0 c.stars.rest.now o.1 c.in_default.ensures in
+    let pieces = c.in_ok-first.first ∷ c.stars.others.items in
+    only_read _ c.read_whole.result (c.in_ok-first.first, c.stars.others) c.stars.rest.now c.read_whole.ensures.done c.read_whole.ensures.left
+    (sym (o.2 ∙ ap (λ xs. pieces ++ xs) ends.0 ∙ append-nil pieces)) ends.1
+
+pub returns-clause-front : goal.returns-clause-front
+returns-clause-front c =
+    let old = c.stars.invariant.found in
+    let pieces = c.in_ok-first.first ∷ c.stars.others.items in
+    front_left SomePieces c.args.text.now c.read_whole.result old.0 c.stars.rest.now c.read_whole.ensures.left old.1
+    (pieces, subst (λ (ps : List (List ℕ)). IsPieces ps old.0) (append-nil pieces) (subst (IsPieces (pieces ++ [])) (append-nil old.0) (old.2 [] [] refl (λ _. tt))))

@@ -1,8 +1,8 @@
-use Rattle.std.proofs.Common.{◌≡◌, ℕ, Some, None, Err, Result, List, ap, subst, ◌∙◌}
+use Rattle.std.proofs.Common.{◌≡◌, ℕ, Some, None, Ok, Err, Result, List, ap, subst, ◌∙◌}
 use Rattle.filter_text.specs.declared.filters.Filter.{Filter}
 use Rattle.filter_text.specs.declared.filter_fault.FilterFault.{FilterFault}
-use Rattle.filter_text.specs.declared.filter_fault.FilterFault.TheVariants.{At}
-use Rattle.filter_text.specs.declared.filter_fault.FilterFaultKind.TheVariants.{Deep}
+use Rattle.filter_text.specs.declared.filter_fault.FilterFault.TheVariants.{At, OutOfMemory}
+use Rattle.filter_text.specs.declared.filter_fault.FilterFaultKind.TheVariants.{Deep, Syntax}
 use Rattle.filter_text.specs.Depth.{IsDeepAt, added}
 use Rattle.filter_text.specs.inner.Begins.{IsMemory, Faulty}
 use Rattle.filter_text.specs.inner.Depth.{deep_from}
@@ -20,6 +20,15 @@ same_place e = cc
 same_error : {e f : FilterFault} → ◌≡◌ {A = Result Filter FilterFault} (Err e) (Err f) → e ≡ f
 same_error h = cc
 
+ok_not_err : {f : Filter} {e : FilterFault} → ◌≡◌ {A = Result Filter FilterFault} (Ok f) (Err e) → ⊥
+ok_not_err h = cc
+
+memory_not_deep : {at : ℕ} → OutOfMemory ≡ At at Deep → ⊥
+memory_not_deep h = cc
+
+syntax_not_deep : {at place : ℕ} → At at Syntax ≡ At place Deep → ⊥
+syntax_not_deep h = cc
+
 not_deep : (text : List ℕ) (at : ℕ) → None ≡ deep_from 512 0 (added text) 0 text → IsDeepAt text at → ⊥
 not_deep text at none d = let clash : None ≡ Some at = none ∙ deep_exact text at d in cc
 
@@ -33,13 +42,13 @@ returns-in-Some-clause-deep c at = (
 )
 
 pub returns-in-Ok-clause-deep : goal.returns-in-Ok-clause-deep
-returns-in-Ok-clause-deep c at = ((λ d. absurd (not_deep c.args.text.now at c.in_default.ensures.same d)), (λ e. absurd cc))
+returns-in-Ok-clause-deep c at = ((λ d. absurd (not_deep c.args.text.now at c.in_default.ensures.same d)), (λ e. absurd (ok_not_err e)))
 
 pub returns-in-Err-OutOfMemory-clause-deep : goal.returns-in-Err-OutOfMemory-clause-deep
-returns-in-Err-OutOfMemory-clause-deep c at = ((λ d. absurd (not_deep c.args.text.now at c.in_default.ensures.same d)), (λ e. absurd (let clash = same_error e in cc)))
+returns-in-Err-OutOfMemory-clause-deep c at = ((λ d. absurd (not_deep c.args.text.now at c.in_default.ensures.same d)), (λ e. absurd (memory_not_deep (same_error e))))
 
 pub returns-in-Err-Syntax-clause-deep : goal.returns-in-Err-Syntax-clause-deep
-returns-in-Err-Syntax-clause-deep c at = ((λ d. absurd (not_deep c.args.text.now at c.in_default.ensures.same d)), (λ e. absurd (let clash = same_error e in cc)))
+returns-in-Err-Syntax-clause-deep c at = ((λ d. absurd (not_deep c.args.text.now at c.in_default.ensures.same d)), (λ e. absurd (syntax_not_deep (same_error e))))
 
 pub returns-in-Ok-clause-only : goal.returns-in-Ok-clause-only
 returns-in-Ok-clause-only c f h shallow = c.in-Ok.ensures.only f h
