@@ -1,6 +1,5 @@
 -- Pieces of a folded line.
-use Rattle.std.proofs.Common.{◌≡◌, ℕ, zero, suc, ◌<◌, ◌≤◌, ◌+◌, Bool, true, cond, List, [], ◌∷◌, ◌++◌, codes, length, take, drop, Result, Ok, Err, is_ok, refl, sym, ap, ◌∙◌, append_assoc, arith}
-use Rattle.std.specs.Prelude.{OnOk}
+use Rattle.std.proofs.Common.{◌≡◌, ℕ, zero, suc, ◌<◌, ◌≤◌, ◌+◌, Bool, true, cond, List, [], ◌∷◌, ◌++◌, codes, length, take, drop, refl, sym, ap, ◌∙◌, append_assoc, arith}
 use Rattle.std.proofs.lemmas.Bool.{ne_eqb}
 use Rattle.std.proofs.lemmas.List.{length-append}
 use Rattle.base64.specs.GeneralPurpose.{encode_of}
@@ -59,8 +58,3 @@ pub last_piece : (out rest total : List ℕ) → length rest ≡ 0 → out ++ fo
 unfolding folded
 last_piece out [] total none so_far = so_far
 last_piece out (b ∷ bs) total none so_far = absurd (omega arith)
-
--- the same, where the end of the line may not find room
-pub last_put : {T E : Type 0} (r : Result T E) (out rest total after : List ℕ) → length rest ≡ 0 → out ++ folded 0 rest ≡ total → after ≡ cond (is_ok r) (out ++ 10 ∷ []) out → OnOk r (after ≡ total)
-last_put (Ok x) out rest total after none so_far is = is ∙ last_piece out rest total none so_far
-last_put (Err e) out rest total after none so_far is = tt

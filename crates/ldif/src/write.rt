@@ -1,6 +1,6 @@
 //! Lines that are written.
 
-ghost use Rattle.std.specs.Prelude.{◌≡◌, ◌<◌, ◌≤◌, ◌+◌, ◌-◌, ◌^◌, ◌++◌, ◌∷◌, codes, length, IfOk, OnErr, OnOk, IsTrue};
+ghost use Rattle.std.specs.Prelude.{◌≡◌, ◌<◌, ◌≤◌, ◌+◌, ◌-◌, ◌^◌, ◌++◌, ◌∷◌, length, IfOk, OnErr, OnOk, IsTrue};
 ghost use Rattle.std.specs.List.{list_all};
 ghost use Rattle.base64.specs.GeneralPurpose.{encode_of};
 ghost use Rattle.base64.specs.Engines.{standard};
@@ -113,44 +113,31 @@ fn are_common(value: &[u8]) -> bool
     !any_byte::<Uncommon>(value)
 }
 
-fn put_parts(out: &mut Vec<u8>, name: &[u8], mark: &[u8], value: &[u8]) -> Result<(), AllocError>
-    ensures { OnOk result (out.new.items ≡ out.old.items ++ (name.now ++ mark.now ++ value.now)) }
-{
-    out.reserve(
-        name.len()
-            .saturating_add(mark.len())
-            .saturating_add(value.len()),
-    )?;
-    out.extend_from_slice(name)?;
-    out.extend_from_slice(mark)?;
-    out.extend_from_slice(value)
-}
-
 // Kept apart, since most values are plain, and its tables would be laid out for them too.
 #[inline(never)]
-fn put_encoded(
-    alloc: Global,
-    out: &mut Vec<u8>,
-    name: &[u8],
-    value: &[u8],
-) -> Result<(), AllocError>
-    ensures { OnOk result (out.new.items ≡ out.old.items ++ (name.now ++ codes ":: " ++ encode_of standard value.now)) }
+fn put_encoded(alloc: Global, out: &mut Vec<u8>, value: &[u8]) -> Result<(), AllocError>
+    ensures put { OnOk result (out.new.items ≡ out.old.items ++ encode_of standard value.now) }
+    ensures kept { OnErr result (out.new.items ≡ out.old.items) }
 {
     let code = STANDARD.encode(alloc, value)?;
-    put_parts(out, name, b":: ", code.as_bytes())
+    out.extend_from_slice(code.as_bytes())
 }
 
 // Puts the line, before it is folded, at the end.
 #[tactic(auto, unfolding(crate::specs::Writing::line_text))]
 fn put_text(alloc: Global, out: &mut Vec<u8>, name: &[u8], value: &[u8]) -> Result<(), AllocError>
-    ensures { OnOk result (out.new.items ≡ out.old.items ++ line_text name.now value.now) }
+    ensures put { OnOk result (out.new.items ≡ out.old.items ++ line_text name.now value.now) }
+    ensures kept { OnErr result (Extends out.old.items out.new.items) }
 {
+    out.extend_from_slice(name)?;
     if value.is_empty() {
-        put_parts(out, name, b":", b"")
+        out.extend_from_slice(b":")
     } else if is_plain(value) {
-        put_parts(out, name, b": ", value)
+        out.extend_from_slice(b": ")?;
+        out.extend_from_slice(value)
     } else {
-        put_encoded(alloc, out, name, value)
+        out.extend_from_slice(b":: ")?;
+        put_encoded(alloc, out, value)
     }
 }
 
@@ -187,7 +174,24 @@ fn put_folded(out: &mut Vec<u8>, text: &[u8]) -> Result<(), AllocError>
         push_piece(out, piece)?;
         rest = after;
     }
-    out.extend_from_slice(b"\n")
+    out.push(b'\n')?;
+    Ok(())
+}
+
+// Puts the line at the end. Where memory runs out, a beginning of it may stand there.
+fn put_some(alloc: Global, out: &mut Vec<u8>, name: &[u8], value: &[u8]) -> Result<(), AllocError>
+    ensures put { OnOk result (out.new.items ≡ out.old.items ++ written_line name.now value.now) }
+    ensures kept { OnErr result (Extends out.old.items out.new.items) }
+{
+    let start = out.len();
+    put_text(alloc, out, name, value)?;
+    if out.len() - start <= FIRST_PIECE {
+        out.push(b'\n')?;
+        return Ok(());
+    }
+    let text = Vec::from_slice(alloc, &out[start..])?;
+    out.truncate(start);
+    put_folded(out, &text)
 }
 
 // Puts any line at the end. Where memory runs out, nothing is put.
@@ -196,10 +200,8 @@ fn put_any(alloc: Global, out: &mut Vec<u8>, name: &[u8], value: &[u8]) -> Resul
     ensures put { OnOk result (out.new.items ≡ out.old.items ++ written_line name.now value.now) }
     ensures kept { OnErr result (out.new.items ≡ out.old.items) }
 {
-    let mut text = Vec::new(alloc);
-    put_text(alloc, &mut text, name, value)?;
     let before = out.len();
-    let put = put_folded(out, &text);
+    let put = put_some(alloc, out, name, value);
     if put.is_err() {
         out.truncate(before);
     }

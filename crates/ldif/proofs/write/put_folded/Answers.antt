@@ -2,7 +2,7 @@ use Rattle.std.proofs.Common.{ℕ, List, ◌∷◌, ◌++◌, sym, ap, subst, �
 use Rattle.std.proofs.lemmas.Bool.{eqb-true, eqb-false}
 use Rattle.ldif_lines.specs.Folding.{folded}
 use Rattle.base.specs.Extends.{Extends}
-use Rattle.ldif.proofs.Folds.{one_piece, last_put}
+use Rattle.ldif.proofs.Folds.{one_piece, last_piece}
 use Rattle.base.proofs.Extended.{extends_put, extends_on, on_err_too}
 use Rattle.ldif.proofs.write.put_folded.Goals as goal
 
@@ -17,5 +17,8 @@ pieces-preserved c = record {
 pub returns-in_err-push_piece-clause-kept : goal.returns-in_err-push_piece-clause-kept
 returns-in_err-push_piece-clause-kept c = on_err_too c.from_residual-in_err-push_piece.result (extends_on _ _ _ c.pieces.invariant.kept c.in_err-push_piece.ensures.kept)
 
+pub returns-in_err-push-clause-kept : goal.returns-in_err-push-clause-kept
+returns-in_err-push-clause-kept c = on_err_too c.from_residual-in_err-push.result (subst (Extends c.args.out.now.items) (sym c.in_err-push.ensures.items) c.pieces.invariant.kept)
+
 pub returns-clause-put : goal.returns-clause-put
-returns-clause-put c = last_put c.extend_from_slice-2.result c.pieces.out.items c.pieces.rest.now _ _ (eqb-true _ _ (sym c.is_empty.ensures ∙ c.pieces-test.false)) c.pieces.invariant.put c.extend_from_slice-2.ensures.items
+returns-clause-put c = c.in_ok-push.ensures.items ∙ last_piece c.pieces.out.items c.pieces.rest.now _ (eqb-true _ _ (sym c.is_empty.ensures ∙ c.pieces-test.false)) c.pieces.invariant.put
