@@ -1,5 +1,7 @@
 pub mod Colon
 pub mod Blocks
+pub mod ChangeTypes
+pub mod NamedLines
 pub mod ControlLines
 pub mod Ends
 pub mod Folds

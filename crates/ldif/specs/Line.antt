@@ -54,3 +54,9 @@ same_name a b = bytes_eq (lower a) (lower b)
 -- the same of a value word, where spaces at the end of the text are dropped
 abbrev pub is_word : List ℕ → List ℕ → Bool
 is_word text word = same_name (without_end text) word
+
+-- the value of a line of this name, or the fault of one of another name
+unfoldable pub value_named : LdifFaultKind → List ℕ → List ℕ → Result (List ℕ) LdifFaultKind
+value_named other name line = do
+  attr ← value_line line
+  if same_name attr.name name then Ok attr.value else Err other

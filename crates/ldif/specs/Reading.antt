@@ -6,6 +6,8 @@ use Rattle.std.specs.Str.{bytes_eq}
 use Rattle.ldif.specs.declared.fault.LdifFaultKind.{LdifFaultKind}
 use Rattle.ldif.specs.declared.fault.LdifFaultKind.TheVariants.{DnMissing, Version, ColonMissing, ChangetypeUnknown, OtherAttribute, PartMissing, StrayLine, ChangetypeMissing, ChangetypeInContent, Word}
 use Rattle.ldif.specs.Attrs.{Attr}
+use Rattle.ldif.specs.declared.changes.ChangeType.{ChangeType}
+use Rattle.ldif.specs.declared.changes.ChangeType.TheVariants as types
 use Rattle.ldif.specs.declared.record.Control.{Control}
 use Rattle.ldif.specs.declared.record.Mod.{Mod}
 use Rattle.ldif.specs.declared.record.Op.{Op}
@@ -24,6 +26,10 @@ unfoldable pub content_line : List ℕ → Result Attr LdifFaultKind
 content_line line = do
   attr ← value_line line
   if same_name attr.name (codes "changetype") then Err ChangetypeInContent else Ok attr
+
+-- an attribute line of a content record, or of an add
+abbrev pub attr_line : Bool → List ℕ → Result Attr LdifFaultKind
+attr_line content line = if content then content_line line else value_line line
 
 -- ---- parts of a record: each takes lines from the front, and leaves the rest
 
@@ -157,3 +163,31 @@ first_of_text mode (l ∷ ls) = do
 -- what a record's lines read as; first says that it is its text's first record
 abbrev pub reading : Mode → Bool → List (List ℕ) → Result Record LdifFaultKind
 reading mode first ls = if first then first_of_text mode ls else entry mode ls
+
+-- ---- change records by their type
+
+-- the type that a word says
+unfoldable pub named_type : List ℕ → Result ChangeType LdifFaultKind
+named_type word =
+    if is_word word (codes "add") then Ok types.Add
+    else if is_word word (codes "delete") then Ok types.Delete
+    else if is_word word (codes "modify") then Ok types.Modify
+    else if is_word word (codes "modrdn") then Ok types.ModRdn
+    else if is_word word (codes "moddn") then Ok types.ModRdn
+    else Err ChangetypeUnknown
+
+-- the type, and the lines that follow; where add says so, lines without one are attribute lines
+unfoldable pub type_of : Bool → List (List ℕ) → Result (ChangeType × List (List ℕ)) LdifFaultKind
+type_of add [] = if add then Ok (types.Add, []) else Err ChangetypeMissing
+type_of add (l ∷ ls) = do
+  attr ← value_line l
+  if same_name attr.name (codes "changetype") then (named_type attr.value >>= λ type. Ok (type, ls))
+      else if add then Ok (types.Add, l ∷ ls)
+      else Err ChangetypeMissing
+
+-- the record of a type, by the lines that follow
+unfoldable pub typed : List ℕ → List Control → ChangeType → List (List ℕ) → Result Record LdifFaultKind
+typed dn controls types.Add ls = each value_line ls >>= λ attrs. Ok (records.Add dn controls attrs)
+typed dn controls types.Delete ls = nothing_more ls >>= λ u. Ok (records.Delete dn controls)
+typed dn controls types.Modify ls = each block (blocks ls) >>= λ mods. Ok (records.Modify dn controls mods)
+typed dn controls types.ModRdn ls = renaming dn controls ls

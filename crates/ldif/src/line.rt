@@ -4,10 +4,11 @@ ghost use Rattle.std.specs.Prelude.{◌≡◌, ◌<◌, List, ℕ, position, len
 ghost use Rattle.std.specs.Simd.Lanes.{mask_l};
 ghost use Rattle.ldif.specs.Gives.{Gives, GivesBy};
 ghost use Rattle.ldif.specs.LineValues.{bytes_in};
-ghost use Rattle.ldif.specs.Line.{decoded, form_of, is_colon, value_of, value_line};
+ghost use Rattle.ldif.specs.Line.{decoded, form_of, is_colon, value_of, value_line, value_named};
 
 use crate::fault::{LdifFault, LdifFaultKind};
 use crate::value::{Attr, LineValue};
+use crate::word::same_name;
 use base::{Bytes, begins_with, without_end, without_front};
 use base64::DecodeAllocError;
 use base64::engine::general_purpose::STANDARD;
@@ -117,4 +118,21 @@ pub fn value_line(alloc: Global, line: &[u8]) -> Result<Attr<'_>, LdifFault>
         [b' ', ..] => Err(LdifFault::Fault(LdifFaultKind::Continuation)),
         _ => value_of(alloc, line),
     }
+}
+
+/// The value of a line of this name. The fault is that of a line of another name.
+#[tactic(auto, unfolding(crate::specs::Line::value_named))]
+pub fn value_named(
+    alloc: Global,
+    line: &[u8],
+    name: &[u8],
+    other: LdifFaultKind,
+) -> Result<Bytes, LdifFault>
+    ensures { Gives result (value_named other name.now line.now) }
+{
+    let attr = value_line(alloc, line)?;
+    if !same_name(attr.name(), name) {
+        return Err(LdifFault::Fault(other));
+    }
+    Ok(attr.into_value(alloc)?)
 }
