@@ -1,38 +1,32 @@
 -- The directory in a folder, by what was found there.
-use Rattle.std.proofs.Common.{◌≡◌, ℕ, List, Option, None, Some, sym, subst}
+use Rattle.std.proofs.Common.{◌≡◌, ℕ, List, Option, Some, Result, Ok, Err, IfOk, IfErr, subst}
 use Rattle.std.specs.Option.{option_map}
-use Rattle.std.specs.FinMap as finite
-use Rattle.ldif_lines.specs.Records.{records}
 use Rattle.schema.specs.Conf.{Conf}
 use Rattle.tree.specs.Directories.{Entries}
-use Rattle.databases.specs.Runs.{LoadsRecords}
-use Rattle.databases.specs.Folds.{Over}
 use Rattle.commands.specs.Folders.{Files, Finds, conf_name, data_name}
-use Rattle.commands.specs.Loaded.{IsConfigured, IsLoaded}
+use Rattle.commands.specs.Loaded.{IsConfigured, IsLoaded, LoadsFound, LoadFails}
+use Rattle.commands.specs.inner.LoadFaults.{EntriesFail}
+use Rattle.commands.specs.declared.messages.CommandFault.{CommandFault}
+use Rattle.commands.proofs.Stopping.{load_told}
 
 -- what was opened is a source
 pub opened_so : {A : Type 0} (files : Option Files) (name : List ℕ) (left_of : A → Option (List ℕ)) (found : Option A) (source : A) → Finds files name (option_map left_of found) → found ≡ Some source → Finds files name (Some (left_of source))
 opened_so {A} files name left_of found source finds is = subst (λ (o : Option A). Finds files name (option_map left_of o)) is finds
 
-module _ (files : Option Files) (db : List ℕ) (conf conf' : Conf) (d : Entries) (name : List ℕ)
-    (configured : IsConfigured files (conf_name db) conf) (same : conf' ≡ conf) (named : name ≡ data_name db) where
-  configured_so : IsConfigured files (conf_name db) conf'
-  configured_so = subst (IsConfigured files (conf_name db)) (sym same) configured
-
-  -- no file
-  pub none_there : (found : Option (Option (List ℕ))) → Finds files name found → found ≡ None → d ≡ finite.empty → IsLoaded files db conf' d
-  none_there found finds none is = record {
-    configured = configured_so;
-    found = None;
-    there = subst (λ (o : Option (Option (List ℕ))). Finds files (data_name db) o) none (subst (λ (n : List ℕ). Finds files n found) named finds);
-    loads = is;
+module _ (files : Option Files) (db : List ℕ) (conf : Conf) (configured : IsConfigured files (conf_name db) conf) where
+  -- what is found of data.ldif has these entries
+  pub found_so : (name : List ℕ) → name ≡ data_name db → (found : Option (Option (List ℕ))) → Finds files name found → {X : Type 0} (entries_of : X → Entries) (r : Result X CommandFault)
+      → IfOk r (λ t. LoadsFound conf found (entries_of t)) → IfOk r (λ t. IsLoaded files db conf (entries_of t))
+  found_so name named found finds entries_of (Ok t) loads = record {
+    configured = configured;
+    found = found;
+    there = subst (λ (n : List ℕ). Finds files n found) named finds;
+    loads = loads;
   }
+  found_so name named found finds entries_of (Err f) loads = tt
 
-  -- a file of which no record is refused
-  pub some_there : (text : Option (List ℕ)) → Finds files name (Some text) → Over (option_map records text) (λ given. LoadsRecords conf finite.empty given d) → IsLoaded files db conf' d
-  some_there text finds loads = record {
-    configured = configured_so;
-    found = Some text;
-    there = subst (λ (n : List ℕ). Finds files n (Some text)) named finds;
-    loads = subst (λ (c : Conf). Over (option_map records text) (λ given. LoadsRecords c finite.empty given d)) (sym same) loads;
-  }
+  -- or a fault
+  pub unloaded_so : (name said : List ℕ) → name ≡ data_name db → said ≡ data_name db → (text : Option (List ℕ)) → Finds files name (Some text) → {X : Type 0} (r : Result X CommandFault)
+      → IfErr r (EntriesFail conf text said) → IfErr r (LoadFails files db)
+  unloaded_so name said named is text finds (Ok t) fails = tt
+  unloaded_so name said named is text finds (Err f) fails = load_told files db conf said name text fails.0 f fails.1 is configured named finds fails.2

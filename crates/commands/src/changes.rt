@@ -136,29 +136,25 @@ fn run_records<F: Folder, S: Source, E: Sink>(
 fn run_and_store<F: Folder, S: Source, E: Sink>(
     alloc: Global,
     task: &Task<'_>,
-    mut database: Database,
+    database: &mut Database,
     folder: &mut F,
     input: &mut S,
     err: &mut E,
 ) -> Result<Status, Stop>
     requires input { (S.seen input.old).failed < 2 ^ 64 - 1 }
     requires err { (E.written err.old).failed < 2 ^ 64 - 1 }
-    requires loaded { IsLoaded (F.files folder.old) task.now.db.now database.tree.conf database.tree.entries }
+    requires loaded { IsLoaded (F.files folder.old) task.now.db.now database.old.tree.conf database.old.tree.entries }
     ensures ends { (w : World) → HasEnded (RunsAndStores task.now) (ChangeStops task.now)
         (record w { files = F.files folder.old; input = S.seen input.old; messages = E.written err.old })
         (record w { files = F.files folder.new; input = S.seen input.new; messages = E.written err.new }) result }
     ensures locking { F.locking folder.new ≡ F.locking folder.old }
     ensures can_report { IfErr result (λ why. CanReport why (E.written err.new).failed) }
 {
-    let tally = run_records(alloc, task, &mut database, folder, input, err)?;
-    // The program ends with its command, and that frees the entries at once.
+    let tally = run_records(alloc, task, database, folder, input, err)?;
     if task.dry_run {
-        mem::forget(database);
         return Ok(Status::of_tally(tally));
     }
-    let stored = store_database(alloc, folder, task.db, &database);
-    mem::forget(database);
-    stored?;
+    store_database(alloc, folder, task.db, database)?;
     Ok(Status::of_tally(tally))
 }
 
@@ -178,8 +174,11 @@ fn load_and_run<F: Folder, S: Source, E: Sink>(
     ensures locking { F.locking folder.new ≡ F.locking folder.old }
     ensures can_report { IfErr result (λ why. CanReport why (E.written err.new).failed) }
 {
-    let database = load_database(alloc, folder, task.db)?;
-    run_and_store(alloc, task, database, folder, input, err)
+    let mut database = load_database(alloc, folder, task.db)?;
+    let ended = run_and_store(alloc, task, &mut database, folder, input, err);
+    // The program ends with its command, and that frees the entries at once.
+    mem::forget(database);
+    ended
 }
 
 /// Carries out the records of the file, or of the input, on the directory in a folder, with a line on `err` for each that is refused, and

@@ -5,9 +5,9 @@ ghost use Rattle.databases.specs.Runs.{dump};
 ghost use Rattle.commands.specs.Folders.{Finds, with_file, file_in, conf_name};
 ghost use Rattle.commands.specs.Locks.{Takes};
 ghost use Rattle.commands.specs.Locked.{LockFails};
-ghost use Rattle.commands.specs.Loaded.{IsConfigured, IsLoaded, LoadFails};
+ghost use Rattle.commands.specs.Loaded.{IsConfigured, IsLoaded, LoadsFound, LoadFails};
 ghost use Rattle.commands.specs.Failures.{FailsToRead, FailsToWrite};
-ghost use Rattle.commands.specs.inner.LoadFaults.{TellsLoadFault};
+ghost use Rattle.commands.specs.inner.LoadFaults.{TellsLoadFault, EntriesFail};
 
 use crate::folder::{FileText, Folder, FolderFault, LockFault};
 use crate::messages::CommandFault;
@@ -121,14 +121,23 @@ fn contents<S: Source>(alloc: Global, source: &mut S, name: &str) -> Result<Vec<
     }
 }
 
+/// All bytes of the file of this name, which has to be there.
+fn file_contents<F: Folder>(alloc: Global, folder: &F, name: &str) -> Result<Vec<u8>, CommandFault>
+    ensures found { IfOk result (λ v. Finds (F.files folder.now) name.now (Some (Some v.items))) }
+    ensures err { IfErr result (FailsToRead name.now) }
+{
+    let mut source = open_present(alloc, folder, name)?;
+    contents(alloc, &mut source, name)
+}
+
+/// The configuration that the folder's dir.conf says.
 #[tactic(auto, using(crate::proofs::Stopping::conf_unread))]
 fn configuration<F: Folder>(alloc: Global, folder: &F, db: &str) -> Result<Conf, CommandFault>
     ensures err { IfErr result (LoadFails (F.files folder.now) db.now) }
     ensures ok { IfOk result (λ c. IsConfigured (F.files folder.now) (conf_name db.now) c) }
 {
     let name = path(alloc, db, "dir.conf")?;
-    let mut source = open_present(alloc, folder, name.as_str())?;
-    let text = contents(alloc, &mut source, name.as_str())?;
+    let text = file_contents(alloc, folder, name.as_str())?;
     match read_conf(alloc, &text) {
         Ok(conf) => Ok(conf),
         Err(ConfFault::Line { line, kind }) => Err(CommandFault::Configuration { line, kind }),
@@ -146,8 +155,44 @@ fn fault_of(alloc: Global, name: &str, fault: LoadFault) -> CommandFault
     }
 }
 
-/// The entries in the folder `db`. Where it has no data.ldif, there is none.
-#[tactic(auto, using(crate::proofs::Stopping::data_unread))]
+/// The tree of the entries of a source that has this name, under a configuration.
+fn tree_of<S: Source>(
+    alloc: Global,
+    conf: &Conf,
+    source: &mut S,
+    name: &str,
+) -> Result<Tree, CommandFault>
+    requires { (S.seen source.old).failed < 2 ^ 64 - 1 }
+    ensures same_conf { IfOk result (λ t. t.conf ≡ conf.now) }
+    ensures loads { IfOk result (λ t. LoadsFound conf.now (Some (S.seen source.old).left) t.entries) }
+    ensures err { IfErr result (EntriesFail conf.now (S.seen source.old).left name.now) }
+{
+    match load_tree(alloc, conf, source) {
+        Ok(tree) => Ok(tree),
+        Err(fault) => Err(fault_of(alloc, name, fault)),
+    }
+}
+
+/// The tree of the entries in the folder `db`, under its configuration. Where the folder has no data.ldif, there is none.
+fn load_entries<F: Folder>(
+    alloc: Global,
+    folder: &F,
+    db: &str,
+    conf: &Conf,
+) -> Result<Tree, CommandFault>
+    requires { IsConfigured (F.files folder.now) (conf_name db.now) conf.now }
+    ensures same_conf { IfOk result (λ t. t.conf ≡ conf.now) }
+    ensures loaded { IfOk result (λ t. IsLoaded (F.files folder.now) db.now conf.now t.entries) }
+    ensures err { IfErr result (LoadFails (F.files folder.now) db.now) }
+{
+    let name = path(alloc, db, "data.ldif")?;
+    match open(alloc, folder, name.as_str())? {
+        Some(mut source) => tree_of(alloc, conf, &mut source, name.as_str()),
+        None => Ok(Tree::new(alloc, conf)),
+    }
+}
+
+/// The configuration and the entries in the folder `db`.
 pub fn load_database<F: Folder>(
     alloc: Global,
     folder: &F,
@@ -157,13 +202,6 @@ pub fn load_database<F: Folder>(
     ensures loaded { IfOk result (λ d. IsLoaded (F.files folder.now) db.now d.tree.conf d.tree.entries) }
 {
     let conf = configuration(alloc, folder, db)?;
-    let name = path(alloc, db, "data.ldif")?;
-    let Some(mut source) = open(alloc, folder, name.as_str())? else {
-        let tree = Tree::new(alloc, &conf);
-        return Ok(Database { conf, tree });
-    };
-    match load_tree(alloc, &conf, &mut source) {
-        Ok(tree) => Ok(Database { conf, tree }),
-        Err(fault) => Err(fault_of(alloc, name.as_str(), fault)),
-    }
+    let tree = load_entries(alloc, folder, db, &conf)?;
+    Ok(Database { conf, tree })
 }

@@ -5,9 +5,11 @@ ghost use Rattle.device.specs.Device.{Took};
 ghost use Rattle.schema.specs.declared.code.Code.TheVariants.{SizeLimitExceeded};
 ghost use Rattle.search.specs.Walks.{seen};
 ghost use Rattle.databases.specs.Found.{AreThere, limited_text, goes_past};
-ghost use Rattle.commands.specs.Asked.{base_of, IsBase, IsSelection};
+ghost use Rattle.filter_text.specs.Spells.{view};
+ghost use Rattle.commands.specs.Asked.{base_of, IsBase, IsFilter, IsSelection};
 ghost use Rattle.commands.specs.Failures.{FailsToRead, FailsToWrite};
 ghost use Rattle.commands.specs.Folders.{index_name};
+ghost use Rattle.commands.specs.Loaded.{IsLoaded};
 ghost use Rattle.commands.specs.Worlds.{World};
 ghost use Rattle.commands.specs.Messages.{code_text, fault_text};
 ghost use Rattle.commands.specs.Statuses.{status_of_fault};
@@ -177,8 +179,31 @@ struct Loaded {
     file: IndexFile,
 }
 
-/// Reads the filter, the directory and its index.txt, in this order. Of index.txt it keeps what the filter asks for.
-#[tactic(auto, using(crate::proofs::Stopping::filter_stops, crate::proofs::Stopping::load_stops, crate::proofs::Stopping::index_stops))]
+/// Reads index.txt of a directory that is loaded, as far as the filter asks for it.
+#[tactic(auto, using(crate::proofs::Stopping::index_stops))]
+fn with_index<F: Folder>(
+    alloc: Global,
+    asked: &SearchOptions<'_>,
+    folder: &F,
+    filter: &Filter,
+    database: Database,
+) -> Result<Loaded, CommandFault>
+    requires filter { IsFilter (option_copied asked.now.filter) (view filter.now) }
+    requires loaded { IsLoaded (F.files folder.now) asked.now.db.now database.tree.conf database.tree.entries }
+    ensures loaded { IfOk result (HasLoaded asked.now (F.files folder.now)) }
+    ensures stops { IfErr result (StopsWith (search_query asked.now) (F.files folder.now)) }
+    ensures first { IfErr result ComesFirst }
+{
+    let (prepared, file) = asked_index(alloc, folder, asked.db, filter, &database)?;
+    Ok(Loaded {
+        filter: prepared,
+        database,
+        file,
+    })
+}
+
+/// Reads the filter, the directory and its index.txt, in this order.
+#[tactic(auto, using(crate::proofs::Stopping::filter_stops, crate::proofs::Stopping::load_stops))]
 fn load<F: Folder>(
     alloc: Global,
     asked: &SearchOptions<'_>,
@@ -190,12 +215,7 @@ fn load<F: Folder>(
 {
     let filter = filter_of(alloc, asked.filter)?;
     let database = load_database(alloc, folder, asked.db)?;
-    let (prepared, file) = asked_index(alloc, folder, asked.db, &filter, &database)?;
-    Ok(Loaded {
-        filter: prepared,
-        database,
-        file,
-    })
+    with_index(alloc, asked, folder, &filter, database)
 }
 
 /// Prints what is found by index.txt, or without it where it can't be used.
@@ -227,6 +247,30 @@ fn print_found<O: Sink>(
     }
 }
 
+/// Reports what is wrong with index.txt, and prints what is found.
+fn search_loaded<O: Sink, E: Sink>(
+    alloc: Global,
+    asked: &SearchOptions<'_>,
+    loaded: &Loaded,
+    out: &mut O,
+    err: &mut E,
+) -> Result<Status, Stop>
+    requires out { (O.written out.old).failed < 2 ^ 64 - 1 }
+    requires err { (E.written err.old).failed < 2 ^ 64 - 1 }
+    requires prepared { loaded.now.filter.conf ≡ loaded.now.database.tree.conf }
+    ensures ends { (w : World) → HasLoaded asked.now w.files loaded.now → HasEnded (SearchGoesThrough asked.now) (SearchStops asked.now)
+        (record w { output = O.written out.old; messages = E.written err.old })
+        (record w { output = O.written out.new; messages = E.written err.new }) result }
+    ensures can_report { IfErr result (λ why. CanReport why (E.written err.new).failed) }
+{
+    report_index(alloc, err, &loaded.file)?;
+    match print_found(alloc, asked, loaded, out) {
+        Ok(false) => Ok(Status::Done),
+        Ok(true) => Ok(report_fault(alloc, err, &past_limit())),
+        Err(fault) => Err(Stop::Fault(fault)),
+    }
+}
+
 /// Prints the entries of the directory in a folder that are in scope of the base and that the filter is True of, with the attributes that
 /// are asked for (RFC 4511, 4.5.1). They are found by index.txt, if it is there and was written for these entries, and else by a test of
 /// each entry in scope; if it is there and has a fault, that is reported on `err` first. Where more than the limit match, the first ones are
@@ -247,13 +291,8 @@ pub fn search<F: Folder, O: Sink, E: Sink>(
     ensures can_report { IfErr result (λ why. CanReport why (E.written err.new).failed) }
 {
     let loaded = load(alloc, asked, folder)?;
-    report_index(alloc, err, &loaded.file)?;
-    let printed = print_found(alloc, asked, &loaded, out);
+    let ended = search_loaded(alloc, asked, &loaded, out, err);
     // The program ends with its command, and that frees the entries at once.
     mem::forget(loaded);
-    match printed {
-        Ok(false) => Ok(Status::Done),
-        Ok(true) => Ok(report_fault(alloc, err, &past_limit())),
-        Err(fault) => Err(Stop::Fault(fault)),
-    }
+    ended
 }

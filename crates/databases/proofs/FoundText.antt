@@ -1,12 +1,14 @@
 -- The text of found entries, entry by entry, up to a limit.
-use Rattle.std.proofs.Common.{◌≡◌, ◌≢◌, ℕ, zero, suc, ◌-◌, Bool, true, false, cond, List, [], ◌∷◌, ◌++◌, map, take, length, Option, Some, None, refl, sym, ◌∙◌, ap, append_assoc, arith}
-use Rattle.std.specs.Prelude.{nat_lt, ◌&&◌, filter}
+use Rattle.std.proofs.Common.{◌≡◌, ◌≢◌, ℕ, zero, suc, ◌-◌, Bool, true, false, cond, List, [], ◌∷◌, ◌++◌, map, take, length, Option, Some, None, refl, sym, ◌∙◌, ap, subst, append_assoc, arith}
+use Rattle.std.specs.Prelude.{nat_lt, ◌&&◌, filter, Err}
 use Rattle.std.specs.Bool.{one_answer}
 use Rattle.std.specs.Cmp.{IsTotalOrder}
 use Rattle.std.specs.FinMap as finite
 use Rattle.std.proofs.lemmas.List.{append-nil}
 use Rattle.std.proofs.lemmas.Bool.{eqb-true, ltb-true, lt-ltb, le-ltb}
+use Rattle.device.specs.Device.{Written}
 use Rattle.ldif.specs.Contents.{write_content}
+use Rattle.ldif.specs.declared.write.WriteFault.{WriteFault}
 use Rattle.paths.specs.Paths.{Path, path_cmp}
 use Rattle.schema.specs.Conf.{Conf}
 use Rattle.entries.specs.Entries.{EntryContent}
@@ -18,6 +20,7 @@ use Rattle.search.specs.declared.scope.Scope.{Scope}
 use Rattle.search.specs.Scopes.{is_in_scope}
 use Rattle.search.specs.Searches.{scan, is_tested, scan_among}
 use Rattle.search.specs.Walks.{Lent, seen}
+use Rattle.databases.specs.Dumps.{SoFar, Writes}
 use Rattle.databases.specs.Selections.{Selection}
 use Rattle.databases.specs.Found.{AreThere, found_record, found_text, up_to, goes_past}
 use Rattle.databases.specs.inner.Dumps.{entry_text}
@@ -109,3 +112,11 @@ module _ (conf : Conf) (d : Entries) (s : Selection) where
       ap (λ (l : Option ℕ). text ++ found_text conf d s (up_to l (map seen old))) over
       ∙ ap (λ (bs : List ℕ). text ++ bs) no_text
       ∙ append-nil text
+
+-- ---- behind a text that holds nothing yet
+
+pub begun_empty : (a b : Written) (front bytes left : List ℕ) → front ≡ [] → SoFar a b (front ++ bytes) left → SoFar a b bytes left
+begun_empty a b front bytes left none h = subst (λ (xs : List ℕ). SoFar a b (xs ++ bytes) left) none h
+
+pub fails_empty : (e : WriteFault) (a b : Written) (front bytes : List ℕ) → front ≡ [] → Writes (Err e) a b (front ++ bytes) → Writes (Err e) a b bytes
+fails_empty e a b front bytes none h = subst (λ (xs : List ℕ). Writes (Err e) a b (xs ++ bytes)) none h

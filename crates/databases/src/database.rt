@@ -2,7 +2,7 @@
 
 ghost use Rattle.std.specs.Prelude.{◌≡◌};
 
-use crate::applying::carry_out_alone;
+use crate::applying::carry_out;
 use crate::refusal::Outcome;
 use crate::target::Target;
 use ldif::{Mode, RawRecord};
@@ -33,6 +33,6 @@ impl Target for Database {
         raw: &RawRecord,
         mode: Mode,
     ) -> Result<Outcome, AllocError> {
-        carry_out_alone(alloc, &mut self.tree, &self.conf, raw, mode)
+        carry_out(alloc, &mut self.tree, &self.conf, raw, mode)
     }
 }

@@ -1,9 +1,9 @@
 //! The entries that a search finds, as LDIF.
 
-ghost use Rattle.std.specs.Prelude.{◌≡◌, ◌<◌, ◌-◌, ◌^◌, false, map};
+ghost use Rattle.std.specs.Prelude.{◌≡◌, ◌<◌, ◌-◌, ◌^◌, ◌++◌, false, map};
 ghost use Rattle.search.specs.Walks.{seen};
 ghost use Rattle.databases.specs.Found.{AreThere, limited_text, goes_past, WritesFound};
-ghost use Rattle.databases.specs.inner.Found.{is_used_up, one_fewer};
+ghost use Rattle.databases.specs.inner.Found.{is_used_up, one_fewer, WritesFoundOn};
 
 use crate::dump::{Printer, pass_on};
 use crate::selection::Selection;
@@ -35,6 +35,34 @@ fn one_fewer(left: Option<u32>) -> Option<u32>
     }
 }
 
+// puts the records of entries that a search found behind a text, up to the limit, and hands the text on where it is long; answers whether
+// there are more
+fn put_found<W: Sink, S: IdSet>(
+    printer: &Printer<'_>,
+    sink: &mut W,
+    names: &mut Names<'_>,
+    hits: Hits<'_, S>,
+    limit: Option<u32>,
+    selection: &Selection,
+    text: &mut Vec<u8>,
+) -> Result<bool, WriteFault>
+    requires can_fail { (W.written sink.old).failed < 2 ^ 64 - 1 }
+    requires names { names.old ≡ printer.now.tree.now }
+    requires there { AreThere printer.now.tree.now.entries (map seen hits.to_come) }
+    ensures { WritesFoundOn result (goes_past limit hits.entry.to_come) (W.written sink.old) (W.written sink.new)
+        (text.old.items ++ limited_text printer.now.tree.now.conf printer.now.tree.now.entries selection.now limit (map seen hits.entry.to_come)) text.new.items }
+{
+    let mut left = limit;
+    for found in hits {
+        if is_used_up(left) {
+            return Ok(true);
+        }
+        printer.write_entry(sink, names, selection, found, text)?;
+        left = one_fewer(left);
+    }
+    Ok(false)
+}
+
 /// Writes entries that a search of a tree found, each as a content record with the attributes that are selected (RFC 2849;
 /// RFC 4511, 4.5.1.8), in pieces of some 64 KiB. The tree was made with this configuration. With a limit it writes the first ones up to
 /// it, and answers whether there are more (RFC 4511, 4.5.1.4). On a fault a beginning was written.
@@ -56,15 +84,9 @@ pub fn write_found<W: Sink, S: IdSet>(
     let printer = Printer { alloc, tree, conf };
     let mut names = Names::new(alloc, tree, conf);
     let mut text = Vec::new(alloc);
-    let mut left = limit;
-    for found in hits {
-        if is_used_up(left) {
-            pass_on(sink, &mut text)?;
-            return Ok(true);
-        }
-        printer.write_entry(sink, &mut names, selection, found, &mut text)?;
-        left = one_fewer(left);
-    }
+    let past = put_found(
+        &printer, sink, &mut names, hits, limit, selection, &mut text,
+    )?;
     pass_on(sink, &mut text)?;
-    Ok(false)
+    Ok(past)
 }

@@ -13,7 +13,7 @@ ghost use Rattle.databases.specs.FailedReads.{LoadedUpTo};
 ghost use Rattle.databases.specs.inner.Pulls.{closed_with};
 ghost use Rattle.databases.specs.inner.Loading.{IsLoaded, Explains};
 
-use crate::applying::carry_out_alone;
+use crate::applying::carry_out;
 use crate::refusal::{Outcome, RecordRefusal};
 use device::Source;
 use ldif::{Mode, RawRecord, ReadFault, Reader};
@@ -53,7 +53,7 @@ fn load_record(
     ensures loaded { OnOk result (IsLoaded (outcome_of tree.old.conf Content tree.old.entries raw.now) tree.new.entries) }
     ensures refused { IfErr result (λ f. Explains f raw.now.line (outcome_of tree.old.conf Content tree.old.entries raw.now)) }
 {
-    match carry_out_alone(alloc, tree, conf, raw, Mode::Content)? {
+    match carry_out(alloc, tree, conf, raw, Mode::Content)? {
         Outcome::Refused(refusal) => Err(LoadFault::Refused {
             line: raw.line,
             refusal,

@@ -5,5 +5,5 @@ use Rattle.commands.proofs.changes.load_and_run.Goals as goal
 pub returns-clause-ends : goal.returns-clause-ends
 returns-clause-ends g c = λ w.
     let before : World = record w { files = g.F.Folder.files c.args.folder.now; input = g.S.Source.seen c.args.input.now; messages = g.E.Sink.written c.args.err.now } in
-    let behind : World = record w { files = g.F.Folder.files c.run_and_store.new.folder; input = g.S.Source.seen c.run_and_store.new.input; messages = g.E.Sink.written c.run_and_store.new.err } in
-    ended_known c.args.task.now before behind c.run_and_store.result (c.run_and_store.ensures.ends w)
+    let behind : World = record w { files = g.F.Folder.files c.run_and_store-ended.new.folder; input = g.S.Source.seen c.run_and_store-ended.new.input; messages = g.E.Sink.written c.run_and_store-ended.new.err } in
+    ended_known c.args.task.now before behind c.run_and_store-ended.result (c.run_and_store-ended.ensures.ends w)

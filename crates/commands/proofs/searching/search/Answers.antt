@@ -1,14 +1,8 @@
-use Rattle.std.proofs.Common.{Bool, refl, subst}
-use Rattle.std.specs.Prelude.{None}
+use Rattle.std.proofs.Common.{refl}
 use Rattle.std.proofs.lemmas.Result.{err_from_is_err_and}
-use Rattle.filter_text.specs.Spells.{view}
-use Rattle.commands.specs.Prints.{search_query, SearchText, SearchStops, IsFoundText}
-use Rattle.commands.specs.Queries.{HasBegun}
-use Rattle.commands.specs.inner.Printed.{HasPrinted}
-use Rattle.commands.specs.inner.Views.{basis_of}
-use Rattle.commands.proofs.Ends.{printed_more}
-use Rattle.commands.proofs.Searched.{is_said, text_so, at_once, unreported, stops_reported, searched, searched_past}
-use Rattle.commands.proofs.Stopping.{stopped, refused_stops, prints_more}
+use Rattle.commands.specs.Prints.{SearchStops}
+use Rattle.commands.proofs.Searched.{at_once}
+use Rattle.commands.proofs.Stopping.{stopped}
 use Rattle.commands.proofs.searching.search.Goals as goal
 
 pub returns-in_err-loaded-clause-ends : goal.returns-in_err-loaded-clause-ends
@@ -16,51 +10,5 @@ returns-in_err-loaded-clause-ends g c =
     let p = err_from_is_err_and c.from_residual.result c.from_residual.ensures.1 in
     rw (p.1, p.2) (λ w. stopped (SearchStops c.args.asked.now) _ _ _ (at_once c.args.asked.now (record w { files = g.F.Folder.files c.args.folder.now; output = g.O.Sink.written c.args.out.now; messages = g.E.Sink.written c.args.err.now }) _ c.in_err-loaded.ensures.stops c.in_err-loaded.ensures.first) refl)
 
-pub returns-in_err-report_index-clause-ends : goal.returns-in_err-report_index-clause-ends
-returns-in_err-report_index-clause-ends g c =
-    let p = err_from_is_err_and c.from_residual-in_err-report_index.result c.from_residual-in_err-report_index.ensures.1 in
-    rw (p.1, p.2) (λ w. stopped (SearchStops c.args.asked.now) _ _ _ (unreported c.args.asked.now (record w { files = g.F.Folder.files c.args.folder.now; output = g.O.Sink.written c.args.out.now; messages = g.E.Sink.written c.args.err.now }) c.in_ok-loaded.ensures.loaded.index.said _ _
-    (is_said c.args.asked.now (g.F.Folder.files c.args.folder.now) c.in_ok-loaded.loaded c.in_ok-loaded.ensures.loaded) (c.in_err-report_index.ensures.err c.in_ok-loaded.loaded.filter c.in_ok-loaded.ensures.loaded.index.said c.in_ok-loaded.ensures.loaded.index.kept.says)) refl)
-
-pub returns-in_err-report_index-clause-can_report : goal.returns-in_err-report_index-clause-can_report
-returns-in_err-report_index-clause-can_report g c =
-    let p = err_from_is_err_and c.from_residual-in_err-report_index.result c.from_residual-in_err-report_index.ensures.1 in
-    rw (p.1, p.2) c.in_err-report_index.ensures.can_report
-
-pub returns-in-Ok-false-clause-ends : goal.returns-in-Ok-false-clause-ends
-returns-in-Ok-false-clause-ends g c = λ w.
-    let asked = c.args.asked.now in
-    let files = g.F.Folder.files c.args.folder.now in
-    let l = c.in_ok-loaded.loaded in
-    let h = c.in_ok-loaded.ensures.loaded in
-    let said = h.index.said in
-    searched asked (record w { files = files; output = g.O.Sink.written c.args.out.now; messages = g.E.Sink.written c.args.err.now }) said _ (c.in_ok-report_index.ensures.reports l.filter said h.index.kept.says) _
-    (subst (λ (past : Bool). HasPrinted (SearchText asked files said past) (g.O.Sink.written c.args.out.now) (g.O.Sink.written c.print_found-printed.new.out)) c.in-Ok-false.field-0-test
-    (printed_more (IsFoundText asked said (basis_of l.filter.filter l.database.tree) _) (SearchText asked files said _) (text_so asked files l h _) _ _ (c.in-Ok-false.ensures.found said h.index.kept)))
-
-pub returns-in-Ok-true-clause-ends : goal.returns-in-Ok-true-clause-ends
-returns-in-Ok-true-clause-ends g c = λ w.
-    let asked = c.args.asked.now in
-    let files = g.F.Folder.files c.args.folder.now in
-    let l = c.in_ok-loaded.loaded in
-    let h = c.in_ok-loaded.ensures.loaded in
-    let said = h.index.said in
-    searched_past asked (record w { files = files; output = g.O.Sink.written c.args.out.now; messages = g.E.Sink.written c.args.err.now }) said _ (c.in_ok-report_index.ensures.reports l.filter said h.index.kept.says) _ (g.E.Sink.written c.report_fault.new.err) _ _ _
-    (subst (λ (past : Bool). HasPrinted (SearchText asked files said past) (g.O.Sink.written c.args.out.now) (g.O.Sink.written c.print_found-printed.new.out)) c.in-Ok-true.field-0-test
-    (printed_more (IsFoundText asked said (basis_of l.filter.filter l.database.tree) _) (SearchText asked files said _) (text_so asked files l h _) _ _ (c.in-Ok-true.ensures.found said h.index.kept)))
-    c.past_limit.ensures.text c.past_limit.ensures.status c.report_fault.ensures.reported
-
-pub returns-in-Err-clause-ends : goal.returns-in-Err-clause-ends
-returns-in-Err-clause-ends g c = λ w.
-    let asked = c.args.asked.now in
-    let files = g.F.Folder.files c.args.folder.now in
-    let l = c.in_ok-loaded.loaded in
-    let h = c.in_ok-loaded.ensures.loaded in
-    let said = h.index.said in
-    stopped (SearchStops asked) _ _ _
-    (stops_reported asked (record w { files = files; output = g.O.Sink.written c.args.out.now; messages = g.E.Sink.written c.args.err.now }) said _ (c.in_ok-report_index.ensures.reports l.filter said h.index.kept.says) _ c.in-Err.fault
-    (is_said asked files l h)
-    (refused_stops (search_query asked) files (view l.filter.filter) h.filter_is l.database.tree.conf l.database.tree.entries h.directory c.in-Err.fault c.in-Err.ensures.fault)
-    (prints_more (HasBegun (λ text. (past : Bool) × IsFoundText asked said (basis_of l.filter.filter l.database.tree) past text) None) (HasBegun (λ text. (past : Bool) × SearchText asked files said past text) None) _ _
-    (λ f begun. record { text = begun.text; is = (begun.is.0, text_so asked files l h begun.is.0 begun.text begun.is.1); begins = begun.begins }) c.in-Err.fault (c.in-Err.ensures.partly said h.index.kept)))
-    refl
+pub returns-clause-ends : goal.returns-clause-ends
+returns-clause-ends g c = λ w. c.search_loaded-ended.ensures.ends (record w { files = g.F.Folder.files c.args.folder.now }) c.in_ok-loaded.ensures.loaded

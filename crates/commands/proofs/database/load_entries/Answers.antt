@@ -1,0 +1,11 @@
+use Rattle.std.proofs.Common.{◌∙◌}
+use Rattle.commands.proofs.Loading.{opened_so, found_so, unloaded_so}
+use Rattle.commands.proofs.database.load_entries.Goals as goal
+
+pub returns-in-Some-clause-loaded : goal.returns-in-Some-clause-loaded
+returns-in-Some-clause-loaded g c =
+    found_so _ _ _ c.requires _ (c.as_str.ensures.value ∙ c.in_ok-name.ensures) _ (opened_so _ _ _ _ _ c.in_ok-source.ensures.finds c.in-Some.is) (λ t. t.entries) c.tree_of.result c.tree_of.ensures.loads
+
+pub returns-in-Some-clause-err : goal.returns-in-Some-clause-err
+returns-in-Some-clause-err g c =
+    unloaded_so _ _ _ c.requires _ _ (c.as_str.ensures.value ∙ c.in_ok-name.ensures) (c.as_str-in-Some.ensures.value ∙ c.in_ok-name.ensures) _ (opened_so _ _ _ _ _ c.in_ok-source.ensures.finds c.in-Some.is) c.tree_of.result c.tree_of.ensures.err
