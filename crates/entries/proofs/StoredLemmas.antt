@@ -1,5 +1,5 @@
 -- Stored attributes, and what they are without their normal forms.
-use Rattle.std.proofs.Common.{◌≡◌, ℕ, ◌<◌, true, false, cond, List, [], ◌∷◌, ◌++◌, length, refl, sym, ◌∙◌, ap, subst, Option, Some, None, nat_eq, Bor, inl, inr}
+use Rattle.std.proofs.Common.{◌≡◌, ℕ, ◌<◌, Bool, true, false, cond, List, [], ◌∷◌, ◌++◌, length, refl, sym, ◌∙◌, ap, subst, Option, Some, None, nat_eq, Bor, inl, inr}
 use Rattle.std.specs.Prelude.{unwrap_or, ◌||◌, is_some}
 use Rattle.std.specs.List.{AllByRecursion, list_any}
 use Rattle.std.specs.Option.{option_map, option_copied}
@@ -52,6 +52,10 @@ set_same t (e ∷ es) w is = elim (nat_eq t e.0) as (λ b. cond b (Some e.1) (lo
 -- values that were lent and not changed
 pub kept_same : (t : ℕ) (es new : List EntryAttribute) (w : List Value) → lookup (nat_eq t) es ≡ Some w → new ≡ set_value (nat_eq t) es w → new ≡ es
 kept_same t es new w is set = set ∙ set_same t es w is
+
+pub put_old : (put : Bool) (t : ℕ) (es new : List EntryAttribute) (old w : List Value) (v : Value) → lookup (nat_eq t) es ≡ Some old → new ≡ set_value (nat_eq t) es w → w ≡ cond put (old ++ v ∷ []) old → new ≡ cond put (push_value es t v) es
+put_old true t es new old w v there set is = pushed_old t es new old w v there set is
+put_old false t es new old w v there set is = kept_same t es new old there (set ∙ ap (set_value (nat_eq t) es) is)
 
 pub pushed_new : (t : ℕ) (es new : List EntryAttribute) (w : List Value) (v : Value) → lookup (nat_eq t) es ≡ None → new ≡ insert_entry nat_eq es t w → w ≡ v ∷ [] → new ≡ push_value es t v
 pushed_new t es new w v is set items = set ∙ ap (insert_entry nat_eq es t) items ∙ push_insert t es v is

@@ -10,6 +10,7 @@ ghost use Rattle.values.specs.Values as values;
 ghost use Rattle.entries.specs.Entries.{values_of, push_value};
 ghost use Rattle.entries.specs.Modifies.{set_values};
 
+use crate::values_draft::push_new;
 use schema::{TypeId, Value};
 use std::alloc::{AllocError, Global};
 use std::marker::Model;
@@ -141,15 +142,12 @@ impl Attributes {
         ensures err { OnErr result (self.new ≡ self.old) }
     {
         match place_of(&self.types, t) {
-            Some(place) => {
-                if self.values[place].has_norm(value.norm()) {
-                    return Ok(false);
-                }
-                self.values[place].push(alloc, value)?;
+            Some(place) => push_new(alloc, &mut self.values[place], value),
+            None => {
+                self.put_last(t, Values::one(value))?;
+                Ok(true)
             }
-            None => self.put_last(t, Values::one(value))?,
         }
-        Ok(true)
     }
 
     /// Takes the values of a type, so that others can be set in their place.

@@ -77,8 +77,7 @@ fn remove_ava(
     }
     let mut values = attrs.take(*t);
     values.remove_norm(alloc, value.norm())?;
-    attrs.set(*t, values)?;
-    Ok(())
+    attrs.set(*t, values)
 }
 
 // Takes away the values of the old RDN, but for those that the new one has.

@@ -1,6 +1,6 @@
 //! The values of an attribute while a modify changes them.
 
-ghost use Rattle.std.specs.Prelude.{◌≡◌, not, IfOk, OnOk};
+ghost use Rattle.std.specs.Prelude.{◌≡◌, not, IfOk, OnErr, OnOk};
 ghost use Rattle.std.specs.BTreeMap.{get};
 ghost use Rattle.std.specs.Cmp.Lexicographic.{slice_cmp};
 ghost use Rattle.std.specs.Ordering.{nat_cmp};
@@ -91,10 +91,11 @@ fn first_places(alloc: Global, values: &Values) -> Result<Places, AllocError>
     })
 }
 
-// Puts a value last, unless an equal one is there, and tells whether it did.
-fn push_new(alloc: Global, values: &mut Values, value: Value) -> Result<bool, AllocError>
+/// Puts a value last, unless an equal one is there, and tells whether it did; or changes nothing.
+pub(crate) fn push_new(alloc: Global, values: &mut Values, value: Value) -> Result<bool, AllocError>
     ensures is_new { IfOk result (λ put. put ≡ not (has_norm value.norm values.old)) }
     ensures values { IfOk result (λ put. values.new ≡ put_if put values.old value) }
+    ensures err { OnErr result (values.new ≡ values.old) }
 {
     if values.has_norm(value.norm()) {
         return Ok(false);
