@@ -22,7 +22,7 @@ use Rattle.filter.specs.Prepared.{matches, assertion_of, prepared_with, prepared
 use Rattle.filter.specs.Truths.{and_of, or_of, opposite}
 use Rattle.filter.proofs.Truths.{lesser, greater, and_of_more, or_of_more}
 use Rattle.index_keys.specs.EntryKeys.{norms_under, windows, empty_key}
-use Rattle.index_keys.specs.Postings.{Shown}
+use Rattle.index_text.specs.Postings.{Shown}
 use Rattle.candidates.specs.Brackets.{Allows, Reflects}
 use Rattle.candidates.specs.Sides.{Sides, unknown, exactly, at_most, if_indexed, is_member, has_windows, assertion_sides, item_sides, all_sides, any_sides, swapped, sides, sides_each}
 use Rattle.candidates.proofs.Norms.{stored, attributes-stored, are_made, any_norm}

@@ -11,10 +11,10 @@ use Rattle.filter.specs.declared.prepared_item.PreparedItem.{PreparedItem}
 use Rattle.filter.specs.declared.prepared_item.PreparedItem.TheVariants.{Undefined, Asserts}
 use Rattle.filter.specs.Prepared.{PreparedContent, PreparedContents, All_of, Any_of, Not_of, Leaf, No_more, And_then}
 use Rattle.index_keys.specs.EntryKeys.{windows}
-use Rattle.index_keys.specs.KeySets.{Members}
-use Rattle.index_keys.specs.Postings.{Shown}
-use Rattle.index_keys.specs.SlotKeys.{slot_key}
-use Rattle.index_keys.specs.declared.slot_key.SlotKey.{SlotKey}
+use Rattle.index_text.specs.KeySets.{Members}
+use Rattle.index_text.specs.Postings.{Shown}
+use Rattle.index_text.specs.SlotKeys.{slot_key}
+use Rattle.index_text.specs.declared.slot_key.SlotKey.{SlotKey}
 use Rattle.candidates.specs.Asked.{asked_kind, asked_of_slot, keys_under, item_keys, asked_keys, asked_keys_each, HaveSameSlots, ShowAlike}
 use Rattle.candidates.specs.Sides.{Sides, exactly, at_most, if_indexed, is_member, has_windows, assertion_sides, item_sides, all_sides, any_sides, swapped, sides, sides_each}
 

@@ -22,10 +22,10 @@ use Rattle.schema.specs.Values.{is_valid_at, norm_at}
 use Rattle.filter_text.specs.declared.items.Item.TheVariants.{Equality, Approx, GreaterOrEqual, Present, Substrings}
 use Rattle.filter_text.specs.Spells.{FilterContent, FilterContents, All_of, Any_of, Not_of, Leaf, No_more, And_then}
 use Rattle.filter.specs.Prepared.{prepared_filter}
-use Rattle.index_keys.specs.KeySets.{Members}
-use Rattle.index_keys.specs.Postings.{Shown, slot_in}
-use Rattle.index_keys.specs.SlotKeys.{slot_key}
-use Rattle.index_keys.specs.declared.slot_key.SlotKey.{SlotKey}
+use Rattle.index_text.specs.KeySets.{Members}
+use Rattle.index_text.specs.Postings.{Shown, slot_in}
+use Rattle.index_text.specs.SlotKeys.{slot_key}
+use Rattle.index_text.specs.declared.slot_key.SlotKey.{SlotKey}
 use Rattle.candidates.specs.Asked.{asked_keys}
 use Rattle.candidates.specs.Sides.{Sides, unknown, neither, exactly, at_most, sides}
 

@@ -2,7 +2,7 @@
 use Rattle.std.proofs.Common.{◌≡◌, ℕ, suc, ◌+◌, ◌<◌, Bool, true, false, not, List, ◌∷◌, drop, length, get_or, refl, sym, ap, ◌∙◌, add-one, drop-cons}
 use Rattle.filter.specs.declared.prepared_filter.PreparedFilter.{PreparedFilter}
 use Rattle.filter.specs.Prepared.{PreparedContent, All_of, Any_of, prepared_view, prepared_views}
-use Rattle.index_keys.specs.Postings.{Shown}
+use Rattle.index_text.specs.Postings.{Shown}
 use Rattle.candidates.specs.declared.side.Side.{Side}
 use Rattle.candidates.specs.declared.side.Side.TheVariants.{MayBeTrue, MayBeFalse}
 use Rattle.candidates.specs.Sides.{Sides, sides, sides_each, all_sides, any_sides}

@@ -9,7 +9,7 @@ use Rattle.std.specs.Cmp.Lexicographic.{nat_list_eq_equiv}
 use Rattle.matching.specs.Substrings.{joined, Fits}
 use Rattle.filter.specs.Pieces.{fits}
 use Rattle.index_keys.specs.EntryKeys.{windows}
-use Rattle.index_keys.specs.Postings.{Shown}
+use Rattle.index_text.specs.Postings.{Shown}
 use Rattle.candidates.specs.Sides.{is_member, has_windows}
 
 -- ---- windows of a text

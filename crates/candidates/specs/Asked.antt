@@ -8,10 +8,10 @@ use Rattle.filter.specs.declared.assertion.Assertion.TheVariants.{Equality, Grea
 use Rattle.filter.specs.declared.prepared_item.PreparedItem.{PreparedItem}
 use Rattle.filter.specs.declared.prepared_item.PreparedItem.TheVariants.{Undefined, Asserts}
 use Rattle.filter.specs.Prepared.{PreparedContent, PreparedContents, All_of, Any_of, Not_of, Leaf, No_more, And_then}
-use Rattle.index_keys.specs.declared.slot_key.SlotKey.{SlotKey}
+use Rattle.index_text.specs.declared.slot_key.SlotKey.{SlotKey}
 use Rattle.index_keys.specs.EntryKeys.{windows}
-use Rattle.index_keys.specs.Postings.{Shown}
-use Rattle.index_keys.specs.SlotKeys.{slot_key}
+use Rattle.index_text.specs.Postings.{Shown}
+use Rattle.index_text.specs.SlotKeys.{slot_key}
 
 -- ---- items
 

@@ -6,10 +6,10 @@ use Rattle.schema.specs.declared.slots.IndexKind.{IndexKind}
 use Rattle.entries.specs.Entries.{Attributes}
 use Rattle.filter.specs.declared.truth.Truth.{Truth}
 use Rattle.filter.specs.declared.truth.Truth.TheVariants.{True, False}
-use Rattle.index_keys.specs.declared.slot_key.SlotKey.{SlotKey}
+use Rattle.index_text.specs.declared.slot_key.SlotKey.{SlotKey}
 use Rattle.index_keys.specs.EntryKeys.{has_key, slot_keys}
-use Rattle.index_keys.specs.Indexes.{Index, members}
-use Rattle.index_keys.specs.Postings.{Shown}
+use Rattle.index_text.specs.Indexes.{Index, members}
+use Rattle.index_text.specs.Postings.{Shown}
 use Rattle.candidates.specs.Sides.{Sides}
 
 -- under each slot that there is, the number stands under exactly the keys of the entry

@@ -3,7 +3,7 @@ use Rattle.std.specs.Prelude.{ℕ, Bool}
 use Rattle.filter_text.specs.Spells.{view}
 use Rattle.filter.specs.Made.{Made}
 use Rattle.filter.specs.Prepared.{PreparedContent, prepared_filter}
-use Rattle.index_keys.specs.Postings.{Shown}
+use Rattle.index_text.specs.Postings.{Shown}
 use Rattle.candidates.specs.Sides.{sides}
 
 -- the filter with its items prepared under its configuration

@@ -11,7 +11,7 @@ use Rattle.filter.specs.declared.prepared_item.PreparedItem.{PreparedItem}
 use Rattle.filter.specs.declared.prepared_item.PreparedItem.TheVariants.{Undefined, Asserts}
 use Rattle.filter.specs.Prepared.{PreparedContent, PreparedContents, All_of, Any_of, Not_of, Leaf, No_more, And_then}
 use Rattle.index_keys.specs.EntryKeys.{windows}
-use Rattle.index_keys.specs.Postings.{Shown}
+use Rattle.index_text.specs.Postings.{Shown}
 
 -- whether it may be True, and whether it may be False
 pub record Sides : Type 0 where

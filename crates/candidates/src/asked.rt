@@ -4,14 +4,15 @@ ghost use Rattle.std.specs.Prelude.{◌≡◌, ◌++◌, ◌∷◌, [], map, IfO
 ghost use Rattle.std.specs.List.{flat_map};
 ghost use Rattle.filter.specs.Prepared.{prepared_view, prepared_views};
 ghost use Rattle.index_keys.specs.EntryKeys.{windows};
-ghost use Rattle.index_keys.specs.Postings.{slot_in};
-ghost use Rattle.index_keys.specs.SlotKeys.{slot_key};
+ghost use Rattle.index_text.specs.Postings.{slot_in};
+ghost use Rattle.index_text.specs.SlotKeys.{slot_key};
 ghost use Rattle.candidates.specs.Asked.{asked_kind, asked_of_slot, item_keys, asked_keys, asked_keys_each};
 ghost use Rattle.candidates.specs.Candidates.{prepared_of};
 
 use base::Bytes;
 use filter::{Assertion, Prepared, PreparedFilter, PreparedItem};
-use index_keys::{SlotKey, SlotNumber, first_window, slot_number};
+use index_keys::first_window;
+use index_text::{SlotKey, SlotNumber, slot_number};
 use schema::{IndexKind, Pieces, Slot};
 use std::alloc::{AllocError, Global};
 

@@ -13,7 +13,7 @@ use crate::items::item_numbers;
 use crate::numbers::Numbers;
 use crate::side::Side;
 use filter::{Prepared, PreparedFilter};
-use index_keys::Postings;
+use index_text::Postings;
 use std::alloc::{AllocError, Global};
 
 /// The numbers of the entries of which a filter may be True, and of those of which it may be False. Where it is Undefined, either may have

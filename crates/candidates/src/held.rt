@@ -8,7 +8,7 @@ ghost use Rattle.candidates.specs.inner.OneSide.{both_or_either};
 
 use crate::numbers::Numbers;
 use id_sets::IdSet;
-use index_keys::Postings;
+use index_text::Postings;
 use std::alloc::{AllocError, Global};
 
 /// A set of numbers. One that is lent is handed on as it is, and copied at the end, if at all.

@@ -9,7 +9,8 @@ use crate::held::{Held, all_or_none, meet_numbers};
 use crate::numbers::Numbers;
 use crate::side::Side;
 use filter::{Assertion, PreparedItem};
-use index_keys::{Postings, SlotNumber, first_window};
+use index_keys::first_window;
+use index_text::{Postings, SlotNumber};
 use schema::{IndexKind, Pieces, TypeId};
 use std::alloc::{AllocError, Global};
 

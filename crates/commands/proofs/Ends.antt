@@ -10,7 +10,7 @@ use Rattle.entries.specs.Entries.{EntryContent}
 use Rattle.tree.specs.Trees.{Tree}
 use Rattle.filter_text.specs.Spells.{view}
 use Rattle.filter.specs.Made.{Made}
-use Rattle.index_keys.specs.Postings.{Shown}
+use Rattle.index_text.specs.Postings.{Shown}
 use Rattle.search.specs.declared.scope.Scope.{Scope}
 use Rattle.search.specs.Searches.{scan, scan_among}
 use Rattle.stored_index.specs.Stored.{Stored, shown_by}

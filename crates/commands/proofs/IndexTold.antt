@@ -10,7 +10,7 @@ use Rattle.schema.specs.Conf.{Conf}
 use Rattle.tree.specs.Directories.{Entries}
 use Rattle.stored_index.specs.Rows.{IsByte}
 use Rattle.filter.specs.Made.{Made}
-use Rattle.index_keys.specs.declared.slot_key.SlotKey.{SlotKey}
+use Rattle.index_text.specs.declared.slot_key.SlotKey.{SlotKey}
 use Rattle.candidates.specs.Asked.{asked_keys, ShowAlike}
 use Rattle.candidates.specs.Candidates.{prepared_of}
 use Rattle.stored_index.specs.Reading.{rows_in}
@@ -18,7 +18,7 @@ use Rattle.stored_index.specs.Stored.{Stored, index_in, stored, shown_by, ShowsK
 use Rattle.stored_index.specs.declared.fault.IndexFaultKind.{IndexFaultKind}
 use Rattle.databases.specs.IndexTexts.{index_rows, index_text, stamp}
 use Rattle.databases.specs.Searches.{ReflectsDump, ShowsIndexText, ShowsTo}
-use Rattle.index_keys.specs.Postings.{Shown, slot_in}
+use Rattle.index_text.specs.Postings.{Shown, slot_in}
 use Rattle.commands.specs.Failures.{FailsToRead}
 use Rattle.commands.specs.IndexFiles.{SaysOf}
 use Rattle.commands.specs.inner.IndexFiles.{IsTrue}

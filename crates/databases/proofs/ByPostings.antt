@@ -14,7 +14,7 @@ use Rattle.filter.specs.Truths.{is_true}
 use Rattle.filter.specs.Filters.{truth}
 use Rattle.filter.specs.Made.{Made}
 use Rattle.filter.specs.Prepared as prepared
-use Rattle.index_keys.specs.Postings.{Shown}
+use Rattle.index_text.specs.Postings.{Shown}
 use Rattle.candidates.specs.Asked.{asked_keys, HaveSameSlots, ShowAlike}
 use Rattle.candidates.specs.Brackets.{Reflects, Allows}
 use Rattle.candidates.specs.Candidates.{prepared_of, may_be_true}

@@ -25,8 +25,8 @@ use Rattle.schema.specs.Conf.{Conf}
 use Rattle.entries.specs.Entries.{EntryContent}
 use Rattle.tree.specs.Directories.{Entries}
 use Rattle.index_keys.specs.EntryKeys.{entry_keys}
-use Rattle.index_keys.specs.IndexTexts.{Row, slot_text}
-use Rattle.index_keys.specs.IndexTexts as texts
+use Rattle.index_text.specs.IndexTexts.{Row, slot_text}
+use Rattle.index_text.specs.IndexTexts as texts
 use Rattle.databases.specs.IndexTexts.{ranks_with, slot_rows, contents, stamp, index_text}
 
 -- ---- a map that is made of a list, entry by entry

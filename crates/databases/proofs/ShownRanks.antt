@@ -22,7 +22,7 @@ use Rattle.tree.specs.Directories.{Entries}
 use Rattle.tree.proofs.Order.{path_exact}
 use Rattle.id_sets.specs.Lists.{holds}
 use Rattle.index_keys.specs.EntryKeys.{has_key}
-use Rattle.index_keys.specs.Postings.{Shown, slot_in}
+use Rattle.index_text.specs.Postings.{Shown, slot_in}
 use Rattle.search.specs.Ranks.{rank_in}
 use Rattle.search.proofs.Places.{AreRanked, all_ranked}
 use Rattle.databases.specs.IndexTexts.{ranks_with, contents}

@@ -29,8 +29,8 @@ use Rattle.tree.specs.Directories.{Entries, IsDirectory}
 use Rattle.tree.proofs.Order.{path_total}
 use Rattle.tree.proofs.Views.{all_found}
 use Rattle.index_keys.specs.EntryKeys.{entry_keys, has_key}
-use Rattle.index_keys.specs.KeySets as kept
-use Rattle.index_keys.specs.IndexTexts.{Row}
+use Rattle.index_text.specs.KeySets as kept
+use Rattle.index_text.specs.IndexTexts.{Row}
 use Rattle.stored_index.specs.Rows.{IsByte, IsRow, AreSlotRows, AreRows, key_of, slot_of}
 use Rattle.stored_index.specs.Stored.{kept_rows, kept_slots, stored, shown_by}
 use Rattle.databases.specs.IndexTexts.{ranks_with, slot_rows, contents, index_rows}

@@ -7,8 +7,8 @@ use Rattle.ldif.specs.declared.write.WriteFault.{WriteFault}
 use Rattle.schema.specs.declared.slots.Slot.{Slot}
 use Rattle.schema.specs.Conf.{Conf}
 use Rattle.tree.specs.Directories.{Entries}
-use Rattle.index_keys.specs.IndexTexts.{ended, end_line}
-use Rattle.index_keys.specs.IndexTexts as texts
+use Rattle.index_text.specs.IndexTexts.{ended, end_line}
+use Rattle.index_text.specs.IndexTexts as texts
 use Rattle.databases.specs.Dumps.{SoFar, Writes}
 use Rattle.databases.specs.IndexTexts.{index_text, first_line, slot_lines, slots_lines}
 use Rattle.databases.proofs.Pieces as pieces

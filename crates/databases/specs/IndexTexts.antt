@@ -11,8 +11,8 @@ use Rattle.schema.specs.Conf.{Conf}
 use Rattle.entries.specs.Entries.{EntryContent}
 use Rattle.tree.specs.Directories.{Entries}
 use Rattle.index_keys.specs.EntryKeys.{entry_keys, has_key}
-use Rattle.index_keys.specs.IndexTexts.{Row, Rows, ended, header_line, key_line, slot_text}
-use Rattle.index_keys.specs.IndexTexts as texts
+use Rattle.index_text.specs.IndexTexts.{Row, Rows, ended, header_line, key_line, slot_text}
+use Rattle.index_text.specs.IndexTexts as texts
 use Rattle.databases.specs.Runs.{dump}
 
 -- the ranks of those of these entries that have a key under a slot; the first entry has this rank

@@ -15,7 +15,7 @@ use Rattle.tree.specs.Trees.{Tree}
 use Rattle.entries.specs.declared.refusal.Refusal.{Refusal}
 use Rattle.entries.specs.declared.refusal.Refusal.TheVariants.{Code, OutOfMemory}
 use Rattle.filter.specs.Made.{Made}
-use Rattle.index_keys.specs.Postings.{Shown, slot_in}
+use Rattle.index_text.specs.Postings.{Shown, slot_in}
 use Rattle.candidates.specs.Asked.{asked_keys, HaveSameSlots, ShowAlike}
 use Rattle.candidates.specs.Brackets.{Reflects}
 use Rattle.candidates.specs.Candidates.{prepared_of, may_be_true}

@@ -5,7 +5,7 @@ ghost use Rattle.std.specs.List.{AllByRecursion};
 ghost use Rattle.std.specs.FinMap as finite;
 ghost use Rattle.schema.specs.Conf.{Conf, IsConf};
 ghost use Rattle.tree.specs.Directories.{Entries, IsDirectory};
-ghost use Rattle.index_keys.specs.Postings.{Shown};
+ghost use Rattle.index_text.specs.Postings.{Shown};
 ghost use Rattle.stored_index.specs.Rows.{IsByte};
 ghost use Rattle.stored_index.specs.Stored.{index_in, stored, shown_by};
 ghost use Rattle.databases.specs.IndexTexts.{index_rows, index_text, stamp};

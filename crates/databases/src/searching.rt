@@ -4,7 +4,7 @@ ghost use Rattle.std.specs.Prelude.{◌≡◌, true, is_some, map, IfOk, IfErr, 
 ghost use Rattle.std.specs.FinMap as finite;
 ghost use Rattle.schema.specs.Conf.{IsConf};
 ghost use Rattle.filter_text.specs.Spells.{view};
-ghost use Rattle.index_keys.specs.Postings.{Shown};
+ghost use Rattle.index_text.specs.Postings.{Shown};
 ghost use Rattle.search.specs.Searches.{scan, count_in_scope, count_among};
 ghost use Rattle.search.specs.TreeSearches.{found, counted_found};
 ghost use Rattle.search.specs.Walks.{seen, counted};
@@ -15,7 +15,7 @@ use candidates::{asked_keys_suffice, brackets_hold, may_match};
 use entries::Refusal;
 use filter::Prepared;
 use id_sets::ListSet;
-use index_keys::Postings;
+use index_text::Postings;
 use schema::{Code, Path};
 use search::{Hits, Scope, candidates_suffice, scan, search_by_ranks};
 use std::alloc::Global;

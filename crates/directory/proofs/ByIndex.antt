@@ -21,11 +21,11 @@ use Rattle.filter.specs.Truths.{is_true}
 use Rattle.filter.specs.Filters.{truth}
 use Rattle.filter.specs.Made.{Made}
 use Rattle.filter.specs.Prepared as prepared
-use Rattle.index_keys.specs.declared.slot_key.SlotKey.{SlotKey}
+use Rattle.index_text.specs.declared.slot_key.SlotKey.{SlotKey}
 use Rattle.index_keys.specs.EntryKeys.{slot_keys, windows}
-use Rattle.index_keys.specs.SlotKeys.{slot_key}
-use Rattle.index_keys.specs.Indexes.{Index, members}
-use Rattle.index_keys.specs.Postings.{Shown, slot_in, shown_by}
+use Rattle.index_text.specs.SlotKeys.{slot_key}
+use Rattle.index_text.specs.Indexes.{Index, members}
+use Rattle.index_text.specs.Postings.{Shown, slot_in, shown_by}
 use Rattle.candidates.specs.Brackets.{Reflects}
 use Rattle.candidates.specs.Candidates.{prepared_of}
 use Rattle.candidates.specs.Sides.{Sides, exactly, at_most, if_indexed, assertion_sides, item_sides, all_sides, any_sides, swapped, sides, sides_each}

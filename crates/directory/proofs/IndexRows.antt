@@ -26,12 +26,12 @@ use Rattle.tree.specs.Trees.{Tree, number_at, IsNumbered}
 use Rattle.tree.proofs.Order.{path_exact}
 use Rattle.tree.proofs.Kept.{equal}
 use Rattle.index_keys.specs.EntryKeys.{entry_keys, has_key}
-use Rattle.index_keys.specs.Indexes.{Index, members, sets_at}
-use Rattle.index_keys.specs.KeySets.{Members, Row}
+use Rattle.index_text.specs.Indexes.{Index, members, sets_at}
+use Rattle.index_text.specs.KeySets.{Members, Row}
 use Rattle.index.specs.KeySets.{AreRowsOf}
-use Rattle.index_keys.specs.SlotKeys.{slot_key}
+use Rattle.index_text.specs.SlotKeys.{slot_key}
 use Rattle.index_keys.proofs.Agreement.{told_there}
-use Rattle.index_keys.specs.IndexTexts.{ended, key_line}
+use Rattle.index_text.specs.IndexTexts.{ended, key_line}
 use Rattle.directory.specs.Indexes.{IsIndexOf}
 use Rattle.databases.specs.IndexTexts.{ranks_with, slot_rows, contents}
 use Rattle.directory.specs.inner.IndexRows.{rank_at, AreRanked, numbers_in_order, ranks_of, ranked_row, rows_text}

@@ -13,15 +13,15 @@ use Rattle.tree.specs.Directories.{Entries}
 use Rattle.tree.specs.Changes.{Change, Nothing, Put, Remove, Move, changed}
 use Rattle.tree.specs.Trees.{Tree, Numbers, HasEntry}
 use Rattle.tree.specs.Plans.{Planned, KeepsEntries, before, after, number_of, numbers_after}
-use Rattle.index_keys.specs.declared.slot_key.SlotKey.{SlotKey}
-use Rattle.index_keys.specs.KeySets.{Members}
-use Rattle.index_keys.specs.SlotKeys.{same_slot_key, is_among, slot_key_cmp}
-use Rattle.index_keys.specs.Indexes.{Index, members}
+use Rattle.index_text.specs.declared.slot_key.SlotKey.{SlotKey}
+use Rattle.index_text.specs.KeySets.{Members}
+use Rattle.index_text.specs.SlotKeys.{same_slot_key, is_among, slot_key_cmp}
+use Rattle.index_text.specs.Indexes.{Index, members}
 use Rattle.index.specs.Indexes.{Inserts, Removes, KeepsMembers, Forgets, IsNowhere}
 use Rattle.index_keys.specs.EntryKeys.{slot_keys, slot_keys_in, edits}
 use Rattle.index.specs.KeyChanges.{AreChanges, content_in}
 use Rattle.index.proofs.OneByOne.{back}
-use Rattle.index_keys.proofs.SlotKeyOrder.{itself, slot_key_total, slot_key_exact}
+use Rattle.index_text.proofs.SlotKeyOrder.{itself, slot_key_total, slot_key_exact}
 use Rattle.directory.specs.Indexes.{IsIndexOf, edits_of}
 
 -- ---- one key

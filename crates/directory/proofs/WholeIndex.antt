@@ -17,9 +17,9 @@ use Rattle.entries.specs.StoredEntries.{attributes_of, EntryAttribute}
 use Rattle.tree.specs.Trees.{Tree, Placed, unnumbered, seen_entries, number_at, IsNumbered, HasEntry}
 use Rattle.tree.proofs.Order.{path_exact}
 use Rattle.tree.proofs.Kept.{equal}
-use Rattle.index_keys.specs.declared.slot_key.SlotKey.{SlotKey}
+use Rattle.index_text.specs.declared.slot_key.SlotKey.{SlotKey}
 use Rattle.index_keys.specs.declared.type_norms.Numbered.{Numbered}
-use Rattle.index_keys.specs.Indexes.{Index, members}
+use Rattle.index_text.specs.Indexes.{Index, members}
 use Rattle.index_keys.specs.EntryKeys.{slot_keys}
 use Rattle.index_keys.specs.NumberedEntries.{has_among}
 use Rattle.directory.specs.Indexes.{IsIndexOf}

@@ -12,9 +12,9 @@ use Rattle.tree.specs.Changes.{Change}
 use Rattle.tree.specs.Plans.{entry_before, entry_after}
 use Rattle.tree.specs.Operations.{change_of}
 use Rattle.tree.specs.Trees.{Numbers, HasEntry}
-use Rattle.index_keys.specs.declared.slot_key.SlotKey.{SlotKey}
+use Rattle.index_text.specs.declared.slot_key.SlotKey.{SlotKey}
 use Rattle.index_keys.specs.EntryKeys.{slot_keys, edits}
-use Rattle.index_keys.specs.Indexes.{Index, members}
+use Rattle.index_text.specs.Indexes.{Index, members}
 
 -- The index has a number under a key exactly where the entry with that number has the key.
 pub record IsIndexOf (conf : Conf) (d : Entries) (m : Numbers) (x : Index) : Type 0 where

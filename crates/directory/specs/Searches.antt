@@ -5,8 +5,8 @@ use Rattle.schema.specs.Conf.{Conf}
 use Rattle.entries.specs.Entries.{EntryContent}
 use Rattle.tree.specs.Trees.{Tree, number_at}
 use Rattle.filter.specs.Made.{Made}
-use Rattle.index_keys.specs.Indexes.{Index}
-use Rattle.index_keys.specs.Postings.{Shown, shown_by}
+use Rattle.index_text.specs.Indexes.{Index}
+use Rattle.index_text.specs.Postings.{Shown, shown_by}
 use Rattle.candidates.specs.Candidates.{may_be_true}
 use Rattle.search.specs.declared.scope.Scope.{Scope}
 use Rattle.search.specs.Searches.{count_among}

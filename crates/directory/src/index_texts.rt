@@ -13,7 +13,7 @@ use databases::{Stamp, begin_index_text, pass_on, pass_on_long, stamp_of};
 use dense_sets::KeySet;
 use device::Sink;
 use index::{Index, Keys};
-use index_keys::{SlotNumber, put_end, put_key, put_slot};
+use index_text::{SlotNumber, put_end, put_key, put_slot};
 use ldif::WriteFault;
 use schema::{Conf, Slot};
 use std::alloc::{AllocError, Global};

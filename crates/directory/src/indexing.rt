@@ -3,7 +3,7 @@
 ghost use Rattle.std.specs.Prelude.{◌≡◌, [], ℕ, IfOk};
 ghost use Rattle.std.specs.List.{AllByRecursion};
 ghost use Rattle.entries.specs.StoredEntries.{IsMade};
-ghost use Rattle.index_keys.specs.declared.slot_key.SlotKey as seen;
+ghost use Rattle.index_text.specs.declared.slot_key.SlotKey as seen;
 ghost use Rattle.index_keys.specs.NumberedEntries.{has_among};
 ghost use Rattle.directory.specs.Indexes.{IsIndexOf};
 ghost use Rattle.directory.specs.inner.Indexes.{has_in_tree};

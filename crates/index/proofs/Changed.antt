@@ -6,16 +6,16 @@ use Rattle.std.proofs.lemmas.Option.{slice_get_read}
 use Rattle.schema.specs.declared.slots.Slot.{Slot}
 use Rattle.schema.specs.Conf.{Conf}
 use Rattle.entries.specs.Entries.{EntryContent}
-use Rattle.index_keys.specs.declared.slot_key.SlotKey.{SlotKey}
-use Rattle.index_keys.specs.SlotKeys.{slot_key, slot_key_cmp, same_slot_key, is_among}
+use Rattle.index_text.specs.declared.slot_key.SlotKey.{SlotKey}
+use Rattle.index_text.specs.SlotKeys.{slot_key, slot_key_cmp, same_slot_key, is_among}
 use Rattle.index_keys.specs.EntryKeys.{gives_key, slot_keys, slot_keys_in}
-use Rattle.index_keys.specs.inner.SlotTests.{is_slot_that}
+use Rattle.index_text.specs.inner.SlotTests.{is_slot_that}
 use Rattle.index.specs.inner.SlotTests.{norms_in, has_slot_key, is_only_in, has_only}
 use Rattle.index.specs.KeyChanges.{AreOnlyIn, AreChanges}
 use Rattle.index.specs.inner.KeyLists.{AreSlotKeys}
 use Rattle.index.proofs.KnownSlots.{contains-slot_keys_in, known}
 use Rattle.index.proofs.Listed.{apart}
-use Rattle.index_keys.proofs.SlotKeyOrder.{slot_key_total, slot_key_exact, turned, contains-from_list}
+use Rattle.index_text.proofs.SlotKeyOrder.{slot_key_total, slot_key_exact, turned, contains-from_list}
 
 -- under the slot at a place: what one entry has and the other hasn't
 pub at_slot : (conf : Conf) (a b : Option EntryContent) (n : ℕ) (s : Slot) → slice_get conf.slots n ≡ Some s → (q : List ℕ) → is_only_in conf.types s a b q ≡ has_only conf a b (slot_key n q)

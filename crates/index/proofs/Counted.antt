@@ -8,15 +8,15 @@ use Rattle.std.specs.Ordering.{nat_cmp, eq_by_cmp}
 use Rattle.std.specs.Cmp.{nat_cmp_total, eq_by_cmp_equiv}
 use Rattle.schema.specs.Conf.{Conf}
 use Rattle.entries.specs.Entries.{EntryContent}
-use Rattle.index_keys.specs.declared.slot_key.SlotKey.{SlotKey}
-use Rattle.index_keys.specs.KeySets.{Members}
-use Rattle.index_keys.specs.SlotKeys.{SlotKeys, same_slot_key, slot_key_cmp}
-use Rattle.index_keys.specs.Indexes.{Index, members}
+use Rattle.index_text.specs.declared.slot_key.SlotKey.{SlotKey}
+use Rattle.index_text.specs.KeySets.{Members}
+use Rattle.index_text.specs.SlotKeys.{SlotKeys, same_slot_key, slot_key_cmp}
+use Rattle.index_text.specs.Indexes.{Index, members}
 use Rattle.index.specs.Indexes.{Inserts, KeepsMembers, IsNowhere}
 use Rattle.index_keys.specs.EntryKeys.{slot_keys, edits}
 use Rattle.index.specs.inner.Counts.{HaveNumber, KeepsOthers}
 use Rattle.index.proofs.OneByOne.{with_keys}
-use Rattle.index_keys.proofs.SlotKeyOrder.{slot_key_total, slot_key_exact, tied_is, turned}
+use Rattle.index_text.proofs.SlotKeyOrder.{slot_key_total, slot_key_exact, tied_is, turned}
 
 has_own : (s : Members) (n : ℕ) → set.contains (set.insert s n) n ≡ true
 has_own s n = set.contains-insert nat_cmp_total s n n ∙ ap (λ b. b || set.contains s n) ((eq_by_cmp_equiv nat_cmp_total).refl n)

@@ -11,10 +11,10 @@ use Rattle.std.proofs.lemmas.Cmp.{on_total}
 use Rattle.std.proofs.lemmas.List.Kept.{IsStrictlySortedBy-dedup, IsStrictlySortedBy-filter}
 use Rattle.std.proofs.lemmas.List.Folds.{list_any-append}
 use Rattle.std.proofs.lemmas.List.Sorted.{list_any-IsPermutation}
-use Rattle.index_keys.specs.declared.slot_key.SlotKey.{SlotKey}
-use Rattle.index_keys.specs.SlotKeys.{slot_key}
+use Rattle.index_text.specs.declared.slot_key.SlotKey.{SlotKey}
+use Rattle.index_text.specs.SlotKeys.{slot_key}
 use Rattle.index.specs.inner.KeyLists.{AreKeys, IsWithKeys}
-use Rattle.index_keys.proofs.SlotKeyOrder.{same_bytes}
+use Rattle.index_text.proofs.SlotKeyOrder.{same_bytes}
 
 -- the keys are what text reads of the elements
 module _ {K : Type 0} (text : K → List ℕ) where

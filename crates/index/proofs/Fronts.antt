@@ -9,7 +9,7 @@ use Rattle.std.proofs.lemmas.List.Folds.{list_any-append}
 use Rattle.schema.specs.declared.slots.IndexKind.{IndexKind}
 use Rattle.schema.specs.declared.slots.IndexKind.TheVariants.{Equality, Presence, Substrings}
 use Rattle.index_keys.specs.EntryKeys.{windows, gives_key}
-use Rattle.index_keys.proofs.SlotKeyOrder.{same_bytes}
+use Rattle.index_text.proofs.SlotKeyOrder.{same_bytes}
 
 -- ---- one more
 

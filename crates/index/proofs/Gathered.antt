@@ -19,10 +19,10 @@ use Rattle.std.proofs.lemmas.Bool.Decides.{nat_tests}
 use Rattle.std.proofs.lemmas.List.{get_or-set_same, get_or-set_other, get_or_past, get_or_default}
 use Rattle.std.proofs.lemmas.Result.{on_ok_weaker, on_err_weaker}
 use Rattle.dense_sets.specs.declared.key_set.KeySet.{KeySet}
-use Rattle.index_keys.specs.KeySets.{Members, SetsByKey, Row, members_in}
+use Rattle.index_text.specs.KeySets.{Members, SetsByKey, Row, members_in}
 use Rattle.index.specs.KeySets.{AreRowsOf, Puts, Takes}
 use Rattle.index.specs.inner.Buckets.{side, bucket_of, IsFull, IsBucket, AreBuckets, members_within, all_rows, gathered}
-use Rattle.index_keys.proofs.SlotKeyOrder.{same_bytes}
+use Rattle.index_text.proofs.SlotKeyOrder.{same_bytes}
 use Rattle.index.proofs.Keyed.{at, find_is, none_in, remove_none}
 use Rattle.index.proofs.Joined.{either, at-append, at_entries, shown}
 use Rattle.index.proofs.Merged.{key_cmp, AllBehind, Rises, found_each, from_keys, to_keys}

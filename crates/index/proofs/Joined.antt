@@ -8,11 +8,11 @@ use Rattle.std.specs.Str.{bytes_eq}
 use Rattle.std.specs.FinMap as finite
 use Rattle.std.specs.FinSet as set
 use Rattle.dense_sets.specs.declared.key_set.KeySet.{KeySet}
-use Rattle.index_keys.specs.KeySets.{Members, SetsByKey, Row, members_in}
+use Rattle.index_text.specs.KeySets.{Members, SetsByKey, Row, members_in}
 use Rattle.index.specs.KeySets.{Puts, Takes}
 use Rattle.index.specs.inner.JoinedSets.{joined, AreApart}
 use Rattle.std.proofs.lemmas.Result.{on_ok_weaker, on_err_weaker}
-use Rattle.index_keys.proofs.SlotKeyOrder.{same_bytes}
+use Rattle.index_text.proofs.SlotKeyOrder.{same_bytes}
 use Rattle.index.proofs.Keyed.{at, find_is, none_in, remove_none, puts_alike, takes_alike}
 
 abbrev pub either : Option Members → Option Members → Option Members

@@ -1,7 +1,7 @@
 -- Three maps as one: of tiny keys, of short ones, and of long ones.
 use Rattle.std.proofs.Common.{◌≡◌, ℕ, Bool, true, false, List, Result, ap, subst, ◌∙◌}
 use Rattle.std.specs.FinSet as set
-use Rattle.index_keys.specs.KeySets.{SetsByKey, members_in}
+use Rattle.index_text.specs.KeySets.{SetsByKey, members_in}
 use Rattle.index.specs.KeySets.{Puts, Takes}
 use Rattle.index.specs.inner.JoinedSets.{joined, AreApart}
 use Rattle.index.specs.inner.ShortKeys.{fits}

@@ -19,9 +19,9 @@ use Rattle.std.proofs.lemmas.Bool.{ltb-false}
 use Rattle.std.proofs.lemmas.Map.Text.{is_eq-slice_cmp}
 use Rattle.dense_sets.specs.declared.key_set.KeySet.{KeySet}
 use Rattle.std.proofs.lemmas.Result.{IfOk-weaker, on_ok_weaker, on_err_weaker}
-use Rattle.index_keys.specs.KeySets.{Members, SetsByKey, Row, members_in, members_at}
+use Rattle.index_text.specs.KeySets.{Members, SetsByKey, Row, members_in, members_at}
 use Rattle.index.specs.KeySets.{AreRowsOf, Puts, Takes}
-use Rattle.index_keys.proofs.SlotKeyOrder.{same_bytes}
+use Rattle.index_text.proofs.SlotKeyOrder.{same_bytes}
 use Rattle.index.specs.inner.StoredSets.{rows_by, sets_by, HaveMembers}
 
 abbrev pub at : List Row → List ℕ → Option Members

@@ -7,10 +7,10 @@ use Rattle.std.proofs.lemmas.Option.{slice_get_past}
 use Rattle.schema.specs.declared.slots.Slot.{Slot}
 use Rattle.schema.specs.Conf.{Conf}
 use Rattle.entries.specs.Entries.{Attributes, EntryContent}
-use Rattle.index_keys.specs.declared.slot_key.SlotKey.{SlotKey}
-use Rattle.index_keys.specs.SlotKeys.{slot_key_cmp}
+use Rattle.index_text.specs.declared.slot_key.SlotKey.{SlotKey}
+use Rattle.index_text.specs.SlotKeys.{slot_key_cmp}
 use Rattle.index_keys.specs.EntryKeys.{gives_key, has_key, slot_keys, slot_keys_in}
-use Rattle.index_keys.specs.inner.SlotTests.{is_slot_that}
+use Rattle.index_text.specs.inner.SlotTests.{is_slot_that}
 use Rattle.index_keys.proofs.Agreement.{contains-slot_keys}
 use Rattle.index.specs.inner.SlotTests.{norms_in, has_slot_key}
 use Rattle.index.proofs.Fronts.{gives_none}

@@ -11,11 +11,11 @@ use Rattle.std.proofs.lemmas.Bool.{eqb-true, ltb-true}
 use Rattle.std.proofs.lemmas.Bool.Decides.{nat_tests}
 use Rattle.std.proofs.lemmas.List.Folds.{list_any-append}
 use Rattle.std.proofs.lemmas.Map.Keys.{IsDistinct-from_sorted}
-use Rattle.index_keys.specs.declared.slot_key.SlotKey.{SlotKey}
-use Rattle.index_keys.specs.SlotKeys.{slot_key, slot_key_cmp, same_slot_key}
+use Rattle.index_text.specs.declared.slot_key.SlotKey.{SlotKey}
+use Rattle.index_text.specs.SlotKeys.{slot_key, slot_key_cmp, same_slot_key}
 use Rattle.index.specs.inner.KeyLists.{IsWithKeys, AreSlotKeys}
 use Rattle.index_keys.proofs.Agreement.{among_slot}
-use Rattle.index_keys.proofs.SlotKeyOrder.{tied_is}
+use Rattle.index_text.proofs.SlotKeyOrder.{tied_is}
 
 -- ---- order
 

@@ -14,7 +14,7 @@ use Rattle.std.specs.Str.{bytes_eq}
 use Rattle.std.specs.FinSet as set
 use Rattle.std.proofs.lemmas.Map.Text.{is_eq-slice_cmp}
 use Rattle.dense_sets.specs.declared.key_set.KeySet.{KeySet}
-use Rattle.index_keys.specs.KeySets.{Members, SetsByKey, Row, members_in, members_at}
+use Rattle.index_text.specs.KeySets.{Members, SetsByKey, Row, members_in, members_at}
 use Rattle.index.specs.KeySets.{AreRowsOf}
 use Rattle.index.specs.inner.JoinedSets.{joined, AreApart}
 use Rattle.index.specs.inner.MergedRows.{is_before, put_among, merged, row_lent, ahead}

@@ -13,13 +13,13 @@ use Rattle.schema.specs.declared.slots.IndexKind.{IndexKind}
 use Rattle.schema.specs.declared.slots.Slot.{Slot}
 use Rattle.schema.specs.Conf.{Conf}
 use Rattle.entries.specs.StoredEntries.{attributes_of}
-use Rattle.index_keys.specs.declared.slot_key.SlotKey.{SlotKey}
+use Rattle.index_text.specs.declared.slot_key.SlotKey.{SlotKey}
 use Rattle.index_keys.specs.declared.type_norms.Numbered.{Numbered}
 use Rattle.index_keys.specs.declared.type_norms.NumberedNorm.{NumberedNorm}
 use Rattle.index_keys.specs.EntryKeys.{has_key}
-use Rattle.index_keys.specs.KeySets.{Members, SetsByKey, members_in}
+use Rattle.index_text.specs.KeySets.{Members, SetsByKey, members_in}
 use Rattle.index_keys.specs.NumberedEntries.{has_among}
-use Rattle.index_keys.specs.inner.SlotTests.{is_slot_that}
+use Rattle.index_text.specs.inner.SlotTests.{is_slot_that}
 use Rattle.index_keys.specs.TypeNorms.{has_for, AreNormsOf}
 use Rattle.index.specs.inner.SlotEntries.{IsSetOf, AreSetsOf}
 use Rattle.index_keys.proofs.Agreement.{contains-slot_keys}

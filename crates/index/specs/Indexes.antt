@@ -5,9 +5,9 @@ use Rattle.std.specs.List.{AllByRecursion}
 use Rattle.std.specs.FinSet as set
 use Rattle.schema.specs.contracts.conf.Conf as conf_contract
 use Rattle.schema.specs.Conf.{Conf}
-use Rattle.index_keys.specs.declared.slot_key.SlotKey.{SlotKey}
-use Rattle.index_keys.specs.KeySets.{SetsByKey}
-use Rattle.index_keys.specs.Indexes.{Index, members}
+use Rattle.index_text.specs.declared.slot_key.SlotKey.{SlotKey}
+use Rattle.index_text.specs.KeySets.{SetsByKey}
+use Rattle.index_text.specs.Indexes.{Index, members}
 use Rattle.index.specs.KeySets.{sets_code}
 
 abbrev pub index_code : Coded Index

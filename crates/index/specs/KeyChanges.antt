@@ -9,8 +9,8 @@ use Rattle.values.specs.declared.types.AttributeType.{AttributeType}
 use Rattle.schema.specs.Conf.{Conf}
 use Rattle.entries.specs.Entries.{EntryContent}
 use Rattle.entries.specs.StoredEntries.{Entry, content_of, IsMade}
-use Rattle.index_keys.specs.declared.slot_key.SlotKey.{SlotKey}
-use Rattle.index_keys.specs.SlotKeys.{slot_key_cmp, same_slot_key, is_among}
+use Rattle.index_text.specs.declared.slot_key.SlotKey.{SlotKey}
+use Rattle.index_text.specs.SlotKeys.{slot_key_cmp, same_slot_key, is_among}
 use Rattle.index_keys.specs.EntryKeys.{slot_keys_in, edits}
 
 -- what an entry that is lent has, where one is there

@@ -9,7 +9,7 @@ use Rattle.std.specs.Map.{keys_of}
 use Rattle.std.specs.Str.{bytes_eq}
 use Rattle.std.specs.FinMap as finite
 use Rattle.std.specs.FinSet as set
-use Rattle.index_keys.specs.KeySets.{Members, SetsByKey, Row, members_code, members_in, members_at}
+use Rattle.index_text.specs.KeySets.{Members, SetsByKey, Row, members_code, members_in, members_at}
 
 abbrev pub sets_code : Coded SetsByKey
 sets_code = finite.code (coded_list coded_ℕ) members_code

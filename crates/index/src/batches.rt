@@ -6,15 +6,15 @@ ghost use Rattle.std.specs.Str.{bytes_eq};
 ghost use Rattle.std.specs.FinSet as set;
 ghost use Rattle.entries.specs.StoredEntries.{attributes_of, content_of, IsMade};
 ghost use Rattle.index_keys.specs.EntryKeys.{slot_keys, edits};
-ghost use Rattle.index_keys.specs.SlotKeys.{same_slot_key, is_among};
-ghost use Rattle.index_keys.specs.Indexes.{members};
+ghost use Rattle.index_text.specs.SlotKeys.{same_slot_key, is_among};
+ghost use Rattle.index_text.specs.Indexes.{members};
 ghost use Rattle.index.specs.Indexes.{AllHave, Inserts, Removes, KeepsMembers, Forgets, IsNowhere};
 ghost use Rattle.index.specs.inner.Counts.{HaveNumber, KeepsOthers};
 
 use crate::entry_keys::EntryKeys;
 use crate::index::Index;
 use entries::Entry;
-use index_keys::{SlotKey, SlotNumber};
+use index_text::{SlotKey, SlotNumber};
 use schema::Conf;
 use std::alloc::AllocError;
 

@@ -5,7 +5,7 @@ ghost use Rattle.std.specs.FinMap as finite;
 ghost use Rattle.std.specs.FinSet as set;
 ghost use Rattle.std.specs.Map.Iter.{TakesFirst};
 ghost use Rattle.std.specs.Slice.Iter.{iter_rest};
-ghost use Rattle.index_keys.specs.KeySets.{members_in};
+ghost use Rattle.index_text.specs.KeySets.{members_in};
 ghost use Rattle.index.specs.KeySets.{AreRowsOf, Puts, Takes};
 ghost use Rattle.index.specs.inner.MergedRows.{row_lent};
 ghost use Rattle.index.specs.inner.Buckets.{side, bucket_of, AreBuckets, members_within, in_hand, all_rows};
@@ -33,7 +33,7 @@ pub(crate) struct Buckets {
 }
 
 impl Model for Buckets {
-    ghost use Rattle.index_keys.specs.KeySets as seen;
+    ghost use Rattle.index_text.specs.KeySets as seen;
     ghost use Rattle.index.specs.KeySets.{sets_code};
     ghost use Rattle.index.specs.inner.Buckets.{gathered, AreBuckets};
 

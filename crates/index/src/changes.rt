@@ -4,7 +4,7 @@ ghost use Rattle.std.specs.Prelude.{◌≡◌, IfOk, OnOk};
 ghost use Rattle.std.specs.List.Sorted.{IsStrictlySortedBy};
 ghost use Rattle.std.specs.FinSet as set;
 ghost use Rattle.entries.specs.StoredEntries.{attributes_of, IsMade};
-ghost use Rattle.index_keys.specs.SlotKeys.{slot_key_cmp};
+ghost use Rattle.index_text.specs.SlotKeys.{slot_key_cmp};
 ghost use Rattle.index_keys.specs.EntryKeys.{slot_keys};
 ghost use Rattle.index.specs.inner.SlotTests.{HaveSameFront};
 ghost use Rattle.index.specs.KeyChanges.{AreChanges, IsMadeIn, content_in};
@@ -14,7 +14,7 @@ use crate::distinct_keys::{keys_among, keys_behind};
 use crate::key_lists::push_missing;
 use crate::norm_fronts::same_norms;
 use entries::Entry;
-use index_keys::{SlotKey, SlotNumber};
+use index_text::{SlotKey, SlotNumber};
 use schema::{Conf, Slot};
 use std::alloc::{AllocError, Global};
 

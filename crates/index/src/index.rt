@@ -4,17 +4,17 @@ ghost use Rattle.std.specs.Prelude.{◌≡◌, ◌<◌, ◌+◌, ℕ, List, not,
 ghost use Rattle.std.specs.List.{AllByRecursion};
 ghost use Rattle.std.specs.FinMap as finite;
 ghost use Rattle.std.specs.FinSet as set;
-ghost use Rattle.index_keys.specs.declared.slot_key.SlotKey as seen;
-ghost use Rattle.index_keys.specs.KeySets.{members_in};
+ghost use Rattle.index_text.specs.declared.slot_key.SlotKey as seen;
+ghost use Rattle.index_text.specs.KeySets.{members_in};
 ghost use Rattle.index.specs.KeySets.{AreRowsOf};
-ghost use Rattle.index_keys.specs.SlotKeys.{slot_key, same_slot_key};
-ghost use Rattle.index_keys.specs.Indexes.{members, sets_in, sets_at};
+ghost use Rattle.index_text.specs.SlotKeys.{slot_key, same_slot_key};
+ghost use Rattle.index_text.specs.Indexes.{members, sets_in, sets_at};
 ghost use Rattle.index.specs.Indexes.{Inserts, Removes, KeepsMembers, Forgets};
 
 use crate::edit_count::EditCount;
 use crate::key_sets::{KeySets, Keys};
 use dense_sets::KeySet;
-use index_keys::{Postings, SlotNumber, slot_number};
+use index_text::{Postings, SlotNumber, slot_number};
 use schema::{Conf, IndexKind, Slot, TypeId};
 use std::alloc::{AllocError, Global};
 use std::marker::Model;
@@ -35,7 +35,7 @@ pub struct Index {
 
 impl Model for Index {
     ghost use Rattle.std.specs.Prelude.{◌≡◌, length};
-    ghost use Rattle.index_keys.specs.Indexes as seen_as;
+    ghost use Rattle.index_text.specs.Indexes as seen_as;
     ghost use Rattle.index.specs.Indexes.{index_code};
 
     ghost Value = { seen_as.Index };
@@ -150,7 +150,7 @@ impl Index {
 }
 
 impl Postings for Index {
-    ghost use Rattle.index_keys.specs.Postings.{shown_by};
+    ghost use Rattle.index_text.specs.Postings.{shown_by};
 
     type Set = KeySet;
 

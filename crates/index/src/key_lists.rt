@@ -4,11 +4,11 @@ ghost use Rattle.std.specs.Prelude.{◌≡◌, ◌++◌, ◌∷◌, [], not, map
 ghost use Rattle.std.specs.List.Sorted.{IsStrictlySortedBy};
 ghost use Rattle.std.specs.Cmp.Lexicographic.{slice_cmp};
 ghost use Rattle.std.specs.Ordering.{nat_cmp};
-ghost use Rattle.index_keys.specs.SlotKeys.{slot_key};
+ghost use Rattle.index_text.specs.SlotKeys.{slot_key};
 ghost use Rattle.index.specs.inner.KeyLists.{is_listed};
 
 use base::Bytes;
-use index_keys::{SlotKey, SlotNumber};
+use index_text::{SlotKey, SlotNumber};
 use std::alloc::{AllocError, Global};
 
 /// Whether a key is one of those, which are in order.

@@ -3,7 +3,7 @@
 ghost use Rattle.std.specs.Prelude.{◌≡◌, ℕ, List, MatchOption};
 ghost use Rattle.std.specs.FinMap as finite;
 ghost use Rattle.std.specs.FinSet as set;
-ghost use Rattle.index_keys.specs.KeySets.{members_in};
+ghost use Rattle.index_text.specs.KeySets.{members_in};
 ghost use Rattle.index.specs.KeySets.{AreRowsOf, Puts, Takes};
 
 use crate::buckets::{BucketRows, Buckets};
@@ -26,7 +26,7 @@ pub(crate) struct KeySets {
 }
 
 impl Model for KeySets {
-    ghost use Rattle.index_keys.specs.KeySets as seen;
+    ghost use Rattle.index_text.specs.KeySets as seen;
     ghost use Rattle.index.specs.KeySets.{sets_code};
     ghost use Rattle.index.specs.inner.JoinedSets.{joined, AreApart};
     ghost use Rattle.index.specs.inner.ShortKeys.{fits};
@@ -128,7 +128,7 @@ type Long<'a> = Iter<'a, Vec<u8>, KeySet>;
 
 impl<'a> Model for Keys<'a> {
     ghost use Rattle.std.specs.Prelude.{List};
-    ghost use Rattle.index_keys.specs.KeySets.{Row, rows_code};
+    ghost use Rattle.index_text.specs.KeySets.{Row, rows_code};
     ghost use Rattle.index.specs.inner.MergedRows.{ahead, merged};
     ghost use Rattle.index.specs.inner.StoredSets.{short_rows, long_rows};
     ghost use Rattle.index.specs.inner.BucketRows.{rows_left};

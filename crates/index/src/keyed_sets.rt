@@ -3,7 +3,7 @@
 ghost use Rattle.std.specs.Prelude.{◌≡◌, ℕ, nat_lt, List, MatchOption};
 ghost use Rattle.std.specs.FinMap as finite;
 ghost use Rattle.std.specs.FinSet as set;
-ghost use Rattle.index_keys.specs.KeySets.{members_in, members_at};
+ghost use Rattle.index_text.specs.KeySets.{members_in, members_at};
 ghost use Rattle.index.specs.KeySets.{AreRowsOf, Puts, Takes};
 ghost use Rattle.index.specs.inner.Buckets.{IsFull};
 ghost use Rattle.index.specs.inner.StoredSets.{rows_by, HaveMembers};
@@ -23,7 +23,7 @@ pub struct KeyedSets<K: StoredKey> {
 }
 
 impl<K: StoredKey> Model for KeyedSets<K> {
-    ghost use Rattle.index_keys.specs.KeySets as seen;
+    ghost use Rattle.index_text.specs.KeySets as seen;
     ghost use Rattle.index.specs.KeySets.{sets_code};
     ghost use Rattle.index.specs.inner.StoredSets.{rows_by, sets_by, HaveMembers};
 

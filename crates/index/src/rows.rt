@@ -2,7 +2,7 @@
 
 ghost use Rattle.std.specs.Prelude.{◌≡◌, List};
 ghost use Rattle.std.specs.Map.Iter.{TakesFirst};
-ghost use Rattle.index_keys.specs.KeySets.{Row};
+ghost use Rattle.index_text.specs.KeySets.{Row};
 ghost use Rattle.index.specs.inner.MergedRows.{row_lent, ahead, merged, comes_first};
 
 use crate::stored_key::StoredKey;

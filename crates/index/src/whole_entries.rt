@@ -4,9 +4,9 @@ ghost use Rattle.std.specs.Prelude.{◌≡◌, ℕ, [], ◌∷◌, IfOk, OnOk};
 ghost use Rattle.std.specs.FinSet as set;
 ghost use Rattle.std.specs.List.{AllByRecursion};
 ghost use Rattle.entries.specs.StoredEntries.{IsMade};
-ghost use Rattle.index_keys.specs.declared.slot_key.SlotKey as seen;
+ghost use Rattle.index_text.specs.declared.slot_key.SlotKey as seen;
 ghost use Rattle.index_keys.specs.EntryKeys.{is_window, gives_key};
-ghost use Rattle.index_keys.specs.Indexes.{members};
+ghost use Rattle.index_text.specs.Indexes.{members};
 ghost use Rattle.index_keys.specs.NumberedEntries.{has_among};
 ghost use Rattle.index.specs.inner.SlotEntries.{PutsEach, IsSetOf, AreSetsOf};
 

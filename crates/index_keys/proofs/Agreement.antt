@@ -14,12 +14,12 @@ use Rattle.schema.specs.Slots.{same_slot}
 use Rattle.schema.specs.Conf.{Conf}
 use Rattle.entries.specs.Entries.{Attributes}
 use Rattle.schema.proofs.SlotOrder.{same_is}
-use Rattle.index_keys.specs.declared.slot_key.SlotKey.{SlotKey}
-use Rattle.index_keys.specs.SlotKeys.{slot_key, same_slot_key, is_among}
+use Rattle.index_text.specs.declared.slot_key.SlotKey.{SlotKey}
+use Rattle.index_text.specs.SlotKeys.{slot_key, same_slot_key, is_among}
 use Rattle.index_keys.specs.EntryKeys.{entry_keys, has_key, slot_keys_from, slot_keys}
-use Rattle.index_keys.specs.inner.SlotTests.{is_slot_that}
-use Rattle.index_keys.specs.Postings.{slot_in}
-use Rattle.index_keys.proofs.SlotKeyOrder.{contains-from_list}
+use Rattle.index_text.specs.inner.SlotTests.{is_slot_that}
+use Rattle.index_text.specs.Postings.{slot_in}
+use Rattle.index_text.proofs.SlotKeyOrder.{contains-from_list}
 
 pub among_slot : (n : ℕ) (ks : List (List ℕ)) (p : SlotKey) → is_among p (map (slot_key n) ks) ≡ (nat_eq n p.slot.0 && list_any (λ k. bytes_eq k p.key) ks)
 among_slot n [] p = by (nat_eq n p.slot.0)

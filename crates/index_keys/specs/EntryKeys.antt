@@ -10,9 +10,9 @@ use Rattle.schema.specs.declared.slots.Slot.{Slot}
 use Rattle.schema.specs.Conf.{Conf}
 use Rattle.schema.specs.Values.{norm_at}
 use Rattle.entries.specs.Entries.{Attributes, EntryContent}
-use Rattle.index_keys.specs.declared.slot_key.SlotKey.{SlotKey}
+use Rattle.index_text.specs.declared.slot_key.SlotKey.{SlotKey}
 use Rattle.schema.specs.Subtypes.{is_subtype}
-use Rattle.index_keys.specs.SlotKeys.{SlotKeys, slot_key}
+use Rattle.index_text.specs.SlotKeys.{SlotKeys, slot_key}
 
 -- ---- the keys for a type and a kind of index
 

@@ -1,10 +1,5 @@
 pub mod EntryKeys
-pub mod Indexes
-pub mod KeySets
 pub mod NumberedEntries
-pub mod Postings
-pub mod SlotKeys
 pub mod StoredNorms
 pub mod TypeNorms
-pub mod IndexTexts
 pub mod inner

@@ -4,7 +4,7 @@ use Rattle.std.specs.List.{list_any}
 use Rattle.std.specs.FinSet as set
 use Rattle.schema.specs.Conf.{Conf}
 use Rattle.entries.specs.StoredEntries.{attributes_of}
-use Rattle.index_keys.specs.declared.slot_key.SlotKey.{SlotKey}
+use Rattle.index_text.specs.declared.slot_key.SlotKey.{SlotKey}
 use Rattle.index_keys.specs.declared.type_norms.Numbered.{Numbered}
 use Rattle.index_keys.specs.EntryKeys.{slot_keys}
 

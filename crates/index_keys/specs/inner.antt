@@ -1,3 +1,2 @@
 pub mod NormLists
 pub mod NormsLeft
-pub mod SlotTests

@@ -6,8 +6,8 @@ ghost use Rattle.schema.specs.declared.slots.IndexKind.{IndexKind};
 ghost use Rattle.schema.specs.Conf.{Conf};
 ghost use Rattle.entries.specs.Entries.{Attributes};
 ghost use Rattle.index_keys.specs.EntryKeys.{has_key, slot_keys};
-ghost use Rattle.index_keys.specs.Postings.{slot_in};
-ghost use Rattle.index_keys.specs.SlotKeys.{slot_key};
+ghost use Rattle.index_text.specs.Postings.{slot_in};
+ghost use Rattle.index_text.specs.SlotKeys.{slot_key};
 
 /// The set of an entry's keys has a key under the slot for a type and a kind of index exactly where the test for these two tells.
 pub fn keys_are_told()

@@ -5,7 +5,7 @@ ghost use Rattle.std.specs.Prelude.{◌≡◌};
 use crate::indexes::conf;
 use id_sets::IdSet;
 use index::Index;
-use index_keys::Postings;
+use index_text::Postings;
 use schema::{Conf, IndexKind};
 use std::alloc::Global;
 use std::test::Fail;

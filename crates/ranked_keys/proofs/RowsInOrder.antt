@@ -12,7 +12,7 @@ use Rattle.std.proofs.lemmas.Cmp.{ranked, tied_itself}
 use Rattle.std.proofs.lemmas.Map.Text.{is_eq-slice_cmp}
 use Rattle.id_sets.specs.Ascending.{AllAbove, IsAscending}
 use Rattle.id_sets.specs.Lists.{holds}
-use Rattle.index_keys.specs.IndexTexts.{Row, ended, key_line}
+use Rattle.index_text.specs.IndexTexts.{Row, ended, key_line}
 use Rattle.ranked_keys.specs.RankedKeys.{Ranked, ranked_cmp, is_among, put_front, rows_of, rows_text}
 use Rattle.ranked_keys.specs.inner.Fronts.{under, BeginsOtherwise}
 

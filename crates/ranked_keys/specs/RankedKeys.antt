@@ -9,7 +9,7 @@ use Rattle.std.specs.Str.{bytes_eq}
 use Rattle.schema.specs.declared.slots.IndexKind.{IndexKind}
 use Rattle.index_keys.specs.declared.type_norms.NumberedNorm.{NumberedNorm}
 use Rattle.index_keys.specs.TypeNorms.{has_by}
-use Rattle.index_keys.specs.IndexTexts.{Row, ended, key_line}
+use Rattle.index_text.specs.IndexTexts.{Row, ended, key_line}
 
 -- a key, and the rank of one entry that has it
 abbrev pub Ranked : Type 0

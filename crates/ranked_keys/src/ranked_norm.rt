@@ -4,7 +4,7 @@ ghost use Rattle.std.specs.Prelude.{◌≡◌};
 
 use crate::norm_key::NormKey;
 use crate::ranked_key::RankedKey;
-use index_keys::put_key;
+use index_text::put_key;
 use std::alloc::{AllocError, Global};
 
 /// A normal form as a key, and the rank of an entry that has it. Only the bytes are lent.

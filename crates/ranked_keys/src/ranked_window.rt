@@ -4,7 +4,7 @@ ghost use Rattle.std.specs.Prelude.{◌≡◌, ◌<◌, ◌^◌, ◌/◌};
 ghost use Rattle.ranked_keys.specs.inner.Windows.{window_in, rank_in};
 
 use crate::ranked_key::RankedKey;
-use index_keys::put_key;
+use index_text::put_key;
 use std::alloc::{AllocError, Global};
 
 /// A window as a key, and the rank of an entry that has it. They lie in one number, the bytes of the window above the rank, so that sorting

@@ -6,7 +6,7 @@ use Rattle.std.specs.Str.{bytes_eq}
 use Rattle.base.specs.Answers.{◌>>=◌}
 use Rattle.values.specs.declared.types.AttributeType.{AttributeType}
 use Rattle.schema.specs.declared.slots.Slot.{Slot}
-use Rattle.index_keys.specs.IndexTexts.{Row, Rows, end_line}
+use Rattle.index_text.specs.IndexTexts.{Row, Rows, end_line}
 use Rattle.stored_index.specs.KeyLines.{row_in}
 use Rattle.stored_index.specs.SlotLines.{slot_in, is_slot, fault_at}
 use Rattle.stored_index.specs.Reading.{is_nothing, ends_rows, rows_of, slots_of}

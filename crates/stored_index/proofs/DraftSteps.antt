@@ -4,8 +4,8 @@ use Rattle.std.proofs.lemmas.List.{append-nil}
 use Rattle.std.specs.Str.{bytes_eq}
 use Rattle.base.specs.Answers.{Fails}
 use Rattle.schema.specs.declared.slots.Slot.{Slot}
-use Rattle.index_keys.specs.KeySets as keys
-use Rattle.index_keys.specs.IndexTexts.{Row, Rows, end_line}
+use Rattle.index_text.specs.KeySets as keys
+use Rattle.index_text.specs.IndexTexts.{Row, Rows, end_line}
 use Rattle.stored_index.specs.FaultyLines.{key_behind}
 use Rattle.stored_index.specs.Gives.{kind_of}
 use Rattle.stored_index.specs.KeyLines.{row_in}

@@ -6,7 +6,7 @@ use Rattle.base.specs.Ascii.{line_feed}
 use Rattle.memchr.specs.Find.{is_byte}
 use Rattle.values.specs.declared.types.AttributeType.{AttributeType}
 use Rattle.schema.specs.declared.slots.Slot.{Slot}
-use Rattle.index_keys.specs.IndexTexts.{end_line}
+use Rattle.index_text.specs.IndexTexts.{end_line}
 use Rattle.stored_index.specs.Cuts.{parts}
 use Rattle.stored_index.specs.Words.{is_empty}
 use Rattle.stored_index.specs.SlotLines.{fault_at}

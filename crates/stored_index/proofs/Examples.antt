@@ -11,7 +11,7 @@ use Rattle.schema.specs.Conf.{Conf}
 use Rattle.schema.specs.declared.slots.IndexKind.{IndexKind}
 use Rattle.schema.specs.declared.slots.IndexKind.TheVariants.{Equality, Presence, Substrings}
 use Rattle.schema.specs.declared.slots.Slot.{Slot}
-use Rattle.index_keys.specs.IndexTexts.{Rows, ended, index_text}
+use Rattle.index_text.specs.IndexTexts.{Rows, ended, index_text}
 use Rattle.stored_index.specs.KeyLines.{are_rising, ranks_in, row_in}
 use Rattle.stored_index.specs.Reading.{header_in, rows_of, slots_of, rows_in}
 use Rattle.stored_index.specs.SlotLines.{slot_in}

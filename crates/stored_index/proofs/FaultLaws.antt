@@ -16,7 +16,7 @@ use Rattle.values.specs.declared.types.AttributeType.{AttributeType}
 use Rattle.schema.specs.Conf.{Conf}
 use Rattle.schema.specs.declared.slots.Slot.{Slot}
 use Rattle.schema.specs.Slots.{slot_cmp}
-use Rattle.index_keys.specs.IndexTexts.{Rows, ended, header_line, slot_text, end_line, index_text}
+use Rattle.index_text.specs.IndexTexts.{Rows, ended, header_line, slot_text, end_line, index_text}
 use Rattle.stored_index.specs.Cuts.{parts}
 use Rattle.stored_index.specs.Words.{bytes_in}
 use Rattle.stored_index.specs.SlotLines.{is_passed}

@@ -10,7 +10,7 @@ use Rattle.base.specs.Answers.{◌>>=◌}
 use Rattle.memchr.specs.Find.{is_byte}
 use Rattle.values.specs.declared.types.AttributeType.{AttributeType}
 use Rattle.schema.specs.declared.slots.Slot.{Slot}
-use Rattle.index_keys.specs.IndexTexts.{Row, Rows, ended, slot_line, slot_text, key_line, end_line}
+use Rattle.index_text.specs.IndexTexts.{Row, Rows, ended, slot_line, slot_text, key_line, end_line}
 use Rattle.stored_index.specs.Cuts.{parts}
 use Rattle.stored_index.specs.Words.{is_empty}
 use Rattle.stored_index.specs.KeyLines.{row_in}

@@ -12,7 +12,7 @@ use Rattle.hex.proofs.HexLemmas.{length-encode_with}
 use Rattle.values.specs.declared.types.AttributeType.{AttributeType}
 use Rattle.schema.specs.Conf.{Conf}
 use Rattle.schema.specs.declared.slots.Slot.{Slot}
-use Rattle.index_keys.specs.IndexTexts.{header_line}
+use Rattle.index_text.specs.IndexTexts.{header_line}
 use Rattle.stored_index.specs.Cuts.{parts}
 use Rattle.stored_index.specs.Words.{is_hex_byte, number_in}
 use Rattle.stored_index.specs.Reading.{HeaderContent, is_stamp, has_header_form, header_with, header_of, header_in, is_current, if_current, current_header, slots_of, lines_in, rows_in}

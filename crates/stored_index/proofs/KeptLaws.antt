@@ -11,9 +11,9 @@ use Rattle.std.specs.Map.{keys_of, lookup}
 use Rattle.std.specs.Ordering.{nat_cmp}
 use Rattle.base.specs.Answers.{◌>>=◌}
 use Rattle.schema.specs.Conf.{Conf}
-use Rattle.index_keys.specs.KeySets as keys
-use Rattle.index_keys.specs.declared.slot_key.SlotKey.{SlotKey}
-use Rattle.index_keys.specs.IndexTexts.{Row, Rows, key_text}
+use Rattle.index_text.specs.KeySets as keys
+use Rattle.index_text.specs.declared.slot_key.SlotKey.{SlotKey}
+use Rattle.index_text.specs.IndexTexts.{Row, Rows, key_text}
 use Rattle.stored_index.specs.Reading.{rows_in}
 use Rattle.stored_index.specs.Rows.{AreSlotRows, key_of}
 use Rattle.stored_index.specs.Stored as whole

@@ -11,7 +11,7 @@ use Rattle.base.specs.Ascii.{hyphen}
 use Rattle.base.proofs.Bound.{bind_ok, same_ok}
 use Rattle.hex.specs.Hex.{lower_digits, encode_with, encode_lower}
 use Rattle.memchr.specs.Find.{is_byte}
-use Rattle.index_keys.specs.IndexTexts.{key_text}
+use Rattle.index_text.specs.IndexTexts.{key_text}
 use Rattle.stored_index.specs.Words.{is_hyphen, is_small_hex_letter, hex_digit, pair_in, bytes_in, key_in}
 use Rattle.stored_index.specs.Rows.{IsByte}
 use Rattle.stored_index.specs.declared.fault.IndexFaultKind.{IndexFaultKind}

@@ -4,8 +4,8 @@ use Rattle.std.specs.Cmp.Lexicographic.{slice_cmp}
 use Rattle.std.specs.List.{AllByRecursion}
 use Rattle.std.specs.Ordering.{nat_cmp}
 use Rattle.hex.specs.Hex.{encode_with}
-use Rattle.index_keys.specs.KeySets as keys
-use Rattle.index_keys.specs.IndexTexts.{key_text}
+use Rattle.index_text.specs.KeySets as keys
+use Rattle.index_text.specs.IndexTexts.{key_text}
 use Rattle.stored_index.specs.KeyLines.{is_above}
 use Rattle.stored_index.specs.Rows.{IsByte}
 use Rattle.stored_index.specs.Stored.{kept_row}

@@ -10,7 +10,7 @@ use Rattle.std.specs.Cmp.Lexicographic.{slice_cmp}
 use Rattle.std.specs.List.{AllByRecursion}
 use Rattle.base.specs.Ascii.{hyphen}
 use Rattle.hex.specs.Hex.{lower_digits, encode_with, encode_lower}
-use Rattle.index_keys.specs.IndexTexts.{key_text}
+use Rattle.index_text.specs.IndexTexts.{key_text}
 use Rattle.stored_index.specs.Rows.{IsByte}
 
 -- numbers compare as others do that rise with them

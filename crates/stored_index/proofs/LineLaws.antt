@@ -13,7 +13,7 @@ use Rattle.base.specs.Ascii.{space, line_feed}
 use Rattle.base.specs.Answers.{◌>>=◌}
 use Rattle.base.proofs.Bound.{bind_ok, same_ok}
 use Rattle.memchr.specs.Find.{is_byte}
-use Rattle.index_keys.specs.IndexTexts.{Row, key_text, rank_text, key_line, ended, end_line}
+use Rattle.index_text.specs.IndexTexts.{Row, key_text, rank_text, key_line, ended, end_line}
 use Rattle.stored_index.specs.Cuts.{parts}
 use Rattle.stored_index.specs.KeyLines.{row_of, row_in}
 use Rattle.stored_index.specs.Reading.{ends_rows, rows_of}

@@ -5,7 +5,7 @@ use Rattle.std.specs.Char.{is_ascii_digit}
 use Rattle.std.specs.List.{flat_map, AllByRecursion, join_with_byte}
 use Rattle.base.specs.Ascii.{space}
 use Rattle.base.specs.Answers.{◌>>=◌, each}
-use Rattle.index_keys.specs.IndexTexts.{Row, key_text, rank_text, key_line}
+use Rattle.index_text.specs.IndexTexts.{Row, key_text, rank_text, key_line}
 use Rattle.stored_index.specs.Cuts.{parts}
 use Rattle.stored_index.specs.Words.{is_small_hex_letter, hex_digit, pair_in, bytes_in, is_hyphen, key_in, has_number_form, number_after, number_in}
 use Rattle.stored_index.specs.KeyLines.{are_rising, are_within, checked, ranks_in, is_above, row_of, row_in}

@@ -7,7 +7,7 @@ use Rattle.base.specs.Ascii.{space}
 use Rattle.base.specs.Answers.{◌>>=◌, each}
 use Rattle.base.proofs.Bound.{bind_ok, same_ok}
 use Rattle.memchr.specs.Find.{is_byte}
-use Rattle.index_keys.specs.IndexTexts.{Row, key_text, rank_text, key_line}
+use Rattle.index_text.specs.IndexTexts.{Row, key_text, rank_text, key_line}
 use Rattle.stored_index.specs.Cuts.{parts}
 use Rattle.stored_index.specs.Words.{key_in, number_in}
 use Rattle.stored_index.specs.KeyLines.{are_rising, are_within, are_in_order, checked, ranks_in, is_above, row_of, row_in}

@@ -3,7 +3,7 @@ use Rattle.std.proofs.Common.{◌≡◌, ℕ, List, ◌∷◌, Option, Result, O
 use Rattle.base.specs.Ascii.{space}
 use Rattle.base.specs.Answers.{◌>>=◌}
 use Rattle.memchr.specs.Find.{is_byte}
-use Rattle.index_keys.specs.IndexTexts.{Row}
+use Rattle.index_text.specs.IndexTexts.{Row}
 use Rattle.stored_index.specs.Cuts.{parts}
 use Rattle.stored_index.specs.Words.{key_in}
 use Rattle.stored_index.specs.KeyLines.{is_above, ranks_in, row_of, row_in}

@@ -14,7 +14,7 @@ use Rattle.std.specs.List.Sorted.{IsStrictlySortedBy, IsNonDecreasingBy}
 use Rattle.std.specs.Map.{keys_of, lookup}
 use Rattle.std.specs.Ordering.{nat_cmp, is_eq, ordering_reverse, ordering_index}
 use Rattle.std.specs.Str.{bytes_eq}
-use Rattle.index_keys.specs.KeySets.{Row, members_at}
+use Rattle.index_text.specs.KeySets.{Row, members_at}
 
 abbrev key_cmp : List ℕ → List ℕ → Ordering
 key_cmp = slice_cmp nat_cmp

@@ -12,7 +12,7 @@ use Rattle.schema.specs.declared.slots.IndexKind.TheVariants.{Equality, Presence
 use Rattle.schema.specs.declared.slots.Slot.{Slot}
 use Rattle.schema.proofs.Found.{found_is_known}
 use Rattle.schema.proofs.SlotOrder.{same_is}
-use Rattle.index_keys.specs.IndexTexts.{kind_name, slot_line}
+use Rattle.index_text.specs.IndexTexts.{kind_name, slot_line}
 use Rattle.stored_index.specs.Cuts.{parts}
 use Rattle.stored_index.specs.SlotLines.{kind_named, if_printed, type_printed, slot_with, slot_of, slot_in, is_slot}
 

@@ -4,7 +4,7 @@ use Rattle.base.specs.Ascii.{line_feed}
 use Rattle.memchr.specs.Find.{is_byte}
 use Rattle.values.specs.declared.types.AttributeType.{AttributeType}
 use Rattle.schema.specs.declared.slots.Slot.{Slot}
-use Rattle.index_keys.specs.IndexTexts.{Row, Rows}
+use Rattle.index_text.specs.IndexTexts.{Row, Rows}
 use Rattle.stored_index.specs.Cuts.{parts}
 use Rattle.stored_index.specs.SlotLines.{slot_in, is_slot, fault_at}
 use Rattle.stored_index.specs.Reading.{rows_of, slot_rows}

@@ -12,7 +12,7 @@ use Rattle.base.proofs.Bound.{bind_ok, same_ok}
 use Rattle.memchr.specs.Find.{is_byte}
 use Rattle.values.specs.declared.types.AttributeType.{AttributeType}
 use Rattle.schema.specs.declared.slots.Slot.{Slot}
-use Rattle.index_keys.specs.IndexTexts.{Row, ended, slot_line, slot_text, key_line, end_line}
+use Rattle.index_text.specs.IndexTexts.{Row, ended, slot_line, slot_text, key_line, end_line}
 use Rattle.stored_index.specs.Cuts.{parts}
 use Rattle.stored_index.specs.KeyLines.{row_in}
 use Rattle.stored_index.specs.SlotLines.{slot_in, is_slot, is_passed, fault_by, fault_at}

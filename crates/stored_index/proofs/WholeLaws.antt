@@ -12,7 +12,7 @@ use Rattle.hex.specs.Hex.{encode_lower}
 use Rattle.values.specs.declared.types.AttributeType.{AttributeType}
 use Rattle.schema.specs.Conf.{Conf}
 use Rattle.schema.specs.declared.slots.Slot.{Slot}
-use Rattle.index_keys.specs.IndexTexts.{Row, Rows, ended, header_line, slot_line, end_line, slot_text, index_text}
+use Rattle.index_text.specs.IndexTexts.{Row, Rows, ended, header_line, slot_line, end_line, slot_text, index_text}
 use Rattle.stored_index.specs.Cuts.{parts}
 use Rattle.stored_index.specs.Words.{number_in}
 use Rattle.stored_index.specs.SlotLines.{slot_in, is_slot, fault_at}

@@ -22,7 +22,7 @@ use Rattle.schema.specs.declared.slots.IndexKind.{IndexKind}
 use Rattle.schema.specs.declared.slots.IndexKind.TheVariants.{Equality, Presence, Substrings}
 use Rattle.schema.specs.declared.slots.Slot.{Slot}
 use Rattle.schema.proofs.SlotOrder.{slots_total}
-use Rattle.index_keys.specs.IndexTexts.{Row, Rows, ended, kind_name, header_line, slot_line, key_line, end_line, slot_text, index_text}
+use Rattle.index_text.specs.IndexTexts.{Row, Rows, ended, kind_name, header_line, slot_line, key_line, end_line, slot_text, index_text}
 use Rattle.stored_index.specs.Cuts.{parts}
 use Rattle.stored_index.specs.Words.{is_hex_byte, is_small_hex_letter, hex_digit, number_in}
 use Rattle.stored_index.specs.SlotLines.{kind_named, if_printed, slot_with, slot_of, slot_in, is_slot}

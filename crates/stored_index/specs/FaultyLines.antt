@@ -9,7 +9,7 @@ use Rattle.values.specs.declared.types.AttributeType.{AttributeType}
 use Rattle.values.specs.Types.{is_known}
 use Rattle.schema.specs.Conf.{Conf}
 use Rattle.schema.specs.declared.slots.Slot.{Slot}
-use Rattle.index_keys.specs.IndexTexts.{Row, Rows, header_line, slot_line, slot_text, key_line, end_line}
+use Rattle.index_text.specs.IndexTexts.{Row, Rows, header_line, slot_line, slot_text, key_line, end_line}
 use Rattle.stored_index.specs.KeyLines.{is_above}
 use Rattle.stored_index.specs.SlotLines.{is_passed}
 use Rattle.stored_index.specs.Reading.{ends_rows}

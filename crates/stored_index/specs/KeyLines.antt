@@ -5,7 +5,7 @@ use Rattle.std.specs.Ordering.{nat_cmp, is_lt}
 use Rattle.std.specs.Cmp.Lexicographic.{slice_cmp}
 use Rattle.base.specs.Answers.{◌>>=◌, each}
 use Rattle.base.specs.Ascii.{space}
-use Rattle.index_keys.specs.IndexTexts.{Row}
+use Rattle.index_text.specs.IndexTexts.{Row}
 use Rattle.stored_index.specs.Cuts.{parts}
 use Rattle.stored_index.specs.Words.{number_in, key_in}
 use Rattle.stored_index.specs.declared.fault.IndexFaultKind.{IndexFaultKind}

@@ -9,7 +9,7 @@ use Rattle.hex.specs.Hex.{encode_lower}
 use Rattle.values.specs.declared.types.AttributeType.{AttributeType}
 use Rattle.schema.specs.Conf.{Conf}
 use Rattle.schema.specs.declared.slots.Slot.{Slot}
-use Rattle.index_keys.specs.IndexTexts.{Row, Rows, end_line}
+use Rattle.index_text.specs.IndexTexts.{Row, Rows, end_line}
 use Rattle.stored_index.specs.Cuts.{parts}
 use Rattle.stored_index.specs.Words.{is_hex_byte, number_in}
 use Rattle.stored_index.specs.KeyLines.{row_in}

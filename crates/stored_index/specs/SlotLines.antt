@@ -9,7 +9,7 @@ use Rattle.schema.specs.declared.slots.IndexKind.{IndexKind}
 use Rattle.schema.specs.declared.slots.IndexKind.TheVariants.{Equality, Presence, Substrings}
 use Rattle.schema.specs.declared.slots.Slot.{Slot}
 use Rattle.schema.specs.Slots.{slot_cmp, same_slot}
-use Rattle.index_keys.specs.IndexTexts.{kind_name}
+use Rattle.index_text.specs.IndexTexts.{kind_name}
 use Rattle.stored_index.specs.Cuts.{parts}
 use Rattle.stored_index.specs.declared.fault.IndexFaultKind.{IndexFaultKind}
 use Rattle.stored_index.specs.declared.fault.IndexFaultKind.TheVariants.{Form, Order}

@@ -6,10 +6,10 @@ use Rattle.std.specs.List.{AllByRecursion}
 use Rattle.base.specs.Answers.{◌>>=◌}
 use Rattle.schema.specs.contracts.conf.Conf as conf_contract
 use Rattle.schema.specs.Conf.{Conf}
-use Rattle.index_keys.specs.KeySets as keys
-use Rattle.index_keys.specs.declared.slot_key.SlotKey.{SlotKey}
-use Rattle.index_keys.specs.Postings.{Shown, slot_in}
-use Rattle.index_keys.specs.IndexTexts as texts
+use Rattle.index_text.specs.KeySets as keys
+use Rattle.index_text.specs.declared.slot_key.SlotKey.{SlotKey}
+use Rattle.index_text.specs.Postings.{Shown, slot_in}
+use Rattle.index_text.specs.IndexTexts as texts
 use Rattle.stored_index.specs.Reading.{rows_in}
 use Rattle.stored_index.specs.declared.fault.IndexFaultKind.{IndexFaultKind}
 

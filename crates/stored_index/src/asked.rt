@@ -2,10 +2,10 @@
 
 ghost use Rattle.std.specs.Prelude.{◌≡◌, true, IfOk, OnOk};
 ghost use Rattle.std.specs.List.{AllByRecursion};
-ghost use Rattle.index_keys.specs.IndexTexts.{key_text};
+ghost use Rattle.index_text.specs.IndexTexts.{key_text};
 ghost use Rattle.stored_index.specs.inner.Asked.{has_text, HasAll, Keeps};
 
-use index_keys::SlotKey;
+use index_text::SlotKey;
 use std::alloc::{AllocError, Global};
 use std::collections::BTreeSet;
 

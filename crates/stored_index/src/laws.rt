@@ -3,7 +3,7 @@
 ghost use Rattle.std.specs.Prelude.{◌≡◌, ◌<◌, ◌^◌, ℕ, List, length, Ok, Err};
 ghost use Rattle.std.specs.List.{AllByRecursion};
 ghost use Rattle.schema.specs.Conf.{Conf, IsConf};
-ghost use Rattle.index_keys.specs.IndexTexts.{Rows, index_text};
+ghost use Rattle.index_text.specs.IndexTexts.{Rows, index_text};
 ghost use Rattle.stored_index.specs.Reading.{rows_in};
 ghost use Rattle.stored_index.specs.FaultyLines.{IsHeader, IsIndexFault};
 ghost use Rattle.stored_index.specs.Rows.{IsByte, AreRows};

@@ -15,7 +15,7 @@ pub(crate) struct Row {
 
 impl Model for Row {
     ghost use Rattle.std.specs.Coded.{coded×, coded_list, coded_ℕ};
-    ghost use Rattle.index_keys.specs.KeySets.{Row as KeptRow, members_code};
+    ghost use Rattle.index_text.specs.KeySets.{Row as KeptRow, members_code};
 
     ghost Value = { KeptRow };
 

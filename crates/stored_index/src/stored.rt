@@ -7,7 +7,7 @@ ghost use Rattle.std.specs.Cmp.Lexicographic.{slice_cmp};
 ghost use Rattle.std.specs.Ordering.{nat_cmp};
 ghost use Rattle.std.specs.Map.{keys_of};
 ghost use Rattle.std.specs.FinSet as set;
-ghost use Rattle.index_keys.specs.KeySets.{members_at};
+ghost use Rattle.index_text.specs.KeySets.{members_at};
 ghost use Rattle.stored_index.specs.Gives.{failures_by, fault_of};
 ghost use Rattle.stored_index.specs.Stored.{index_in, HasText, ReadsKeys};
 
@@ -19,7 +19,7 @@ use crate::row::Row;
 use base::Sequence;
 use device::Source;
 use id_sets::ListSet;
-use index_keys::{Postings, SlotKey, SlotNumber, slot_number};
+use index_text::{Postings, SlotKey, SlotNumber, slot_number};
 use schema::{Conf, IndexKind, Slot, TypeId};
 use std::alloc::Global;
 use std::marker::Model;

@@ -6,10 +6,10 @@ use Rattle.std.specs.FinMap as finite
 use Rattle.std.specs.FinSet as set
 use Rattle.schema.specs.Conf.{Conf}
 use Rattle.tree.specs.Trees.{Tree, number_at}
-use Rattle.index_keys.specs.Indexes.{Index}
-use Rattle.index_keys.specs.KeySets.{Members, Row}
-use Rattle.index_keys.specs.IndexTexts.{ended, key_line}
-use Rattle.index_keys.specs.IndexTexts as texts
+use Rattle.index_text.specs.Indexes.{Index}
+use Rattle.index_text.specs.KeySets.{Members, Row}
+use Rattle.index_text.specs.IndexTexts.{ended, key_line}
+use Rattle.index_text.specs.IndexTexts as texts
 use Rattle.directory.specs.Indexes.{IsIndexOf}
 
 -- the rank of the entry with a number, or 0 where none stands for it

@@ -6,7 +6,7 @@ use Rattle.std.specs.FinSet as set
 use Rattle.schema.specs.Conf.{Conf}
 use Rattle.entries.specs.StoredEntries.{attributes_of}
 use Rattle.tree.specs.Trees.{Tree, Placed, number_at}
-use Rattle.index_keys.specs.declared.slot_key.SlotKey.{SlotKey}
+use Rattle.index_text.specs.declared.slot_key.SlotKey.{SlotKey}
 use Rattle.index_keys.specs.EntryKeys.{slot_keys}
 
 -- whether one of these has the number and the key

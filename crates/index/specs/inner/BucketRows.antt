@@ -1,7 +1,7 @@
 -- What is still to come of the rows of buckets.
 use Rattle.std.specs.Prelude.{List, ◌++◌}
 use Rattle.std.specs.Slice.Iter.{iter_rest}
-use Rattle.index_keys.specs.KeySets.{Row}
+use Rattle.index_text.specs.KeySets.{Row}
 use Rattle.index.specs.declared.buckets.BucketRows.{BucketRows}
 use Rattle.index.specs.inner.Buckets.{in_hand, all_rows}
 

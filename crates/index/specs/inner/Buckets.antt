@@ -3,7 +3,7 @@ use Rattle.std.specs.Prelude.{◌≡◌, ◌≢◌, ℕ, ◌+◌, ◌-◌, ◌*�
 use Rattle.std.specs.FinMap as finite
 use Rattle.std.specs.FinSet as set
 use Rattle.dense_sets.specs.declared.key_set.KeySet.{KeySet}
-use Rattle.index_keys.specs.KeySets.{Members, SetsByKey, Row, members_in}
+use Rattle.index_text.specs.KeySets.{Members, SetsByKey, Row, members_in}
 use Rattle.index.specs.declared.short_key.ShortKey.{ShortKey}
 use Rattle.index.specs.inner.StoredSets.{short_rows}
 

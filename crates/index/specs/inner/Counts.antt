@@ -1,9 +1,9 @@
 -- How many keys have a number.
 use Rattle.std.specs.Prelude.{◌≡◌, ℕ}
 use Rattle.std.specs.FinSet as set
-use Rattle.index_keys.specs.declared.slot_key.SlotKey.{SlotKey}
-use Rattle.index_keys.specs.SlotKeys.{SlotKeys}
-use Rattle.index_keys.specs.Indexes.{Index, members}
+use Rattle.index_text.specs.declared.slot_key.SlotKey.{SlotKey}
+use Rattle.index_text.specs.SlotKeys.{SlotKeys}
+use Rattle.index_text.specs.Indexes.{Index, members}
 
 -- so many keys have it
 pub record HaveNumber (index : Index) (number count : ℕ) : Type 0 where

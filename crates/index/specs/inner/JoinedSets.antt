@@ -2,7 +2,7 @@
 use Rattle.std.specs.Prelude.{◌≡◌, ℕ, Bool, true, false, not, List, ◌++◌}
 use Rattle.std.specs.FinMap as finite
 use Rattle.std.specs.FinSet as set
-use Rattle.index_keys.specs.KeySets.{SetsByKey, members_in}
+use Rattle.index_text.specs.KeySets.{SetsByKey, members_in}
 
 module _ (test : List ℕ → Bool) where
   abbrev pub joined : SetsByKey → SetsByKey → SetsByKey

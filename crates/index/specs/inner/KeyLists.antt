@@ -9,8 +9,8 @@ use Rattle.std.specs.Borrow.{Bor}
 use Rattle.values.specs.declared.types.AttributeType.{AttributeType}
 use Rattle.schema.specs.declared.slots.Slot.{Slot}
 use Rattle.entries.specs.StoredEntries.{Entry}
-use Rattle.index_keys.specs.declared.slot_key.SlotKey.{SlotKey}
-use Rattle.index_keys.specs.SlotKeys.{slot_key, slot_key_cmp, is_among}
+use Rattle.index_text.specs.declared.slot_key.SlotKey.{SlotKey}
+use Rattle.index_text.specs.SlotKeys.{slot_key, slot_key_cmp, is_among}
 use Rattle.index.specs.KeyChanges.{content_in}
 use Rattle.index.specs.inner.SlotTests.{is_only_in}
 

@@ -4,7 +4,7 @@ use Rattle.std.specs.Borrow.{Bor}
 use Rattle.std.specs.Ordering.{nat_cmp, is_lt}
 use Rattle.std.specs.Cmp.Lexicographic.{slice_cmp}
 use Rattle.dense_sets.specs.declared.key_set.KeySet.{KeySet}
-use Rattle.index_keys.specs.KeySets.{Row}
+use Rattle.index_text.specs.KeySets.{Row}
 
 abbrev pub is_before : Row → Row → Bool
 is_before w o = is_lt (slice_cmp nat_cmp w.0 o.0)

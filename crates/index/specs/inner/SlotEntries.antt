@@ -7,7 +7,7 @@ use Rattle.schema.specs.declared.slots.Slot.{Slot}
 use Rattle.index_keys.specs.declared.type_norms.Numbered.{Numbered}
 use Rattle.index_keys.specs.declared.type_norms.NumberedNorm.{NumberedNorm}
 use Rattle.index_keys.specs.TypeNorms.{has_for, has_by}
-use Rattle.index_keys.specs.KeySets.{SetsByKey, members_in}
+use Rattle.index_text.specs.KeySets.{SetsByKey, members_in}
 
 -- the number came under each key that passes the test, and each other key has the members that it had
 abbrev pub PutsEach : (List ℕ → Bool) → ℕ → SetsByKey → SetsByKey → Type 0

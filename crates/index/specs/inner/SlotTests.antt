@@ -5,9 +5,9 @@ use Rattle.values.specs.declared.types.AttributeType.{AttributeType}
 use Rattle.schema.specs.declared.slots.Slot.{Slot}
 use Rattle.schema.specs.Conf.{Conf}
 use Rattle.entries.specs.Entries.{EntryContent}
-use Rattle.index_keys.specs.declared.slot_key.SlotKey.{SlotKey}
+use Rattle.index_text.specs.declared.slot_key.SlotKey.{SlotKey}
 use Rattle.index_keys.specs.EntryKeys.{norms_under, gives_key}
-use Rattle.index_keys.specs.inner.SlotTests.{is_slot_that}
+use Rattle.index_text.specs.inner.SlotTests.{is_slot_that}
 
 abbrev pub norms_in : List AttributeType → Option EntryContent → ℕ → List (List ℕ)
 norms_in types None t = []

@@ -7,7 +7,7 @@ use Rattle.std.specs.FinMap as finite
 use Rattle.std.specs.FinSet as set
 use Rattle.std.specs.declared.vec.Vec.{Vec}
 use Rattle.dense_sets.specs.declared.key_set.KeySet.{KeySet}
-use Rattle.index_keys.specs.KeySets.{Row, SetsByKey}
+use Rattle.index_text.specs.KeySets.{Row, SetsByKey}
 use Rattle.index.specs.declared.short_key.ShortKey.{ShortKey}
 use Rattle.index.specs.inner.ShortKeys.{key_in}
 

@@ -4,11 +4,11 @@ use Rattle.base.specs.Answers.{◌>>=◌, Fails}
 use Rattle.base.specs.Ascii.{line_feed}
 use Rattle.schema.specs.declared.slots.Slot.{Slot}
 use Rattle.values.specs.declared.types.AttributeType.{AttributeType}
-use Rattle.index_keys.specs.IndexTexts.{Row, Rows}
+use Rattle.index_text.specs.IndexTexts.{Row, Rows}
 use Rattle.stored_index.specs.Cuts.{parts}
 use Rattle.stored_index.specs.FaultyLines.{HasNoLineFeed, key_behind}
 use Rattle.stored_index.specs.Gives.{kind_of}
-use Rattle.index_keys.specs.KeySets as keys
+use Rattle.index_text.specs.KeySets as keys
 use Rattle.stored_index.specs.declared.asked.AskedTexts.{AskedTexts}
 use Rattle.stored_index.specs.declared.fault.LineFault.{LineFault}
 use Rattle.stored_index.specs.declared.fault.LineFault.TheVariants as faults

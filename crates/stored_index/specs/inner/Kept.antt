@@ -2,8 +2,8 @@
 use Rattle.std.specs.Prelude.{◌≡◌, ℕ, Bool, List, [], ◌∷◌, Option, Some, None, Result, if◌then◌else◌}
 use Rattle.std.specs.List.{AllByRecursion, flat_map}
 use Rattle.base.specs.Ascii.{space}
-use Rattle.index_keys.specs.KeySets as keys
-use Rattle.index_keys.specs.IndexTexts.{Row, Rows, key_text}
+use Rattle.index_text.specs.KeySets as keys
+use Rattle.index_text.specs.IndexTexts.{Row, Rows, key_text}
 use Rattle.stored_index.specs.Cuts.{parts}
 use Rattle.stored_index.specs.KeyLines.{row_of}
 use Rattle.stored_index.specs.Rows.{IsByte}

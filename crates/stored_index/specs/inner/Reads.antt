@@ -3,7 +3,7 @@ use Rattle.std.specs.Prelude.{◌≡◌, ℕ, Bool, true, List, Result, Ok, Err}
 use Rattle.std.specs.FinSet as set
 use Rattle.base.specs.Answers as answers
 use Rattle.stored_index.specs.Gives.{kind_of}
-use Rattle.index_keys.specs.KeySets as keys
+use Rattle.index_text.specs.KeySets as keys
 use Rattle.stored_index.specs.Reading.{HeaderContent}
 use Rattle.stored_index.specs.declared.fault.LineFault.{LineFault}
 use Rattle.stored_index.specs.declared.fault.IndexFaultKind.{IndexFaultKind}

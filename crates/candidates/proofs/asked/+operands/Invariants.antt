@@ -1,6 +1,6 @@
 use Rattle.std.proofs.Common.{◌≡◌, ◌++◌, drop}
 use Rattle.filter.specs.Prepared.{prepared_views}
-use Rattle.index_keys.specs.Postings.{slot_in}
+use Rattle.index_text.specs.Postings.{slot_in}
 use Rattle.candidates.specs.Asked.{asked_keys_each}
 use Rattle.candidates.proofs.asked.+operands.Given as goal
 

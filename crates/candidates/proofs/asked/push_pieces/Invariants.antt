@@ -1,7 +1,7 @@
 use Rattle.std.proofs.Common.{◌≡◌, ◌++◌, map, drop}
 use Rattle.std.specs.List.{flat_map}
 use Rattle.index_keys.specs.EntryKeys.{windows}
-use Rattle.index_keys.specs.SlotKeys.{slot_key}
+use Rattle.index_text.specs.SlotKeys.{slot_key}
 use Rattle.candidates.proofs.asked.push_pieces.Given as goal
 
 abbrev pub invariant-loop-piece : goal.invariant-loop-piece

@@ -1,6 +1,6 @@
 use Rattle.std.proofs.Common.{◌≡◌, ◌++◌, map, length}
 use Rattle.index_keys.specs.EntryKeys.{windows}
-use Rattle.index_keys.specs.SlotKeys.{slot_key}
+use Rattle.index_text.specs.SlotKeys.{slot_key}
 use Rattle.candidates.proofs.asked.push_windows.Given as goal
 
 abbrev pub invariant-loop-first : goal.invariant-loop-first

@@ -1,5 +1,5 @@
 use Rattle.std.proofs.Common.{◌∙◌}
-use Rattle.index_keys.specs.SlotKeys.{slot_key}
+use Rattle.index_text.specs.SlotKeys.{slot_key}
 use Rattle.candidates.proofs.laws.indexes_reflect_entries.Goals as goal
 
 pub returns : goal.returns

@@ -4,7 +4,7 @@ use Rattle.std.specs.List.{AllByRecursion}
 use Rattle.base.specs.Answers.{Fails}
 use Rattle.schema.specs.declared.slots.Slot.{Slot}
 use Rattle.schema.specs.Conf.{IsConf}
-use Rattle.index_keys.specs.Postings.{slot_in}
+use Rattle.index_text.specs.Postings.{slot_in}
 use Rattle.candidates.specs.Asked.{asked_keys}
 use Rattle.candidates.specs.Candidates.{prepared_of}
 use Rattle.stored_index.specs.Gives.{fault_of}

@@ -2,7 +2,7 @@ use Rattle.std.proofs.Common.{◌≡◌, ℕ, List, ◌++◌, sym, subst}
 use Rattle.std.proofs.lemmas.Result.{err_from_is_err_and}
 use Rattle.schema.specs.Conf.{Conf}
 use Rattle.tree.specs.Directories.{Entries}
-use Rattle.index_keys.specs.IndexTexts.{ended, end_line}
+use Rattle.index_text.specs.IndexTexts.{ended, end_line}
 use Rattle.databases.specs.Dumps.{SoFar}
 use Rattle.databases.specs.IndexTexts.{index_text, slots_lines}
 use Rattle.databases.proofs.Pieces.{wants_memory, ends}

@@ -1,7 +1,7 @@
 use Rattle.std.proofs.Common.{ap, arith}
 use Rattle.std.specs.Prelude.{Result, Ok}
 use Rattle.base.specs.Answers.{◌>>=◌}
-use Rattle.index_keys.specs.IndexTexts.{Rows}
+use Rattle.index_text.specs.IndexTexts.{Rows}
 use Rattle.stored_index.specs.Stored.{stored}
 use Rattle.stored_index.specs.declared.fault.IndexFaultKind.{IndexFaultKind}
 use Rattle.std.specs.FinMap as finite

@@ -1,6 +1,6 @@
 use Rattle.std.proofs.Common.{ℕ, List, ◌++◌, ap, ◌∙◌}
 use Rattle.std.proofs.lemmas.Result.{err_from_is_err_and}
-use Rattle.index_keys.specs.KeySets.{Row}
+use Rattle.index_text.specs.KeySets.{Row}
 use Rattle.directory.specs.inner.IndexRows.{row_text, rows_text}
 use Rattle.databases.proofs.WrittenLines.{further, stopped}
 use Rattle.directory.proofs.index_texts.write_rows.Goals as goal

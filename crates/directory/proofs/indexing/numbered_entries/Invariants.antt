@@ -1,7 +1,7 @@
 use Rattle.std.proofs.Common.{◌≡◌, ◌||◌, ℕ}
 use Rattle.std.specs.List.{AllByRecursion}
 use Rattle.entries.specs.StoredEntries.{IsMade}
-use Rattle.index_keys.specs.declared.slot_key.SlotKey.{SlotKey}
+use Rattle.index_text.specs.declared.slot_key.SlotKey.{SlotKey}
 use Rattle.index_keys.specs.NumberedEntries.{has_among}
 use Rattle.directory.specs.inner.Indexes.{has_placed, has_in_tree}
 use Rattle.directory.proofs.indexing.numbered_entries.Given as goal

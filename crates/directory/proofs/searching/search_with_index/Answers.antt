@@ -2,7 +2,7 @@ use Rattle.std.proofs.Common.{◌∙◌, sym, subst}
 use Rattle.schema.specs.Conf.{Conf, IsConf}
 use Rattle.tree.specs.Trees.{Tree, number_at}
 use Rattle.filter_text.specs.Spells.{view}
-use Rattle.index_keys.specs.Postings.{shown_by}
+use Rattle.index_text.specs.Postings.{shown_by}
 use Rattle.candidates.specs.Brackets.{Reflects}
 use Rattle.search.specs.Searches.{scan_among, counted_scan, count_among}
 use Rattle.databases.specs.Found.{AreThere}

@@ -2,7 +2,7 @@ use Rattle.std.proofs.Common.{◌≡◌, ◌<◌, length, get_or, ap, ◌∙◌,
 use Rattle.std.specs.FinMap as finite
 use Rattle.std.specs.FinSet as set
 use Rattle.std.proofs.lemmas.List.{get_or_default}
-use Rattle.index_keys.specs.KeySets.{SetsByKey, members_in}
+use Rattle.index_text.specs.KeySets.{SetsByKey, members_in}
 use Rattle.index.proofs.Gathered.{lost_buckets, lost_members, lost_within}
 use Rattle.index.proofs.buckets.forget_in.Goals as goal
 

@@ -1,7 +1,7 @@
 use Rattle.std.proofs.Common.{◌≡◌, ℕ, List, cond, nat_lt, get_or}
 use Rattle.std.specs.FinMap as finite
 use Rattle.std.specs.FinSet as set
-use Rattle.index_keys.specs.KeySets.{members_in}
+use Rattle.index_text.specs.KeySets.{members_in}
 use Rattle.index.specs.inner.Buckets.{AreBuckets}
 use Rattle.index.proofs.buckets.forget_in.Given as goal
 

@@ -3,7 +3,7 @@ use Rattle.std.specs.FinMap as finite
 use Rattle.std.specs.FinSet as set
 use Rattle.std.proofs.lemmas.Bool.{ltb-false}
 use Rattle.std.proofs.lemmas.List.{get_or_past}
-use Rattle.index_keys.specs.KeySets.{Members, SetsByKey, members_in}
+use Rattle.index_text.specs.KeySets.{Members, SetsByKey, members_in}
 use Rattle.index.proofs.Keyed.{none_in, remove_none}
 use Rattle.index.proofs.index.forget_in.Goals as goal
 

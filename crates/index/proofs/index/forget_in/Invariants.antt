@@ -1,7 +1,7 @@
 use Rattle.std.proofs.Common.{◌≡◌, ℕ, List, cond, nat_lt, get_or}
 use Rattle.std.specs.FinMap as finite
 use Rattle.std.specs.FinSet as set
-use Rattle.index_keys.specs.KeySets.{members_in}
+use Rattle.index_text.specs.KeySets.{members_in}
 use Rattle.index.proofs.index.forget_in.Given as goal
 
 abbrev pub invariant-loop-keys : goal.invariant-loop-keys

@@ -1,7 +1,7 @@
 use Rattle.std.proofs.Common.{◌≡◌, ◌++◌, map, take, not}
 use Rattle.std.specs.List.{filter, list_any}
 use Rattle.std.specs.Str.{bytes_eq}
-use Rattle.index_keys.specs.SlotKeys.{slot_key}
+use Rattle.index_text.specs.SlotKeys.{slot_key}
 use Rattle.index.proofs.key_lists.push_missing.Given as goal
 
 abbrev pub invariant-loop-key : goal.invariant-loop-key

@@ -2,7 +2,7 @@ use Rattle.std.proofs.Common.{sym, ap, ◌∙◌}
 use Rattle.std.specs.Prelude.{is_some}
 use Rattle.std.specs.declared.alloc.AllocError.{AllocError}
 use Rattle.std.specs.FinSet as set
-use Rattle.index_keys.specs.KeySets.{Members}
+use Rattle.index_text.specs.KeySets.{Members}
 use Rattle.index.proofs.Keyed.{put_found, put_fresh, put_refused}
 use Rattle.index.proofs.keyed_sets.put.Goals as goal
 

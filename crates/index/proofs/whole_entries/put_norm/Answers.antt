@@ -2,7 +2,7 @@ use Rattle.std.proofs.Common.{◌∙◌, ◌&&◌, ◌||◌, [], ◌∷◌, nat_
 use Rattle.std.specs.FinSet as set
 use Rattle.schema.specs.declared.slots.IndexKind.{IndexKind}
 use Rattle.index_keys.specs.EntryKeys.{gives_key}
-use Rattle.index_keys.specs.KeySets.{members_in}
+use Rattle.index_text.specs.KeySets.{members_in}
 use Rattle.index.proofs.WholeEntries.{put_one}
 use Rattle.index.proofs.whole_entries.put_norm.Goals as goal
 

@@ -3,7 +3,7 @@ use Rattle.std.specs.List.{list_any}
 use Rattle.std.specs.Str.{bytes_eq}
 use Rattle.std.specs.FinSet as set
 use Rattle.index_keys.specs.EntryKeys.{windows}
-use Rattle.index_keys.specs.KeySets.{members_in}
+use Rattle.index_text.specs.KeySets.{members_in}
 use Rattle.index.proofs.whole_entries.put_windows.Given as goal
 
 abbrev pub invariant-loop-first : goal.invariant-loop-first

@@ -1,5 +1,5 @@
 use Rattle.std.proofs.Common.{ℕ, List, [], ◌∷◌, ◌++◌, map, ap, ◌∙◌}
-use Rattle.index_keys.specs.IndexTexts.{ended, key_line}
+use Rattle.index_text.specs.IndexTexts.{ended, key_line}
 use Rattle.ranked_keys.specs.RankedKeys.{Ranked}
 use Rattle.ranked_keys.specs.inner.Fronts.{under}
 use Rattle.ranked_keys.proofs.RowsInOrder.{row_is}

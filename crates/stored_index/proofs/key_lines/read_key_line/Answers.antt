@@ -1,7 +1,7 @@
 use Rattle.std.proofs.Common.{ℕ, List, ◌∷◌, Option, Bor, Result, sym, ap, ◌∙◌, subst}
 use Rattle.base.specs.Ascii.{space}
 use Rattle.stored_index.specs.Cuts.{parts_if}
-use Rattle.index_keys.specs.IndexTexts.{Row}
+use Rattle.index_text.specs.IndexTexts.{Row}
 use Rattle.stored_index.specs.inner.Kept.{IsLineOf}
 use Rattle.stored_index.specs.inner.Reads.{Reads}
 use Rattle.stored_index.specs.declared.fault.IndexFaultKind.{IndexFaultKind}

@@ -5,7 +5,7 @@ use Rattle.std.specs.Cmp.Lexicographic.{slice_cmp}
 use Rattle.std.specs.declared.cmp.Ordering.TheVariants.{Less, Equal, Greater}
 use Rattle.std.specs.FinSet as set
 use Rattle.std.specs.Ordering.{nat_cmp}
-use Rattle.index_keys.specs.KeySets.{Row}
+use Rattle.index_text.specs.KeySets.{Row}
 use Rattle.stored_index.proofs.SearchLemmas.{no_members, the_members, rises}
 use Rattle.stored_index.proofs.stored.ranks_of.Goals as goal
 

@@ -1,7 +1,7 @@
 use Rattle.std.proofs.Common.{◌≡◌, ℕ, List, ◌++◌, ap, ◌∙◌, subst, append_assoc}
 use Rattle.schema.specs.Conf.{Conf}
 use Rattle.tree.specs.Directories.{Entries}
-use Rattle.index_keys.specs.IndexTexts.{ended, slot_line}
+use Rattle.index_text.specs.IndexTexts.{ended, slot_line}
 use Rattle.databases.specs.Dumps.{WritesOn}
 use Rattle.databases.specs.IndexTexts.{slot_lines, keys_lines}
 use Rattle.databases.proofs.Pieces.{wants_memory_on}

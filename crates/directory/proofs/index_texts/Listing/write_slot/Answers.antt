@@ -4,7 +4,7 @@ use Rattle.std.proofs.lemmas.Option.{slice_get_within}
 use Rattle.schema.specs.Conf.{Conf}
 use Rattle.tree.specs.Trees.{Tree}
 use Rattle.tree.proofs.Order.{path_total}
-use Rattle.index_keys.specs.IndexTexts.{ended, slot_line, key_line}
+use Rattle.index_text.specs.IndexTexts.{ended, slot_line, key_line}
 use Rattle.databases.specs.IndexTexts.{slot_rows, contents, slot_lines}
 use Rattle.databases.specs.Dumps.{WritesOn}
 use Rattle.directory.specs.inner.IndexRows.{rows_text}

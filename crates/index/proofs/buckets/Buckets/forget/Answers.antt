@@ -2,7 +2,7 @@ use Rattle.std.proofs.Common.{◌≡◌, length, List, sym, ap, ◌∙◌}
 use Rattle.std.proofs.lemmas.List.{with_items_is}
 use Rattle.std.specs.Vec.{with_items}
 use Rattle.std.specs.FinSet as set
-use Rattle.index_keys.specs.KeySets.{Members, SetsByKey}
+use Rattle.index_text.specs.KeySets.{Members, SetsByKey}
 use Rattle.index.specs.inner.Buckets.{gathered, members_within}
 use Rattle.index.proofs.Gathered.{gathered_is}
 use Rattle.index.proofs.buckets.Buckets.forget.Goals as goal

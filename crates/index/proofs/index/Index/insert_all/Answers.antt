@@ -1,8 +1,8 @@
 use Rattle.std.proofs.Common.{◌≡◌, ◌+◌, ◌∙◌, false, not, cond, take, ap, subst, arith}
 use Rattle.std.specs.FinSet as set
-use Rattle.index_keys.specs.KeySets.{Members}
-use Rattle.index_keys.specs.SlotKeys.{slot_key, same_slot_key}
-use Rattle.index_keys.specs.Indexes.{members}
+use Rattle.index_text.specs.KeySets.{Members}
+use Rattle.index_text.specs.SlotKeys.{slot_key, same_slot_key}
+use Rattle.index_text.specs.Indexes.{members}
 use Rattle.index.specs.Indexes.{Inserts}
 use Rattle.index.proofs.OneByOne.{all_read, more_read, next_read, put_again, among, undone}
 use Rattle.index.proofs.index.Index.insert_all.Goals as goal

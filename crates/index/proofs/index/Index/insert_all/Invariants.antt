@@ -1,5 +1,5 @@
 use Rattle.std.proofs.Common.{◌≡◌, ◌+◌, take}
-use Rattle.index_keys.specs.SlotKeys.{is_among}
+use Rattle.index_text.specs.SlotKeys.{is_among}
 use Rattle.index.specs.Indexes.{Inserts}
 use Rattle.index.proofs.index.Index.insert_all.Given as goal
 

@@ -6,7 +6,7 @@ use Rattle.schema.specs.Conf.{Conf}
 use Rattle.schema.specs.declared.slots.Slot.{Slot}
 use Rattle.entries.specs.StoredEntries.{attributes_of}
 use Rattle.index_keys.specs.EntryKeys.{slot_keys}
-use Rattle.index_keys.specs.Indexes.{members}
+use Rattle.index_text.specs.Indexes.{members}
 use Rattle.index.proofs.KnownSlots.{known_key}
 use Rattle.index_keys.proofs.Agreement.{told_there}
 use Rattle.index.proofs.Changed.{slot_read, all_read}

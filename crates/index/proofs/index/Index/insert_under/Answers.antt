@@ -1,5 +1,5 @@
 use Rattle.std.proofs.Common.{◌∙◌, arith}
-use Rattle.index_keys.specs.Indexes.{members}
+use Rattle.index_text.specs.Indexes.{members}
 use Rattle.index.proofs.OneByOne.{one_key, no_key}
 use Rattle.index.proofs.Counted.{one_more_has, others_kept, others_under, then_kept, then_same, at_err}
 use Rattle.index.proofs.index.Index.insert_under.Goals as goal

@@ -1,6 +1,6 @@
 use Rattle.std.proofs.Common.{◌≡◌, ◌+◌}
-use Rattle.index_keys.specs.declared.slot_key.SlotKey.{SlotKey}
-use Rattle.index_keys.specs.Indexes.{members}
+use Rattle.index_text.specs.declared.slot_key.SlotKey.{SlotKey}
+use Rattle.index_text.specs.Indexes.{members}
 use Rattle.index.specs.inner.Counts.{HaveNumber}
 use Rattle.index.proofs.OneByOne.{with_keys}
 use Rattle.index.proofs.index.Index.insert_under.Given as goal

@@ -1,7 +1,7 @@
 use Rattle.std.proofs.Common.{◌∙◌, List, get_or, ap}
 use Rattle.std.specs.FinMap as finite
 use Rattle.std.proofs.lemmas.Result.{IfOk-weaker}
-use Rattle.index_keys.specs.KeySets.{SetsByKey, members_in}
+use Rattle.index_text.specs.KeySets.{SetsByKey, members_in}
 use Rattle.index.proofs.Keyed.{all_empty}
 use Rattle.index.proofs.index.Index.new.Goals as goal
 

@@ -3,7 +3,7 @@ use Rattle.std.proofs.lemmas.Result.{IfOk-weaker}
 use Rattle.std.specs.FinMap as finite
 use Rattle.std.specs.FinSet as set
 use Rattle.schema.specs.declared.slots.Slot.{Slot}
-use Rattle.index_keys.specs.KeySets.{SetsByKey, members_in}
+use Rattle.index_text.specs.KeySets.{SetsByKey, members_in}
 use Rattle.index.specs.inner.SlotEntries.{AreSetsOf}
 use Rattle.index.proofs.WholeEntries.{as_many, all_slots}
 use Rattle.index.proofs.index.Index.of_entries.Goals as goal

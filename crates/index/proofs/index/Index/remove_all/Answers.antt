@@ -1,8 +1,8 @@
 use Rattle.std.proofs.Common.{◌≡◌, ◌+◌, ◌∙◌, true, cond, ap, subst, arith}
 use Rattle.std.specs.FinSet as set
-use Rattle.index_keys.specs.KeySets.{Members}
-use Rattle.index_keys.specs.SlotKeys.{slot_key, same_slot_key}
-use Rattle.index_keys.specs.Indexes.{members}
+use Rattle.index_text.specs.KeySets.{Members}
+use Rattle.index_text.specs.SlotKeys.{slot_key, same_slot_key}
+use Rattle.index_text.specs.Indexes.{members}
 use Rattle.index.specs.Indexes.{Removes}
 use Rattle.index.proofs.OneByOne.{all_read, more_read, next_read, take_again}
 use Rattle.index.proofs.index.Index.remove_all.Goals as goal

@@ -1,8 +1,8 @@
 use Rattle.std.proofs.Common.{◌≡◌, ◌+◌, true, take}
 use Rattle.std.specs.List.{AllByRecursion, IsDistinct}
 use Rattle.std.specs.FinSet as set
-use Rattle.index_keys.specs.SlotKeys.{same_slot_key, is_among}
-use Rattle.index_keys.specs.Indexes.{members}
+use Rattle.index_text.specs.SlotKeys.{same_slot_key, is_among}
+use Rattle.index_text.specs.Indexes.{members}
 use Rattle.index.specs.Indexes.{Removes}
 use Rattle.index.proofs.index.Index.remove_all.Given as goal
 

@@ -1,8 +1,8 @@
 use Rattle.std.proofs.Common.{List, get_or, sym, ap, ◌∙◌, arith}
 use Rattle.std.specs.FinMap as finite
-use Rattle.index_keys.specs.KeySets.{SetsByKey, members_in}
-use Rattle.index_keys.specs.SlotKeys.{slot_key}
-use Rattle.index_keys.specs.Indexes.{Index, members}
+use Rattle.index_text.specs.KeySets.{SetsByKey, members_in}
+use Rattle.index_text.specs.SlotKeys.{slot_key}
+use Rattle.index_text.specs.Indexes.{Index, members}
 use Rattle.index.proofs.Keyed.{none_in}
 use Rattle.index.proofs.index.IndexPostings.lookup.Goals as goal
 

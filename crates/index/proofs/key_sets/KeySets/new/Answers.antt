@@ -1,6 +1,6 @@
 use Rattle.std.proofs.Common.{sym, subst, ap, ◌∙◌}
 use Rattle.std.specs.FinMap as finite
-use Rattle.index_keys.specs.KeySets.{SetsByKey}
+use Rattle.index_text.specs.KeySets.{SetsByKey}
 use Rattle.index.specs.inner.JoinedSets.{joined, AreApart}
 use Rattle.index.specs.inner.ShortKeys.{fits}
 use Rattle.index.proofs.Joined.{apart_none, none_joined}

@@ -1,6 +1,6 @@
 use Rattle.std.proofs.Common.{refl, sym, ap, ◌∙◌}
 use Rattle.std.specs.FinSet as set
-use Rattle.index_keys.specs.KeySets.{Members}
+use Rattle.index_text.specs.KeySets.{Members}
 use Rattle.index.specs.inner.StoredSets.{sets_by}
 use Rattle.index.proofs.Keyed.{seen}
 use Rattle.index.proofs.keyed_sets.KeyedSets.forget.Goals as goal

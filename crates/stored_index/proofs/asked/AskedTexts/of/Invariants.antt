@@ -1,6 +1,6 @@
 use Rattle.std.proofs.Common.{◌≡◌, ℕ, ◌<◌, true, get_or}
-use Rattle.index_keys.specs.declared.slot_key.SlotKey.{SlotKey}
-use Rattle.index_keys.specs.IndexTexts.{key_text}
+use Rattle.index_text.specs.declared.slot_key.SlotKey.{SlotKey}
+use Rattle.index_text.specs.IndexTexts.{key_text}
 use Rattle.stored_index.specs.inner.Asked.{has_text}
 use Rattle.stored_index.proofs.asked.AskedTexts.of.Given as goal
 

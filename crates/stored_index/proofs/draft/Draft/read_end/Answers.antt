@@ -2,7 +2,7 @@ use Rattle.std.proofs.Common.{ℕ, List, ◌∷◌, not, refl, sym, ap, ◌∙�
 use Rattle.std.proofs.lemmas.Slice.Eq.{bytes_eq-Decides}
 use Rattle.std.proofs.lemmas.Bool.{not-true, not-false}
 use Rattle.std.specs.Str.{bytes_eq}
-use Rattle.index_keys.specs.IndexTexts.{end_line}
+use Rattle.index_text.specs.IndexTexts.{end_line}
 use Rattle.stored_index.proofs.DraftSteps.{fails, end_stops, behind_end}
 use Rattle.stored_index.proofs.draft.Draft.read_end.Goals as goal
 

@@ -6,7 +6,7 @@ ghost use Rattle.std.specs.Fmt.{decimal};
 ghost use Rattle.base.specs.Ascii.{space, line_feed};
 ghost use Rattle.base.specs.Extends.{Extends};
 ghost use Rattle.hex.specs.Hex.{encode_lower};
-ghost use Rattle.index_keys.specs.IndexTexts.{ended, header_line, slot_line, kind_name, key_text, key_line, rank_text, end_line};
+ghost use Rattle.index_text.specs.IndexTexts.{ended, header_line, slot_line, kind_name, key_text, key_line, rank_text, end_line};
 
 use itoa::Buffer;
 use schema::{Conf, IndexKind, Slot};

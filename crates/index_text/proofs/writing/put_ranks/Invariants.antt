@@ -1,8 +1,8 @@
 use Rattle.std.proofs.Common.{◌≡◌, ◌++◌, drop}
 use Rattle.std.specs.List.{flat_map}
 use Rattle.base.specs.Extends.{Extends}
-use Rattle.index_keys.specs.IndexTexts.{rank_text}
-use Rattle.index_keys.proofs.index_text.put_ranks.Given as goal
+use Rattle.index_text.specs.IndexTexts.{rank_text}
+use Rattle.index_text.proofs.writing.put_ranks.Given as goal
 
 abbrev pub invariant-loop-rank : goal.invariant-loop-rank
 invariant-loop-rank l = record {

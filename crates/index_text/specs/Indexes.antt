@@ -2,8 +2,8 @@
 use Rattle.std.specs.Prelude.{ℕ, List, slice_index_or}
 use Rattle.std.specs.FinMap as finite
 use Rattle.schema.specs.Conf.{Conf}
-use Rattle.index_keys.specs.declared.slot_key.SlotKey.{SlotKey}
-use Rattle.index_keys.specs.KeySets.{Members, SetsByKey, members_in}
+use Rattle.index_text.specs.declared.slot_key.SlotKey.{SlotKey}
+use Rattle.index_text.specs.KeySets.{Members, SetsByKey, members_in}
 
 -- the configuration that an index was made with, the keys of each slot with their members, and how many edits were made
 pub record Index : Type 0 where

@@ -2,8 +2,8 @@ use Rattle.std.proofs.Common.{rules, tests, ◌≡◌}
 use Rattle.std.proofs.lemmas.Iterator.{YieldsList-from_slice}
 use Rattle.std.proofs.lemmas.Iterator.Search.{position_from_yields_List}
 use Rattle.schema.specs.Slots.{same_slot}
-use Rattle.index_keys.specs.Postings.{slot_in}
-use Rattle.index_keys.proofs.postings.slot_number.Goals as goal
+use Rattle.index_text.specs.Postings.{slot_in}
+use Rattle.index_text.proofs.postings.slot_number.Goals as goal
 
 place : (c : goal.After-map) → c.position.result ≡ slot_in c.args.slots.now c.args.type_id c.args.kind
 place c =

@@ -4,9 +4,9 @@ use Rattle.std.specs.List.{position}
 use Rattle.schema.specs.declared.slots.IndexKind.{IndexKind}
 use Rattle.schema.specs.declared.slots.Slot.{Slot}
 use Rattle.schema.specs.Slots.{same_slot}
-use Rattle.index_keys.specs.KeySets.{Members}
-use Rattle.index_keys.specs.SlotKeys.{slot_key}
-use Rattle.index_keys.specs.Indexes.{Index, members}
+use Rattle.index_text.specs.KeySets.{Members}
+use Rattle.index_text.specs.SlotKeys.{slot_key}
+use Rattle.index_text.specs.Indexes.{Index, members}
 
 -- the number of the slot for a type and a kind of index, and the members of a key under a slot
 pub record Shown : Type 0 where

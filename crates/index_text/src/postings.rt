@@ -3,7 +3,7 @@
 ghost use Rattle.std.specs.Prelude.{◌≡◌, MatchOption};
 ghost use Rattle.std.specs.Option.{option_map};
 ghost use Rattle.std.specs.FinSet as set;
-ghost use Rattle.index_keys.specs.Postings.{Shown, slot_in};
+ghost use Rattle.index_text.specs.Postings.{Shown, slot_in};
 
 use crate::slot_key::SlotNumber;
 use id_sets::IdSet;

@@ -11,9 +11,9 @@ use Rattle.std.specs.Str.{bytes_eq}
 use Rattle.std.proofs.lemmas.Bool.{eqb-true, and_parts}
 use Rattle.std.proofs.lemmas.Cmp.{nat_cmp_total, on_total, then_total, eq_by_cmp_equiv}
 use Rattle.std.proofs.lemmas.Map.Text.{is_eq-slice_cmp}
-use Rattle.index_keys.specs.declared.slot_key.SlotKey.{SlotKey}
-use Rattle.index_keys.specs.contracts.slot_key.SlotKeyOrd.TheImpl as slot_key_ord
-use Rattle.index_keys.specs.SlotKeys.{same_slot_key, slot_key_cmp, is_among}
+use Rattle.index_text.specs.declared.slot_key.SlotKey.{SlotKey}
+use Rattle.index_text.specs.contracts.slot_key.SlotKeyOrd.TheImpl as slot_key_ord
+use Rattle.index_text.specs.SlotKeys.{same_slot_key, slot_key_cmp, is_among}
 
 pub same_bytes : (a b : List ℕ) → bytes_eq a b ≡ true → a ≡ b
 same_bytes a b e = (bytes_decides a b).0 e

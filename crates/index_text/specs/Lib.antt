@@ -1,0 +1,6 @@
+pub mod KeySets
+pub mod SlotKeys
+pub mod Indexes
+pub mod Postings
+pub mod IndexTexts
+pub mod inner
