@@ -10,10 +10,16 @@ use std::marker::Model;
 
 /// An entry (RFC 4512, 2.2): its RDN as written, and its attributes in order, each with its values in order. A contract sees
 /// the RDN's AVAs, and the list of the types with their values.
-#[derive(Drop)]
 pub struct Entry {
     rdn: TypedRdn,
     attrs: Attributes,
+}
+
+// A call of its own, so that no other crate proves it anew.
+impl Drop for Entry {
+    fn drop(self) {
+        let Entry { rdn: _, attrs: _ } = self;
+    }
 }
 
 impl Model for Entry {

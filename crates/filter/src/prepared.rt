@@ -17,11 +17,21 @@ use std::marker::Model;
 use std::snapshot::Snapshot;
 
 /// A filter with its items prepared under a configuration. A contract sees the two that it was made of.
-#[derive(Drop)]
 pub struct Prepared {
     conf: Snapshot<Conf>,
     filter: Snapshot<Filter>,
     root: PreparedFilter,
+}
+
+// A call of its own, so that no other crate proves it anew.
+impl Drop for Prepared {
+    fn drop(self) {
+        let Prepared {
+            conf: _,
+            filter: _,
+            root: _,
+        } = self;
+    }
 }
 
 impl Model for Prepared {

@@ -20,13 +20,25 @@ use std::marker::Model;
 use values::{AttributeType, TypeId, TypeTable};
 
 /// The configuration of a directory. A contract sees its attribute types, its suffix, its slots and its object classes.
-#[derive(Drop)]
 pub struct Conf {
     types: TypeTable,
     suffix: Sequence<TypedRdn>,
     slots: Sequence<Slot>,
     classes: ClassTable,
     derived: Derived,
+}
+
+// A call of its own, so that no other crate proves it anew.
+impl Drop for Conf {
+    fn drop(self) {
+        let Conf {
+            types: _,
+            suffix: _,
+            slots: _,
+            classes: _,
+            derived: _,
+        } = self;
+    }
 }
 
 impl Model for Conf {

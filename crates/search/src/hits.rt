@@ -15,13 +15,25 @@ use std::marker::Model;
 
 /// The entries that a search finds, in dump order, each with its path. They are lent, and it takes no memory to find them. A contract
 /// sees those that are still to come, each with the number of entries tested by then.
-#[derive(Drop)]
 pub struct Hits<'a, S: IdSet> {
     rest: MarkedEntries<'a, S>,
     scope: Scope,
     base_depth: usize,
     filter: &'a Prepared,
     meter: Meter,
+}
+
+// A call of its own, so that no other crate proves it anew.
+impl<S: IdSet> Drop for Hits<'_, S> {
+    fn drop(self) {
+        let Hits {
+            rest: _,
+            scope: _,
+            base_depth: _,
+            filter: _,
+            meter: _,
+        } = self;
+    }
 }
 
 impl<'a, S: IdSet> Model for Hits<'a, S> {

@@ -27,13 +27,23 @@ use std::snapshot::Snapshot;
 
 /// An index that was read from its text: the ranks of the entries that have each key. A contract sees the configuration that it was read
 /// under, and the keys of each slot, each with its ranks.
-#[derive(Drop)]
 pub struct StoredIndex {
     made: Snapshot<Conf>,
     // those of the configuration
     slots: Vec<Slot>,
     // the keys of each, with their ranks, in order
     rows: Sequence<Sequence<Row>>,
+}
+
+// A call of its own, so that no other crate proves it anew.
+impl Drop for StoredIndex {
+    fn drop(self) {
+        let StoredIndex {
+            made: _,
+            slots: _,
+            rows: _,
+        } = self;
+    }
 }
 
 impl Model for StoredIndex {

@@ -28,7 +28,6 @@ pub enum EqualityRule {
 }
 
 /// An attribute type (RFC 4512, 4.1.2).
-#[derive(Drop)]
 pub struct AttributeType {
     /// Its numeric OID.
     pub oid: Bytes,
@@ -50,6 +49,24 @@ pub struct AttributeType {
     pub is_fixed: bool,
     /// Whether it is for the operation of servers (USAGE).
     pub is_operational: bool,
+}
+
+// A call of its own, so that no other crate proves it anew.
+impl Drop for AttributeType {
+    fn drop(self) {
+        let AttributeType {
+            oid: _,
+            names: _,
+            superior: _,
+            syntax: _,
+            equality: _,
+            is_ordered: _,
+            has_substrings: _,
+            single_value: _,
+            is_fixed: _,
+            is_operational: _,
+        } = self;
+    }
 }
 
 fn has_name(names: &[Bytes], text: &[u8]) -> bool

@@ -23,7 +23,7 @@ move_numbers-requires-clause-spare c = λ q n at. spare (goal.at.move_numbers-re
 pub replace-requires : goal.replace-requires
 replace-requires c = cell_there c.self.inside.made.value c.self.inside.cells.cells c.self.inside.cells.next c.self.inside.numbers.entries c.self.invariant c.args.self.now c.self.view_is c.args.from.now c.number_there-number.result c.number_there-number.ensures
 
-carried : (c : goal.After-drop-2) → IsCarried c.self.inside.made.value c.replace.new.self.cells c.move_numbers.new.numbers.entries (finite.insert (moved c.args.from.now c.args.to.now c.args.self.now.entries) c.args.to.now (content_of c.args.entry)) (finite.insert (moved c.args.from.now c.args.to.now c.args.self.now.numbers) c.args.to.now c.number_there-number.result)
+carried : (c : goal.After-drop) → IsCarried c.self.inside.made.value c.replace.new.self.cells c.move_numbers.new.numbers.entries (finite.insert (moved c.args.from.now c.args.to.now c.args.self.now.entries) c.args.to.now (content_of c.args.entry)) (finite.insert (moved c.args.from.now c.args.to.now c.args.self.now.numbers) c.args.to.now c.number_there-number.result)
 carried c =
     exchange_done c.self.inside.made.value c.self.inside.cells.cells c.self.inside.cells.next c.self.inside.numbers.entries c.self.invariant c.replace.new.self.cells c.args.from.now c.args.to.now c.number_there-number.result c.args.entry
     c.replace.ensures.set c.replace.ensures.taken c.move_numbers.new.numbers.entries c.move_numbers.ensures.sorted c.in_ok-move_numbers.ensures.moved

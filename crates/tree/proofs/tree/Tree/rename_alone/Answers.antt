@@ -7,7 +7,7 @@ use Rattle.tree.proofs.tree.Tree.rename_alone.Goals as goal
 pub replace-requires : goal.replace-requires
 replace-requires c = cell_there c.self.inside.made.value c.self.inside.cells.cells c.self.inside.cells.next c.self.inside.numbers.entries c.self.invariant c.args.self.now c.self.view_is c.args.from.now c.number_there-number.result c.number_there-number.ensures
 
-carried : (c : goal.After-drop-2) → IsCarried c.self.inside.made.value c.replace.new.self.cells c.remove.new.self.entries (finite.insert (finite.remove c.args.self.now.entries c.args.from.now) c.args.to (content_of c.args.entry)) (finite.insert (finite.remove c.args.self.now.numbers c.args.from.now) c.args.to c.number_there-number.result)
+carried : (c : goal.After-drop) → IsCarried c.self.inside.made.value c.replace.new.self.cells c.remove.new.self.entries (finite.insert (finite.remove c.args.self.now.entries c.args.from.now) c.args.to (content_of c.args.entry)) (finite.insert (finite.remove c.args.self.now.numbers c.args.from.now) c.args.to c.number_there-number.result)
 carried c =
     move_done c.self.inside.made.value c.self.inside.cells.cells c.self.inside.cells.next c.self.inside.numbers.entries c.self.invariant c.replace.new.self.cells c.args.from.now c.args.to c.number_there-number.result c.args.entry
     c.replace.ensures.set c.replace.ensures.taken _ _ c.in_ok-insert.ensures.entries c.remove.ensures.entries
