@@ -2,7 +2,7 @@ use Rattle.std.proofs.Common.{◌≡◌, ℕ, List, ◌∷◌, ◌++◌, map, sy
 use Rattle.std.proofs.lemmas.Result.{err_from_is_err_and}
 use Rattle.ranked_keys.specs.RankedKeys.{rows_text}
 use Rattle.databases.proofs.Pieces.{want_at_once}
-use Rattle.databases.proofs.WrittenLines.{stopped_early}
+use Rattle.databases.proofs.WrittenLines.{longer, stopped_early}
 use Rattle.databases.proofs.index_of_entries.write_row.Goals as goal
 
 -- the line of the first row is put behind a text, and the other rows are to come
@@ -22,3 +22,15 @@ returns-in_err-pass_on_long-clause-err g c =
     let text : List ℕ = c.args.text.now.items in
     let put = c.in_ok-rest.ensures.text in
     rw (p.1, p.2) (stopped_early (g.W.Sink.written c.args.sink.now) (g.W.Sink.written c.pass_on_long.new.sink) c.put_row.new.out.items rest (text ++ rows) (in_parts text c.put_row.new.out.items put.0 rows rest put.1 put.2) c.in_err-pass_on_long.field-0.0 c.in_err-pass_on_long.ensures)
+
+pub returns-clause-ok : goal.returns-clause-ok
+returns-clause-ok g c =
+    let rows : List ℕ = rows_text (map g.K.RankedKey.pair (c.args.first.now ∷ c.args.others.now)) in
+    let rest : List ℕ = rows_text (map g.K.RankedKey.pair c.in_ok-rest.rest.now) in
+    let text : List ℕ = c.args.text.now.items in
+    let put = c.in_ok-rest.ensures.text in
+    longer (g.W.Sink.written c.args.sink.now) (g.W.Sink.written c.pass_on_long.new.sink) c.put_row.new.out.items c.pass_on_long.new.text.items rest (text ++ rows)
+    (in_parts text c.put_row.new.out.items put.0 rows rest put.1 put.2) c.in_ok-pass_on_long.ensures
+
+pub returns-clause-fewer : goal.returns-clause-fewer
+returns-clause-fewer g c = c.in_ok-rest.ensures.fewer

@@ -1,6 +1,6 @@
 use Rattle.std.proofs.Common.{Some, sym, ap, ◌∙◌, arith}
 use Rattle.tree.specs.declared.cells.Cell.TheVariants.{Free, Taken}
-use Rattle.tree.proofs.Chains.{set_is, count_set, next_within, read_at_next, next_is_not_taken, pushed, filled}
+use Rattle.tree.proofs.Chains.{set_is, count_set, next_within, next_is_free, read_at_next, next_is_not_taken, pushed, filled}
 use Rattle.tree.proofs.cells.Cells.insert_reserved.Goals as goal
 
 pub invariant_of-self : goal.invariant_of-self
@@ -30,3 +30,9 @@ returns-clause-taken g c =
     let free = found ∙ ap Some (sym c.replace.ensures.value ∙ c.in-Free.is) in
     let counted = count_set c.self.inside.cells.items c.self.inside.next (Free c.in-Free.next) (Taken c.args.value) free in
     rw (← c.self.view_is, c.replace.ensures.after) (omega arith)
+
+pub returns-then-number-len-clause-was_free : goal.returns-then-number-len-clause-was_free
+returns-then-number-len-clause-was_free g c = rw (← c.self.view_is) (next_is_free _ _ _ c.self.invariant)
+
+pub returns-clause-was_free : goal.returns-clause-was_free
+returns-clause-was_free g c = rw (← c.self.view_is) (next_is_free _ _ _ c.self.invariant)

@@ -1,4 +1,4 @@
-use Rattle.std.proofs.Common.{arith}
+use Rattle.std.proofs.Common.{arith, refl}
 use Rattle.std.proofs.lemmas.Option.{slice_get_within}
 use Rattle.tree.specs.declared.cells.Cell.TheVariants.{Taken}
 use Rattle.tree.proofs.Chains.{set_is, taken_at, count_set, replaced}
@@ -19,3 +19,6 @@ returns-clause-taken g c =
     let found = taken_at c.self.inside.cells.items c.args.number (rw (← c.self.view_is) at c.requires) in
     let counted = count_set c.self.inside.cells.items c.args.number (Taken found.0) (Taken c.args.value) found.1 in
     rw (← c.self.view_is, c.replace.ensures.after) (omega arith)
+
+pub returns-clause-next : goal.returns-clause-next
+returns-clause-next g c = rw (← c.self.view_is) refl
