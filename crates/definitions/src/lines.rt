@@ -10,12 +10,18 @@ use base::{Bytes, begins_with};
 use std::alloc::{AllocError, Global};
 
 /// A line with those that it goes on on.
-#[derive(Drop)]
 pub struct Line {
     /// The number of the first one, from 1.
     pub number: u64,
     /// Its text, with a space for each break.
     pub text: Bytes,
+}
+
+// A call of its own, so that no other crate proves it anew.
+impl Drop for Line {
+    fn drop(self) {
+        let Line { number: _, text: _ } = self;
+    }
 }
 
 // the text cut at its line feeds

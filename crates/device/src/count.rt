@@ -14,9 +14,15 @@ struct Step {
 }
 
 /// A number that contracts see. It takes no bytes, so it has no last value, and no code can read it.
-#[derive(Drop)]
 pub struct Count {
     last: Snapshot<Step>,
+}
+
+// A call of its own, so that no other crate proves it anew.
+impl Drop for Count {
+    fn drop(self) {
+        let Count { last: _ } = self;
+    }
 }
 
 impl Model for Count {

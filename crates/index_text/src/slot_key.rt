@@ -7,8 +7,15 @@ use base::Bytes;
 pub struct SlotNumber(pub usize);
 
 /// A key under a slot. They are ordered by slot, and then by the bytes of the key.
-#[derive(Drop, PartialEq, Eq, PartialOrd, Ord)]
+#[derive(PartialEq, Eq, PartialOrd, Ord)]
 pub struct SlotKey {
     pub slot: SlotNumber,
     pub key: Bytes,
+}
+
+// A call of its own, so that no other crate proves it anew.
+impl Drop for SlotKey {
+    fn drop(self) {
+        let SlotKey { slot: _, key: _ } = self;
+    }
 }

@@ -13,11 +13,21 @@ pub enum Mode {
 }
 
 /// A control that a change comes with (RFC 2849, "control").
-#[derive(Drop)]
 pub struct Control {
     pub oid: Bytes,
     pub critical: bool,
     pub value: Option<Bytes>,
+}
+
+// A call of its own, so that no other crate proves it anew.
+impl Drop for Control {
+    fn drop(self) {
+        let Control {
+            oid: _,
+            critical: _,
+            value: _,
+        } = self;
+    }
 }
 
 /// What a block of a modify does with its values.
@@ -29,11 +39,21 @@ pub enum Op {
 }
 
 /// A block of a modify (RFC 2849, "mod-spec").
-#[derive(Drop)]
 pub struct Mod {
     pub op: Op,
     pub attr: Bytes,
     pub values: Sequence<Bytes>,
+}
+
+// A call of its own, so that no other crate proves it anew.
+impl Drop for Mod {
+    fn drop(self) {
+        let Mod {
+            op: _,
+            attr: _,
+            values: _,
+        } = self;
+    }
 }
 
 /// A record (RFC 2849, "ldif-attrval-record" and "ldif-change-record").

@@ -24,6 +24,10 @@ returns-in-Some-clause-tested g c =
     let d : Tree = c.args.tree.now in
     c.in-Some.ensures.tested ∙ (λ i. count_among d.entries (λ p. c.in_ok-may.ensures (rank_in d.entries p) i) c.args.base.now c.args.scope)
 
+pub returns-in-Some-clause-part : goal.returns-in-Some-clause-part
+returns-in-Some-clause-part g c = λ whole shows.
+    by_whole c.asked_keys_suffice.ensures c.args.filter.now c.args.tree.now (g.P.Postings.shown c.args.postings.now) whole shows
+
 pub returns-in-Some-clause-whole : goal.returns-in-Some-clause-whole
 returns-in-Some-clause-whole g c = λ whole shows is_conf reflects.
     let d : Tree = c.args.tree.now in
