@@ -2,7 +2,7 @@ use Rattle.std.proofs.Common.{◌≡◌, ◌++◌, [], ◌∷◌, List, ℕ, sym
 use Rattle.std.specs.Prelude.{OnOk}
 use Rattle.std.proofs.lemmas.Result.{on_err_weaker}
 use Rattle.base.specs.Extends.{Extends}
-use Rattle.base.proofs.Extended.{extends_put, extends_on}
+use Rattle.base.proofs.Extended.{extends_put, extends_on, on_err_too}
 use Rattle.dn.specs.Writing.{value_text, ava_text}
 use Rattle.schema.specs.Names.{written_ava}
 use Rattle.schema.proofs.names.put_ava.Goals as goal
@@ -27,3 +27,8 @@ returns-clause-kept c =
     c.in_ok-extend_from_slice-2.ensures.items ∙ ap (λ (bs : List ℕ). bs ++ 61 ∷ []) c.in_ok-extend_from_slice.ensures.items ∙ append_assoc out c.printed_name.result.now (61 ∷ [])
     in
     on_err_weaker c.put_value.result (extends_on _ _ _ (subst (Extends out) (sym put) (extends_put out _))) c.put_value.ensures.kept
+
+pub returns-in_err-extend_from_slice-2-clause-kept : goal.returns-in_err-extend_from_slice-2-clause-kept
+returns-in_err-extend_from_slice-2-clause-kept c =
+    let out = c.args.out.now.items in
+    on_err_too c.from_residual-in_err-extend_from_slice-2.result (subst (Extends out) (sym (c.in_err-extend_from_slice-2.ensures.items ∙ c.in_ok-extend_from_slice.ensures.items)) (extends_put out _))
