@@ -77,3 +77,20 @@ joined_rest {X} sep text (y ∷ ys) x start mid new lt first put more =
     ∙ ap (λ (bs : List ℕ). bs ++ flat_map (λ y. sep ∷ text y) ys) (put ∙ ap (λ (z : X). start ++ text z) first)
     ∙ append_assoc start (text y) (flat_map (λ y. sep ∷ text y) ys)
     ∙ sym (ap (λ (bs : List ℕ). start ++ bs) (joined_is sep text y ys))
+
+-- ---- texts with a byte before each
+
+module _ {X : Type 0} (sep : ℕ) (text : X → List ℕ) (xs : List X) (i : ℕ) where
+  pub one_put : (x : X) (out mid new total : List ℕ) → i < length xs → x ≡ get_or xs i x → mid ≡ out ++ sep ∷ [] → new ≡ mid ++ text x
+      → out ++ flat_map (λ y. sep ∷ text y) (drop i xs) ≡ total → new ++ flat_map (λ y. sep ∷ text y) (drop (i + 1) xs) ≡ total
+  one_put x out mid new total lt is sign put so_far =
+      let rest = flat_map (λ y. sep ∷ text y) (drop (i + 1) xs) in
+      let cut : drop i xs ≡ x ∷ drop (i + 1) xs = drop_more xs i x lt ∙ ap (λ (y : X). y ∷ drop (i + 1) xs) (sym is) in
+      ap (λ (bs : List ℕ). bs ++ rest) (put ∙ ap (λ (bs : List ℕ). bs ++ text x) sign)
+      ∙ append_assoc (out ++ sep ∷ []) (text x) rest
+      ∙ append_assoc out (sep ∷ []) (text x ++ rest)
+      ∙ sym (ap (λ (ys : List X). out ++ flat_map (λ y. sep ∷ text y) ys) cut)
+      ∙ so_far
+
+  pub all_put : (out total : List ℕ) → length xs ≤ i → out ++ flat_map (λ y. sep ∷ text y) (drop i xs) ≡ total → out ≡ total
+  all_put out total le so_far = sym (ap (λ (ys : List X). out ++ flat_map (λ y. sep ∷ text y) ys) (drop_all i xs le) ∙ append-nil out) ∙ so_far

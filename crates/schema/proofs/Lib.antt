@@ -1,3 +1,4 @@
+pub mod Rest
 pub mod Below
 pub mod AvaValues
 pub mod Subtypes

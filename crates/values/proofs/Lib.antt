@@ -1,3 +1,4 @@
+pub mod Taken
 pub mod Norms
 pub mod Retained
 pub mod Joined
