@@ -1,8 +1,8 @@
 -- Steps of loops over what is read, taken out or looked for one by one.
-use Rattle.std.proofs.Common.{◌≡◌, ℕ, ◌+◌, ◌<◌, ◌≤◌, Bool, true, false, ◌&&◌, ◌||◌, List, [], ◌∷◌, ◌++◌, length, get_or, drop, Option, Some, None, Result, Ok, append_assoc, sym, ap, ◌∙◌}
+use Rattle.std.proofs.Common.{◌≡◌, ℕ, ◌+◌, ◌<◌, ◌≤◌, Bool, true, false, ◌&&◌, ◌||◌, List, [], ◌∷◌, ◌++◌, length, get_or, drop, Option, Some, None, Result, Ok, append_assoc, sym, ap, subst, ◌∙◌}
 use Rattle.std.proofs.lemmas.List.{drop_more, drop_all}
 use Rattle.std.specs.Prelude.{is_some}
-use Rattle.std.specs.List.{list_all, list_any, cons_option}
+use Rattle.std.specs.List.{list_all, list_any, cons_option, AllByRecursion}
 use Rattle.base.specs.Answers.{◌>>=◌, Fails}
 use Rattle.base.proofs.Each.{passed_on}
 use Rattle.ldif.specs.Attrs.{Attr}
@@ -42,8 +42,17 @@ module _ {X : Type 0} (test : X → Bool) (xs : List X) (i : ℕ) (d : X) (lt : 
   pub one_passes : test (get_or xs i d) ≡ true → list_all test (drop (i + 1) xs) ≡ list_all test (drop i xs)
   one_passes is = sym (ap (list_all test) (drop_more xs i d lt) ∙ ap (λ b. b && list_all test (drop (i + 1) xs)) is)
 
+  pub one_fails : test (get_or xs i d) ≡ false → list_all test (drop i xs) ≡ false
+  one_fails is = ap (list_all test) (drop_more xs i d lt) ∙ ap (λ b. b && list_all test (drop (i + 1) xs)) is
+
   pub one_other : test (get_or xs i d) ≡ false → list_any test (drop (i + 1) xs) ≡ list_any test (drop i xs)
   one_other is = sym (ap (list_any test) (drop_more xs i d lt) ∙ ap (λ b. b || list_any test (drop (i + 1) xs)) is)
+
+  pub one_found : test (get_or xs i d) ≡ true → list_any test (drop i xs) ≡ true
+  one_found is = ap (list_any test) (drop_more xs i d lt) ∙ ap (λ b. b || list_any test (drop (i + 1) xs)) is
+
+pub this_one : {X : Type 0} (P : X → Type 0) (xs : List X) (i : ℕ) (x : X) → i < length xs → x ≡ get_or xs i x → AllByRecursion P (drop i xs) → P x
+this_one P xs i x lt is all = subst P (sym is) (subst (AllByRecursion P) (drop_more xs i x lt) all).0
 
 -- ---- the values of an old RDN
 
