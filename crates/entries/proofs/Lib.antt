@@ -3,6 +3,7 @@ pub mod Pushed
 pub mod StoredLemmas
 pub mod NormLemmas
 pub mod LineLemmas
+pub mod LoopSteps
 pub mod SetValues
 pub mod StaysGood
 pub mod ModifyLemmas

@@ -1,3 +1,4 @@
+pub mod Gathered
 pub mod InOrder
 pub mod NormOrder
 pub mod RowsInOrder

@@ -1,4 +1,5 @@
 use Rattle.std.proofs.Common.{ℕ, List, [], ◌∷◌, ◌++◌, map, ap, ◌∙◌}
+use Rattle.base.proofs.Extended.{extends_same, on_err_too}
 use Rattle.index_text.specs.IndexTexts.{ended, key_line}
 use Rattle.ranked_keys.specs.RankedKeys.{Ranked}
 use Rattle.ranked_keys.specs.inner.Fronts.{under}
@@ -18,3 +19,18 @@ returns-clause-text g c =
           ∙ ap (λ (r : ℕ). (first.0, r) ∷ others) c.rank.ensures)
           c.in_ok-rest.ensures.others,
     )
+
+pub returns-clause-fewer : goal.returns-clause-fewer
+returns-clause-fewer g c = c.in_ok-rest.ensures.fewer
+
+pub returns-clause-kept : goal.returns-clause-kept
+returns-clause-kept g c = tt
+
+pub returns-in_err-push-clause-kept : goal.returns-in_err-push-clause-kept
+returns-in_err-push-clause-kept g c = on_err_too _ (extends_same _)
+
+pub returns-in_err-rest-clause-kept : goal.returns-in_err-rest-clause-kept
+returns-in_err-rest-clause-kept g c = on_err_too _ (extends_same _)
+
+pub returns-in_err-put_line-clause-kept : goal.returns-in_err-put_line-clause-kept
+returns-in_err-put_line-clause-kept g c = on_err_too _ c.in_err-put_line.ensures.kept

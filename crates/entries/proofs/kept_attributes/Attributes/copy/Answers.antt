@@ -1,0 +1,18 @@
+use Rattle.std.proofs.Common.{ℕ, List, ◌++◌, ◌∷◌, [], sym, ap₂, ◌∙◌}
+use Rattle.std.proofs.lemmas.List.{take_more, take_all}
+use Rattle.values.specs.declared.attribute_values.Values.{Values}
+use Rattle.std.specs.List.{zip}
+use Rattle.values.specs.Values.{Value}
+use Rattle.entries.specs.StoredEntries.{StoredAttributes}
+use Rattle.entries.proofs.kept_attributes.Attributes.copy.Goals as goal
+
+pub loop-of_type-preserved : goal.loop-of_type-preserved
+loop-of_type-preserved c =
+    c.in_ok-push.ensures.items ∙ ap₂ (λ (vs : List Values) (v : Values). vs ++ v ∷ []) c.loop-of_type.invariant (c.in_ok-copy.ensures ∙ c.of_type-item.is)
+    ∙ sym (take_more c.deref-of_type-items.result.now c.loop-of_type.of_type-index c.of_type-item.result c.loop-of_type-test.true)
+
+pub returns : goal.returns
+returns c =
+    let kept : List ℕ → List (List Value) → StoredAttributes = λ ts vs. record { entries = zip ts vs } in
+    ap₂ kept (c.in_ok-types.ensures.items ∙ c.deref.ensures.value) (c.loop-of_type.invariant ∙ take_all c.loop-of_type.of_type-index c.deref-of_type-items.result.now c.loop-of_type-test.false ∙ c.deref-of_type-items.ensures.value)
+    ∙ c.self.view_is
