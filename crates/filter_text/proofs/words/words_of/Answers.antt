@@ -1,4 +1,5 @@
 use Rattle.std.proofs.Common.{◌≡◌, ℕ, ◌<◌, ◌≤◌, ◌==◌, List, [], ◌∷◌, ◌++◌, refl, sym, ap, subst, ◌∙◌, append_assoc, arith, length, length-append, rules}
+use Rattle.std.proofs.lemmas.Grind.{common_steps}
 use Rattle.std.proofs.lemmas.List.{append-nil}
 use Rattle.filter_text.specs.inner.Begins.{Begins}
 use Rattle.filter_text.specs.Values.{IsValue, SomeValue}
@@ -146,3 +147,6 @@ words-preserved c =
           let next = words_go_on o.0 v c.words.rest.now c.in-Some.more.now run end o.1 c.in-Some.ensures c.in_default-after.ensures n.run n.stops n.all in
           (next.0, next.2, o.2 ∙ ap (λ zs. ws ++ zs) next.1 ∙ sym (same next.0));
     }
+
+pub words-smaller : goal.words-smaller
+words-smaller c = grind (arith, common_steps)

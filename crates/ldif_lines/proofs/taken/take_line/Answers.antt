@@ -1,10 +1,23 @@
-use Rattle.std.proofs.Common.{◌≡◌, ◌∷◌, [], ◌++◌, ◌<◌, ◌+◌, ap, sym, ◌∙◌, refl, List, ℕ, true, get_or, length, take, append_assoc, append-nil}
-use Rattle.std.proofs.lemmas.List.{take_more}
-use Rattle.std.proofs.lemmas.Bool.{eqb-true}
+use Rattle.std.proofs.Common.{arith, ◌≡◌, ◌∷◌, [], ◌++◌, ◌<◌, ◌≤◌, ◌+◌, ap, sym, subst, ◌∙◌, refl, List, ℕ, true, eqb, get_or, length, take, append_assoc, append-nil, length-take}
+use Rattle.std.proofs.lemmas.List.{take_more, take_all, get_or-take, get_or_default}
+use Rattle.std.proofs.lemmas.Bool.{eqb-true, false_from_ne_true}
 use Rattle.ldif_lines.specs.inner.View.{state_of}
-use Rattle.ldif_lines.specs.inner.States.{gives}
+use Rattle.ldif_lines.specs.inner.States.{gives, HasNoFeed}
 use Rattle.ldif_lines.proofs.StateLemmas.{closes-nothing}
 use Rattle.ldif_lines.proofs.taken.take_line.Goals as goal
+
+none_below : (bs : List ℕ) (i : ℕ) → i ≤ length bs → ((k : ℕ) → 0 ≤ k → k < i → ¬ eqb (get_or bs k 0) 10 ≡ true) → HasNoFeed (take i bs)
+none_below bs i fits none k d lt =
+    let below : k < i = omega (arith, length-take i bs) in
+    ap (λ (b : ℕ). eqb b 10) (get_or-take i bs k d below ∙ get_or_default bs k d 0 (omega arith)) ∙ false_from_ne_true _ (none k (omega arith) below)
+
+pub take-requires : goal.take-requires
+take-requires c =
+    let bs = c.args.bytes.now in
+    subst HasNoFeed (take_all (length bs) bs (omega arith)) (none_below bs (length bs) (omega arith) c.in-None.ensures)
+
+pub take-requires-in-Some : goal.take-requires-in-Some
+take-requires-in-Some c = none_below c.args.bytes.now c.in-Some.i (omega (arith, c.in-Some.ensures.0.high)) c.in-Some.ensures.0.before
 
 pub returns-in_ok-waits-in-Some-clause-ended : goal.returns-in_ok-waits-in-Some-clause-ended
 returns-in_ok-waits-in-Some-clause-ended c = λ h.

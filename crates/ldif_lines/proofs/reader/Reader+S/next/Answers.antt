@@ -1,4 +1,4 @@
-use Rattle.std.proofs.Common.{◌≡◌, ◌+◌, ◌^◌, ◌<◌, ◌++◌, ◌∷◌, ◌⊎◌, [], inl, inr, true, ℕ, Bool, List, subst, refl, sym, ◌∙◌, ap, false, option_map, ◌-◌, length, take, drop, arith}
+use Rattle.std.proofs.Common.{◌≡◌, ◌+◌, ◌^◌, ◌<◌, ◌≤◌, ◌++◌, ◌∷◌, ◌⊎◌, [], inl, inr, true, ℕ, Bool, List, subst, refl, sym, ◌∙◌, ap, false, option_map, ◌-◌, length, take, drop, arith}
 use Rattle.std.proofs.lemmas.List.{length-take}
 use Rattle.ldif_lines.specs.Records.{RawRecord, records_from, closed_from}
 use Rattle.ldif_lines.specs.Reader.{Takes}
@@ -7,6 +7,9 @@ use Rattle.ldif_lines.specs.inner.States.{State, next_state, gives}
 use Rattle.ldif_lines.specs.inner.Moves.{Broken}
 use Rattle.ldif_lines.specs.inner.ReaderStates.{begins}
 use Rattle.ldif_lines.specs.View.{view}
+use Rattle.device.specs.declared.source.Source.{Ghosts}
+use Rattle.ldif_lines.specs.declared.draft.RecordDraft.{RecordDraft}
+use Rattle.ldif_lines.specs.declared.reader.Reader.{Reader}
 use Rattle.ldif_lines.proofs.MoveLemmas.{block_before, block_closed, block_bytes, closed_none, gives-fresh, ended-more, drained-more, ended-change, drained-change, ended-takes, drained-takes, drained-end, ended-falls, drained-falls}
 use Rattle.ldif_lines.proofs.reader.Reader+S.next.Goals as goal
 
@@ -166,3 +169,15 @@ returns-in-Err-clause-breaks g c = λ h.
     let r = c.args.self.now in
     let d = subst (λ (s : State). Broken (g.S.Source.seen (source_of r)) (g.S.Source.seen (source_of c.find.new.self)) (unread r) s) (c.restart.ensures.state r.count) (c.in-Err.ensures.device (cc)) in
     record { got = d.got; pulled = d.pulled; before_end = c.in-Err.ensures.before_end (cc); closed = closed_none r.first r.count _ d.closed }
+
+held_few : {S : Type 0} {g : Ghosts S} → (r : Reader S RecordDraft g) → length (unread r) ≤ 8192
+held_few r = omega (arith, length-take (r.end - r.at) (drop r.at r.piece), r.in_piece)
+
+pub returns-then-self-clause-piece : goal.returns-then-self-clause-piece
+returns-then-self-clause-piece g c = held_few c.args.self.now
+
+pub returns-in-Ok-Closed-clause-piece : goal.returns-in-Ok-Closed-clause-piece
+returns-in-Ok-Closed-clause-piece g c = held_few c.give.new.self
+
+pub returns-in-Err-clause-piece : goal.returns-in-Err-clause-piece
+returns-in-Err-clause-piece g c = held_few c.find.new.self
