@@ -57,15 +57,15 @@ this_one P xs i x lt is all = subst P (sym is) (subst (AllByRecursion P) (drop_m
 -- ---- the values of an old RDN
 
 module _ (types : List AttributeType) (new ps : TypedRdn) (i : ℕ) (now : Attributes) where
-  pub ava_out : (p : Ava) (next : Attributes) → i < length ps → p ≡ get_or ps i p → next ≡ without_old_ava types new p now → without_rdn types new (drop (i + 1) ps) next ≡ without_rdn types new (drop i ps) now
+  pub old_ava_out : (p : Ava) (next : Attributes) → i < length ps → p ≡ get_or ps i p → next ≡ without_old_ava types new p now → without_rdn types new (drop (i + 1) ps) next ≡ without_rdn types new (drop i ps) now
   unfolding without_rdn
-  ava_out p next lt at out =
+  old_ava_out p next lt at out =
       ap (without_rdn types new (drop (i + 1) ps)) (out ∙ ap (λ (q : Ava). without_old_ava types new q now) at)
       ∙ sym (ap (λ (qs : TypedRdn). without_rdn types new qs now) (drop_more ps i p lt))
 
-  pub avas_out : length ps ≤ i → now ≡ without_rdn types new (drop i ps) now
+  pub old_avas_out : length ps ≤ i → now ≡ without_rdn types new (drop i ps) now
   unfolding without_rdn
-  avas_out le = sym (ap (λ (qs : TypedRdn). without_rdn types new qs now) (drop_all i ps le))
+  old_avas_out le = sym (ap (λ (qs : TypedRdn). without_rdn types new qs now) (drop_all i ps le))
 
 -- ---- classes
 

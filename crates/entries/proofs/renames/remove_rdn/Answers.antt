@@ -1,7 +1,7 @@
 use Rattle.std.proofs.Common.{◌∙◌}
 use Rattle.schema.specs.GoodRdns.{IsAva}
 use Rattle.entries.specs.StoredEntries.{attributes_of}
-use Rattle.entries.proofs.LoopSteps.{ava_out, avas_out}
+use Rattle.entries.proofs.LoopSteps.{old_ava_out, old_avas_out}
 use Rattle.entries.proofs.RdnsBegun.{left_of_avas}
 use Rattle.entries.proofs.renames.remove_rdn.Goals as goal
 
@@ -12,8 +12,8 @@ loop-ava-preserved c =
     record {
       made = c.in_ok-remove_ava.ensures.made;
       left = left_of_avas (IsAva types) avas c.loop-ava.ava-index c.ava-item.result c.loop-ava-test.true c.loop-ava.invariant.left;
-      rest = ava_out types c.args.new.now avas c.loop-ava.ava-index (attributes_of c.loop-ava.attrs.entries) c.ava-item.result (attributes_of c.remove_ava.new.attrs.entries) c.loop-ava-test.true c.ava-item.is c.in_ok-remove_ava.ensures.values ∙ c.loop-ava.invariant.rest;
+      rest = old_ava_out types c.args.new.now avas c.loop-ava.ava-index (attributes_of c.loop-ava.attrs.entries) c.ava-item.result (attributes_of c.remove_ava.new.attrs.entries) c.loop-ava-test.true c.ava-item.is c.in_ok-remove_ava.ensures.values ∙ c.loop-ava.invariant.rest;
     }
 
 pub returns-clause-values : goal.returns-clause-values
-returns-clause-values c = avas_out c.args.conf.now.types c.args.new.now c.avas-ava-items.result.now c.loop-ava.ava-index (attributes_of c.loop-ava.attrs.entries) c.loop-ava-test.false ∙ c.loop-ava.invariant.rest
+returns-clause-values c = old_avas_out c.args.conf.now.types c.args.new.now c.avas-ava-items.result.now c.loop-ava.ava-index (attributes_of c.loop-ava.attrs.entries) c.loop-ava-test.false ∙ c.loop-ava.invariant.rest
