@@ -1,4 +1,5 @@
-use Rattle.std.proofs.Common.{◌≡◌, ℕ, List, ◌++◌, filter, None, refl, sym, ap, ◌∙◌, subst, append_assoc}
+use Rattle.std.proofs.Common.{arith, ◌≡◌, ℕ, List, ◌++◌, filter, None, refl, sym, ap, ◌∙◌, subst, append_assoc}
+use Rattle.std.proofs.lemmas.Grind.{common_steps}
 use Rattle.std.specs.FinMap as finite
 use Rattle.std.specs.List.{AllByRecursion}
 use Rattle.std.proofs.lemmas.List.{append-nil}
@@ -76,3 +77,6 @@ returns-clause-writes g c =
     pieces.ends (g.W.Sink.written c.args.sink.now) (g.W.Sink.written c.loop-found.sink) (g.W.Sink.written c.pass_on.new.sink)
     (dump d.conf d.entries) text (subst (SoFar (g.W.Sink.written c.args.sink.now) (g.W.Sink.written c.loop-found.sink) (dump d.conf d.entries)) rest c.loop-found.invariant.so_far)
     c.pass_on.result c.pass_on.ensures.writes
+
+pub loop-found-preserved-in_ok-write_entry : goal.loop-found-preserved-in_ok-write_entry
+loop-found-preserved-in_ok-write_entry g c = grind (arith, common_steps)

@@ -1,4 +1,5 @@
-use Rattle.std.proofs.Common.{◌≡◌, ℕ, List, [], ◌∷◌, ◌++◌, map, sym, ap, subst, ◌∙◌}
+use Rattle.std.proofs.Common.{arith, ◌≡◌, ℕ, List, [], ◌∷◌, ◌++◌, map, sym, ap, subst, ◌∙◌}
+use Rattle.std.proofs.lemmas.Grind.{common_steps}
 use Rattle.std.proofs.lemmas.List.{append-nil}
 use Rattle.std.proofs.lemmas.Result.{err_from_is_err_and}
 use Rattle.ranked_keys.specs.RankedKeys.{rows_text}
@@ -31,3 +32,6 @@ returns-in_err-left g c =
     rw (p.1, p.2) (pieces.stops (g.W.Sink.written c.args.sink.now) (g.W.Sink.written c.loop-parts.sink) (g.W.Sink.written c.write_row.new.sink) whole rest
     (subst (SoFar (g.W.Sink.written c.args.sink.now) (g.W.Sink.written c.loop-parts.sink) whole) cut before.so_far)
     c.in_err-left.field-0.0 rest [] (sym (append-nil rest)) c.in_err-left.ensures.err)
+
+pub returns : goal.returns
+returns g c = grind (arith, common_steps)

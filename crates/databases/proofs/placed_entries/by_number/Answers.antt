@@ -1,4 +1,5 @@
 use Rattle.std.proofs.Common.{List, map, sym, ap, subst, ◌∙◌, arith}
+use Rattle.std.proofs.lemmas.Grind.{common_steps}
 use Rattle.std.specs.List.Sorted.{IsPermutation}
 use Rattle.std.proofs.lemmas.List.{take_all}
 use Rattle.std.proofs.lemmas.List.Sorted.{IsPermutation-map}
@@ -13,3 +14,6 @@ returns c =
     let all = ap ranked (sym c.deref-entry-items.ensures.value ∙ sym (take_all c.loop-entry.entry-index c.deref-entry-items.result.now (omega (arith, past)))) in
     subst (IsPermutation (ranked c.args.placed.items)) (all ∙ sym c.loop-entry.invariant.so_far)
     (IsPermutation-map (λ (e : PlacedEntry). e.ranked) c.args.placed.items c.sort_unstable_by_key.new.self.items c.sort_unstable_by_key.ensures.permutation)
+
+pub loop-entry-preserved : goal.loop-entry-preserved
+loop-entry-preserved c = grind (arith, common_steps)
