@@ -1,0 +1,126 @@
+#!/usr/bin/env python3
+"""What each goal of a function's proof takes: goals.py CRATE FN..
+
+A goal that has no answer in `Answers.antt` is left to `search`, and then to `grind`. Most take some hundredths of a second, a few take seconds:
+those are worth an answer by hand. FN is a function's name as a check prints it, or its end. In a copy of the crate each such goal gets two
+modules of its own, one for either tactic, and the times of the files that the check writes tell what each takes. The libraries below have to be
+built: by `build`, for a crate of the program. It takes as long as the functions' check, and prints what takes a tenth of a second or more."""
+import importlib.util
+import os
+import re
+import shutil
+import subprocess
+import sys
+import tempfile
+from importlib.machinery import SourceFileLoader
+from pathlib import Path
+
+TOP = Path(__file__).resolve().parent.parent
+TACTICS = {"Search": "search rules", "Grind": "grind (arith, common_steps)"}
+GOAL = re.compile(r"^pub (\S+) :\s+goal\.", re.M)
+LEAST = 0.1
+
+
+def script(path):
+    """A program of the repository as a module."""
+    sys.dont_write_bytecode = True
+    loader = SourceFileLoader(path.name, str(path))
+    module = importlib.util.module_from_spec(importlib.util.spec_from_loader(loader.name, loader))
+    loader.exec_module(module)
+    return module
+
+
+def crate_of(name):
+    """A crate of the program, and its libraries, as `build` has them."""
+    build, known = script(TOP / "build"), {}
+    for it, stands_on in build.needed().items():
+        known[it] = build.Crate(it, stands_on, known)
+    crate = known.get(name) or sys.exit(f"goals: the program needs no crate {name}")
+    if missing := [it.name for it in crate.below if not it.is_built()]:
+        sys.exit(f"goals: not built: {' '.join(missing)}")
+    return crate
+
+
+class Probe:
+    """A copy of a crate in a folder, and what a check of it writes."""
+
+    def __init__(self, crate, folder):
+        self.name, self.folder, self.kept = crate.name, folder / crate.name, folder / "kept"
+        shutil.copytree(crate.folder, self.folder, ignore=shutil.ignore_patterns("out"))
+        words = [str(word) for word in crate.words(1)]
+        # The words of a check are those of a build without what names its result.
+        end = next(at for at, word in enumerate(words) if word in ("--statements", "--toolchain"))
+        self.words = [words[0], "check", *words[2:end]]
+
+    def check(self, *more):
+        ran = subprocess.run([*self.words, *more], cwd=self.folder, stdout=subprocess.PIPE, stderr=subprocess.STDOUT, text=True)
+        return ran.stdout
+
+    def offered(self, functions):
+        """The folders of the functions' proofs below `proofs`, each with the text that holds all goals of the function."""
+        out = self.folder.parent / "offered"
+        said = self.check("--generated", out, *(word for it in functions for word in ("--start", it)))
+        top = out / f"Rattle-{self.name}-proofs"
+        found = {file.parent.relative_to(top): file.read_text() for file in sorted(top.rglob("AnswersOffered.antt"))}
+        return found or sys.exit(said)
+
+    def split(self, place, text):
+        """Puts each goal that has no answer into modules of its own. Gives the goals by the names of their modules."""
+        answers = self.folder / "proofs" / place / "Answers.antt"
+        own = answers.read_text() if answers.exists() else ""
+        blocks = re.split(r"\n\n+", text)
+        head = "\n".join(it for it in blocks if not GOAL.search(it))
+        head += "".join(f"\nuse Rattle.std.proofs.{where}.{{{name}}}" for where, name in (("Common", "arith"), ("lemmas.Grind", "common_steps"))
+                        if not re.search(rf"\b{name}\b", head))
+        goals = [it for it in blocks if (found := GOAL.search(it)) and found[1] not in GOAL.findall(own)]
+        modules, answered = {}, ""
+        # The first one is there twice: what is loaded with it counts for none.
+        for at, goal in enumerate([*goals[:1], *goals]):
+            name = GOAL.search(goal)[1]
+            left = re.search(rf"^{re.escape(name)}( [^=:\n]*)? = \?", goal, re.M)
+            for tactic, call in TACTICS.items():
+                module = f"{tactic}{at:03}"
+                file = answers.with_suffix("") / f"{module}.antt"
+                file.parent.mkdir(parents=True, exist_ok=True)
+                file.write_text(f"{head}\n\npub tried : goal.{name}\ntried{left[1] or ''} = {call}\n")
+                modules[module] = name if at else None
+            # A goal has a type of its own only where it has an answer.
+            answered += f"\npub {name} : goal.{name}\n{name}{left[1] or ''} = search{at:03}{left[1] or ''}\n" if at else ""
+        path = ".".join((f"Rattle.{self.name}.proofs", *place.parts, "Answers"))
+        uses = "".join(f"use {path}.{module}.{{tried as {module.lower()}}}\n" for module in modules)
+        answers.write_text("".join(f"mod {module}\n" for module in modules) + uses + (own or head + "\n") + answered)
+        return modules
+
+    def times(self):
+        """The seconds of each module that the check wrote."""
+        files = sorted((file.stat().st_mtime, file.name) for file in self.kept.rglob("*.oantt"))
+        times = {}
+        for (before, _), (after, name) in zip(files, files[1:]):
+            module = name.removesuffix(".oantt").removesuffix(".decls")
+            times[module] = times.get(module, 0) + after - before
+        return times
+
+
+def main():
+    if len(sys.argv) < 3:
+        sys.exit(__doc__)
+    with tempfile.TemporaryDirectory() as folder:
+        probe = Probe(crate_of(sys.argv[1]), Path(folder))
+        offered = probe.offered(sys.argv[2:])
+        tried = {place: probe.split(place, text) for place, text in offered.items()}
+        said = probe.check("--incremental", str(probe.kept), "--allow-holes", *(word for it in sys.argv[2:] for word in ("--only", it)))
+        times, rows = probe.times(), []
+        for place, modules in tried.items():
+            for module, goal in modules.items():
+                if goal and module.startswith("Search"):
+                    of = lambda name: times.get(".".join((f"Rattle-{probe.name}-proofs", *place.parts, "Answers", name)), 0)
+                    fails = lambda name: " fails" if f"{place}/Answers/{name}.antt:" in said else ""
+                    other = module.replace("Search", "Grind")
+                    rows.append((of(module), f"{of(module):6.2f}{fails(module)}, grind {of(other):.2f}{fails(other)}: {'::'.join(place.parts)} {goal}"))
+        for seconds, row in sorted(rows, reverse=True):
+            if seconds >= LEAST:
+                print(row)
+
+
+if __name__ == "__main__":
+    main()
