@@ -1,17 +1,18 @@
 #!/usr/bin/env python3
-"""What each goal of a function's proof takes: goals.py CRATE FN..
+"""What each goal of a function's proof takes: goals.py CRATE [FN..]
 
 A goal that has no answer in `Answers.antt` is left to `search`, and then to `grind`. Most take some hundredths of a second, a few take seconds:
-those are worth an answer by hand. FN is a function's name as a check prints it, or its end. In a copy of the crate each such goal gets two
-modules of its own, one for either tactic, and the times of the files that the check writes tell what each takes. The libraries below have to be
-built: by `build`, for a crate of the program. It takes as long as the functions' check, and prints what takes a tenth of a second or more."""
+those are worth an answer by hand. FN is a function's name as a check prints it, or its end; without one all functions of the crate are looked at.
+In a copy of the crate each such goal gets two modules of its own, one for either tactic, and the times of the files that the check writes tell what
+each takes. The libraries below have to be built: by `build`, for a crate of the program. It takes up to three times as long as the functions'
+check, and prints what takes a tenth of a second or more. A function's `using(..)` and `unfolding(..)` aren't tried."""
 import importlib.util
-import os
 import re
 import shutil
 import subprocess
 import sys
 import tempfile
+import time
 from importlib.machinery import SourceFileLoader
 from pathlib import Path
 
@@ -56,10 +57,15 @@ class Probe:
         ran = subprocess.run([*self.words, *more], cwd=self.folder, stdout=subprocess.PIPE, stderr=subprocess.STDOUT, text=True)
         return ran.stdout
 
+    def functions(self):
+        """The functions of the crate by the names that a check prints, but for drops that no one wrote."""
+        said = self.check("--incremental", str(self.kept))
+        return [it for it in re.findall(r"^fn (\S+): proved", said, re.M) if "++" not in it] or sys.exit(said)
+
     def offered(self, functions):
         """The folders of the functions' proofs below `proofs`, each with the text that holds all goals of the function."""
         out = self.folder.parent / "offered"
-        said = self.check("--generated", out, *(word for it in functions for word in ("--start", it)))
+        said = self.check("--generated", str(out), "--incremental", str(self.kept), *(word for it in functions for word in ("--start", it)))
         top = out / f"Rattle-{self.name}-proofs"
         found = {file.parent.relative_to(top): file.read_text() for file in sorted(top.rglob("AnswersOffered.antt"))}
         return found or sys.exit(said)
@@ -77,23 +83,23 @@ class Probe:
         # The first one is there twice: what is loaded with it counts for none.
         for at, goal in enumerate([*goals[:1], *goals]):
             name = GOAL.search(goal)[1]
-            left = re.search(rf"^{re.escape(name)}( [^=:\n]*)? = \?", goal, re.M)
+            bound = re.search(rf"^{re.escape(name)}((?: [^\s=:]+)*)\s+=\s+\?", goal, re.M)[1]
             for tactic, call in TACTICS.items():
                 module = f"{tactic}{at:03}"
                 file = answers.with_suffix("") / f"{module}.antt"
                 file.parent.mkdir(parents=True, exist_ok=True)
-                file.write_text(f"{head}\n\npub tried : goal.{name}\ntried{left[1] or ''} = {call}\n")
+                file.write_text(f"{head}\n\npub tried : goal.{name}\ntried{bound} = {call}\n")
                 modules[module] = name if at else None
             # A goal has a type of its own only where it has an answer.
-            answered += f"\npub {name} : goal.{name}\n{name}{left[1] or ''} = search{at:03}{left[1] or ''}\n" if at else ""
+            answered += f"\npub {name} : goal.{name}\n{name}{bound} = search{at:03}{bound}\n" if at else ""
         path = ".".join((f"Rattle.{self.name}.proofs", *place.parts, "Answers"))
         uses = "".join(f"use {path}.{module}.{{tried as {module.lower()}}}\n" for module in modules)
         answers.write_text("".join(f"mod {module}\n" for module in modules) + uses + (own or head + "\n") + answered)
         return modules
 
-    def times(self):
-        """The seconds of each module that the check wrote."""
-        files = sorted((file.stat().st_mtime, file.name) for file in self.kept.rglob("*.oantt"))
+    def times(self, began):
+        """The seconds of each module that was written since then."""
+        files = sorted((file.stat().st_mtime, file.name) for file in self.kept.rglob("*.oantt") if file.stat().st_mtime > began)
         times = {}
         for (before, _), (after, name) in zip(files, files[1:]):
             module = name.removesuffix(".oantt").removesuffix(".decls")
@@ -101,23 +107,29 @@ class Probe:
         return times
 
 
+def rows(probe, tried, times, said):
+    """What to print of each goal, with the seconds that `search` took of it."""
+    for place, modules in tried.items():
+        for module, goal in modules.items():
+            if not goal or not module.startswith("Search"):
+                continue
+            told = []
+            for it in (module, module.replace("Search", "Grind")):
+                seconds = times.get(".".join((f"Rattle-{probe.name}-proofs", *place.parts, "Answers", it)), 0)
+                told.append((seconds, f"{seconds:.2f}" + (" fails" if f"{place}/Answers/{it}.antt:" in said else "")))
+            yield told[0][0], f"search {told[0][1]}, grind {told[1][1]}: {'::'.join(place.parts)} {goal}"
+
+
 def main():
-    if len(sys.argv) < 3:
+    if len(sys.argv) < 2:
         sys.exit(__doc__)
     with tempfile.TemporaryDirectory() as folder:
         probe = Probe(crate_of(sys.argv[1]), Path(folder))
-        offered = probe.offered(sys.argv[2:])
-        tried = {place: probe.split(place, text) for place, text in offered.items()}
-        said = probe.check("--incremental", str(probe.kept), "--allow-holes", *(word for it in sys.argv[2:] for word in ("--only", it)))
-        times, rows = probe.times(), []
-        for place, modules in tried.items():
-            for module, goal in modules.items():
-                if goal and module.startswith("Search"):
-                    of = lambda name: times.get(".".join((f"Rattle-{probe.name}-proofs", *place.parts, "Answers", name)), 0)
-                    fails = lambda name: " fails" if f"{place}/Answers/{name}.antt:" in said else ""
-                    other = module.replace("Search", "Grind")
-                    rows.append((of(module), f"{of(module):6.2f}{fails(module)}, grind {of(other):.2f}{fails(other)}: {'::'.join(place.parts)} {goal}"))
-        for seconds, row in sorted(rows, reverse=True):
+        functions = sys.argv[2:] or probe.functions()
+        tried = {place: probe.split(place, text) for place, text in probe.offered(functions).items()}
+        began = time.time()
+        said = probe.check("--incremental", str(probe.kept), "--allow-holes", *(word for it in functions for word in ("--only", it)))
+        for seconds, row in sorted(rows(probe, tried, probe.times(began), said), reverse=True):
             if seconds >= LEAST:
                 print(row)
 
