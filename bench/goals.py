@@ -129,7 +129,10 @@ def main():
         tried = {place: probe.split(place, text) for place, text in probe.offered(functions).items()}
         began = time.time()
         said = probe.check("--incremental", str(probe.kept), "--allow-holes", *(word for it in functions for word in ("--only", it)))
-        for seconds, row in sorted(rows(probe, tried, probe.times(began), said), reverse=True):
+        found = sorted(rows(probe, tried, probe.times(began), said), reverse=True)
+        if found and not found[0][0]:
+            sys.exit(said)
+        for seconds, row in found:
             if seconds >= LEAST:
                 print(row)
 
