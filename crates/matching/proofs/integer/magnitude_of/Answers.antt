@@ -1,4 +1,5 @@
 use Rattle.std.proofs.Common.{arith, ◌^◌}
+use Rattle.std.proofs.lemmas.Grind.{common_steps}
 use Rattle.matching.proofs.Digits.{more, too_large, low}
 use Rattle.matching.proofs.integer.magnitude_of.Goals as goal
 
@@ -15,3 +16,6 @@ returns-in_err-total c =
 
 pub loop-b-preserved : goal.loop-b-preserved
 loop-b-preserved c = omega (arith, more c.args.digits.now c.loop-b.b-index c.requires c.loop-b-test.true, c.in_ok-total.ensures, c.in_ok-checked_mul.ensures, c.loop-b.invariant)
+
+pub returns : goal.returns
+returns c = grind (arith, common_steps)

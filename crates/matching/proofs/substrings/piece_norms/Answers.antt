@@ -4,3 +4,6 @@ use Rattle.matching.proofs.substrings.piece_norms.Goals as goal
 
 pub loop-i-preserved : goal.loop-i-preserved
 loop-i-preserved c = grind (arith, common_steps)
+
+pub returns : goal.returns
+returns c = grind (arith, common_steps)

@@ -1,4 +1,0 @@
-pub mod Gathered
-pub mod InOrder
-pub mod NormOrder
-pub mod RowsInOrder

@@ -1,3 +1,0 @@
-pub mod Pairs
-pub mod RankedKeys
-pub mod inner
