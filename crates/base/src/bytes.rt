@@ -19,7 +19,6 @@ use std::marker::Model;
 const FEW: usize = 16;
 
 /// Bytes in order; a few of them take no allocation. A contract sees them as the list of their values, 0 to 255.
-#[derive(Debug)]
 pub struct Bytes {
     bytes: SmallVec<u8, FEW>,
 }

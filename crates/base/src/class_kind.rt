@@ -1,7 +1,7 @@
 //! Kinds of object classes.
 
 /// What a class is for (RFC 4512, 2.4).
-#[derive(Clone, Copy, Debug, PartialEq, Eq)]
+#[derive(Clone, Copy, PartialEq, Eq)]
 pub enum ClassKind {
     /// ABSTRACT
     Abstract,

@@ -3,7 +3,7 @@
 use base::Bytes;
 
 /// A slot, by its place among those of the configuration.
-#[derive(Clone, Copy, Debug, PartialEq, Eq, PartialOrd, Ord)]
+#[derive(Clone, Copy, PartialEq, Eq, PartialOrd, Ord)]
 pub struct SlotNumber(pub usize);
 
 /// A key under a slot. They are ordered by slot, and then by the bytes of the key.

@@ -4,7 +4,7 @@ use crate::value::Attr;
 use base::{Bytes, Sequence};
 
 /// What the records of a text are.
-#[derive(Clone, Copy, Debug, PartialEq, Eq)]
+#[derive(Clone, Copy, PartialEq, Eq)]
 pub enum Mode {
     /// Entries.
     Content,
@@ -31,7 +31,7 @@ impl Drop for Control {
 }
 
 /// What a block of a modify does with its values.
-#[derive(Clone, Copy, Debug, PartialEq, Eq)]
+#[derive(Clone, Copy, PartialEq, Eq)]
 pub enum Op {
     Add,
     Delete,

@@ -60,7 +60,7 @@ fn is_tidy(bytes: &[u8]) -> bool
 }
 
 /// How the normal form of a value differs from the value.
-#[derive(Clone, Copy, Debug, PartialEq, Eq)]
+#[derive(Clone, Copy, PartialEq, Eq)]
 pub enum Form {
     /// Not at all.
     AsWritten,

@@ -3,7 +3,7 @@
 use values::TypeId;
 
 /// By what a value is found.
-#[derive(Clone, Copy, Debug, PartialEq, Eq, PartialOrd, Ord)]
+#[derive(Clone, Copy, PartialEq, Eq, PartialOrd, Ord)]
 pub enum IndexKind {
     /// By an equal value (`eq`).
     Equality,
@@ -14,7 +14,7 @@ pub enum IndexKind {
 }
 
 /// A kind of index over the values of a type. Slots are in the order of the numbers of their types, and then of their kinds.
-#[derive(Clone, Copy, Debug, PartialEq, Eq, PartialOrd, Ord)]
+#[derive(Clone, Copy, PartialEq, Eq, PartialOrd, Ord)]
 pub struct Slot {
     pub type_id: TypeId,
     pub kind: IndexKind,

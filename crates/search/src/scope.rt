@@ -4,7 +4,7 @@ ghost use Rattle.std.specs.Prelude.{◌≡◌, ◌+◌, ◌<◌, ◌^◌};
 ghost use Rattle.search.specs.Scopes.{depth_fits};
 
 /// Which entries a search looks at, from its base on (RFC 4511, 4.5.1.2).
-#[derive(Clone, Copy, Debug, PartialEq, Eq)]
+#[derive(Clone, Copy, PartialEq, Eq)]
 pub enum Scope {
     /// The base.
     Base,
