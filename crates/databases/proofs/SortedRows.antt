@@ -23,9 +23,9 @@ use Rattle.index_keys.specs.declared.type_norms.NumberedNorm.{NumberedNorm}
 use Rattle.index_keys.specs.EntryKeys.{entry_keys, has_key}
 use Rattle.index_keys.specs.TypeNorms.{has_for, AreNormsOf}
 use Rattle.index_text.specs.IndexTexts.{ended, key_line}
-use Rattle.ranked_keys.specs.RankedKeys.{Ranked, ranked_cmp, is_among, rows_of, rows_text, AreRanked}
-use Rattle.ranked_keys.proofs.RowsInOrder.{and_true, and_false, ranks_at, some_of, among_is, rows_are}
-use Rattle.ranked_keys.proofs.RowsInOrder as sorted
+use Rattle.index_keys.specs.RankedKeys.{Ranked, ranked_cmp, is_among, rows_of, rows_text, AreRanked}
+use Rattle.index_keys.proofs.RowsInOrder.{and_true, and_false, ranks_at, some_of, among_is, rows_are}
+use Rattle.index_keys.proofs.RowsInOrder as sorted
 use Rattle.databases.specs.IndexTexts.{ranks_with, slot_rows, contents, keys_lines}
 use Rattle.databases.specs.inner.RankedEntries.{AreFrom, AreRankedEntries}
 use Rattle.databases.proofs.IndexRows.{ranks_rise, find_each, any_key, is_T}

@@ -2,7 +2,7 @@
 
 ghost use Rattle.std.specs.Prelude.{◌≡◌, ◌<◌, ◌≤◌, ◌-◌, ◌^◌, ◌++◌, ◌∷◌, [], List, ℕ, map, length, IfOk, IfErr, Err};
 ghost use Rattle.index_keys.specs.TypeNorms.{AreNormsOf};
-ghost use Rattle.ranked_keys.specs.RankedKeys.{rows_text};
+ghost use Rattle.index_keys.specs.RankedKeys.{rows_text};
 ghost use Rattle.databases.specs.Dumps.{SoFar, Writes, WritesOn};
 ghost use Rattle.databases.specs.IndexTexts.{stamp as stamp_by, index_text, first_line, slot_lines, slots_lines, keys_lines};
 ghost use Rattle.databases.specs.inner.RankedEntries.{AreRankedEntries};
@@ -11,10 +11,12 @@ use crate::dump::{pass_on, pass_on_long};
 use crate::placed_entries::ranked_entries;
 use crate::stamps::Stamp;
 use device::Sink;
-use index_keys::{Numbered, NumberedNorm, norms_for};
+use index_keys::{
+    Numbered, NumberedNorm, RankedKey, bytes_of, norms_for, put_row, ranked_norms, ranked_presence,
+    ranked_windows,
+};
 use index_text::{put_end, put_header, put_slot};
 use ldif::WriteFault;
-use ranked_keys::{RankedKey, bytes_of, put_row, ranked_norms, ranked_presence, ranked_windows};
 use schema::{Conf, IndexKind, Path, Slot};
 use std::alloc::{AllocError, Global};
 use tree::Tree;

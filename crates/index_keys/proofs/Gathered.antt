@@ -10,10 +10,10 @@ use Rattle.schema.specs.declared.slots.IndexKind.TheVariants.{Substrings}
 use Rattle.index_keys.specs.declared.type_norms.NumberedNorm.{NumberedNorm}
 use Rattle.index_keys.specs.EntryKeys.{keys_by, windows}
 use Rattle.index_keys.specs.TypeNorms.{has_by}
-use Rattle.ranked_keys.specs.declared.ranked_norm.RankedNorm.{RankedNorm}
-use Rattle.ranked_keys.specs.RankedKeys.{Ranked, ranked_cmp, is_among, joined, AreRanked}
-use Rattle.ranked_keys.specs.Pairs.{norm_pairs}
-use Rattle.ranked_keys.specs.inner.AddedWindows.{AddsWindows}
+use Rattle.index_keys.specs.declared.ranked_norm.RankedNorm.{RankedNorm}
+use Rattle.index_keys.specs.RankedKeys.{Ranked, ranked_cmp, is_among, joined, AreRanked}
+use Rattle.index_keys.specs.Pairs.{norm_pairs}
+use Rattle.index_keys.specs.inner.AddedWindows.{AddsWindows}
 
 in_one : (a b : Bool) → ((a && b) || false) ≡ (a && (b || false))
 in_one true b = refl

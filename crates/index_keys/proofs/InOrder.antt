@@ -14,7 +14,7 @@ use Rattle.std.proofs.lemmas.List.Kept.{IsStrictlySortedBy-dedup}
 use Rattle.std.proofs.lemmas.List.Sorted.{list_any-IsPermutation}
 use Rattle.std.proofs.lemmas.Map.Text.{is_eq-slice_cmp}
 use Rattle.index_text.proofs.SlotKeyOrder.{same_bytes}
-use Rattle.ranked_keys.specs.RankedKeys.{Ranked, ranked_cmp, is_among}
+use Rattle.index_keys.specs.RankedKeys.{Ranked, ranked_cmp, is_among}
 
 -- ---- pairs that compare as the same are the same
 

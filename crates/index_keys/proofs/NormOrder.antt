@@ -7,8 +7,8 @@ use Rattle.std.specs.Ordering.{nat_cmp, ordering_then}
 use Rattle.std.specs.Cmp.{nat_cmp_is}
 use Rattle.std.specs.Cmp.Lexicographic.{slice_cmp}
 use Rattle.std.proofs.lemmas.Cmp.{ranked}
-use Rattle.ranked_keys.specs.inner.NormFronts.{digits_from, number_at}
-use Rattle.ranked_keys.specs.inner.WindowOrder.{digits}
+use Rattle.index_keys.specs.inner.NormFronts.{digits_from, number_at}
+use Rattle.index_keys.specs.inner.WindowOrder.{digits}
 
 -- ---- orders, one behind the other
 

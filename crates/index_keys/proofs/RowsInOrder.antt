@@ -13,8 +13,8 @@ use Rattle.std.proofs.lemmas.Map.Text.{is_eq-slice_cmp}
 use Rattle.id_sets.specs.Ascending.{AllAbove, IsAscending}
 use Rattle.id_sets.specs.Lists.{holds}
 use Rattle.index_text.specs.IndexTexts.{Row, ended, key_line}
-use Rattle.ranked_keys.specs.RankedKeys.{Ranked, ranked_cmp, is_among, put_front, rows_of, rows_text}
-use Rattle.ranked_keys.specs.inner.Fronts.{under, BeginsOtherwise}
+use Rattle.index_keys.specs.RankedKeys.{Ranked, ranked_cmp, is_among, put_front, rows_of, rows_text}
+use Rattle.index_keys.specs.inner.Fronts.{under, BeginsOtherwise}
 
 same_bytes : (a b : List ℕ) → bytes_eq a b ≡ true → a ≡ b
 same_bytes a b e = (bytes_decides a b).0 e

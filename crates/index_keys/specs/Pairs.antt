@@ -1,9 +1,9 @@
 -- Keys with ranks, as they are kept, as pairs.
 use Rattle.std.specs.Prelude.{List, map}
-use Rattle.ranked_keys.specs.declared.ranked_norm.RankedNorm.{RankedNorm}
-use Rattle.ranked_keys.specs.declared.ranked_window.RankedWindow.{RankedWindow}
-use Rattle.ranked_keys.specs.RankedKeys.{Ranked}
-use Rattle.ranked_keys.specs.inner.Windows.{window_in, rank_in}
+use Rattle.index_keys.specs.declared.ranked_norm.RankedNorm.{RankedNorm}
+use Rattle.index_keys.specs.declared.ranked_window.RankedWindow.{RankedWindow}
+use Rattle.index_keys.specs.RankedKeys.{Ranked}
+use Rattle.index_keys.specs.inner.Windows.{window_in, rank_in}
 
 -- those of normal forms
 abbrev pub norm_pairs : List RankedNorm → List Ranked

@@ -3,14 +3,15 @@
 ghost use Rattle.std.specs.Prelude.{◌≡◌, ℕ, List, map, IfOk, OnOk};
 ghost use Rattle.std.specs.List.Sorted.{IsStrictlySortedBy};
 ghost use Rattle.schema.specs.declared.slots.IndexKind.TheVariants.{Equality, Presence, Substrings};
-ghost use Rattle.ranked_keys.specs.RankedKeys.{joined, ranked_cmp, is_among, AreRanked};
-ghost use Rattle.ranked_keys.specs.Pairs.{norm_pairs, window_pairs};
-ghost use Rattle.ranked_keys.specs.inner.AddedWindows.{AddsWindows};
+ghost use Rattle.index_keys.specs.RankedKeys.{joined, ranked_cmp, is_among, AreRanked};
+ghost use Rattle.index_keys.specs.Pairs.{norm_pairs, window_pairs};
+ghost use Rattle.index_keys.specs.inner.AddedWindows.{AddsWindows};
 
 use crate::ranked_key::RankedKey;
 use crate::ranked_norm::RankedNorm;
 use crate::ranked_window::RankedWindow;
-use index_keys::{NumberedNorm, first_window};
+use crate::type_norms::NumberedNorm;
+use crate::windows::first_window;
 use std::alloc::{AllocError, Global};
 
 // the same in order, each once

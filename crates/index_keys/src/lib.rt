@@ -1,14 +1,26 @@
-//! Which keys an entry has under the slots of a configuration.
+//! Which keys an entry has under the slots of a configuration, and those of all entries with their ranks, in order: the rows of an index text,
+//! made without an index.
 //!
 //! The function of `laws` does nothing: a call of it is made for what it states alone.
 #![tactic(auto)]
 
+mod gathering;
 mod laws;
+mod norm_key;
 mod norms;
+mod ranked_key;
+mod ranked_norm;
+mod ranked_window;
+mod rows;
 mod type_norms;
 mod windows;
 
+pub use gathering::{bytes_of, ranked_norms, ranked_presence, ranked_windows};
 pub use laws::keys_are_told;
 pub use norms::Norms;
+pub use ranked_key::RankedKey;
+pub use ranked_norm::RankedNorm;
+pub use ranked_window::RankedWindow;
+pub use rows::put_row;
 pub use type_norms::{Numbered, NumberedNorm, TypeNorms, norms_for};
 pub use windows::first_window;

@@ -1,7 +1,7 @@
 //! Normal forms as keys that are compared fast.
 
 ghost use Rattle.std.specs.Prelude.{◌≡◌, ℕ, ◌<◌, ◌≤◌, slice_index_or};
-ghost use Rattle.ranked_keys.specs.inner.NormFronts.{number_at};
+ghost use Rattle.index_keys.specs.inner.NormFronts.{number_at};
 
 use std::cmp::Ordering;
 

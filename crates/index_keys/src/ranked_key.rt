@@ -4,7 +4,7 @@ ghost use Rattle.std.specs.Prelude.{◌≡◌, ◌++◌, OnErr, OnOk};
 ghost use Rattle.std.specs.Str.{bytes_eq};
 ghost use Rattle.base.specs.Extends.{Extends};
 ghost use Rattle.index_text.specs.IndexTexts.{ended, key_line};
-ghost use Rattle.ranked_keys.specs.RankedKeys.{Ranked, ranked_cmp};
+ghost use Rattle.index_keys.specs.RankedKeys.{Ranked, ranked_cmp};
 
 use std::alloc::{AllocError, Global};
 

@@ -1,7 +1,7 @@
 //! Keys that are windows.
 
 ghost use Rattle.std.specs.Prelude.{◌≡◌, ◌<◌, ◌^◌, ◌/◌};
-ghost use Rattle.ranked_keys.specs.inner.Windows.{window_in, rank_in};
+ghost use Rattle.index_keys.specs.inner.Windows.{window_in, rank_in};
 
 use crate::ranked_key::RankedKey;
 use index_text::put_key;
@@ -40,8 +40,8 @@ impl RankedWindow {
 }
 
 impl RankedKey for RankedWindow {
-    ghost use Rattle.ranked_keys.specs.inner.Windows.{window_in, rank_in};
-    ghost use Rattle.ranked_keys.specs.inner.WindowOrder.{in_order};
+    ghost use Rattle.index_keys.specs.inner.Windows.{window_in, rank_in};
+    ghost use Rattle.index_keys.specs.inner.WindowOrder.{in_order};
 
     ghost pair = { λ w. (window_in w.number, rank_in w.number) };
 

@@ -2,8 +2,8 @@
 
 ghost use Rattle.std.specs.Prelude.{◌≤◌, ◌∷◌, map, length, IfOk, OnErr};
 ghost use Rattle.base.specs.Extends.{Extends};
-ghost use Rattle.ranked_keys.specs.RankedKeys.{WritesRow};
-ghost use Rattle.ranked_keys.specs.inner.Fronts.{MovesRanks, BeginsOtherwise};
+ghost use Rattle.index_keys.specs.RankedKeys.{WritesRow};
+ghost use Rattle.index_keys.specs.inner.Fronts.{MovesRanks, BeginsOtherwise};
 
 use crate::ranked_key::RankedKey;
 use std::alloc::{AllocError, Global};

@@ -1,7 +1,7 @@
 -- Ranks under one key, in front of others.
 use Rattle.std.specs.Prelude.{◌≡◌, ℕ, false, List, [], ◌∷◌, ◌++◌, map, ⊤}
 use Rattle.std.specs.Str.{bytes_eq}
-use Rattle.ranked_keys.specs.RankedKeys.{Ranked}
+use Rattle.index_keys.specs.RankedKeys.{Ranked}
 
 -- a key with each of these ranks
 abbrev pub under : List ℕ → List ℕ → List Ranked

@@ -6,7 +6,7 @@ use Rattle.std.specs.Ordering.{nat_cmp, ordering_then}
 use Rattle.std.specs.Cmp.{nat_cmp_is}
 use Rattle.std.specs.Cmp.Lexicographic.{slice_cmp}
 use Rattle.std.proofs.lemmas.Cmp.{ranked}
-use Rattle.ranked_keys.specs.inner.Windows.{bytes_in, window_in, rank_in}
+use Rattle.index_keys.specs.inner.Windows.{bytes_in, window_in, rank_in}
 
 -- ---- a digit above others
 

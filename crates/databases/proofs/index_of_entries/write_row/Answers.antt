@@ -1,6 +1,6 @@
 use Rattle.std.proofs.Common.{◌≡◌, ℕ, List, ◌∷◌, ◌++◌, map, sym, ap, ◌∙◌, append_assoc}
 use Rattle.std.proofs.lemmas.Result.{err_from_is_err_and}
-use Rattle.ranked_keys.specs.RankedKeys.{rows_text}
+use Rattle.index_keys.specs.RankedKeys.{rows_text}
 use Rattle.databases.proofs.Pieces.{want_at_once}
 use Rattle.databases.proofs.WrittenLines.{longer, stopped_early}
 use Rattle.databases.proofs.index_of_entries.write_row.Goals as goal

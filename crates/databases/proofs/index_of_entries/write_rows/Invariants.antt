@@ -1,5 +1,5 @@
 use Rattle.std.proofs.Common.{◌≡◌, ◌++◌, map, length}
-use Rattle.ranked_keys.specs.RankedKeys.{rows_text}
+use Rattle.index_keys.specs.RankedKeys.{rows_text}
 use Rattle.databases.specs.Dumps.{SoFar}
 use Rattle.databases.proofs.index_of_entries.write_rows.Given as goal
 

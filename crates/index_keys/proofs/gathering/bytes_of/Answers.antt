@@ -1,8 +1,8 @@
 use Rattle.std.proofs.Common.{ap, ◌∙◌}
 use Rattle.std.proofs.lemmas.List.{take_all}
-use Rattle.ranked_keys.specs.RankedKeys.{joined}
-use Rattle.ranked_keys.proofs.Gathered.{joined_more}
-use Rattle.ranked_keys.proofs.gathering.bytes_of.Goals as goal
+use Rattle.index_keys.specs.RankedKeys.{joined}
+use Rattle.index_keys.proofs.Gathered.{joined_more}
+use Rattle.index_keys.proofs.gathering.bytes_of.Goals as goal
 
 pub loop-numbered-preserved : goal.loop-numbered-preserved
 loop-numbered-preserved c = record { so_far = joined_more _ _ _ _ _ c.loop-numbered-test.true c.in_ok-extend_from_slice.ensures.items c.loop-numbered.invariant.so_far }

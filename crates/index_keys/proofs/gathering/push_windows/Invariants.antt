@@ -2,9 +2,9 @@ use Rattle.std.proofs.Common.{◌≡◌, ◌&&◌, ◌||◌, ℕ, List, nat_eq, 
 use Rattle.std.specs.List.{list_any}
 use Rattle.std.specs.Str.{bytes_eq}
 use Rattle.index_keys.specs.EntryKeys.{windows}
-use Rattle.ranked_keys.specs.RankedKeys.{is_among}
-use Rattle.ranked_keys.specs.Pairs.{window_pairs}
-use Rattle.ranked_keys.proofs.gathering.push_windows.Given as goal
+use Rattle.index_keys.specs.RankedKeys.{is_among}
+use Rattle.index_keys.specs.Pairs.{window_pairs}
+use Rattle.index_keys.proofs.gathering.push_windows.Given as goal
 
 abbrev pub invariant-loop-first : goal.invariant-loop-first
 invariant-loop-first l = record {

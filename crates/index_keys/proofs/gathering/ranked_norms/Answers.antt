@@ -1,7 +1,7 @@
 use Rattle.std.proofs.Common.{◌∷◌, [], sym, ap, ◌∙◌}
 use Rattle.schema.specs.declared.slots.IndexKind.TheVariants.{Equality}
-use Rattle.ranked_keys.proofs.Gathered.{all_gathered, key_more, norm_in_front, rest_behind}
-use Rattle.ranked_keys.proofs.gathering.ranked_norms.Goals as goal
+use Rattle.index_keys.proofs.Gathered.{all_gathered, key_more, norm_in_front, rest_behind}
+use Rattle.index_keys.proofs.gathering.ranked_norms.Goals as goal
 
 pub loop-numbered-preserved : goal.loop-numbered-preserved
 loop-numbered-preserved c =

@@ -1,9 +1,9 @@
 use Rattle.std.proofs.Common.{◌≡◌, ℕ, List, take, drop}
 use Rattle.schema.specs.declared.slots.IndexKind.TheVariants.{Equality}
 use Rattle.index_keys.specs.TypeNorms.{has_by}
-use Rattle.ranked_keys.specs.RankedKeys.{is_among, joined}
-use Rattle.ranked_keys.specs.Pairs.{norm_pairs}
-use Rattle.ranked_keys.proofs.gathering.ranked_norms.Given as goal
+use Rattle.index_keys.specs.RankedKeys.{is_among, joined}
+use Rattle.index_keys.specs.Pairs.{norm_pairs}
+use Rattle.index_keys.proofs.gathering.ranked_norms.Given as goal
 
 abbrev pub invariant-loop-numbered : goal.invariant-loop-numbered
 invariant-loop-numbered l = record {

@@ -1,9 +1,9 @@
 use Rattle.std.proofs.Common.{◌≡◌, ℕ, List, take}
 use Rattle.schema.specs.declared.slots.IndexKind.TheVariants.{Presence}
 use Rattle.index_keys.specs.TypeNorms.{has_by}
-use Rattle.ranked_keys.specs.RankedKeys.{is_among}
-use Rattle.ranked_keys.specs.Pairs.{norm_pairs}
-use Rattle.ranked_keys.proofs.gathering.ranked_presence.Given as goal
+use Rattle.index_keys.specs.RankedKeys.{is_among}
+use Rattle.index_keys.specs.Pairs.{norm_pairs}
+use Rattle.index_keys.proofs.gathering.ranked_presence.Given as goal
 
 abbrev pub invariant-loop-numbered : goal.invariant-loop-numbered
 invariant-loop-numbered l = record { so_far : (q : List ℕ) (n : ℕ) → is_among (norm_pairs l.all.items) q n ≡ has_by Presence (take l.numbered-index l.norms) q n }

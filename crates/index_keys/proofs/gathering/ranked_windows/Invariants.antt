@@ -1,9 +1,9 @@
 use Rattle.std.proofs.Common.{◌≡◌, ℕ, List, take}
 use Rattle.schema.specs.declared.slots.IndexKind.TheVariants.{Substrings}
 use Rattle.index_keys.specs.TypeNorms.{has_by}
-use Rattle.ranked_keys.specs.RankedKeys.{is_among}
-use Rattle.ranked_keys.specs.Pairs.{window_pairs}
-use Rattle.ranked_keys.proofs.gathering.ranked_windows.Given as goal
+use Rattle.index_keys.specs.RankedKeys.{is_among}
+use Rattle.index_keys.specs.Pairs.{window_pairs}
+use Rattle.index_keys.proofs.gathering.ranked_windows.Given as goal
 
 abbrev pub invariant-loop-numbered : goal.invariant-loop-numbered
 invariant-loop-numbered l = record { so_far : (q : List ℕ) (n : ℕ) → is_among (window_pairs l.all.items) q n ≡ has_by Substrings (take l.numbered-index l.norms) q n }

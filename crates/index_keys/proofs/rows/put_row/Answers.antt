@@ -1,10 +1,10 @@
 use Rattle.std.proofs.Common.{ℕ, List, [], ◌∷◌, ◌++◌, map, ap, ◌∙◌}
 use Rattle.base.proofs.Extended.{extends_same, on_err_too}
 use Rattle.index_text.specs.IndexTexts.{ended, key_line}
-use Rattle.ranked_keys.specs.RankedKeys.{Ranked}
-use Rattle.ranked_keys.specs.inner.Fronts.{under}
-use Rattle.ranked_keys.proofs.RowsInOrder.{row_is}
-use Rattle.ranked_keys.proofs.rows.put_row.Goals as goal
+use Rattle.index_keys.specs.RankedKeys.{Ranked}
+use Rattle.index_keys.specs.inner.Fronts.{under}
+use Rattle.index_keys.proofs.RowsInOrder.{row_is}
+use Rattle.index_keys.proofs.rows.put_row.Goals as goal
 
 pub returns-clause-text : goal.returns-clause-text
 returns-clause-text g c =

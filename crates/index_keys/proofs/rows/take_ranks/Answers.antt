@@ -1,6 +1,6 @@
 use Rattle.std.proofs.Common.{sym, ◌∙◌, arith}
-use Rattle.ranked_keys.proofs.RowsInOrder.{one_taken}
-use Rattle.ranked_keys.proofs.rows.take_ranks.Goals as goal
+use Rattle.index_keys.proofs.RowsInOrder.{one_taken}
+use Rattle.index_keys.proofs.rows.take_ranks.Goals as goal
 
 pub loop-parts-preserved : goal.loop-parts-preserved
 loop-parts-preserved g c =

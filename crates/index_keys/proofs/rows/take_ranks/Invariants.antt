@@ -1,6 +1,6 @@
 use Rattle.std.proofs.Common.{◌≡◌, ◌≤◌, ◌++◌, map, length}
-use Rattle.ranked_keys.specs.inner.Fronts.{under}
-use Rattle.ranked_keys.proofs.rows.take_ranks.Given as goal
+use Rattle.index_keys.specs.inner.Fronts.{under}
+use Rattle.index_keys.proofs.rows.take_ranks.Given as goal
 
 abbrev pub invariant-loop-parts : goal.invariant-loop-parts
 invariant-loop-parts g l = record {

@@ -5,8 +5,8 @@ use Rattle.ldif.specs.declared.write.WriteFault.{WriteFault}
 use Rattle.schema.specs.declared.slots.IndexKind.TheVariants.{Equality, Presence, Substrings}
 use Rattle.schema.specs.Conf.{Conf}
 use Rattle.tree.specs.Directories.{Entries}
-use Rattle.ranked_keys.specs.Pairs.{norm_pairs, window_pairs}
-use Rattle.ranked_keys.specs.RankedKeys.{rows_text}
+use Rattle.index_keys.specs.Pairs.{norm_pairs, window_pairs}
+use Rattle.index_keys.specs.RankedKeys.{rows_text}
 use Rattle.databases.specs.Dumps.{WritesOn}
 use Rattle.databases.specs.IndexTexts.{keys_lines}
 use Rattle.databases.proofs.Pieces.{wants_memory_on}

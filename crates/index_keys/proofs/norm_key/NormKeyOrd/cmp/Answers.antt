@@ -1,7 +1,7 @@
 use Rattle.std.proofs.Common.{sym, ◌∙◌}
 use Rattle.std.specs.Ordering.{nat_cmp}
-use Rattle.ranked_keys.proofs.NormOrder.{by_first, by_second, by_length}
-use Rattle.ranked_keys.proofs.norm_key.NormKeyOrd.cmp.Goals as goal
+use Rattle.index_keys.proofs.NormOrder.{by_first, by_second, by_length}
+use Rattle.index_keys.proofs.norm_key.NormKeyOrd.cmp.Goals as goal
 
 pub returns-then-self-other : goal.returns-then-self-other
 returns-then-self-other c =
