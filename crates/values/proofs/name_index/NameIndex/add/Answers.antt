@@ -1,8 +1,9 @@
 use Rattle.std.proofs.Common.{◌≡◌, ℕ, ◌<◌, ◌∷◌, [], ◌++◌, List, length, ◌∙◌, sym, ap, arith}
+use Rattle.std.proofs.lemmas.Grind.{common_steps}
 use Rattle.std.specs.Prelude.{slice_set}
+use Rattle.values.proofs.Buckets.{found_put}
 use Rattle.values.specs.declared.name_index.NameEntry.{NameEntry}
 use Rattle.values.specs.inner.Buckets.{bucket_of, bucket_at, AreFound}
-use Rattle.values.proofs.Buckets.{found_put}
 use Rattle.values.proofs.name_index.NameIndex.add.Goals as goal
 
 pub invariant_of-self-2 : goal.invariant_of-self-2
@@ -18,3 +19,6 @@ invariant_of-self-2 c =
     let same : c.reserve.new.self.items ≡ entries = c.in_ok-reserve.ensures.items in
     let len : c.len-2.result ≡ length entries = omega (arith, ap length same) in
     rw (c.push_reserved.ensures.items, same, c.in_ok-put_place.ensures.ok, len) found
+
+pub invariant_of-self-in_err-put_place : goal.invariant_of-self-in_err-put_place
+invariant_of-self-in_err-put_place c = grind (arith, common_steps)

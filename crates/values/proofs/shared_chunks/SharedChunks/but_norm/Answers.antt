@@ -1,10 +1,11 @@
 use Rattle.std.proofs.Common.{◌++◌, ◌∷◌, [], List, take, sym, ap, ◌∙◌, append-nil}
-use Rattle.std.specs.List.{flat_map}
+use Rattle.std.proofs.lemmas.Result.{IfOk-from_err}
 use Rattle.std.proofs.lemmas.List.Concat.{flat_map-append}
 use Rattle.std.proofs.lemmas.List.Elements.{filter-append}
-use Rattle.values.specs.Values.{Value}
-use Rattle.values.specs.Norms.{but_norm}
+use Rattle.std.specs.List.{flat_map}
 use Rattle.values.proofs.Taken.{one_taken, all_taken}
+use Rattle.values.specs.Norms.{but_norm}
+use Rattle.values.specs.Values.{Value}
 use Rattle.values.proofs.shared_chunks.SharedChunks.but_norm.Goals as goal
 
 pub loop-chunk-preserved : goal.loop-chunk-preserved
@@ -23,3 +24,6 @@ loop-chunk-preserved c =
 pub returns : goal.returns
 returns c =
     c.loop-chunk.invariant ∙ ap (but_norm c.args.norm.now) (ap (flat_map (λ r. r.value.items)) (all_taken _ c.loop-chunk.chunk-index c.self.inside.chunks.items c.as_slice-chunk-items.ensures.value c.loop-chunk-test.false) ∙ c.self.view_is)
+
+pub returns-in_err-push_others : goal.returns-in_err-push_others
+returns-in_err-push_others c = IfOk-from_err _ _ c.from_residual-in_err-push_others.ensures.0
