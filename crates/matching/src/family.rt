@@ -2,7 +2,7 @@
 
 /// How values are compared: an equality rule and, where there are any, the ordering and the substrings rule that go with it
 /// (RFC 4517, 4.2).
-#[derive(Clone, Copy, PartialEq, Eq)]
+#[derive(Clone, Copy)]
 pub enum Family {
     /// caseIgnoreMatch, caseIgnoreIA5Match
     Ignore,

@@ -60,7 +60,7 @@ fn is_tidy(bytes: &[u8]) -> bool
 }
 
 /// How the normal form of a value differs from the value.
-#[derive(Clone, Copy, PartialEq, Eq)]
+#[derive(Clone, Copy)]
 pub enum Form {
     /// Not at all.
     AsWritten,

@@ -11,7 +11,7 @@ use crate::tested_bytes::{NotAscii, NotOid};
 use base::any_byte;
 
 /// Which values an attribute type takes (RFC 4517, 3.3), where that can be told without knowing types. So DN isn't among these.
-#[derive(Clone, Copy, PartialEq, Eq)]
+#[derive(Clone, Copy)]
 pub enum Syntax {
     /// Country String, Directory String, Printable String and Telephone Number: UTF-8, not empty.
     Text,

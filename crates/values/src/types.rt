@@ -10,7 +10,7 @@ use matching::{Family, Syntax};
 use paths::TypeId;
 
 /// Which values an attribute type takes (RFC 4517, 3.3).
-#[derive(Clone, Copy, PartialEq, Eq)]
+#[derive(Clone, Copy)]
 pub enum TypeSyntax {
     /// DN: names. Which ones, attribute types tell.
     Name,
@@ -19,7 +19,7 @@ pub enum TypeSyntax {
 }
 
 /// How two values of an attribute type are equal (RFC 4517, 4.2).
-#[derive(Clone, Copy, PartialEq, Eq)]
+#[derive(Clone, Copy)]
 pub enum EqualityRule {
     /// distinguishedNameMatch: as names.
     Name,
