@@ -5,6 +5,8 @@ use Rattle.device.specs.Device.{Written}
 use Rattle.schema.specs.declared.code.Code.TheVariants.{SizeLimitExceeded}
 use Rattle.stored_index.specs.declared.fault.IndexFaultKind.{IndexFaultKind}
 use Rattle.command_line.specs.declared.request.SearchOptions.{SearchOptions}
+use Rattle.filter.specs.Made.{Made}
+use Rattle.tree.specs.Trees.{Tree}
 use Rattle.commands.specs.Folders.{Files}
 use Rattle.commands.specs.IndexFiles.{Said, SaysOf, ReportsFault, IsFaultReported}
 use Rattle.commands.specs.Messages.{IsReported, code_text}
@@ -13,35 +15,38 @@ use Rattle.commands.specs.Queries.{Basis, StopsWith, HasBegun, PrintsPartly}
 use Rattle.commands.specs.Worlds.{World}
 use Rattle.commands.specs.inner.IndexFiles.{FailsToReport, HasLoaded}
 use Rattle.commands.specs.inner.Printed.{HasPrinted}
-use Rattle.commands.specs.inner.Stopped.{CanReport}
+use Rattle.commands.specs.inner.Stopped.{CanReport, HasStopped}
 use Rattle.commands.specs.inner.Views.{basis_of}
+use Rattle.commands.specs.declared.index_file.IndexFile.{IndexFile}
 use Rattle.commands.specs.declared.messages.CommandFault.{CommandFault}
 use Rattle.commands.specs.declared.messages.Status.{Status}
 use Rattle.commands.specs.declared.messages.Status.TheVariants.{Done, Refused}
 use Rattle.commands.specs.declared.messages.Stop.{Stop}
 use Rattle.commands.specs.declared.messages.Stop.TheVariants as stops
-use Rattle.commands.specs.declared.searching.Loaded.{Loaded}
 use Rattle.commands.proofs.Ends.{has_basis}
-use Rattle.commands.proofs.Stopping.{query_stops, first_prints, of_memory}
+use Rattle.commands.proofs.Stopping.{stopped, query_stops, first_prints, of_memory}
 
 -- what was loaded, and what its index.txt says
-module _ (asked : SearchOptions) (files : Option Files) (loaded : Loaded) (h : HasLoaded asked files loaded) where
+module _ (asked : SearchOptions) (files : Option Files) (f : Made) (t : Tree) (file : IndexFile) (h : HasLoaded asked files f t file) where
   pub is_said : IsSaid asked files h.index.said
-  is_said = record { conf = loaded.database.tree.conf; entries = loaded.database.tree.entries; loaded = h.directory; says = h.index.in_file }
+  is_said = record { conf = t.conf; entries = t.entries; loaded = h.directory; says = h.index.in_file }
 
-  pub text_so : (past : Bool) (text : List ℕ) → IsFoundText asked h.index.said (basis_of loaded.filter.filter loaded.database.tree) past text → SearchText asked files h.index.said past text
+  pub text_so : (past : Bool) (text : List ℕ) → IsFoundText asked h.index.said (basis_of f.filter t) past text → SearchText asked files h.index.said past text
   text_so past text found =
-      has_basis (search_query asked) files (basis_of loaded.filter.filter loaded.database.tree) h.filter_is h.directory
+      has_basis (search_query asked) files (basis_of f.filter t) h.filter_is h.directory
       (λ (basis : Basis). SaysOf files asked.db.now basis.conf basis.entries h.index.said × IsFoundText asked h.index.said basis past text) (h.index.in_file, found)
 
 module _ (asked : SearchOptions) (w : World) where
   -- ---- where it stops
 
-  pub at_once : (f : CommandFault) → StopsWith (search_query asked) w.files f → ComesFirst f → SearchStops asked w (record { why = stops.Fault f; stored = []; world = w })
+  at_once : (f : CommandFault) → StopsWith (search_query asked) w.files f → ComesFirst f → SearchStops asked w (record { why = stops.Fault f; stored = []; world = w })
   at_once f why first = inl (record {
     stops = query_stops (search_query asked) (λ text. ⊥) w w f why (first_prints (HasBegun (λ text. ⊥) None) w.output w.output refl f first) refl;
     first = first;
   })
+
+  pub stopped_at_once : (f : CommandFault) → StopsWith (search_query asked) w.files f → ComesFirst f → HasStopped (SearchStops asked) w w (stops.Fault f)
+  stopped_at_once f why first = stopped (SearchStops asked) w w (stops.Fault f) (at_once f why first) refl
 
   pub unreported : (s : Said) (m : Written) (why : Stop) → IsSaid asked w.files s → FailsToReport s w.messages m why → SearchStops asked w (record { why = why; stored = []; world = record w { messages = m } })
   unreported (Some (Err fault)) m (stops.Fault f) is fails =

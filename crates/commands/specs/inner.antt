@@ -3,6 +3,7 @@ pub mod WriteFaults
 pub mod Refusals
 pub mod Views
 pub mod Printed
+pub mod Sought
 pub mod Stopped
 pub mod Stores
 pub mod IndexFiles

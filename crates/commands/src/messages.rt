@@ -16,11 +16,10 @@ use filter_text::FilterFault;
 use ldif::WriteFault;
 use schema::Code;
 use std::alloc::{AllocError, AllocFailed, Global};
-use std::error::Error;
 use std::fmt;
 
 /// How a command ends.
-#[derive(Clone, Copy, Debug, PartialEq, Eq)]
+#[derive(Clone, Copy, PartialEq, Eq)]
 pub enum Status {
     Done,
     /// A record was refused, or a search ended with a result code.
@@ -58,7 +57,7 @@ impl Status {
 }
 
 /// Why a command ends before its work is done. Its text is a line of standard error.
-#[derive(Debug, Drop)]
+#[derive(Drop)]
 pub enum CommandFault {
     /// A word of the command line is not UTF-8.
     Words,
@@ -151,8 +150,6 @@ impl fmt::Display for CommandFault {
     }
 }
 
-impl Error for CommandFault {}
-
 impl From<AllocError> for CommandFault {
     ghost from_gives = { λ _ f. f ≡ OutOfMemory };
 
@@ -178,6 +175,14 @@ pub enum Stop {
     Usage(String),
     /// Standard error failed, so nothing more is reported.
     Messages,
+}
+
+impl From<AllocError> for Stop {
+    ghost from_gives = { λ _ stop. stop ≡ Fault OutOfMemory };
+
+    fn from(_: AllocError) -> Stop {
+        Stop::Fault(CommandFault::OutOfMemory)
+    }
 }
 
 impl From<CommandFault> for Stop {

@@ -6,20 +6,20 @@ ghost use Rattle.schema.specs.declared.code.Code.TheVariants.{SizeLimitExceeded}
 ghost use Rattle.search.specs.Walks.{seen};
 ghost use Rattle.databases.specs.Found.{AreThere, limited_text, goes_past};
 ghost use Rattle.filter_text.specs.Spells.{view};
-ghost use Rattle.commands.specs.Asked.{base_of, IsBase, IsFilter, IsSelection};
-ghost use Rattle.commands.specs.Failures.{FailsToRead, FailsToWrite};
-ghost use Rattle.commands.specs.Folders.{index_name};
+ghost use Rattle.commands.specs.Asked.{base_of, IsFilter};
+ghost use Rattle.commands.specs.Failures.{FailsToWrite};
 ghost use Rattle.commands.specs.Loaded.{IsLoaded};
 ghost use Rattle.commands.specs.Worlds.{World};
 ghost use Rattle.commands.specs.Messages.{code_text, fault_text};
 ghost use Rattle.commands.specs.Statuses.{status_of_fault};
-ghost use Rattle.commands.specs.Queries.{IsBegun, HasBegun, PrintsPartly, StopsWith};
+ghost use Rattle.commands.specs.Queries.{IsBegun, HasBegun, PrintsPartly};
 ghost use Rattle.commands.specs.IndexFiles.{Said};
-ghost use Rattle.commands.specs.Prints.{search_query, IsFoundText, MayBeFound, ComesFirst, SearchGoesThrough, SearchStops};
-ghost use Rattle.commands.specs.inner.IndexFiles.{Keeps, HasRead, HasLoaded};
+ghost use Rattle.commands.specs.Prints.{search_query, IsFoundText, MayBeFound, SearchGoesThrough, SearchStops};
+ghost use Rattle.commands.specs.inner.IndexFiles.{Keeps, HasLoaded};
 ghost use Rattle.commands.specs.inner.Refusals.{Refuses, RefusesOrBreaks};
 ghost use Rattle.commands.specs.inner.Printed.{HasPrinted};
 ghost use Rattle.commands.specs.inner.Views.{basis_of};
+ghost use Rattle.commands.specs.inner.Sought.{IsWanted};
 ghost use Rattle.commands.specs.inner.Stopped.{CanReport, HasEnded};
 ghost use Rattle.commands.specs.declared.index_file.IndexFile.TheVariants.{Read};
 
@@ -64,8 +64,7 @@ struct Wanted {
 
 /// Reads what is asked for under a configuration.
 fn wanted_by(alloc: Global, asked: &SearchOptions<'_>, conf: &Conf) -> Result<Wanted, CommandFault>
-    ensures base { IfOk result (λ w. IsBase conf.now (option_copied asked.now.base) w.base) }
-    ensures selection { IfOk result (λ w. IsSelection conf.now (map (λ w. w.now) asked.now.attributes.items) w.selection) }
+    ensures wanted { IfOk result (IsWanted asked.now conf.now) }
     ensures fault { IfErr result (Refuses (codes "search") (λ code. base_of conf.now (option_copied asked.now.base) ≡ Err code)) }
 {
     let base = path_of(alloc, conf, asked.base, NAME)?;
@@ -103,12 +102,14 @@ fn print_hits<S: IdSet, O: Sink>(
 fn print_by_text<O: Sink>(
     alloc: Global,
     asked: &SearchOptions<'_>,
+    wanted: &Wanted,
     filter: &Prepared,
     database: &Database,
     stored: &StoredIndex,
     out: &mut O,
 ) -> Result<bool, CommandFault>
     requires can_fail { (O.written out.old).failed < 2 ^ 64 - 1 }
+    requires wanted { IsWanted asked.now database.now.conf wanted.now }
     requires prepared { filter.now.conf ≡ database.now.tree.conf }
     ensures found { (said : Said) → Keeps database.now.tree filter.now (Read stored.now) said → IfOk result (λ past. HasPrinted
         (IsFoundText asked.now said (basis_of filter.now.filter database.now.tree) past)
@@ -119,7 +120,6 @@ fn print_by_text<O: Sink>(
 {
     let Database { conf, tree } = database;
     conf.rules_are_kept();
-    let wanted = wanted_by(alloc, asked, conf)?;
     match search_with(alloc, tree, stored, &wanted.base, asked.scope, filter) {
         Ok(hits) => print_hits(alloc, tree, conf, hits, asked.limit, &wanted.selection, out),
         Err(refusal) => Err(refused(refusal, NAME)),
@@ -130,11 +130,13 @@ fn print_by_text<O: Sink>(
 fn print_by_scan<O: Sink>(
     alloc: Global,
     asked: &SearchOptions<'_>,
+    wanted: &Wanted,
     filter: &Prepared,
     database: &Database,
     out: &mut O,
 ) -> Result<bool, CommandFault>
     requires can_fail { (O.written out.old).failed < 2 ^ 64 - 1 }
+    requires wanted { IsWanted asked.now database.now.conf wanted.now }
     requires prepared { filter.now.conf ≡ database.now.tree.conf }
     ensures found { IfOk result (λ past. HasPrinted
         (IsFoundText asked.now None (basis_of filter.now.filter database.now.tree) past)
@@ -144,7 +146,6 @@ fn print_by_scan<O: Sink>(
         (MayBeFound asked.now None (basis_of filter.now.filter database.now.tree)) None) (O.written out.old) (O.written out.new)) }
 {
     let Database { conf, tree } = database;
-    let wanted = wanted_by(alloc, asked, conf)?;
     match search_tree(alloc, tree, &wanted.base, asked.scope, filter) {
         Some(hits) => print_hits(alloc, tree, conf, hits, asked.limit, &wanted.selection, out),
         None => Err(CommandFault::Code {
@@ -154,121 +155,156 @@ fn print_by_scan<O: Sink>(
     }
 }
 
-/// The filter, prepared under the configuration of a directory, and index.txt of that in the folder `db`, as far as the filter asks for it.
-fn asked_index<F: Folder>(
-    alloc: Global,
-    folder: &F,
-    db: &str,
-    filter: &Filter,
-    database: &Database,
-) -> Result<(Prepared, IndexFile), CommandFault>
-    ensures prepared { IfOk result (λ r. r.0 ≡ record { conf = database.now.tree.conf; filter = filter.now }) }
-    ensures read { IfOk result (λ r. HasRead (F.files folder.now) db.now database.now.tree r.0 r.1) }
-    ensures err { IfErr result (FailsToRead (index_name db.now)) }
-{
-    let prepared = prepare(alloc, filter, &database.conf)?;
-    let file = read_index(alloc, folder, db, database, &prepared)?;
-    Ok((prepared, file))
-}
-
-/// What a search reads: the filter, prepared under the directory's configuration, and the directory with what index.txt says of it.
-#[derive(Drop)]
-struct Loaded {
-    filter: Prepared,
-    database: Database,
-    file: IndexFile,
-}
-
-/// Reads index.txt of a directory that is loaded, as far as the filter asks for it.
-#[tactic(auto, using(crate::proofs::Stopping::index_stops))]
-fn with_index<F: Folder>(
-    alloc: Global,
-    asked: &SearchOptions<'_>,
-    folder: &F,
-    filter: &Filter,
-    database: Database,
-) -> Result<Loaded, CommandFault>
-    requires filter { IsFilter (option_copied asked.now.filter) (view filter.now) }
-    requires loaded { IsLoaded (F.files folder.now) asked.now.db.now database.tree.conf database.tree.entries }
-    ensures loaded { IfOk result (HasLoaded asked.now (F.files folder.now)) }
-    ensures stops { IfErr result (StopsWith (search_query asked.now) (F.files folder.now)) }
-    ensures first { IfErr result ComesFirst }
-{
-    let (prepared, file) = asked_index(alloc, folder, asked.db, filter, &database)?;
-    Ok(Loaded {
-        filter: prepared,
-        database,
-        file,
-    })
-}
-
-/// Reads the filter, the directory and its index.txt, in this order.
-#[tactic(auto, using(crate::proofs::Stopping::filter_stops, crate::proofs::Stopping::load_stops))]
-fn load<F: Folder>(
-    alloc: Global,
-    asked: &SearchOptions<'_>,
-    folder: &F,
-) -> Result<Loaded, CommandFault>
-    ensures loaded { IfOk result (HasLoaded asked.now (F.files folder.now)) }
-    ensures stops { IfErr result (StopsWith (search_query asked.now) (F.files folder.now)) }
-    ensures first { IfErr result ComesFirst }
-{
-    let filter = filter_of(alloc, asked.filter)?;
-    let database = load_database(alloc, folder, asked.db)?;
-    with_index(alloc, asked, folder, &filter, database)
-}
-
 /// Prints what is found by index.txt, or without it where it can't be used.
-fn print_found<O: Sink>(
+fn print_wanted<O: Sink>(
     alloc: Global,
     asked: &SearchOptions<'_>,
-    loaded: &Loaded,
+    wanted: &Wanted,
+    filter: &Prepared,
+    database: &Database,
+    file: &IndexFile,
     out: &mut O,
 ) -> Result<bool, CommandFault>
     requires can_fail { (O.written out.old).failed < 2 ^ 64 - 1 }
-    requires prepared { loaded.now.filter.conf ≡ loaded.now.database.tree.conf }
-    ensures found { (said : Said) → Keeps loaded.now.database.tree loaded.now.filter loaded.now.file said → IfOk result (λ past. HasPrinted
-        (IsFoundText asked.now said (basis_of loaded.now.filter.filter loaded.now.database.tree) past)
+    requires wanted { IsWanted asked.now database.now.conf wanted.now }
+    requires prepared { filter.now.conf ≡ database.now.tree.conf }
+    ensures found { (said : Said) → Keeps database.now.tree filter.now file.now said → IfOk result (λ past. HasPrinted
+        (IsFoundText asked.now said (basis_of filter.now.filter database.now.tree) past)
         (O.written out.old) (O.written out.new)) }
-    ensures fault { IfErr result (RefusesOrBreaks (search_query asked.now) loaded.now.database.tree.conf loaded.now.database.tree.entries) }
-    ensures partly { (said : Said) → Keeps loaded.now.database.tree loaded.now.filter loaded.now.file said → IfErr result (PrintsPartly (HasBegun
-        (MayBeFound asked.now said (basis_of loaded.now.filter.filter loaded.now.database.tree)) None)
-        (O.written out.old) (O.written out.new)) }
+    ensures fault { IfErr result (RefusesOrBreaks (search_query asked.now) database.now.tree.conf database.now.tree.entries) }
+    ensures partly { (said : Said) → Keeps database.now.tree filter.now file.now said → IfErr result (PrintsPartly (HasBegun
+        (MayBeFound asked.now said (basis_of filter.now.filter database.now.tree)) None) (O.written out.old) (O.written out.new)) }
 {
-    let Loaded {
-        filter,
-        database,
-        file,
-    } = loaded;
     match file {
-        IndexFile::Read(stored) => print_by_text(alloc, asked, filter, database, stored, out),
-        IndexFile::Faulty(_) => print_by_scan(alloc, asked, filter, database, out),
-        IndexFile::Missing => print_by_scan(alloc, asked, filter, database, out),
+        IndexFile::Read(stored) => print_by_text(
+            alloc, asked, wanted, filter, database, stored, out,
+        ),
+        IndexFile::Faulty(_) => print_by_scan(alloc, asked, wanted, filter, database, out),
+        IndexFile::Missing => print_by_scan(alloc, asked, wanted, filter, database, out),
     }
+}
+
+/// Reads what is wanted, and prints what is found of it.
+fn print_found<O: Sink>(
+    alloc: Global,
+    asked: &SearchOptions<'_>,
+    filter: &Prepared,
+    database: &Database,
+    file: &IndexFile,
+    out: &mut O,
+) -> Result<bool, CommandFault>
+    requires can_fail { (O.written out.old).failed < 2 ^ 64 - 1 }
+    requires prepared { filter.now.conf ≡ database.now.tree.conf }
+    ensures found { (said : Said) → Keeps database.now.tree filter.now file.now said → IfOk result (λ past. HasPrinted
+        (IsFoundText asked.now said (basis_of filter.now.filter database.now.tree) past)
+        (O.written out.old) (O.written out.new)) }
+    ensures fault { IfErr result (RefusesOrBreaks (search_query asked.now) database.now.tree.conf database.now.tree.entries) }
+    ensures partly { (said : Said) → Keeps database.now.tree filter.now file.now said → IfErr result (PrintsPartly (HasBegun
+        (MayBeFound asked.now said (basis_of filter.now.filter database.now.tree)) None) (O.written out.old) (O.written out.new)) }
+{
+    let wanted = wanted_by(alloc, asked, &database.conf)?;
+    print_wanted(alloc, asked, &wanted, filter, database, file, out)
 }
 
 /// Reports what is wrong with index.txt, and prints what is found.
 fn search_loaded<O: Sink, E: Sink>(
     alloc: Global,
     asked: &SearchOptions<'_>,
-    loaded: &Loaded,
+    filter: &Prepared,
+    database: &Database,
+    file: &IndexFile,
     out: &mut O,
     err: &mut E,
 ) -> Result<Status, Stop>
     requires out { (O.written out.old).failed < 2 ^ 64 - 1 }
     requires err { (E.written err.old).failed < 2 ^ 64 - 1 }
-    requires prepared { loaded.now.filter.conf ≡ loaded.now.database.tree.conf }
-    ensures ends { (w : World) → HasLoaded asked.now w.files loaded.now → HasEnded (SearchGoesThrough asked.now) (SearchStops asked.now)
+    requires prepared { filter.now.conf ≡ database.now.tree.conf }
+    ensures ends { (w : World) → HasLoaded asked.now w.files filter.now database.now.tree file.now → HasEnded
+        (SearchGoesThrough asked.now) (SearchStops asked.now)
         (record w { output = O.written out.old; messages = E.written err.old })
         (record w { output = O.written out.new; messages = E.written err.new }) result }
     ensures can_report { IfErr result (λ why. CanReport why (E.written err.new).failed) }
 {
-    report_index(alloc, err, &loaded.file)?;
-    match print_found(alloc, asked, loaded, out) {
+    report_index(alloc, err, file)?;
+    match print_found(alloc, asked, filter, database, file, out) {
         Ok(false) => Ok(Status::Done),
         Ok(true) => Ok(report_fault(alloc, err, &past_limit())),
         Err(fault) => Err(Stop::Fault(fault)),
     }
+}
+
+/// Reads index.txt of a directory that is loaded, as far as the filter asks for it, and searches by it.
+fn search_by<F: Folder, O: Sink, E: Sink>(
+    alloc: Global,
+    asked: &SearchOptions<'_>,
+    filter: &Prepared,
+    database: &Database,
+    folder: &F,
+    out: &mut O,
+    err: &mut E,
+) -> Result<Status, Stop>
+    requires out { (O.written out.old).failed < 2 ^ 64 - 1 }
+    requires err { (E.written err.old).failed < 2 ^ 64 - 1 }
+    requires filter { IsFilter (option_copied asked.now.filter) (view filter.now.filter) }
+    requires prepared { filter.now.conf ≡ database.now.tree.conf }
+    requires loaded { IsLoaded (F.files folder.now) asked.now.db.now database.now.tree.conf database.now.tree.entries }
+    ensures ends { (w : World) → HasEnded (SearchGoesThrough asked.now) (SearchStops asked.now)
+        (record w { files = F.files folder.now; output = O.written out.old; messages = E.written err.old })
+        (record w { files = F.files folder.now; output = O.written out.new; messages = E.written err.new }) result }
+    ensures can_report { IfErr result (λ why. CanReport why (E.written err.new).failed) }
+{
+    let file = read_index(alloc, folder, asked.db, database, filter)?;
+    let ended = search_loaded(alloc, asked, filter, database, &file, out, err);
+    // The program ends with its command, and that frees the index at once.
+    mem::forget(file);
+    ended
+}
+
+/// Searches a directory that is loaded.
+fn search_directory<F: Folder, O: Sink, E: Sink>(
+    alloc: Global,
+    asked: &SearchOptions<'_>,
+    filter: &Filter,
+    database: &Database,
+    folder: &F,
+    out: &mut O,
+    err: &mut E,
+) -> Result<Status, Stop>
+    requires out { (O.written out.old).failed < 2 ^ 64 - 1 }
+    requires err { (E.written err.old).failed < 2 ^ 64 - 1 }
+    requires filter { IsFilter (option_copied asked.now.filter) (view filter.now) }
+    requires loaded { IsLoaded (F.files folder.now) asked.now.db.now database.now.tree.conf database.now.tree.entries }
+    ensures ends { (w : World) → HasEnded (SearchGoesThrough asked.now) (SearchStops asked.now)
+        (record w { files = F.files folder.now; output = O.written out.old; messages = E.written err.old })
+        (record w { files = F.files folder.now; output = O.written out.new; messages = E.written err.new }) result }
+    ensures can_report { IfErr result (λ why. CanReport why (E.written err.new).failed) }
+{
+    let prepared = prepare(alloc, filter, &database.conf)?;
+    search_by(alloc, asked, &prepared, database, folder, out, err)
+}
+
+/// Loads the directory, and searches it.
+fn load_and_search<F: Folder, O: Sink, E: Sink>(
+    alloc: Global,
+    asked: &SearchOptions<'_>,
+    filter: &Filter,
+    folder: &F,
+    out: &mut O,
+    err: &mut E,
+) -> Result<Status, Stop>
+    requires out { (O.written out.old).failed < 2 ^ 64 - 1 }
+    requires err { (E.written err.old).failed < 2 ^ 64 - 1 }
+    requires filter { IsFilter (option_copied asked.now.filter) (view filter.now) }
+    ensures ends { (w : World) → HasEnded (SearchGoesThrough asked.now) (SearchStops asked.now)
+        (record w { files = F.files folder.now; output = O.written out.old; messages = E.written err.old })
+        (record w { files = F.files folder.now; output = O.written out.new; messages = E.written err.new }) result }
+    ensures can_report { IfErr result (λ why. CanReport why (E.written err.new).failed) }
+{
+    let database = load_database(alloc, folder, asked.db)?;
+    let ended = search_directory(alloc, asked, filter, &database, folder, out, err);
+    // The program ends with its command, and that frees the entries at once.
+    mem::forget(database);
+    ended
 }
 
 /// Prints the entries of the directory in a folder that are in scope of the base and that the filter is True of, with the attributes that
@@ -290,9 +326,9 @@ pub fn search<F: Folder, O: Sink, E: Sink>(
         (record w { files = F.files folder.now; output = O.written out.new; messages = E.written err.new }) result }
     ensures can_report { IfErr result (λ why. CanReport why (E.written err.new).failed) }
 {
-    let loaded = load(alloc, asked, folder)?;
-    let ended = search_loaded(alloc, asked, &loaded, out, err);
-    // The program ends with its command, and that frees the entries at once.
-    mem::forget(loaded);
+    let filter = filter_of(alloc, asked.filter)?;
+    let ended = load_and_search(alloc, asked, &filter, folder, out, err);
+    // The program ends with its command, and that frees the filter at once.
+    mem::forget(filter);
     ended
 }

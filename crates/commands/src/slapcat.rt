@@ -3,8 +3,9 @@ ghost use Rattle.std.specs.Prelude.{◌≡◌, ◌<◌, ◌-◌, ◌^◌, true, 
 ghost use Rattle.std.specs.FinMap as finite;
 ghost use Rattle.std.specs.Option.{option_copied};
 ghost use Rattle.device.specs.Device.{Took};
+ghost use Rattle.filter_text.specs.Spells.{view};
 ghost use Rattle.commands.specs.Worlds.{World};
-ghost use Rattle.commands.specs.Asked.{IsBase};
+ghost use Rattle.commands.specs.Asked.{IsFilter, IsBase};
 ghost use Rattle.commands.specs.Failures.{FailsToWrite};
 ghost use Rattle.commands.specs.Queries.{LacksBase, target_of, IsBegun, Begins, HasBegun, PrintsPartly, StopsWith};
 ghost use Rattle.commands.specs.Prints.{cat_query, is_whole, IsCatText, CatText, Puts, HasPut, CatGoesThrough, CatStops};
@@ -139,14 +140,16 @@ fn put_entries<F: Folder, O: Sink>(
     put_excerpt(alloc, asked, filter, database, folder, out)
 }
 
-#[tactic(auto, using(crate::proofs::Stopping::filter_stops, crate::proofs::Stopping::load_stops))]
+/// Loads the directory, and puts the entries that are asked for.
 fn load_and_put<F: Folder, O: Sink>(
     alloc: Global,
     asked: &CatOptions<'_>,
+    filter: &Filter,
     folder: &mut F,
     out: &mut O,
 ) -> Result<(), CommandFault>
-    requires { (O.written out.old).failed < 2 ^ 64 - 1 }
+    requires can_fail { (O.written out.old).failed < 2 ^ 64 - 1 }
+    requires filter { IsFilter (option_copied asked.now.filter) (view filter.now) }
     ensures same { OnErr result (F.files folder.new ≡ F.files folder.old) }
     ensures locking { F.locking folder.new ≡ F.locking folder.old }
     ensures put { (w : World) → OnOk result (HasPut (CatText asked.now (F.files folder.old)) (option_copied asked.now.file)
@@ -156,9 +159,8 @@ fn load_and_put<F: Folder, O: Sink>(
     ensures partly { IfErr result (PrintsPartly (HasBegun (CatText asked.now (F.files folder.old)) (option_copied asked.now.file))
         (O.written out.old) (O.written out.new)) }
 {
-    let filter = filter_of(alloc, asked.filter)?;
     let database = load_database(alloc, folder, asked.db)?;
-    let done = put_entries(alloc, asked, &filter, &database, folder, out);
+    let done = put_entries(alloc, asked, filter, &database, folder, out);
     // The program ends with its command, and that frees the entries at once.
     mem::forget(database);
     done
@@ -179,7 +181,11 @@ pub fn slapcat<F: Folder, O: Sink>(
         (record w { files = F.files folder.new; output = O.written out.new }) result }
     ensures locking { F.locking folder.new ≡ F.locking folder.old }
 {
-    match load_and_put(alloc, asked, folder, out) {
+    let filter = filter_of(alloc, asked.filter)?;
+    let done = load_and_put(alloc, asked, &filter, folder, out);
+    // The program ends with its command, and that frees the filter at once.
+    mem::forget(filter);
+    match done {
         Ok(()) => Ok(Status::Done),
         Err(fault) => Err(Stop::Fault(fault)),
     }

@@ -20,7 +20,6 @@ use Rattle.commands.specs.Loaded.{IsLoaded}
 use Rattle.commands.specs.Messages.{line_of}
 use Rattle.commands.specs.declared.index_file.IndexFile.{IndexFile}
 use Rattle.commands.specs.declared.index_file.IndexFile.TheVariants as files
-use Rattle.commands.specs.declared.searching.Loaded.{Loaded}
 use Rattle.commands.specs.declared.messages.Stop.{Stop}
 use Rattle.commands.specs.declared.messages.Stop.TheVariants as stops
 
@@ -62,8 +61,8 @@ FailsToReport None a b why = ⊥
 -- ---- what a search has loaded
 
 -- it is the filter that was asked for, prepared under the configuration of the directory, and that with what its index.txt says
-pub record HasLoaded (asked : SearchOptions) (files : Option Files) (loaded : Loaded) : Type 0 where
-  pub filter_is : IsFilter (option_copied asked.filter) (view loaded.filter.filter)
-  pub prepared : loaded.filter.conf ≡ loaded.database.tree.conf
-  pub directory : IsLoaded files asked.db.now loaded.database.tree.conf loaded.database.tree.entries
-  pub index : HasRead files asked.db.now loaded.database.tree loaded.filter loaded.file
+pub record HasLoaded (asked : SearchOptions) (files : Option Files) (f : Made) (t : Tree) (file : IndexFile) : Type 0 where
+  pub filter_is : IsFilter (option_copied asked.filter) (view f.filter)
+  pub prepared : f.conf ≡ t.conf
+  pub directory : IsLoaded files asked.db.now t.conf t.entries
+  pub index : HasRead files asked.db.now t f file

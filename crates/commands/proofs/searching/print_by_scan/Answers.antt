@@ -15,10 +15,10 @@ returns-in-Some-clause-found g c =
     let asked = c.args.asked.now in
     let d = c.args.database.now.tree in
     printed_so (λ past text. IsFoundText asked None (basis_of c.args.filter.now.filter d) past text) (goes_past asked.limit (map seen c.in-Some.hits.to_come))
-    (found_text d.conf d.entries c.in_ok-wanted.wanted.selection (up_to asked.limit (map seen c.in-Some.hits.to_come)))
-    (found_so asked None (basis_of c.args.filter.now.filter d) c.in_ok-wanted.wanted.base c.in_ok-wanted.wanted.selection (map seen c.in-Some.hits.to_come)
-    (subst (λ (conf : Conf). IsBase conf (option_copied asked.base) c.in_ok-wanted.wanted.base) (sym c.args.database.now.same_conf) c.in_ok-wanted.ensures.base)
-    (selection_so d.conf c.args.database.now.conf asked.attributes.items asked.attributes.items c.in_ok-wanted.wanted.selection (sym c.args.database.now.same_conf) refl c.in_ok-wanted.ensures.selection)
+    (found_text d.conf d.entries c.args.wanted.now.selection (up_to asked.limit (map seen c.in-Some.hits.to_come)))
+    (found_so asked None (basis_of c.args.filter.now.filter d) c.args.wanted.now.base c.args.wanted.now.selection (map seen c.in-Some.hits.to_come)
+    (subst (λ (conf : Conf). IsBase conf (option_copied asked.base) c.args.wanted.now.base) (sym c.args.database.now.same_conf) c.requires.wanted.base)
+    (selection_so d.conf c.args.database.now.conf asked.attributes.items asked.attributes.items c.args.wanted.now.selection (sym c.args.database.now.same_conf) refl c.requires.wanted.selection)
     (sym c.in-Some.ensures.there)
     c.in-Some.ensures.found
     (λ own. refl))
@@ -30,11 +30,11 @@ returns-in-Some-clause-partly g c =
     let d = c.args.database.now.tree in
     let past = goes_past asked.limit (map seen c.in-Some.hits.to_come) in
     text_begun (λ text. (past : Bool) × IsFoundText asked None (basis_of c.args.filter.now.filter d) past text) None
-    (found_text d.conf d.entries c.in_ok-wanted.wanted.selection (up_to asked.limit (map seen c.in-Some.hits.to_come))) (
+    (found_text d.conf d.entries c.args.wanted.now.selection (up_to asked.limit (map seen c.in-Some.hits.to_come))) (
       past,
-      found_so asked None (basis_of c.args.filter.now.filter d) c.in_ok-wanted.wanted.base c.in_ok-wanted.wanted.selection (map seen c.in-Some.hits.to_come)
-          (subst (λ (conf : Conf). IsBase conf (option_copied asked.base) c.in_ok-wanted.wanted.base) (sym c.args.database.now.same_conf) c.in_ok-wanted.ensures.base)
-          (selection_so d.conf c.args.database.now.conf asked.attributes.items asked.attributes.items c.in_ok-wanted.wanted.selection (sym c.args.database.now.same_conf) refl c.in_ok-wanted.ensures.selection)
+      found_so asked None (basis_of c.args.filter.now.filter d) c.args.wanted.now.base c.args.wanted.now.selection (map seen c.in-Some.hits.to_come)
+          (subst (λ (conf : Conf). IsBase conf (option_copied asked.base) c.args.wanted.now.base) (sym c.args.database.now.same_conf) c.requires.wanted.base)
+          (selection_so d.conf c.args.database.now.conf asked.attributes.items asked.attributes.items c.args.wanted.now.selection (sym c.args.database.now.same_conf) refl c.requires.wanted.selection)
           (sym c.in-Some.ensures.there)
           c.in-Some.ensures.found
           (λ own. refl)

@@ -1,0 +1,21 @@
+use Rattle.std.proofs.lemmas.Result.{err_from_is_err_and}
+use Rattle.commands.proofs.Searched.{stopped_at_once}
+use Rattle.commands.proofs.searching.search_directory.Goals as goal
+
+pub returns-clause-ends : goal.returns-clause-ends
+returns-clause-ends g c = c.search_by.ensures.ends
+
+pub returns-clause-can_report : goal.returns-clause-can_report
+returns-clause-can_report g c = c.search_by.ensures.can_report
+
+pub returns-in_err-prepared-clause-ends : goal.returns-in_err-prepared-clause-ends
+returns-in_err-prepared-clause-ends g c =
+    let p = err_from_is_err_and c.from_residual.result c.from_residual.ensures.1 in
+    rw (p.1, p.2) (λ w. stopped_at_once c.args.asked.now (record w { files = g.F.Folder.files c.args.folder.now; output = g.O.Sink.written c.args.out.now; messages = g.E.Sink.written c.args.err.now }) _
+    tt
+    tt)
+
+pub returns-in_err-prepared-clause-can_report : goal.returns-in_err-prepared-clause-can_report
+returns-in_err-prepared-clause-can_report g c =
+    let p = err_from_is_err_and c.from_residual.result c.from_residual.ensures.1 in
+    rw (p.1, p.2) c.requires.err
