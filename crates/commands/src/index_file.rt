@@ -1,11 +1,11 @@
 //! index.txt of a directory, as a search reads it.
-ghost use Rattle.std.specs.Prelude.{◌≡◌, ◌<◌, ◌-◌, ◌^◌, IfOk, IfErr, OnOk, string_bytes};
+ghost use Rattle.std.specs.Prelude.{◌≡◌, ℕ, ◌<◌, ◌-◌, ◌^◌, List, Option, Some, IfOk, IfErr, OnOk, string_bytes};
 ghost use Rattle.std.specs.List.{AllByRecursion};
 ghost use Rattle.device.specs.Device.{Took};
 ghost use Rattle.filter.specs.Made.{Made};
 ghost use Rattle.stored_index.specs.Rows.{IsByte};
 ghost use Rattle.commands.specs.Failures.{FailsToRead};
-ghost use Rattle.commands.specs.Folders.{index_name};
+ghost use Rattle.commands.specs.Folders.{Files, Finds, index_name};
 ghost use Rattle.commands.specs.IndexFiles.{Said, index_fault_text, ReportsFault};
 ghost use Rattle.commands.specs.Messages.{line_of};
 ghost use Rattle.commands.specs.inner.IndexFiles.{Says, HasRead, FailsToReportFault, FailsToReport};
@@ -16,7 +16,7 @@ use crate::folder::Folder;
 use crate::messages::{CommandFault, Stop};
 use candidates::asked_keys;
 use databases::{Database, index_texts_reflect_dumps, kept_index_texts_are_read, stamp_of};
-use device::{Sink, push_all};
+use device::{Sink, Source, push_all};
 use filter::Prepared;
 use std::alloc::{AllocError, Global};
 use stored_index::{IndexFault, IndexFaultKind, StoredIndex};
@@ -37,6 +37,41 @@ fn are_bytes(bytes: &[u8])
     ensures { AllByRecursion IsByte bytes.now }
 {}
 
+/// Reads an index text of a directory from a source that has this name, and keeps of it what a filter asks for.
+fn read_source<S: Source>(
+    alloc: Global,
+    source: &mut S,
+    name: &str,
+    database: &Database,
+    filter: &Prepared,
+) -> Result<IndexFile, CommandFault>
+    requires { (S.seen source.old).failed < 2 ^ 64 - 1 }
+    ensures read { IfOk result (λ file. (files : Option Files) (db : List ℕ) → Finds files (index_name db) (Some (S.seen source.old).left)
+        → HasRead files db database.now.tree filter.now file) }
+    ensures err { IfErr result (FailsToRead name.now) }
+{
+    database.conf.rules_are_kept();
+    database.tree.entries_are_a_directory();
+    index_texts_reflect_dumps();
+    kept_index_texts_are_read();
+    let asked = asked_keys(alloc, filter, database.conf.slots())?;
+    let stamp = stamp_of(alloc, &database.tree, &database.conf)?;
+    are_bytes(&stamp);
+    match StoredIndex::read(
+        alloc,
+        source,
+        &database.conf,
+        &stamp,
+        database.tree.len(),
+        asked.as_slice(),
+    ) {
+        Ok(stored) => Ok(IndexFile::Read(stored)),
+        Err(IndexFault::Fault(kind)) => Ok(IndexFile::Faulty(kind)),
+        Err(IndexFault::Device) => Err(CommandFault::cannot_read(alloc, name)),
+        Err(IndexFault::OutOfMemory) => Err(CommandFault::OutOfMemory),
+    }
+}
+
 /// Reads index.txt in the folder `db`, of the directory that was loaded from there, and keeps of it what a filter asks for.
 pub fn read_index<F: Folder>(
     alloc: Global,
@@ -48,29 +83,10 @@ pub fn read_index<F: Folder>(
     ensures read { IfOk result (HasRead (F.files folder.now) db.now database.now.tree filter.now) }
     ensures err { IfErr result (FailsToRead (index_name db.now)) }
 {
-    database.conf.rules_are_kept();
-    database.tree.entries_are_a_directory();
-    index_texts_reflect_dumps();
-    kept_index_texts_are_read();
-    let asked = asked_keys(alloc, filter, database.conf.slots())?;
     let name = path(alloc, db, "index.txt")?;
-    let Some(mut source) = open(alloc, folder, name.as_str())? else {
-        return Ok(IndexFile::Missing);
-    };
-    let stamp = stamp_of(alloc, &database.tree, &database.conf)?;
-    are_bytes(&stamp);
-    match StoredIndex::read(
-        alloc,
-        &mut source,
-        &database.conf,
-        &stamp,
-        database.tree.len(),
-        asked.as_slice(),
-    ) {
-        Ok(stored) => Ok(IndexFile::Read(stored)),
-        Err(IndexFault::Fault(kind)) => Ok(IndexFile::Faulty(kind)),
-        Err(IndexFault::Device) => Err(CommandFault::cannot_read(alloc, name.as_str())),
-        Err(IndexFault::OutOfMemory) => Err(CommandFault::OutOfMemory),
+    match open(alloc, folder, name.as_str())? {
+        Some(mut source) => read_source(alloc, &mut source, name.as_str(), database, filter),
+        None => Ok(IndexFile::Missing),
     }
 }
 
