@@ -1,8 +1,9 @@
 -- What is printed of a directory that was loaded.
-use Rattle.std.proofs.Common.{◌≡◌, ℕ, Bool, true, List, map, Option, Some, None, refl, sym, ap, ◌∙◌, subst, Bor}
+use Rattle.std.proofs.Common.{◌≡◌, ℕ, Bool, true, nat_lt, List, map, Option, Some, None, refl, sym, ap, ◌∙◌, subst, Bor}
 use Rattle.std.specs.Prelude.{Result, Ok, Err, IfOk, IfErr, OnOk, is_some}
 use Rattle.std.specs.Option.{option_copied, option_map}
 use Rattle.std.specs.FinMap as finite
+use Rattle.std.proofs.lemmas.List.{length-map}
 use Rattle.device.specs.Device.{Written, Took}
 use Rattle.paths.specs.Paths.{Path}
 use Rattle.schema.specs.Conf.{Conf, IsConf}
@@ -93,6 +94,11 @@ module _ (asked : SearchOptions) (said : Said) (basis : Basis) (base : Path) (s 
     text_is = ap (λ (es : List (Path × EntryContent)). found_text basis.conf basis.entries s (up_to asked.limit es)) found;
     whole = whole;
   }
+
+-- whether there are more, doesn't depend on what is seen of each
+pub past_seen : {A B : Type 0} (see : A → B) (limit : Option ℕ) (xs : List A) → goes_past limit xs ≡ goes_past limit (map see xs)
+past_seen {A} {B} see None xs = refl
+past_seen {A} {B} see (Some n) xs = ap (nat_lt n) (sym (length-map xs see))
 
 -- it was printed, and it was answered whether there is more
 pub printed_so : (IsText : Bool → List ℕ → Type 0) (wanted : Bool) (text : List ℕ) → ((past : Bool) → past ≡ wanted → IsText past text) → (answer : Result Bool CommandFault) (a b : Written)

@@ -75,7 +75,6 @@ fn stop_of(alloc: Global, fault: RunFault, name: &str) -> Stop
 }
 
 /// Runs the records of a source that has this name, and answers how many were accepted and refused, or why the command stops.
-#[tactic(auto, using(crate::proofs::Stopping::can_report))]
 fn run_source<S: Source, E: Sink>(
     alloc: Global,
     task: &Task<'_>,

@@ -131,7 +131,6 @@ fn file_contents<F: Folder>(alloc: Global, folder: &F, name: &str) -> Result<Vec
 }
 
 /// The configuration that the folder's dir.conf says.
-#[tactic(auto, using(crate::proofs::Stopping::conf_unread))]
 fn configuration<F: Folder>(alloc: Global, folder: &F, db: &str) -> Result<Conf, CommandFault>
     ensures err { IfErr result (LoadFails (F.files folder.now) db.now) }
     ensures ok { IfOk result (λ c. IsConfigured (F.files folder.now) (conf_name db.now) c) }

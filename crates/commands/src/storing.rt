@@ -96,7 +96,6 @@ fn store_index_with<F: Folder>(
 }
 
 /// Puts the text of the index of these entries in place of the folder's index.txt.
-#[tactic(auto, using(crate::proofs::StoredFiles::memory_fails))]
 pub fn store_index<F: Folder>(
     alloc: Global,
     folder: &mut F,

@@ -4,8 +4,8 @@ use Rattle.std.specs.Option.{option_copied}
 use Rattle.std.proofs.lemmas.Result.{IfOk-weaker, err_from_is_err_and}
 use Rattle.commands.specs.Changes.{Breaks, source_name, HasNoSource}
 use Rattle.commands.specs.inner.Views.{run_of}
-use Rattle.commands.proofs.Running.{of_input, of_file, not_opened, broken_off}
 use Rattle.commands.specs.declared.messages.Stop.TheVariants as stops
+use Rattle.commands.proofs.Running.{of_input, of_file, not_opened, broken_off}
 use Rattle.commands.proofs.Stopping.{of_faults}
 use Rattle.commands.proofs.changes.run_records.Goals as goal
 
@@ -40,3 +40,28 @@ returns-in_err-source-clause-stops g c =
     let p = err_from_is_err_and c.from_residual.result c.from_residual.ensures.1 in
     rw (p.1, p.2) (λ w. not_opened c.args.task.now _ _ _ _ c.requires.loaded
     (subst (λ (file : Option (List ℕ)). HasNoSource file (stops.Fault c.in_err-source.field-0.0)) (sym (ap option_copied c.in-Some.is)) c.in_err-source.ensures.err))
+
+pub returns-in_err-source-clause-ran : goal.returns-in_err-source-clause-ran
+returns-in_err-source-clause-ran g c =
+    let p = err_from_is_err_and c.from_residual.result c.from_residual.ensures.1 in
+    rw (p.1) tt
+
+pub returns-in_default-clause-same_conf : goal.returns-in_default-clause-same_conf
+returns-in_default-clause-same_conf g c = c.run_source.ensures.same_conf
+
+pub returns-in_default-clause-can_report : goal.returns-in_default-clause-can_report
+returns-in_default-clause-can_report g c = c.run_source.ensures.can_report
+
+pub returns-in_err-source-clause-same_conf : goal.returns-in_err-source-clause-same_conf
+returns-in_err-source-clause-same_conf g c = refl
+
+pub returns-in_err-source-clause-can_report : goal.returns-in_err-source-clause-can_report
+returns-in_err-source-clause-can_report g c =
+    let p = err_from_is_err_and c.from_residual.result c.from_residual.ensures.1 in
+    rw (p.1, p.2) c.requires.err
+
+pub returns-clause-same_conf : goal.returns-clause-same_conf
+returns-clause-same_conf g c = c.run_source-2.ensures.same_conf
+
+pub returns-clause-can_report : goal.returns-clause-can_report
+returns-clause-can_report g c = c.run_source-2.ensures.can_report

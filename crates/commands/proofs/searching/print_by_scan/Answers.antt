@@ -1,4 +1,4 @@
-use Rattle.std.proofs.Common.{Bool, map, refl, sym, subst}
+use Rattle.std.proofs.Common.{Bool, map, refl, sym, subst, inr}
 use Rattle.std.specs.Prelude.{codes, None}
 use Rattle.std.specs.Option.{option_copied}
 use Rattle.schema.specs.Conf.{Conf}
@@ -8,6 +8,7 @@ use Rattle.commands.specs.Asked.{IsBase}
 use Rattle.commands.specs.Prints.{IsFoundText}
 use Rattle.commands.specs.inner.Views.{basis_of}
 use Rattle.commands.proofs.Ends.{found_so, selection_so, printed_so, text_begun}
+use Rattle.commands.proofs.Stopping.{of_faults}
 use Rattle.commands.proofs.searching.print_by_scan.Goals as goal
 
 pub returns-in-Some-clause-found : goal.returns-in-Some-clause-found
@@ -41,3 +42,6 @@ returns-in-Some-clause-partly g c =
           past refl,
     )
     c.print_hits.result (codes "output") _ _ c.print_hits.ensures.fault c.print_hits.ensures.begun
+
+pub returns-in-Some-clause-fault : goal.returns-in-Some-clause-fault
+returns-in-Some-clause-fault g c = of_faults c.print_hits.result (λ f fails. inr fails) c.print_hits.ensures.fault

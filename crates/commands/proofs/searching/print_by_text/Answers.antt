@@ -1,4 +1,4 @@
-use Rattle.std.proofs.Common.{Bool, map, refl, sym, subst}
+use Rattle.std.proofs.Common.{Bool, map, refl, sym, subst, inr}
 use Rattle.std.specs.Prelude.{codes, None}
 use Rattle.std.specs.Option.{option_copied}
 use Rattle.schema.specs.Conf.{Conf, IsConf}
@@ -8,6 +8,7 @@ use Rattle.commands.specs.Asked.{IsBase}
 use Rattle.commands.specs.Prints.{IsFoundText}
 use Rattle.commands.specs.inner.Views.{basis_of}
 use Rattle.commands.proofs.Ends.{found_by_part, selection_so, printed_so, text_begun}
+use Rattle.commands.proofs.Stopping.{of_faults}
 use Rattle.commands.proofs.searching.print_by_text.Goals as goal
 
 pub returns-in-Ok-clause-found : goal.returns-in-Ok-clause-found
@@ -40,3 +41,9 @@ returns-in-Ok-clause-partly g c = λ said kept.
           c.in-Ok.ensures.there c.in-Ok.ensures.found c.search_with.ensures.part c.in-Ok.ensures.whole said kept past refl,
     )
     c.print_hits.result (codes "output") _ _ c.print_hits.ensures.fault c.print_hits.ensures.begun
+
+pub returns-in-Ok-clause-fault : goal.returns-in-Ok-clause-fault
+returns-in-Ok-clause-fault g c = of_faults c.print_hits.result (λ f fails. inr fails) c.print_hits.ensures.fault
+
+pub returns-in-Err-clause-found : goal.returns-in-Err-clause-found
+returns-in-Err-clause-found g c = λ said kept. tt

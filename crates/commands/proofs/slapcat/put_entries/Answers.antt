@@ -1,4 +1,4 @@
-use Rattle.std.proofs.Common.{◌≡◌, Bool, true, refl, sym, ap, subst, ◌∙◌}
+use Rattle.std.proofs.Common.{◌≡◌, Bool, true, refl, sym, ap, subst, ◌∙◌, inr}
 use Rattle.std.specs.Prelude.{OnOk, is_none, not}
 use Rattle.std.specs.Option.{option_copied}
 use Rattle.std.proofs.lemmas.Bool.{and_from}
@@ -6,6 +6,7 @@ use Rattle.std.proofs.lemmas.Result.{on_ok_weaker}
 use Rattle.commands.specs.Prints.{IsCatText, HasPut}
 use Rattle.commands.specs.Worlds.{World}
 use Rattle.commands.specs.inner.Views.{basis_of}
+use Rattle.commands.proofs.Stopping.{of_faults}
 use Rattle.commands.proofs.slapcat.put_entries.Goals as goal
 
 pub returns-then-is_none-2-clause-put : goal.returns-then-is_none-2-clause-put
@@ -17,3 +18,21 @@ returns-then-is_none-2-clause-put g c = λ w.
     let no_base : is_none asked.base ≡ true = ap not c.is_none-then-is_none.ensures ∙ ap (λ b. not (not b)) c.if-is_none-2.true in
     subst (λ (whole : Bool). OnOk c.put.result (HasPut (IsCatText whole asked (basis_of c.args.filter.now c.args.database.now.tree)) (option_copied asked.file) w₁ w₂)) (sym (and_from _ _ no_filter no_base))
     (on_ok_weaker c.put.result (λ put. record { text = _; is = refl; put = put }) (c.put.ensures.put w))
+
+pub returns-then-is_none-2-clause-same : goal.returns-then-is_none-2-clause-same
+returns-then-is_none-2-clause-same g c = c.put.ensures.same
+
+pub returns-then-is_none-2-clause-locking : goal.returns-then-is_none-2-clause-locking
+returns-then-is_none-2-clause-locking g c = c.put.ensures.locking
+
+pub returns-then-is_none-2-clause-fault : goal.returns-then-is_none-2-clause-fault
+returns-then-is_none-2-clause-fault g c = of_faults c.put.result (λ f fails. inr fails) c.put.ensures.err
+
+pub returns-clause-same : goal.returns-clause-same
+returns-clause-same g c = c.put_excerpt.ensures.same
+
+pub returns-clause-locking : goal.returns-clause-locking
+returns-clause-locking g c = c.put_excerpt.ensures.locking
+
+pub returns-clause-fault : goal.returns-clause-fault
+returns-clause-fault g c = c.put_excerpt.ensures.fault
