@@ -2,7 +2,10 @@
 use Rattle.std.proofs.Common.{◌≡◌, ℕ, ◌⊎◌, true, false, inl, inr, List, Option, None, Some, refl, sym, subst, ◌∙◌}
 use Rattle.std.specs.Prelude.{Result, Ok, Err, if◌then◌else◌}
 use Rattle.device.specs.Device.{Written}
+use Rattle.command_line.specs.declared.request.Request.{Request}
+use Rattle.command_line.specs.declared.request.UsageFault.{UsageFault}
 use Rattle.commands.specs.Changes.{written_by}
+use Rattle.commands.specs.Commands.{RequestGoesThrough, RequestStops, writes_in}
 use Rattle.commands.specs.Endings.{StoppedAt, ReportsStop}
 use Rattle.commands.specs.Failures.{IsMemory, FailsToRead, TellsInUse}
 use Rattle.commands.specs.Folders.{Files, Finds, conf_name}
@@ -80,3 +83,8 @@ module _ (GoesThrough : World → World → Status → Type 0) (ComesTo : World 
   reports_why None w mid messages why s ended tells = inr (reported ComesTo w mid messages why s ended tells)
   reports_why (Some db) w mid messages why s (inl none) tells = inl (reported (HasNoLock db) w mid messages why s none tells)
   reports_why (Some db) w mid messages why s (inr under) tells = inr (record { locked = under.locked; is = under.is; goes = inr (reported ComesTo under.locked mid messages why s under.goes tells) })
+
+-- what is asked for by another name
+pub asked_so : (asked asked' : Result Request UsageFault) (w w' : World) (result : Result Status Stop) → asked ≡ asked' → HasEndedUnder (writes_in asked') (RequestGoesThrough asked') (RequestStops asked') w w' result
+    → HasEndedUnder (writes_in asked) (RequestGoesThrough asked) (RequestStops asked) w w' result
+asked_so asked asked' w w' result is = subst (λ (asked : Result Request UsageFault). HasEndedUnder (writes_in asked) (RequestGoesThrough asked) (RequestStops asked) w w' result) (sym is)

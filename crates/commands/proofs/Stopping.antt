@@ -83,6 +83,10 @@ fits_reports (stops.Fault fault) n fits = fits
 fits_reports (stops.Usage text) n fits = fits
 fits_reports stops.Messages n fits = tt
 
+pub each_reports : {A : Type 0} (r : Result A Stop) (n : ℕ) → n < 2 ^ 64 - 1 → IfErr r (λ why. CanReport why n)
+each_reports {A} (Ok x) n fits = tt
+each_reports {A} (Err why) n fits = fits_reports why n fits
+
 -- where standard error can fail once more before a run, it can afterwards, unless it is what failed
 pub can_report : (f : RunFault) (name : List ℕ) (why : Stop) (s s' w w' : ℕ) → w < 2 ^ 64 - 1 → Failures (Err f) s s' w w' → Breaks f name why → CanReport why w'
 can_report (run_faults.Read t) name why s s' w w' fits h breaks = fits_reports why w' (subst (λ (n : ℕ). n < 2 ^ 64 - 1) (sym h.1) fits)

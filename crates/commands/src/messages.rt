@@ -137,7 +137,7 @@ impl fmt::Display for CommandFault {
 
     fn fmt<W: fmt::Write>(&self, f: &mut fmt::Formatter<W>) -> fmt::Result {
         match self {
-            CommandFault::Words => write!(f, "command line: not UTF-8"),
+            CommandFault::Words => f.write_str("command line: not UTF-8"),
             CommandFault::Filter(fault) => write!(f, "filter: {fault}"),
             CommandFault::Code { command, code } => write!(f, "{command}: {code}"),
             CommandFault::Configuration { line, kind } => write!(f, "dir.conf line {line}: {kind}"),
@@ -145,7 +145,7 @@ impl fmt::Display for CommandFault {
             CommandFault::CannotRead(name) => write!(f, "{name}: cannot read"),
             CommandFault::CannotWrite(name) => write!(f, "{name}: cannot write"),
             CommandFault::InUse(folder) => write!(f, "{folder}: in use"),
-            CommandFault::OutOfMemory => write!(f, "out of memory"),
+            CommandFault::OutOfMemory => f.write_str("out of memory"),
         }
     }
 }

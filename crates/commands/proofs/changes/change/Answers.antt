@@ -30,14 +30,3 @@ returns-then-not-task-clause-ends g c = λ w.
     wet (ChangeGoesThrough task) (ChangeStops task) task before _ _ c.if-not-task.true
     (under (ChangeGoesThrough task) (ChangeStops task) task.db.now before _ _ _ _ c.in_ok-lock.ensures.ok
     (so_locked (ChangeGoesThrough task) (ChangeStops task) locked behind _ _ c.load_and_run.ensures.locking (c.load_and_run.ensures.ends locked)))
-
-pub returns-in_err-lock-clause-can_report : goal.returns-in_err-lock-clause-can_report
-returns-in_err-lock-clause-can_report g c =
-    let p = err_from_is_err_and c.from_residual.result c.from_residual.ensures.1 in
-    rw (p.1, p.2) c.requires.err
-
-pub returns-then-not-task-clause-can_report : goal.returns-then-not-task-clause-can_report
-returns-then-not-task-clause-can_report g c = c.load_and_run.ensures.can_report
-
-pub returns-clause-can_report : goal.returns-clause-can_report
-returns-clause-can_report g c = c.load_and_run-2.ensures.can_report

@@ -41,25 +41,3 @@ returns-in_err-store_database-clause-can_report g c =
     let p = err_from_is_err_and c.from_residual-in_err-store_database.result c.from_residual-in_err-store_database.ensures.1 in
     let runs = c.in_ok-tally.ensures.ran (record { files = g.F.Folder.files c.args.folder.now; lock = g.F.Folder.locking c.args.folder.now; input = g.S.Source.seen c.args.input.now; output = g.E.Sink.written c.args.err.now; messages = g.E.Sink.written c.args.err.now }) in
     rw (p.1, p.2) (subst (λ (n : ℕ). n < 2 ^ 64 - 1) (sym runs.ran.failures.1) c.requires.err)
-
-pub returns-in_err-tally-clause-ends : goal.returns-in_err-tally-clause-ends
-returns-in_err-tally-clause-ends g c =
-    let p = err_from_is_err_and c.from_residual.result c.from_residual.ensures.1 in
-    rw (p.1, p.2) c.in_err-tally.ensures.stops
-
-pub returns-in_err-tally-clause-locking : goal.returns-in_err-tally-clause-locking
-returns-in_err-tally-clause-locking g c = refl
-
-pub returns-in_err-tally-clause-can_report : goal.returns-in_err-tally-clause-can_report
-returns-in_err-tally-clause-can_report g c =
-    let p = err_from_is_err_and c.from_residual.result c.from_residual.ensures.1 in
-    rw (p.1, p.2) c.in_err-tally.ensures.can_report
-
-pub returns-then-task-clause-locking : goal.returns-then-task-clause-locking
-returns-then-task-clause-locking g c = refl
-
-pub returns-in_err-store_database-clause-locking : goal.returns-in_err-store_database-clause-locking
-returns-in_err-store_database-clause-locking g c = c.store_database.ensures.locking
-
-pub returns-clause-locking : goal.returns-clause-locking
-returns-clause-locking g c = c.store_database.ensures.locking

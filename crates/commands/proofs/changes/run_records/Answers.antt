@@ -46,22 +46,13 @@ returns-in_err-source-clause-ran g c =
     let p = err_from_is_err_and c.from_residual.result c.from_residual.ensures.1 in
     rw (p.1) tt
 
-pub returns-in_default-clause-same_conf : goal.returns-in_default-clause-same_conf
-returns-in_default-clause-same_conf g c = c.run_source.ensures.same_conf
-
 pub returns-in_default-clause-can_report : goal.returns-in_default-clause-can_report
 returns-in_default-clause-can_report g c = c.run_source.ensures.can_report
-
-pub returns-in_err-source-clause-same_conf : goal.returns-in_err-source-clause-same_conf
-returns-in_err-source-clause-same_conf g c = refl
 
 pub returns-in_err-source-clause-can_report : goal.returns-in_err-source-clause-can_report
 returns-in_err-source-clause-can_report g c =
     let p = err_from_is_err_and c.from_residual.result c.from_residual.ensures.1 in
     rw (p.1, p.2) c.requires.err
-
-pub returns-clause-same_conf : goal.returns-clause-same_conf
-returns-clause-same_conf g c = c.run_source-2.ensures.same_conf
 
 pub returns-clause-can_report : goal.returns-clause-can_report
 returns-clause-can_report g c = c.run_source-2.ensures.can_report

@@ -12,35 +12,7 @@ pub returns-in-Some-clause-err : goal.returns-in-Some-clause-err
 returns-in-Some-clause-err g c =
     unloaded_so _ _ _ c.requires _ _ (c.as_str.ensures.value ∙ c.in_ok-name.ensures) (c.as_str-in-Some.ensures.value ∙ c.in_ok-name.ensures) _ (opened_so _ _ _ _ _ c.in_ok-source.ensures.finds c.in-Some.is) c.tree_of.result c.tree_of.ensures.err
 
-pub returns-in_err-name-clause-same_conf : goal.returns-in_err-name-clause-same_conf
-returns-in_err-name-clause-same_conf g c =
-    let p = err_from_is_err_and c.from_residual.result c.from_residual.ensures.1 in
-    rw (p.1) tt
-
-pub returns-in_err-name-clause-loaded : goal.returns-in_err-name-clause-loaded
-returns-in_err-name-clause-loaded g c =
-    let p = err_from_is_err_and c.from_residual.result c.from_residual.ensures.1 in
-    rw (p.1) tt
-
-pub returns-in_err-name-clause-err : goal.returns-in_err-name-clause-err
-returns-in_err-name-clause-err g c =
-    let p = err_from_is_err_and c.from_residual.result c.from_residual.ensures.1 in
-    rw (p.1, p.2) tt
-
-pub returns-in_err-source-clause-same_conf : goal.returns-in_err-source-clause-same_conf
-returns-in_err-source-clause-same_conf g c =
-    let p = err_from_is_err_and c.from_residual-in_err-source.result c.from_residual-in_err-source.ensures.1 in
-    rw (p.1) tt
-
-pub returns-in_err-source-clause-loaded : goal.returns-in_err-source-clause-loaded
-returns-in_err-source-clause-loaded g c =
-    let p = err_from_is_err_and c.from_residual-in_err-source.result c.from_residual-in_err-source.ensures.1 in
-    rw (p.1) tt
-
 pub returns-in_err-source-clause-err : goal.returns-in_err-source-clause-err
 returns-in_err-source-clause-err g c =
     let p = err_from_is_err_and c.from_residual-in_err-source.result c.from_residual-in_err-source.ensures.1 in
     rw (p.1, p.2) (data_unread _ _ c.args.conf.now _ _ c.requires (c.as_str.ensures.value ∙ c.in_ok-name.ensures) c.in_err-source.ensures.err)
-
-pub returns-in-Some-clause-same_conf : goal.returns-in-Some-clause-same_conf
-returns-in-Some-clause-same_conf g c = c.tree_of.ensures.same_conf

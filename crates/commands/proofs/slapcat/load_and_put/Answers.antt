@@ -48,16 +48,7 @@ returns-in_err-database-clause-same g c =
     let p = err_from_is_err_and c.from_residual.result c.from_residual.ensures.1 in
     rw (p.1) refl
 
-pub returns-in_err-database-clause-locking : goal.returns-in_err-database-clause-locking
-returns-in_err-database-clause-locking g c = refl
-
 pub returns-in_err-database-clause-put : goal.returns-in_err-database-clause-put
 returns-in_err-database-clause-put g c =
     let p = err_from_is_err_and c.from_residual.result c.from_residual.ensures.1 in
     rw (p.1) (λ w. tt)
-
-pub returns-clause-same : goal.returns-clause-same
-returns-clause-same g c = c.put_entries-done.ensures.same
-
-pub returns-clause-locking : goal.returns-clause-locking
-returns-clause-locking g c = c.put_entries-done.ensures.locking

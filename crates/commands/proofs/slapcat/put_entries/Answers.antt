@@ -19,20 +19,8 @@ returns-then-is_none-2-clause-put g c = λ w.
     subst (λ (whole : Bool). OnOk c.put.result (HasPut (IsCatText whole asked (basis_of c.args.filter.now c.args.database.now.tree)) (option_copied asked.file) w₁ w₂)) (sym (and_from _ _ no_filter no_base))
     (on_ok_weaker c.put.result (λ put. record { text = _; is = refl; put = put }) (c.put.ensures.put w))
 
-pub returns-then-is_none-2-clause-same : goal.returns-then-is_none-2-clause-same
-returns-then-is_none-2-clause-same g c = c.put.ensures.same
-
-pub returns-then-is_none-2-clause-locking : goal.returns-then-is_none-2-clause-locking
-returns-then-is_none-2-clause-locking g c = c.put.ensures.locking
-
 pub returns-then-is_none-2-clause-fault : goal.returns-then-is_none-2-clause-fault
 returns-then-is_none-2-clause-fault g c = of_faults c.put.result (λ f fails. inr fails) c.put.ensures.err
-
-pub returns-clause-same : goal.returns-clause-same
-returns-clause-same g c = c.put_excerpt.ensures.same
-
-pub returns-clause-locking : goal.returns-clause-locking
-returns-clause-locking g c = c.put_excerpt.ensures.locking
 
 pub returns-clause-fault : goal.returns-clause-fault
 returns-clause-fault g c = c.put_excerpt.ensures.fault

@@ -23,15 +23,3 @@ returns-in_err-filter-clause-ends g c =
     rw (p.1, p.2) (λ w. stopped (CatStops asked) _ _ _
     (query_stops (cat_query asked) _ _ _ _ (filter_stops (cat_query asked) files _ fails)
     (filter_prints (HasBegun (CatText asked files) (option_copied asked.file)) _ _ refl (option_copied asked.filter) _ fails) refl) refl)
-
-pub returns-in_err-filter-clause-locking : goal.returns-in_err-filter-clause-locking
-returns-in_err-filter-clause-locking g c = refl
-
-pub load_and_put-done-requires-clause-filter : goal.load_and_put-done-requires-clause-filter
-load_and_put-done-requires-clause-filter g c = c.in_ok-filter.ensures.found
-
-pub returns-in-Ok-clause-locking : goal.returns-in-Ok-clause-locking
-returns-in-Ok-clause-locking g c = c.load_and_put-done.ensures.locking
-
-pub returns-in-Err-clause-locking : goal.returns-in-Err-clause-locking
-returns-in-Err-clause-locking g c = c.load_and_put-done.ensures.locking

@@ -1,5 +1,4 @@
 use Rattle.std.proofs.lemmas.Result.{err_from_is_err_and}
-use Rattle.std.proofs.Common.{refl}
 use Rattle.commands.proofs.Indexing.{not_loaded, indexed, not_indexed}
 use Rattle.commands.proofs.slapindex.make_index.Goals as goal
 
@@ -15,12 +14,3 @@ pub returns-in_err-stored-clause-ends : goal.returns-in_err-stored-clause-ends
 returns-in_err-stored-clause-ends g c =
     let p = err_from_is_err_and c.from_residual-in_err-stored.result c.from_residual-in_err-stored.ensures.1 in
     rw (p.1, p.2) (λ w. not_indexed c.args.asked.now (record w { files = g.F.Folder.files c.args.folder.now }) _ _ _ _ c.in_ok-database.ensures.loaded c.in_err-stored.ensures.err)
-
-pub returns-in_err-database-clause-locking : goal.returns-in_err-database-clause-locking
-returns-in_err-database-clause-locking g c = refl
-
-pub returns-in_err-stored-clause-locking : goal.returns-in_err-stored-clause-locking
-returns-in_err-stored-clause-locking g c = c.store_index-stored.ensures.locking
-
-pub returns-clause-locking : goal.returns-clause-locking
-returns-clause-locking g c = c.store_index-stored.ensures.locking

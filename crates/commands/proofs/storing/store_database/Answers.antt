@@ -18,11 +18,3 @@ returns-in_err-stamp-clause-err g c =
       why = c.in_err-stamp.ensures.err;
       after_is = c.in_err-stamp.ensures.same;
     })
-
-pub returns-in_err-stamp-clause-ok : goal.returns-in_err-stamp-clause-ok
-returns-in_err-stamp-clause-ok g c =
-    let p = err_from_is_err_and c.from_residual.result c.from_residual.ensures.1 in
-    rw (p.1) tt
-
-pub returns-in_err-stamp-clause-locking : goal.returns-in_err-stamp-clause-locking
-returns-in_err-stamp-clause-locking g c = c.store_in.ensures.locking

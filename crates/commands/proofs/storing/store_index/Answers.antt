@@ -4,24 +4,7 @@ use Rattle.commands.specs.Stored.{index_file}
 use Rattle.commands.proofs.StoredFiles.{memory_fails}
 use Rattle.commands.proofs.storing.store_index.Goals as goal
 
-pub returns-in_err-stamp-clause-ok : goal.returns-in_err-stamp-clause-ok
-returns-in_err-stamp-clause-ok g c =
-    let p = err_from_is_err_and c.from_residual.result c.from_residual.ensures.1 in
-    rw (p.1) tt
-
 pub returns-in_err-stamp-clause-err : goal.returns-in_err-stamp-clause-err
 returns-in_err-stamp-clause-err g c =
     let p = err_from_is_err_and c.from_residual.result c.from_residual.ensures.1 in
     rw (p.1, p.2) (memory_fails (index_file c.args.db.now c.args.database.now.tree.conf c.args.database.now.tree.entries) [] _ _ tt)
-
-pub returns-in_err-stamp-clause-locking : goal.returns-in_err-stamp-clause-locking
-returns-in_err-stamp-clause-locking g c = refl
-
-pub returns-clause-ok : goal.returns-clause-ok
-returns-clause-ok g c = c.store_index_with.ensures.ok
-
-pub returns-clause-err : goal.returns-clause-err
-returns-clause-err g c = c.store_index_with.ensures.err
-
-pub returns-clause-locking : goal.returns-clause-locking
-returns-clause-locking g c = c.store_index_with.ensures.locking
