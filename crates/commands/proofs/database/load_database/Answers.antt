@@ -1,5 +1,4 @@
 use Rattle.std.proofs.Common.{sym, subst}
-use Rattle.std.proofs.lemmas.Result.{err_from_is_err_and}
 use Rattle.schema.specs.Conf.{Conf}
 use Rattle.commands.specs.Loaded.{IsLoaded}
 use Rattle.commands.proofs.database.load_database.Goals as goal

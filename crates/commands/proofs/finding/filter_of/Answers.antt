@@ -3,7 +3,7 @@ use Rattle.std.specs.Prelude.{◌↔◌, Result, Ok, Err, unwrap_or}
 use Rattle.std.specs.Option.{option_copied}
 use Rattle.filter_text.specs.Depth.{IsShallow, IsDeepAt}
 use Rattle.filter_text.specs.Faults.{IsOutOfMemory, BeginsAt}
-use Rattle.filter_text.specs.Spells.{FilterContent, FilterText}
+use Rattle.filter_text.specs.Spells.{FilterContent, FilterText, view}
 use Rattle.filter_text.specs.declared.filters.Filter.{Filter}
 use Rattle.filter_text.specs.declared.filter_fault.FilterFault.{FilterFault}
 use Rattle.filter_text.specs.declared.filter_fault.FilterFault.TheVariants.{At}
@@ -38,3 +38,7 @@ pub returns-in-Err-At-clause-fault : goal.returns-in-Err-At-clause-fault
 returns-in-Err-At-clause-fault c =
     told_so (option_copied c.args.text) _ (c.as_bytes.ensures.value ∙ ap (λ (t : Bor (List ℕ)). t.now) c.unwrap_or.ensures ∙ copied c.args.text _) _ _ c.in-Err-At.field-0-is
     (λ f spelled shallow. subst IsOutOfMemory c.in-Err-At.field-0-is (c.in-Err-At.ensures.only f spelled shallow)) c.in-Err-At.ensures.deep c.in-Err-At.ensures.front
+
+pub returns-in-Ok-clause-found : goal.returns-in-Ok-clause-found
+returns-in-Ok-clause-found c =
+    subst (λ (b : List ℕ). FilterText (view c.in-Ok.filter) b × IsShallow b) (c.as_bytes.ensures.value ∙ ap (λ (t : Bor (List ℕ)). t.now) c.unwrap_or.ensures ∙ copied c.args.text _) c.in-Ok.ensures.found
