@@ -21,11 +21,20 @@ use values::Values;
 /// Attributes in order, each a type with its values in order, and no two of one type. A contract sees the list of them.
 ///
 /// The types lie next to each other: to look one up is to go through a few bytes.
-#[derive(Drop)]
 pub struct Attributes {
     types: Vec<TypeId>,
     // those of each type, in the same order
     values: Vec<Values>,
+}
+
+// A call of its own, so that no caller proves it anew.
+impl Drop for Attributes {
+    fn drop(self) {
+        let Attributes {
+            types: _,
+            values: _,
+        } = self;
+    }
 }
 
 impl Model for Attributes {
@@ -118,10 +127,8 @@ impl Attributes {
     {
         self.types.reserve(1)?;
         self.values.push(values)?;
-        match self.types.push(t) {
-            Ok(()) => Ok(()),
-            Err(_) => unreachable!(),
-        }
+        self.types.push_reserved(t);
+        Ok(())
     }
 
     /// Puts a value last among those of a type; or changes nothing where memory runs out.
@@ -227,12 +234,6 @@ impl<'a> Iterator for AttributesIter<'a> {
     ghost remaining = { λ i. at_most (length i) };
 
     fn next(&mut self) -> Option<(&'a TypeId, &'a Values)> {
-        match self.types.next() {
-            Some(t) => match self.values.next() {
-                Some(values) => Some((t, values)),
-                None => None,
-            },
-            None => None,
-        }
+        self.types.next().zip(self.values.next())
     }
 }

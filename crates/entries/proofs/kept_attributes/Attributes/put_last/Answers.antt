@@ -8,15 +8,15 @@ use Rattle.entries.specs.StoredEntries.{StoredAttributes}
 use Rattle.entries.proofs.KeptAttributes.{put_last, apart_last}
 use Rattle.entries.proofs.kept_attributes.Attributes.put_last.Goals as goal
 
-module _ (c : goal.In-Ok) where
+module _ (c : goal.After-push_reserved) where
   abbrev ts : List ℕ
   ts = c.self.inside.types.items
 
   abbrev vs : List (List Value)
   vs = c.self.inside.values.items
 
-  types_are : c.push-2.new.self.items ≡ ts ++ c.args.t ∷ []
-  types_are = c.in-Ok.ensures.items ∙ ap (λ (xs : List ℕ). xs ++ c.args.t ∷ []) c.in_ok-reserve.ensures.items
+  types_are : c.push_reserved.new.self.items ≡ ts ++ c.args.t ∷ []
+  types_are = c.push_reserved.ensures.items ∙ ap (λ (xs : List ℕ). xs ++ c.args.t ∷ []) c.in_ok-reserve.ensures.items
 
   values_are : c.push.new.self.items ≡ vs ++ c.args.values ∷ []
   values_are = c.in_ok-push.ensures.items
