@@ -168,6 +168,19 @@ left_start since vs h = record {
       ∙ ap (has_norm n) (sym (all_left since vs h));
 }
 
+-- ---- those that are left, one by one
+
+module _ (since : Since) (place : ℕ) (s t : List Value) (v : Value) (first : s ≡ v ∷ t) (front left : List Value) where
+  from_here : (b : Bool) → is_left since place v ≡ b → front ++ left_from since place s ≡ front ++ cond b (v ∷ left_from since (place + 1) t) (left_from since (place + 1) t)
+  unfolding left_from
+  from_here b is = ap (λ (vs : List Value). front ++ left_from since place vs) first ∙ ap (λ x. front ++ cond x (v ∷ left_from since (place + 1) t) (left_from since (place + 1) t)) is
+
+  pub one_stays : is_left since place v ≡ true → left ≡ front ++ v ∷ [] → left ++ left_from since (place + 1) t ≡ front ++ left_from since place s
+  one_stays is put = ap (λ (vs : List Value). vs ++ left_from since (place + 1) t) put ∙ append_assoc front (v ∷ []) (left_from since (place + 1) t) ∙ sym (from_here true is)
+
+  pub one_goes : is_left since place v ≡ false → left ≡ front → left ++ left_from since (place + 1) t ≡ front ++ left_from since place s
+  one_goes is same = ap (λ (vs : List Value). vs ++ left_from since (place + 1) t) same ∙ sym (from_here false is)
+
 -- ---- whether any are left
 
 some_alike : (es : List (List ℕ × ℕ)) (ws : List Value) → ((n : List ℕ) → is_some (lookup (is_at (slice_cmp nat_cmp n)) es) ≡ has_norm n ws) → nat_lt 0 (length es) ≡ nat_lt 0 (length ws)

@@ -13,7 +13,7 @@ use Rattle.values.specs.Values.{Value}
 use Rattle.schema.specs.declared.object_class.ObjectClass.{ObjectClass}
 use Rattle.schema.specs.Classes.{class_of}
 use Rattle.entries.specs.EntryClasses.{are_classes, named_classes}
-use Rattle.entries.specs.StoredEntries.{raws}
+use Rattle.entries.specs.StoredEntries.{EntryAttribute, attributes_of, raws, IsMadeAttribute}
 use Rattle.schema.specs.Rdns.{Ava, TypedRdn}
 use Rattle.entries.specs.Entries.{Attributes, add_line, add_lines}
 use Rattle.entries.specs.Modifies.{without_old_ava, without_rdn}
@@ -51,8 +51,32 @@ module _ {X : Type 0} (test : X → Bool) (xs : List X) (i : ℕ) (d : X) (lt : 
   pub one_found : test (get_or xs i d) ≡ true → list_any test (drop i xs) ≡ true
   one_found is = ap (list_any test) (drop_more xs i d lt) ∙ ap (λ b. b || list_any test (drop (i + 1) xs)) is
 
+pub none_found : {X : Type 0} (test : X → Bool) (xs : List X) (i : ℕ) → length xs ≤ i → list_any test (drop i xs) ≡ false
+none_found test xs i le = ap (list_any test) (drop_all i xs le)
+
+pub all_passed : {X : Type 0} (test : X → Bool) (xs : List X) (i : ℕ) → length xs ≤ i → list_all test (drop i xs) ≡ true
+all_passed test xs i le = ap (list_all test) (drop_all i xs le)
+
 pub this_one : {X : Type 0} (P : X → Type 0) (xs : List X) (i : ℕ) (x : X) → i < length xs → x ≡ get_or xs i x → AllByRecursion P (drop i xs) → P x
 this_one P xs i x lt is all = subst P (sym is) (subst (AllByRecursion P) (drop_more xs i x lt) all).0
+
+pub one_and_others : {X : Type 0} (P : X → Type 0) (xs : List X) (i : ℕ) (d : X) → i < length xs → AllByRecursion P (drop i xs) → P (get_or xs i d) × AllByRecursion P (drop (i + 1) xs)
+one_and_others P xs i d lt all = subst (AllByRecursion P) (drop_more xs i d lt) all
+
+-- ---- attributes that are tested one after the other
+
+module _ (test : ℕ × List (List ℕ) → Bool) (s t : List EntryAttribute) (a : EntryAttribute) (first : s ≡ a ∷ t) where
+  pub attribute_passes : test (a.0, raws a.1) ≡ true → list_all test (attributes_of t) ≡ list_all test (attributes_of s)
+  attribute_passes is = sym (ap (λ (es : List EntryAttribute). list_all test (attributes_of es)) first ∙ ap (λ b. b && list_all test (attributes_of t)) is)
+
+  pub attribute_fails : test (a.0, raws a.1) ≡ false → list_all test (attributes_of s) ≡ false
+  attribute_fails is = ap (λ (es : List EntryAttribute). list_all test (attributes_of es)) first ∙ ap (λ b. b && list_all test (attributes_of t)) is
+
+  pub attribute_made : (types : List AttributeType) → AllByRecursion (IsMadeAttribute types) s → IsMadeAttribute types a × AllByRecursion (IsMadeAttribute types) t
+  attribute_made types all = subst (AllByRecursion (IsMadeAttribute types)) first all
+
+pub attributes_passed : (test : ℕ × List (List ℕ) → Bool) (s : List EntryAttribute) → s ≡ [] → list_all test (attributes_of s) ≡ true
+attributes_passed test s none = ap (λ (es : List EntryAttribute). list_all test (attributes_of es)) none
 
 -- ---- the values of an old RDN
 

@@ -1,5 +1,8 @@
-use Rattle.std.proofs.Common.{sym, ap, ◌∙◌}
-use Rattle.base.proofs.Through.{goes_on, is_done}
+use Rattle.std.proofs.Common.{sym, ap, ◌∙◌, subst, List, ℕ}
+use Rattle.std.proofs.lemmas.Result.{IfOk-from_err, err_from_is_err_and}
+use Rattle.base.specs.Answers.{Fails}
+use Rattle.base.proofs.Through.{goes_on, is_done, ends}
+use Rattle.entries.specs.Gives.{fault_of}
 use Rattle.entries.specs.StoredEntries.{raws}
 use Rattle.entries.specs.Modifies.{remove_value}
 use Rattle.entries.proofs.modified_values.remove_values.Goals as goal
@@ -15,3 +18,14 @@ loop-raw-preserved c =
 
 pub returns-clause-gives : goal.returns-clause-gives
 returns-clause-gives c = is_done (remove_value c.args.conf.now.types c.args.t) c.args.texts.now c.loop-raw.raw-index (raws c.loop-raw.values) _ c.loop-raw-test.false c.loop-raw.invariant.rest
+
+pub returns-in_err-remove_value-clause-normal : goal.returns-in_err-remove_value-clause-normal
+returns-in_err-remove_value-clause-normal c = IfOk-from_err _ _ c.from_residual.ensures.0
+
+pub returns-in_err-remove_value-clause-gives : goal.returns-in_err-remove_value-clause-gives
+returns-in_err-remove_value-clause-gives c =
+    let step = remove_value c.args.conf.now.types c.args.t in
+    let old = raws c.loop-raw.values in
+    let fault = fault_of c.in_err-remove_value.field-0.0 in
+    let p = err_from_is_err_and c.from_residual.result c.from_residual.ensures.1 in
+    rw (p.1, p.2) (ends step c.args.texts.now c.loop-raw.raw-index c.raw-item.result old fault _ c.loop-raw-test.true (subst (λ (raw : List ℕ). Fails fault (step old raw)) (c.as_slice.ensures ∙ c.raw-item.is) c.in_err-remove_value.ensures.gives) c.loop-raw.invariant.rest)

@@ -1,8 +1,10 @@
-use Rattle.std.proofs.Common.{◌∙◌, sym, ap, List, Some, None, Ok}
+use Rattle.std.proofs.Common.{◌∙◌, sym, ap, List, Some, None, Ok, subst}
+use Rattle.std.proofs.lemmas.Result.{IfOk-from_err, err_from_is_err_and}
 use Rattle.base.specs.Answers.{through}
+use Rattle.schema.specs.GoodRdns.{IsRdn}
 use Rattle.schema.specs.Rdns.{TypedRdn}
 use Rattle.entries.specs.Modifies.{modify_block, modified_fault}
-use Rattle.entries.specs.StoredEntries.{Entry, EntryAttribute, attributes_of, content_of}
+use Rattle.entries.specs.StoredEntries.{Entry, EntryAttribute, attributes_of, content_of, IsMade}
 use Rattle.entries.proofs.ModifyLemmas.{modified_is}
 use Rattle.entries.proofs.modifies.modified.Goals as goal
 
@@ -25,3 +27,44 @@ returns-in_ok-rdn-in-None-clause-gives c =
     None (sym c.in-None.is ∙ c.in_ok-code.ensures ∙ ap (λ (r : TypedRdn). modified_fault c.args.conf.now r (attributes_of es)) c.rdn.ensures)
     ∙ ap (λ (r : TypedRdn). Ok (content_of (record { rdn = r; attrs = es }))) (sym (c.in_ok-rdn-in-None.ensures ∙ c.rdn-in-None.ensures))
     ∙ ap (λ (e : Entry). Ok (content_of e)) (sym c.new.ensures)
+
+pub returns-in_err-rdn-in-None-clause-made : goal.returns-in_err-rdn-in-None-clause-made
+returns-in_err-rdn-in-None-clause-made c = IfOk-from_err _ _ c.from_residual-in_err-rdn-in-None.ensures.0
+
+pub returns-in_err-modify-clause-made : goal.returns-in_err-modify-clause-made
+returns-in_err-modify-clause-made c = IfOk-from_err _ _ c.from_residual-in_err-modify.ensures.0
+
+pub returns-in_err-attrs-clause-made : goal.returns-in_err-attrs-clause-made
+returns-in_err-attrs-clause-made c = IfOk-from_err _ _ c.from_residual-in_err-attrs.ensures.0
+
+pub returns-in_err-code-clause-made : goal.returns-in_err-code-clause-made
+returns-in_err-code-clause-made c = IfOk-from_err _ _ c.from_residual-in_err-code.ensures.0
+
+pub returns-in_err-copy_attributes-clause-made : goal.returns-in_err-copy_attributes-clause-made
+returns-in_err-copy_attributes-clause-made c = IfOk-from_err _ _ c.from_residual.ensures.0
+
+pub returns-in_err-rdn-in-None-clause-gives : goal.returns-in_err-rdn-in-None-clause-gives
+returns-in_err-rdn-in-None-clause-gives c = let p = err_from_is_err_and c.from_residual-in_err-rdn-in-None.result c.from_residual-in_err-rdn-in-None.ensures.1 in rw (p.1, p.2) tt
+
+pub returns-in_err-code-clause-gives : goal.returns-in_err-code-clause-gives
+returns-in_err-code-clause-gives c = let p = err_from_is_err_and c.from_residual-in_err-code.result c.from_residual-in_err-code.ensures.1 in rw (p.1, p.2) tt
+
+pub returns-in_err-attrs-clause-gives : goal.returns-in_err-attrs-clause-gives
+returns-in_err-attrs-clause-gives c = let p = err_from_is_err_and c.from_residual-in_err-attrs.result c.from_residual-in_err-attrs.ensures.1 in rw (p.1, p.2) tt
+
+pub returns-in_err-copy_attributes-clause-gives : goal.returns-in_err-copy_attributes-clause-gives
+returns-in_err-copy_attributes-clause-gives c = let p = err_from_is_err_and c.from_residual.result c.from_residual.ensures.1 in rw (p.1, p.2) tt
+
+pub modify-requires : goal.modify-requires
+modify-requires c = subst (IsMade c.args.conf.now.types) (sym (c.new-draft.ensures ∙ c.in_ok-copy_attributes.ensures)) c.requires.made
+
+pub modified_fault-requires-clause-made : goal.modified_fault-requires-clause-made
+modified_fault-requires-clause-made c = subst (IsMade c.args.conf.now.types) (sym c.in_ok-attrs.ensures) c.in_ok-modify.ensures.made
+
+pub modified_fault-requires-clause-rdn : goal.modified_fault-requires-clause-rdn
+modified_fault-requires-clause-rdn c = subst (IsRdn c.args.conf.now.types) (sym c.rdn.ensures) c.requires.rdn
+
+pub returns-in_ok-rdn-in-None-clause-made : goal.returns-in_ok-rdn-in-None-clause-made
+returns-in_ok-rdn-in-None-clause-made c =
+    let types = c.args.conf.now.types in
+    subst (λ (e : Entry). IsMade types e.attrs) (sym c.new.ensures) (subst (IsMade types) (sym c.in_ok-attrs.ensures) c.in_ok-modify.ensures.made)

@@ -1,8 +1,10 @@
 use Rattle.std.proofs.Common.{◌∙◌}
+use Rattle.std.proofs.lemmas.Result.{IfOk-from_err}
 use Rattle.schema.specs.Rdns.{Ava, TypedRdn}
 use Rattle.schema.specs.GoodRdns.{IsAva}
 use Rattle.entries.specs.Entries.{Attributes}
 use Rattle.entries.specs.StoredEntries.{attributes_of}
+use Rattle.entries.proofs.LoopSteps.{this_one}
 use Rattle.entries.proofs.RdnsBegun.{one_ava_more, rest_of_avas, left_of_avas}
 use Rattle.entries.proofs.rdn_values.add_rdn.Goals as goal
 
@@ -19,3 +21,12 @@ loop-ava-preserved c =
       rest = rest_of_avas types avas c.loop-ava.ava-index ava now next c.loop-ava-test.true c.ava-item.is c.in_ok-add_ava.ensures.values ∙ c.loop-ava.invariant.rest;
       begun = one_ava_more types avas c.loop-ava.ava-index ava (attributes_of c.args.attrs.now.entries) now next c.loop-ava-test.true c.ava-item.is c.loop-ava.invariant.begun c.in_ok-add_ava.ensures.values;
     }
+
+pub returns-in_err-add_ava-clause-made : goal.returns-in_err-add_ava-clause-made
+returns-in_err-add_ava-clause-made c = IfOk-from_err _ _ c.from_residual.ensures.0
+
+pub returns-in_err-add_ava-clause-values : goal.returns-in_err-add_ava-clause-values
+returns-in_err-add_ava-clause-values c = IfOk-from_err _ _ c.from_residual.ensures.0
+
+pub add_ava-requires-clause-ava : goal.add_ava-requires-clause-ava
+add_ava-requires-clause-ava c = this_one (IsAva c.args.conf.now.types) c.avas-ava-items.result.now c.loop-ava.ava-index c.ava-item.result c.loop-ava-test.true c.ava-item.is c.loop-ava.invariant.left

@@ -2,16 +2,16 @@ use Rattle.std.proofs.Common.{◌≡◌, ◌∙◌, ◌&&◌, sym, ap, subst, co
 use Rattle.std.specs.List.{list_any}
 use Rattle.std.specs.Str.{bytes_eq}
 use Rattle.std.proofs.lemmas.Bool.{ltb-true}
-use Rattle.std.proofs.lemmas.Result.{on_ok_weaker}
-use Rattle.schema.specs.Rdns.{Ava}
+use Rattle.std.proofs.lemmas.Result.{on_ok_weaker, IfOk-from_err}
 use Rattle.values.specs.Values.{Value}
+use Rattle.values.specs.Norms.{but_norm}
+use Rattle.schema.specs.Rdns.{Ava}
 use Rattle.schema.specs.Values.{norm_at}
 use Rattle.entries.specs.Entries.{values_of}
 use Rattle.entries.specs.Modifies.{has_ava, without_ava, set_values}
 use Rattle.entries.specs.StoredEntries.{attributes_of, AreNormal, IsMade}
 use Rattle.entries.proofs.StoredLemmas.{normal_values}
 use Rattle.entries.proofs.StaysGood.{all_kept}
-use Rattle.values.specs.Norms.{but_norm}
 use Rattle.entries.proofs.ModifyLemmas.{made_set, ava_out}
 use Rattle.entries.proofs.renames.remove_ava.Goals as goal
 
@@ -42,3 +42,21 @@ returns-clause-values c =
     ∙ ava_out types es t c.args.ava.now.1 v.norm c.requires.made normal
     ∙ ap (λ b. cond b (attributes_of es) (without_ava types c.args.ava.now (attributes_of es))) (sym none))
     c.set.ensures.ok
+
+pub returns-in_err-remove_norm-clause-made : goal.returns-in_err-remove_norm-clause-made
+returns-in_err-remove_norm-clause-made c = IfOk-from_err _ _ c.from_residual-in_err-remove_norm.ensures.0
+
+pub returns-in_err-remove_norm-clause-values : goal.returns-in_err-remove_norm-clause-values
+returns-in_err-remove_norm-clause-values c = IfOk-from_err _ _ c.from_residual-in_err-remove_norm.ensures.0
+
+pub returns-in_err-has_ava-clause-values : goal.returns-in_err-has_ava-clause-values
+returns-in_err-has_ava-clause-values c = IfOk-from_err _ _ c.from_residual-in_err-has_ava.ensures.0
+
+pub returns-in_err-has_ava-clause-made : goal.returns-in_err-has_ava-clause-made
+returns-in_err-has_ava-clause-made c = IfOk-from_err _ _ c.from_residual-in_err-has_ava.ensures.0
+
+pub returns-in_err-value-clause-values : goal.returns-in_err-value-clause-values
+returns-in_err-value-clause-values c = IfOk-from_err _ _ c.from_residual.ensures.0
+
+pub returns-in_err-value-clause-made : goal.returns-in_err-value-clause-made
+returns-in_err-value-clause-made c = IfOk-from_err _ _ c.from_residual.ensures.0

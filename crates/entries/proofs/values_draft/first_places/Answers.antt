@@ -1,4 +1,5 @@
 use Rattle.std.proofs.Common.{ℕ, List, Option, Some, cond, ◌≡◌, ◌∙◌, ◌+◌, ◌<◌, subst, ap, sym}
+use Rattle.std.proofs.lemmas.Result.{IfOk-from_err}
 use Rattle.std.specs.Option.{SomeIff}
 use Rattle.std.specs.BTreeMap.{get}
 use Rattle.std.specs.Cmp.Lexicographic.{slice_cmp}
@@ -16,3 +17,12 @@ loop-value-preserved c =
           c.in-Some.ensures.steps c.loop-value.invariant.start
           (λ q. c.in_ok-insert.ensures.updates.0 q ∙ ap (λ (n : List ℕ). cond (is_eq (slice_cmp nat_cmp n q)) (Some 0) (get (slice_cmp nat_cmp) c.loop-value.since q)) key));
     }
+
+pub returns-in_err-count : goal.returns-in_err-count
+returns-in_err-count c = IfOk-from_err _ _ c.from_residual-in_err-count.ensures.0
+
+pub returns-in_err-from_slice : goal.returns-in_err-from_slice
+returns-in_err-from_slice c = IfOk-from_err _ _ c.from_residual.ensures.0
+
+pub returns-in_err-insert : goal.returns-in_err-insert
+returns-in_err-insert c = IfOk-from_err _ _ c.from_residual-in_err-insert.ensures.0

@@ -1,4 +1,5 @@
 use Rattle.std.proofs.Common.{◌≡◌, ℕ, false, ◌+◌, ◌<◌, ◌++◌, ◌∷◌, [], ◌∙◌, List, Option, length, sym, ap, subst}
+use Rattle.std.proofs.lemmas.Result.{IfOk-from_err}
 use Rattle.std.specs.Prelude.{is_some}
 use Rattle.std.specs.BTreeMap.{get}
 use Rattle.std.specs.Cmp.Lexicographic.{slice_cmp}
@@ -38,3 +39,39 @@ returns-clause-places c = record {
   count = one_more c ∙ ap (λ n. n + 1) c.requires.count ∙ sym (length-append c.args.values.now (c.args.value ∷ [])) ∙ ap length (sym c.in_ok-push.ensures.ok);
   all = λ t. pushed c ∙ ap (λ (vs : List Value). vs ++ c.args.value ∷ []) (c.requires.all t) ∙ sym c.in_ok-push.ensures.ok;
 }
+
+pub returns-in_err-insert-clause-places : goal.returns-in_err-insert-clause-places
+returns-in_err-insert-clause-places c = IfOk-from_err _ _ c.from_residual-in_err-insert.ensures.0
+
+pub returns-in_err-push-clause-is_new : goal.returns-in_err-push-clause-is_new
+returns-in_err-push-clause-is_new c = IfOk-from_err _ _ c.from_residual-in_err-push.ensures.0
+
+pub returns-in_err-push-clause-values : goal.returns-in_err-push-clause-values
+returns-in_err-push-clause-values c = IfOk-from_err _ _ c.from_residual-in_err-push.ensures.0
+
+pub returns-in_err-count-clause-values : goal.returns-in_err-count-clause-values
+returns-in_err-count-clause-values c = IfOk-from_err _ _ c.from_residual-in_err-count.ensures.0
+
+pub returns-in_err-push-clause-places : goal.returns-in_err-push-clause-places
+returns-in_err-push-clause-places c = IfOk-from_err _ _ c.from_residual-in_err-push.ensures.0
+
+pub returns-in_err-insert-clause-values : goal.returns-in_err-insert-clause-values
+returns-in_err-insert-clause-values c = IfOk-from_err _ _ c.from_residual-in_err-insert.ensures.0
+
+pub returns-in_err-insert-clause-is_new : goal.returns-in_err-insert-clause-is_new
+returns-in_err-insert-clause-is_new c = IfOk-from_err _ _ c.from_residual-in_err-insert.ensures.0
+
+pub returns-in_err-count-clause-places : goal.returns-in_err-count-clause-places
+returns-in_err-count-clause-places c = IfOk-from_err _ _ c.from_residual-in_err-count.ensures.0
+
+pub returns-in_err-count-clause-is_new : goal.returns-in_err-count-clause-is_new
+returns-in_err-count-clause-is_new c = IfOk-from_err _ _ c.from_residual-in_err-count.ensures.0
+
+pub returns-in_err-key-clause-places : goal.returns-in_err-key-clause-places
+returns-in_err-key-clause-places c = IfOk-from_err _ _ c.from_residual.ensures.0
+
+pub returns-in_err-key-clause-values : goal.returns-in_err-key-clause-values
+returns-in_err-key-clause-values c = IfOk-from_err _ _ c.from_residual.ensures.0
+
+pub returns-in_err-key-clause-is_new : goal.returns-in_err-key-clause-is_new
+returns-in_err-key-clause-is_new c = IfOk-from_err _ _ c.from_residual.ensures.0

@@ -1,5 +1,5 @@
 use Rattle.std.proofs.Common.{sym, ap, subst, ◌∙◌}
-use Rattle.std.proofs.lemmas.Result.{err_from_is_err_and}
+use Rattle.std.proofs.lemmas.Result.{err_from_is_err_and, IfOk-from_err}
 use Rattle.base.specs.Answers.{Fails}
 use Rattle.ldif.specs.Attrs.{Attr}
 use Rattle.entries.specs.Gives.{fault_of}
@@ -25,3 +25,12 @@ returns-in_err-add_line-clause-gives c =
     let fault = fault_of c.in_err-add_line.field-0.0 in
     let p = err_from_is_err_and c.from_residual-in_err-add_line.result c.from_residual-in_err-add_line.ensures.1 in
     rw (p.1, p.2) (line_refused mode types c.args.lines.now c.loop-line.line-index c.line-item.result attrs _ c.loop-line-test.true c.loop-line.invariant.rest fault (subst (λ (l : Attr). Fails fault (add_line mode types attrs l)) c.line-item.is c.in_err-add_line.ensures.gives))
+
+pub returns-in_err-add_line-clause-made : goal.returns-in_err-add_line-clause-made
+returns-in_err-add_line-clause-made c = IfOk-from_err _ _ c.from_residual-in_err-add_line.ensures.0
+
+pub returns-in_err-attrs-clause-made : goal.returns-in_err-attrs-clause-made
+returns-in_err-attrs-clause-made c = IfOk-from_err _ _ c.from_residual.ensures.0
+
+pub returns-in_err-attrs-clause-gives : goal.returns-in_err-attrs-clause-gives
+returns-in_err-attrs-clause-gives c = let p = err_from_is_err_and c.from_residual.result c.from_residual.ensures.1 in rw (p.1, p.2) tt

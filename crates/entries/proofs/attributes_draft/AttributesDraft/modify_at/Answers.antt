@@ -1,5 +1,5 @@
 use Rattle.std.proofs.Common.{◌∙◌, sym, ap, subst, List, Ok}
-use Rattle.std.proofs.lemmas.Result.{err_from_is_err_and}
+use Rattle.std.proofs.lemmas.Result.{err_from_is_err_and, IfOk-from_err}
 use Rattle.values.specs.Values.{Value}
 use Rattle.entries.specs.Entries.{values_of}
 use Rattle.entries.specs.Modifies.{set_values}
@@ -39,3 +39,12 @@ returns-clause-gives c =
     (c.in_ok-values.ensures.values ∙ ap (λ (es : List EntryAttribute). values_of es c.args.t) es_is)
     left c.in_ok-change_values.ensures.gives
     ∙ ap (λ es. Ok (attributes_of es)) (sym (c.drop_place.ensures.place ∙ c.in_ok-values.ensures.place left ∙ ap (λ (es : List EntryAttribute). set_values es c.args.t left) es_is))
+
+pub returns-in_err-change_values-clause-made : goal.returns-in_err-change_values-clause-made
+returns-in_err-change_values-clause-made c = IfOk-from_err _ _ c.from_residual-in_err-change_values.ensures.0
+
+pub returns-in_err-values-clause-made : goal.returns-in_err-values-clause-made
+returns-in_err-values-clause-made c = IfOk-from_err _ _ c.from_residual.ensures.0
+
+pub returns-in_err-values-clause-gives : goal.returns-in_err-values-clause-gives
+returns-in_err-values-clause-gives c = let p = err_from_is_err_and c.from_residual.result c.from_residual.ensures.1 in rw (p.1, p.2) tt

@@ -1,6 +1,6 @@
 use Rattle.std.proofs.Common.{nat_eq, not, sym, ap, ◌∙◌}
 use Rattle.std.specs.List.{position}
-use Rattle.std.proofs.lemmas.Result.{IfOk-weaker}
+use Rattle.std.proofs.lemmas.Result.{IfOk-weaker, IfOk-from_err}
 use Rattle.values.specs.Norms.{has_norm}
 use Rattle.entries.specs.StoredEntries.{StoredAttributes}
 use Rattle.entries.proofs.KeptAttributes.{isnt_there, is_there, is_set, values_are, no_norm}
@@ -30,3 +30,9 @@ returns-in_ok-put_last-in-None-clause-is_new c = ap not (sym (no_norm c.args.val
 pub returns-in_ok-put_last-in-None-clause-entries : goal.returns-in_ok-put_last-in-None-clause-entries
 returns-in_ok-put_last-in-None-clause-entries c =
     pushed_new c.args.t c.args.self.now.entries _ c.one.result c.args.value (isnt_there c.args.t c.self.inside.types.items c.self.inside.values.items c.args.self.now.entries c.self.invariant.0 (ap (λ (a : StoredAttributes). a.entries) c.self.view_is) (c.in-None.ensures ∙ ap (position (nat_eq c.args.t)) c.deref.ensures.value)) c.in_ok-put_last-in-None.ensures.ok c.one.ensures
+
+pub returns-in_err-put_last-in-None-clause-is_new : goal.returns-in_err-put_last-in-None-clause-is_new
+returns-in_err-put_last-in-None-clause-is_new c = IfOk-from_err _ _ c.from_residual.ensures.0
+
+pub returns-in_err-put_last-in-None-clause-entries : goal.returns-in_err-put_last-in-None-clause-entries
+returns-in_err-put_last-in-None-clause-entries c = IfOk-from_err _ _ c.from_residual.ensures.0

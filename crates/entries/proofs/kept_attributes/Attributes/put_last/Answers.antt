@@ -1,4 +1,5 @@
 use Rattle.std.proofs.Common.{◌≡◌, List, ℕ, [], ◌∷◌, ◌++◌, None, length, nat_eq, sym, ap, ◌∙◌, subst, arith}
+use Rattle.std.proofs.lemmas.Result.{IfOk-from_err}
 use Rattle.std.specs.List.{zip, IsDistinct}
 use Rattle.std.specs.Map.{lookup}
 use Rattle.std.proofs.lemmas.List.{length-append}
@@ -34,3 +35,15 @@ pub returns-clause-ok : goal.returns-clause-ok
 returns-clause-ok c =
     (λ i. zip (types_are c i) (values_are c i)) ∙ put_last c.args.t (ts c) (vs c) c.args.values c.self.invariant.0 (none c)
     ∙ ap (λ (a : StoredAttributes). insert_entry nat_eq a.entries c.args.t c.args.values) c.self.view_is
+
+pub returns-in_err-push-clause-ok : goal.returns-in_err-push-clause-ok
+returns-in_err-push-clause-ok c = IfOk-from_err _ _ c.from_residual-in_err-push.ensures.0
+
+pub returns-in_err-reserve-clause-ok : goal.returns-in_err-reserve-clause-ok
+returns-in_err-reserve-clause-ok c = IfOk-from_err _ _ c.from_residual.ensures.0
+
+pub invariant_of-self-in_err-push : goal.invariant_of-self-in_err-push
+invariant_of-self-in_err-push c = (ap length c.in_err-push.ensures.items ∙ c.self.invariant.0 ∙ ap length (sym c.in_ok-reserve.ensures.items), subst (IsDistinct nat_eq) (sym c.in_ok-reserve.ensures.items) c.self.invariant.1)
+
+pub invariant_of-self : goal.invariant_of-self
+invariant_of-self c = (c.self.invariant.0 ∙ ap length (sym c.reserve.ensures.items), subst (IsDistinct nat_eq) (sym c.reserve.ensures.items) c.self.invariant.1)
