@@ -1,4 +1,5 @@
 use Rattle.std.proofs.Common.{◌≡◌, ◌∙◌, ℕ, List, sym, ap}
+use Rattle.std.proofs.lemmas.Result.{IfOk-from_err}
 use Rattle.std.specs.Prelude.{filter}
 use Rattle.std.specs.FinMap as finite
 use Rattle.paths.specs.Paths.{Path, path_cmp, begins}
@@ -34,3 +35,9 @@ returns-clause-err c =
     ∙ ap (λ (es : List (Path × ℕ)). without_all (numbers_of c.put_all.new.numbers.entries) es) (c.deref-in-Err.ensures.value ∙ led_is k)
     ∙ undone c.args.from.now c.args.to.now (numbers_of c.args.numbers.now.entries) c.requires.spare (numbers_of c.put_all.new.numbers.entries)
     (λ q off. c.put_all.ensures.others q (ap (λ (es : List (Path × ℕ)). is_among q es) (c.deref-2.ensures.value ∙ led_is k) ∙ off)))
+
+pub returns-in_err-led-clause-moved : goal.returns-in_err-led-clause-moved
+returns-in_err-led-clause-moved c = IfOk-from_err _ _ c.from_residual-in_err-led.ensures.0
+
+pub returns-in_err-along-clause-moved : goal.returns-in_err-along-clause-moved
+returns-in_err-along-clause-moved c = IfOk-from_err _ _ c.from_residual.ensures.0

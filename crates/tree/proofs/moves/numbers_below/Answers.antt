@@ -1,4 +1,6 @@
-use Rattle.std.proofs.Common.{◌++◌, ◌∷◌, [], ℕ, List, sym, ap, ◌∙◌}
+use Rattle.std.proofs.Common.{List, ap, arith, sym, [], ℕ, ◌++◌, ◌∙◌, ◌∷◌}
+use Rattle.std.proofs.lemmas.Result.{IfOk-from_err}
+use Rattle.std.proofs.lemmas.Grind.{common_steps}
 use Rattle.std.specs.Prelude.{take_while}
 use Rattle.paths.specs.Paths.{Path, begins}
 use Rattle.tree.proofs.Moving.{first_below, below_goes_on}
@@ -18,3 +20,12 @@ loop-path-preserved c =
     (c.in_ok-push.ensures.items ∙ ap (λ (p : Path). c.loop-path.found.items ++ (p, c.in-Some.number.now) ∷ []) c.in_ok-copy.ensures)
     (sym c.begins.ensures ∙ c.if-not-begins.false)
     c.loop-path.invariant
+
+pub loop-path-smaller : goal.loop-path-smaller
+loop-path-smaller c = grind (arith, common_steps)
+
+pub returns-in_err-copy : goal.returns-in_err-copy
+returns-in_err-copy c = IfOk-from_err _ _ c.from_residual.ensures.0
+
+pub returns-in_err-push : goal.returns-in_err-push
+returns-in_err-push c = IfOk-from_err _ _ c.from_residual-in_err-push.ensures.0

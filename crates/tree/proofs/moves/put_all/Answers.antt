@@ -1,4 +1,5 @@
 use Rattle.std.proofs.Common.{◌≡◌, ◌∷◌, ◌+◌, ℕ, List, subst, sym, ap, ◌∙◌, drop}
+use Rattle.std.proofs.lemmas.Result.{IfOk-from_err}
 use Rattle.std.specs.FinMap as finite
 use Rattle.std.proofs.lemmas.List.{drop_more}
 use Rattle.paths.specs.Paths.{Path}
@@ -24,3 +25,9 @@ loop-path-preserved c =
           let n = others_go_on (numbers_of old) (numbers_of c.insert.new.self.entries) e (drop c.loop-path.path-index c.args.entries.now) rest q cut put o.0 in
           (n.0, n.1 ∙ o.1);
     }
+
+pub returns-in_err-insert-clause-all : goal.returns-in_err-insert-clause-all
+returns-in_err-insert-clause-all c = IfOk-from_err _ _ c.from_residual-in_err-insert.ensures.0
+
+pub returns-in_err-copy-clause-all : goal.returns-in_err-copy-clause-all
+returns-in_err-copy-clause-all c = IfOk-from_err _ _ c.from_residual.ensures.0

@@ -1,9 +1,10 @@
-use Rattle.std.proofs.Common.{◌≡◌, ◌∷◌, ◌+◌, ℕ, List, subst, sym, ap, ◌∙◌, drop}
+use Rattle.std.proofs.Common.{List, ap, arith, drop, subst, sym, ℕ, ◌+◌, ◌∙◌, ◌∷◌, ◌≡◌}
+use Rattle.std.proofs.lemmas.Grind.{common_steps}
 use Rattle.std.proofs.lemmas.List.{drop_more}
 use Rattle.paths.specs.Paths.{Path}
 use Rattle.tree.specs.inner.Trees.{numbers_of}
-use Rattle.tree.proofs.Numbered.{IsRising, rising_remove, numbers_remove}
 use Rattle.tree.proofs.Moving.{without_goes_on}
+use Rattle.tree.proofs.Numbered.{IsRising, rising_remove, numbers_remove}
 use Rattle.tree.proofs.moves.remove_all.Goals as goal
 
 pub loop-path-preserved : goal.loop-path-preserved
@@ -17,3 +18,6 @@ loop-path-preserved c =
       rest = without_goes_on (numbers_of old) (numbers_of c.remove.new.self.entries) e (drop c.loop-path.path-index c.args.entries.now) rest _ cut
           (ap numbers_of c.remove.ensures.entries ∙ numbers_remove old e.0 c.loop-path.invariant.sorted) c.loop-path.invariant.rest;
     }
+
+pub returns-clause-all : goal.returns-clause-all
+returns-clause-all c = grind (arith, common_steps)

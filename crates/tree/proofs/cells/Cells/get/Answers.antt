@@ -7,3 +7,6 @@ returns-in-Some-Taken g c = grind (arith, common_steps)
 
 pub returns-in_default : goal.returns-in_default
 returns-in_default g c = grind (arith, common_steps)
+
+pub get-requires : goal.get-requires
+get-requires g c κs = grind (arith, common_steps)

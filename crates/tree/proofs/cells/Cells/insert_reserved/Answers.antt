@@ -1,6 +1,7 @@
 use Rattle.std.proofs.Common.{Some, sym, ap, ◌∙◌, arith}
+use Rattle.std.proofs.lemmas.Grind.{common_steps}
 use Rattle.tree.specs.declared.cells.Cell.TheVariants.{Free, Taken}
-use Rattle.tree.proofs.Chains.{set_is, count_set, next_within, next_is_free, read_at_next, next_is_not_taken, pushed, filled}
+use Rattle.tree.proofs.Chains.{set_is, count_set, next_within, next_is_free, read_at_next, next_is_not_taken, pushed, filled, all_taken}
 use Rattle.tree.proofs.cells.Cells.insert_reserved.Goals as goal
 
 pub invariant_of-self : goal.invariant_of-self
@@ -36,3 +37,25 @@ returns-then-number-len-clause-was_free g c = rw (← c.self.view_is) (next_is_f
 
 pub returns-clause-was_free : goal.returns-clause-was_free
 returns-clause-was_free g c = rw (← c.self.view_is) (next_is_free _ _ _ c.self.invariant)
+
+pub returns-then-number-len-clause-set : goal.returns-then-number-len-clause-set
+returns-then-number-len-clause-set g c = grind (arith, common_steps)
+
+pub returns-then-number-len-clause-taken : goal.returns-then-number-len-clause-taken
+returns-then-number-len-clause-taken g c = grind (arith, common_steps)
+
+pub returns-then-number-len-clause-number : goal.returns-then-number-len-clause-number
+returns-then-number-len-clause-number g c = grind (arith, common_steps)
+
+pub returns-clause-number : goal.returns-clause-number
+returns-clause-number g c = grind (arith, common_steps)
+
+pub overflow_add-self-then-number-len : goal.overflow_add-self-then-number-len
+overflow_add-self-then-number-len g c =
+    let few = rw (← c.self.view_is) at c.requires.few in
+    omega (arith, few, all_taken _ _ _ c.self.invariant (omega arith), c.self.invariant.counted)
+
+pub push_reserved-requires : goal.push_reserved-requires
+push_reserved-requires g c =
+    let room = rw (← c.self.view_is) at c.requires.room in
+    omega (arith, room, all_taken _ _ _ c.self.invariant (omega arith), c.self.invariant.counted)

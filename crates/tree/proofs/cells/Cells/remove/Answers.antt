@@ -1,4 +1,5 @@
 use Rattle.std.proofs.Common.{arith, refl}
+use Rattle.std.proofs.lemmas.Grind.{common_steps}
 use Rattle.std.proofs.lemmas.Option.{slice_get_within}
 use Rattle.tree.specs.declared.cells.Cell.TheVariants.{Free, Taken}
 use Rattle.tree.proofs.Chains.{set_is, taken_at, count_set, freed}
@@ -22,3 +23,15 @@ returns-clause-taken g c =
 
 pub returns-clause-next : goal.returns-clause-next
 returns-clause-next g c = refl
+
+pub overflow_sub-self : goal.overflow_sub-self
+overflow_sub-self g c = grind (arith, common_steps)
+
+pub returns-clause-value : goal.returns-clause-value
+returns-clause-value g c = grind (arith, common_steps)
+
+pub unreachable-requires : goal.unreachable-requires
+unreachable-requires g c = grind (arith, common_steps)
+
+pub index_mut-requires : goal.index_mut-requires
+index_mut-requires g c = grind (arith, common_steps)

@@ -1,8 +1,9 @@
 use Rattle.std.proofs.Common.{◌≡◌, ◌∙◌, ◌+◌, ◌<◌, sym, ap, subst, Some}
+use Rattle.std.proofs.lemmas.Result.{IfOk-from_err}
 use Rattle.std.specs.FinMap as finite
+use Rattle.entries.specs.StoredEntries.{Entry, content_of}
 use Rattle.tree.specs.Cells as seen
 use Rattle.tree.specs.Cells.{cell, taken, most, IsSet}
-use Rattle.entries.specs.StoredEntries.{Entry, content_of}
 use Rattle.tree.specs.Trees.{Tree}
 use Rattle.tree.specs.inner.Trees.{Cells}
 use Rattle.tree.proofs.Carried.{IsCarried, cell_left, new_done, no_number, number_new}
@@ -32,3 +33,15 @@ returns-clause-entries c = (carried c).entries
 
 pub returns-clause-numbers : goal.returns-clause-numbers
 returns-clause-numbers c = (carried c).numbers ∙ ap (finite.insert c.args.self.now.numbers c.args.path) (c.next_number-number.ensures.number ∙ sym (number_new c.args.self.now c.entries_are_numbered.ensures c.args.path c.requires.new))
+
+pub returns-in_err-insert-clause-entries : goal.returns-in_err-insert-clause-entries
+returns-in_err-insert-clause-entries c = IfOk-from_err _ _ c.from_residual-in_err-insert.ensures.0
+
+pub returns-in_err-insert-clause-numbers : goal.returns-in_err-insert-clause-numbers
+returns-in_err-insert-clause-numbers c = IfOk-from_err _ _ c.from_residual-in_err-insert.ensures.0
+
+pub returns-in_err-reserve-clause-entries : goal.returns-in_err-reserve-clause-entries
+returns-in_err-reserve-clause-entries c = IfOk-from_err _ _ c.from_residual.ensures.0
+
+pub returns-in_err-reserve-clause-numbers : goal.returns-in_err-reserve-clause-numbers
+returns-in_err-reserve-clause-numbers c = IfOk-from_err _ _ c.from_residual.ensures.0

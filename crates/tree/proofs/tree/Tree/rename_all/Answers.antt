@@ -1,4 +1,5 @@
 use Rattle.std.proofs.Common.{◌≡◌, ◌∙◌, ℕ, Some, sym, ap, false}
+use Rattle.std.proofs.lemmas.Result.{IfOk-from_err}
 use Rattle.std.specs.FinMap as finite
 use Rattle.paths.specs.Paths.{Path, begins}
 use Rattle.entries.specs.StoredEntries.{content_of}
@@ -39,3 +40,9 @@ returns-clause-entries c = (carried c).entries
 
 pub returns-clause-numbers : goal.returns-clause-numbers
 returns-clause-numbers c = (carried c).numbers ∙ ap (finite.insert (moved c.args.from.now c.args.to.now c.args.self.now.numbers) c.args.to.now) (sym (number_is c.args.self.now c.args.from.now c.number_there-number.result c.number_there-number.ensures))
+
+pub returns-in_err-move_numbers-clause-entries : goal.returns-in_err-move_numbers-clause-entries
+returns-in_err-move_numbers-clause-entries c = IfOk-from_err _ _ c.from_residual.ensures.0
+
+pub returns-in_err-move_numbers-clause-numbers : goal.returns-in_err-move_numbers-clause-numbers
+returns-in_err-move_numbers-clause-numbers c = IfOk-from_err _ _ c.from_residual.ensures.0

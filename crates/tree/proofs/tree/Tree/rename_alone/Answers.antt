@@ -1,4 +1,5 @@
 use Rattle.std.proofs.Common.{◌∙◌, sym, ap}
+use Rattle.std.proofs.lemmas.Result.{IfOk-from_err}
 use Rattle.std.specs.FinMap as finite
 use Rattle.entries.specs.StoredEntries.{content_of}
 use Rattle.tree.proofs.Carried.{IsCarried, cell_there, move_done, number_is, no_number}
@@ -21,3 +22,9 @@ returns-clause-entries c = (carried c).entries
 
 pub returns-clause-numbers : goal.returns-clause-numbers
 returns-clause-numbers c = (carried c).numbers ∙ ap (finite.insert (finite.remove c.args.self.now.numbers c.args.from.now) c.args.to) (sym (number_is c.args.self.now c.args.from.now c.number_there-number.result c.number_there-number.ensures))
+
+pub returns-in_err-insert-clause-entries : goal.returns-in_err-insert-clause-entries
+returns-in_err-insert-clause-entries c = IfOk-from_err _ _ c.from_residual.ensures.0
+
+pub returns-in_err-insert-clause-numbers : goal.returns-in_err-insert-clause-numbers
+returns-in_err-insert-clause-numbers c = IfOk-from_err _ _ c.from_residual.ensures.0
