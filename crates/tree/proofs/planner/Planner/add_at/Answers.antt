@@ -1,4 +1,8 @@
+use Rattle.std.proofs.Common.{sym, ◌∙◌, subst, List}
+use Rattle.std.specs.List.{AllByRecursion}
 use Rattle.std.proofs.lemmas.Result.{IfOk-from_err, err_from_is_err_and}
+use Rattle.schema.specs.Rdns.{TypedRdn}
+use Rattle.schema.specs.GoodRdns.{IsRdn}
 use Rattle.tree.proofs.planner.Planner.add_at.Goals as goal
 
 pub returns-in_err-rdn-clause-fit : goal.returns-in_err-rdn-clause-fit
@@ -39,3 +43,9 @@ with_entry-requires-clause-made c = c.in_ok-add_rdn.ensures.made
 
 pub add_rdn-requires-clause-made : goal.add_rdn-requires-clause-made
 add_rdn-requires-clause-made c = c.in_ok-attrs.ensures.made
+
+pub with_entry-requires-clause-new : goal.with_entry-requires-clause-new
+with_entry-requires-clause-new c = sym c.in_ok-is_there.ensures.entry ∙ c.if-is_there.false
+
+pub own_rdn-requires : goal.own_rdn-requires
+own_rdn-requires c = subst (λ (rs : List TypedRdn). AllByRecursion (IsRdn c.args.self.now.conf.now.types) rs) (sym c.as_slice.ensures) c.requires

@@ -45,3 +45,9 @@ returns-in_err-reserve-clause-entries c = IfOk-from_err _ _ c.from_residual.ensu
 
 pub returns-in_err-reserve-clause-numbers : goal.returns-in_err-reserve-clause-numbers
 returns-in_err-reserve-clause-numbers c = IfOk-from_err _ _ c.from_residual.ensures.0
+
+pub returns-in_err-insert-clause-same_conf : goal.returns-in_err-insert-clause-same_conf
+returns-in_err-insert-clause-same_conf c = ap (λ (d : Tree). d.conf) c.self.view_is
+
+pub returns-in_err-reserve-clause-same_conf : goal.returns-in_err-reserve-clause-same_conf
+returns-in_err-reserve-clause-same_conf c = ap (λ (d : Tree). d.conf) c.self.view_is

@@ -46,3 +46,6 @@ returns-in_err-move_numbers-clause-entries c = IfOk-from_err _ _ c.from_residual
 
 pub returns-in_err-move_numbers-clause-numbers : goal.returns-in_err-move_numbers-clause-numbers
 returns-in_err-move_numbers-clause-numbers c = IfOk-from_err _ _ c.from_residual.ensures.0
+
+pub returns-in_err-move_numbers-clause-same_conf : goal.returns-in_err-move_numbers-clause-same_conf
+returns-in_err-move_numbers-clause-same_conf c = ap (λ (d : Tree). d.conf) c.self.view_is

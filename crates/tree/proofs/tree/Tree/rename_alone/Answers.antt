@@ -2,6 +2,7 @@ use Rattle.std.proofs.Common.{◌∙◌, sym, ap}
 use Rattle.std.proofs.lemmas.Result.{IfOk-from_err}
 use Rattle.std.specs.FinMap as finite
 use Rattle.entries.specs.StoredEntries.{content_of}
+use Rattle.tree.specs.Trees.{Tree}
 use Rattle.tree.proofs.Carried.{IsCarried, cell_there, move_done, number_is, no_number}
 use Rattle.tree.proofs.tree.Tree.rename_alone.Goals as goal
 
@@ -28,3 +29,6 @@ returns-in_err-insert-clause-entries c = IfOk-from_err _ _ c.from_residual.ensur
 
 pub returns-in_err-insert-clause-numbers : goal.returns-in_err-insert-clause-numbers
 returns-in_err-insert-clause-numbers c = IfOk-from_err _ _ c.from_residual.ensures.0
+
+pub returns-in_err-insert-clause-same_conf : goal.returns-in_err-insert-clause-same_conf
+returns-in_err-insert-clause-same_conf c = ap (λ (d : Tree). d.conf) c.self.view_is
