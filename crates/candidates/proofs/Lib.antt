@@ -1,5 +1,6 @@
 pub mod Allowed
 pub mod AskedKeys
+pub mod Asking
 pub mod Examples
 pub mod Norms
 pub mod Operands

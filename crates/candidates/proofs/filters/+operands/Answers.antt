@@ -1,14 +1,14 @@
 use Rattle.std.proofs.Common.{not, ap, sym, ◌∙◌, ◌+◌}
-use Rattle.std.proofs.lemmas.Result.{IfOk-weaker}
+use Rattle.std.proofs.lemmas.Result.{IfOk-weaker, IfOk-from_err}
+use Rattle.candidates.specs.Sides.{sides}
+use Rattle.candidates.specs.inner.OneSide.{on}
+use Rattle.candidates.specs.inner.Held.{hold}
+use Rattle.candidates.proofs.Operands.{with_operands, operand_next, starts, in_all, in_any}
 use Rattle.filter.specs.declared.prepared_filter.PreparedFilter.{PreparedFilter}
 use Rattle.filter.specs.declared.prepared_filter.PreparedFilter.TheOpen as layer
 use Rattle.filter.specs.declared.prepared_filter.PreparedFilter.TheVariants as variants
 use Rattle.filter.specs.declared.prepared_filter.PreparedFilter.TheFolds.{fold-roll-PreparedFilter}
 use Rattle.filter.specs.Prepared.{PreparedContent, prepared_view, prepared_view_step}
-use Rattle.candidates.specs.Sides.{sides}
-use Rattle.candidates.specs.inner.OneSide.{on}
-use Rattle.candidates.specs.inner.Held.{hold}
-use Rattle.candidates.proofs.Operands.{with_operands, operand_next, starts, in_all, in_any}
 use Rattle.candidates.proofs.filters.+operands.Goals as goal
 
 pub operands_on-loop-operand-init : goal.operands_on-loop-operand-init
@@ -41,3 +41,9 @@ numbers_on-returns-in-Or g t c =
     (ap not c.is_may_be_true-all-in-Or.ensures)
     (ap prepared_view (c.in-Or.is ∙ sym (variants.rolls-Or c.in-Or.operands)) ∙ fold-roll-PreparedFilter PreparedContent prepared_view_step (layer.Or c.in-Or.operands)))
     c.operands_on-in-Or.ensures
+
+pub operands_on-returns-in_err-next : goal.operands_on-returns-in_err-next
+operands_on-returns-in_err-next g t c = IfOk-from_err _ _ c.from_residual.ensures.0
+
+pub operands_on-returns-in_err-numbers : goal.operands_on-returns-in_err-numbers
+operands_on-returns-in_err-numbers g t c = IfOk-from_err _ _ c.from_residual-in_err-numbers.ensures.0
