@@ -15,5 +15,5 @@ pub mod KeyOrder
 pub mod Lineages
 pub mod FirstFlaws
 pub mod AvaFaults
-pub mod PushedNames
+pub mod Joined
 pub mod Fronts

@@ -1,7 +1,7 @@
 //! Names as values: their normal form (RFC 4517, 3.3.9 and 4.2.15).
 
 ghost use Rattle.std.specs.Prelude.{◌≡◌, ◌∷◌, ◌++◌, IfOk, OnOk, map};
-ghost use Rattle.std.specs.List.{flat_map, join_with_byte, AllByRecursion};
+ghost use Rattle.std.specs.List.{join_with_byte, AllByRecursion};
 ghost use Rattle.dn.specs.Writing.{ava_text, rdn_text};
 ghost use Rattle.matching.specs.Forms.{lower};
 ghost use Rattle.schema.specs.inner.Fronts.{normal_front};
@@ -37,27 +37,6 @@ fn put_ava(types: &TypeTable, out: &mut Vec<u8>, t: TypeId, norm: &[u8]) -> Resu
     put_value(out, norm)
 }
 
-fn put_pair(types: &TypeTable, out: &mut Vec<u8>, pair: &(TypeId, Bytes)) -> Result<(), AllocError>
-    ensures { OnOk result (out.new.items ≡ out.old.items ++ ava_text (normal_ava types.now pair.now)) }
-{
-    put_ava(types, out, pair.0, pair.1.as_slice())
-}
-
-// each AVA with a plus sign before it
-fn put_more_avas(
-    types: &TypeTable,
-    out: &mut Vec<u8>,
-    pairs: &[(TypeId, Bytes)],
-) -> Result<(), AllocError>
-    ensures { OnOk result (out.new.items ≡ out.old.items ++ flat_map (λ p. 43 ∷ ava_text (normal_ava types.now p)) pairs.now) }
-{
-    for pair in pairs {
-        out.extend_from_slice(b"+")?;
-        put_pair(types, out, pair)?;
-    }
-    Ok(())
-}
-
 fn put_avas(
     types: &TypeTable,
     out: &mut Vec<u8>,
@@ -65,14 +44,13 @@ fn put_avas(
 ) -> Result<(), AllocError>
     ensures { OnOk result (out.new.items ≡ out.old.items ++ rdn_text (normal_avas types.now pairs.now)) }
 {
-    match pairs {
-        [] => Ok(()),
-        [first, others @ ..] => {
-            put_pair(types, out, first)?;
-            put_more_avas(types, out, others)?;
-            Ok(())
-        }
+    let mut sign: &[u8] = b"";
+    for pair in pairs {
+        out.extend_from_slice(sign)?;
+        put_ava(types, out, pair.0, pair.1.as_slice())?;
+        sign = b"+";
     }
+    Ok(())
 }
 
 #[tactic(auto, unfolding(crate::specs::Rdns::rdn_key_of, crate::specs::Rdns::key_from, crate::specs::Rdns::put_pair))]
@@ -94,23 +72,6 @@ fn put_rdn(
     }
 }
 
-// each RDN with a comma before it
-fn put_more_rdns(
-    alloc: Global,
-    types: &TypeTable,
-    out: &mut Vec<u8>,
-    rdns: &[TypedRdn],
-) -> Result<(), AllocError>
-    requires { AllByRecursion (AreKnown types.now) rdns.now }
-    ensures { OnOk result (out.new.items ≡ out.old.items ++ flat_map (λ r. 44 ∷ rdn_text (normal_rdn types.now r)) rdns.now) }
-{
-    for rdn in rdns {
-        out.extend_from_slice(b",")?;
-        put_rdn(alloc, types, out, rdn)?;
-    }
-    Ok(())
-}
-
 fn put_rdns(
     alloc: Global,
     types: &TypeTable,
@@ -120,14 +81,13 @@ fn put_rdns(
     requires { AllByRecursion (AreKnown types.now) rdns.now }
     ensures { OnOk result (out.new.items ≡ out.old.items ++ join_with_byte 44 (map (λ r. rdn_text (normal_rdn types.now r)) rdns.now)) }
 {
-    match rdns {
-        [] => Ok(()),
-        [first, others @ ..] => {
-            put_rdn(alloc, types, out, first)?;
-            put_more_rdns(alloc, types, out, others)?;
-            Ok(())
-        }
+    let mut sign: &[u8] = b"";
+    for rdn in rdns {
+        out.extend_from_slice(sign)?;
+        put_rdn(alloc, types, out, rdn)?;
+        sign = b",";
     }
+    Ok(())
 }
 
 /// The normal form of a name with these RDNs.

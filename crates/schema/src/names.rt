@@ -1,7 +1,6 @@
 //! Names as bytes, and RDNs as they are written (RFC 4514).
 
-ghost use Rattle.std.specs.Prelude.{◌≡◌, ◌∷◌, ◌++◌, IfOk, OnErr, OnOk, map};
-ghost use Rattle.std.specs.List.{flat_map};
+ghost use Rattle.std.specs.Prelude.{◌≡◌, ◌++◌, IfOk, OnErr, OnOk, map};
 ghost use Rattle.base.specs.Extends.{Extends};
 ghost use Rattle.dn.specs.Reading.{name_of};
 ghost use Rattle.dn.specs.Writing.{ava_text, rdn_text, text_of};
@@ -49,22 +48,6 @@ fn put_ava(types: &TypeTable, out: &mut Vec<u8>, ava: &(TypeId, Bytes)) -> Resul
     put_value(out, value.as_slice())
 }
 
-// each AVA with a plus sign before it
-fn put_more_avas(
-    types: &TypeTable,
-    out: &mut Vec<u8>,
-    avas: &[(TypeId, Bytes)],
-) -> Result<(), AllocError>
-    ensures put { OnOk result (out.new.items ≡ out.old.items ++ flat_map (λ p. 43 ∷ ava_text (written_ava types.now p)) avas.now) }
-    ensures kept { OnErr result (Extends out.old.items out.new.items) }
-{
-    for ava in avas {
-        out.extend_from_slice(b"+")?;
-        put_ava(types, out, ava)?;
-    }
-    Ok(())
-}
-
 fn put_avas(
     types: &TypeTable,
     out: &mut Vec<u8>,
@@ -73,27 +56,24 @@ fn put_avas(
     ensures put { OnOk result (out.new.items ≡ out.old.items ++ rdn_text (written_rdn types.now avas.now)) }
     ensures kept { OnErr result (Extends out.old.items out.new.items) }
 {
-    match avas {
-        [] => Ok(()),
-        [first, others @ ..] => {
-            put_ava(types, out, first)?;
-            put_more_avas(types, out, others)?;
-            Ok(())
-        }
+    let mut sign: &[u8] = b"";
+    for ava in avas {
+        out.extend_from_slice(sign)?;
+        put_ava(types, out, ava)?;
+        sign = b"+";
     }
+    Ok(())
 }
 
 // RDNs with a comma between each two
 fn put_rdns(types: &TypeTable, out: &mut Vec<u8>, rdns: &[TypedRdn]) -> Result<(), AllocError>
     ensures { OnOk result (out.new.items ≡ out.old.items ++ text_of (map (written_rdn types.now) rdns.now)) }
 {
-    let [first, rest @ ..] = rdns else {
-        return Ok(());
-    };
-    put_avas(types, out, first.avas())?;
-    for rdn in rest {
-        out.push(b',')?;
+    let mut sign: &[u8] = b"";
+    for rdn in rdns {
+        out.extend_from_slice(sign)?;
         put_avas(types, out, rdn.avas())?;
+        sign = b",";
     }
     Ok(())
 }

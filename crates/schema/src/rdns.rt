@@ -31,7 +31,12 @@ fn is_plain(syntax: TypeSyntax, value: &[u8]) -> bool
 fn has_type(avas: &[(TypeId, Bytes)], t: TypeId) -> bool
     ensures { result ≡ has_type t avas.now }
 {
-    avas.iter().any(|ava| ava.0 == t)
+    for ava in avas {
+        if ava.0 == t {
+            return true;
+        }
+    }
+    false
 }
 
 // the type of an AVA behind others in its RDN
@@ -102,7 +107,12 @@ fn lower_pairs(pairs: &[(TypeId, Bytes)], t: TypeId) -> usize
     ensures place { result ≡ prefix_len (is_lower t) pairs.now }
     ensures bound { result ≤ length pairs.now }
 {
-    pairs.iter().take_while(|pair| pair.0 < t).count()
+    for at in 0..pairs.len() {
+        if pairs[at].0 >= t {
+            return at;
+        }
+    }
+    pairs.len()
 }
 
 #[tactic(auto, unfolding(crate::specs::Rdns::put_pair))]

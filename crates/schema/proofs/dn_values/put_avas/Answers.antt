@@ -1,12 +1,22 @@
-use Rattle.std.proofs.Common.{◌++◌, ◌∙◌, sym, ap, arith}
+use Rattle.std.proofs.Common.{List, ℕ, ◌++◌, ◌∙◌, refl, sym, ap}
 use Rattle.std.specs.List.{join_with_byte}
 use Rattle.std.proofs.lemmas.Simd.{map-map}
 use Rattle.dn.specs.Writing.{ava_text}
-use Rattle.dn.proofs.Writing.{joined_rest}
 use Rattle.schema.specs.Values.{normal_ava}
+use Rattle.schema.proofs.Joined.{one_put, all_put}
 use Rattle.schema.proofs.dn_values.put_avas.Goals as goal
 
-pub returns-in_ok-put_more_avas-in-len1-up : goal.returns-in_ok-put_more_avas-in-len1-up
-returns-in_ok-put_more_avas-in-len1-up c =
-    joined_rest 43 (λ p. ava_text (normal_ava c.args.types.now p)) c.args.pairs.now c.first-item.result c.args.out.now.items c.put_pair.new.out.items c.put_more_avas.new.out.items (omega arith) c.first-item.is c.in_ok-put_pair-in-len1-up.ensures c.in_ok-put_more_avas-in-len1-up.ensures
+pub loop-pair-init : goal.loop-pair-init
+loop-pair-init c = refl
+
+pub loop-pair-preserved : goal.loop-pair-preserved
+loop-pair-preserved c =
+    let pair = c.pair-item.result in
+    let before = c.extend_from_slice.new.self.items in
+    one_put 43 (λ p. ava_text (normal_ava c.args.types.now p)) c.args.pairs.now c.loop-pair.pair-index pair _ c.loop-pair.out.items before c.put_ava.new.out.items _ c.loop-pair-test.true c.pair-item.is c.in_ok-extend_from_slice.ensures.items
+    (c.in_ok-put_ava.ensures ∙ ap (λ (v : List ℕ). before ++ ava_text (normal_ava c.args.types.now (pair.0, v))) c.as_slice.ensures) c.loop-pair.invariant
+
+pub returns : goal.returns
+returns c =
+    all_put 43 (λ p. ava_text (normal_ava c.args.types.now p)) c.args.pairs.now c.loop-pair.pair-index _ c.args.out.now.items c.loop-pair.out.items c.loop-pair-test.false c.loop-pair.invariant
     ∙ ap (λ ts. c.args.out.now.items ++ join_with_byte 43 ts) (sym (map-map ava_text (normal_ava c.args.types.now) c.args.pairs.now))
