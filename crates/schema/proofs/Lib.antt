@@ -17,3 +17,4 @@ pub mod FirstFlaws
 pub mod AvaFaults
 pub mod Joined
 pub mod Fronts
+pub mod WaysOut

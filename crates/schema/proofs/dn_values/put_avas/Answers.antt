@@ -1,3 +1,4 @@
+use Rattle.std.proofs.lemmas.Result.{IfOk-from_err}
 use Rattle.std.proofs.Common.{List, ℕ, ◌++◌, ◌∙◌, refl, sym, ap}
 use Rattle.std.specs.List.{join_with_byte}
 use Rattle.std.proofs.lemmas.Simd.{map-map}
@@ -20,3 +21,9 @@ pub returns : goal.returns
 returns c =
     all_put 43 (λ p. ava_text (normal_ava c.args.types.now p)) c.args.pairs.now c.loop-pair.pair-index _ c.args.out.now.items c.loop-pair.out.items c.loop-pair-test.false c.loop-pair.invariant
     ∙ ap (λ ts. c.args.out.now.items ++ join_with_byte 43 ts) (sym (map-map ava_text (normal_ava c.args.types.now) c.args.pairs.now))
+
+pub returns-in_err-put_ava : goal.returns-in_err-put_ava
+returns-in_err-put_ava c = IfOk-from_err _ _ c.from_residual-in_err-put_ava.ensures.0
+
+pub returns-in_err-extend_from_slice : goal.returns-in_err-extend_from_slice
+returns-in_err-extend_from_slice c = IfOk-from_err _ _ c.from_residual.ensures.0

@@ -1,3 +1,4 @@
+use Rattle.std.proofs.lemmas.Result.{IfOk-from_err}
 use Rattle.std.proofs.Common.{refl, subst}
 use Rattle.std.specs.List.{AllByRecursion}
 use Rattle.dn.specs.Writing.{rdn_text}
@@ -23,3 +24,9 @@ loop-rdn-preserved c = (
 pub returns : goal.returns
 returns c =
     all_put 44 (λ r. rdn_text (normal_rdn c.args.types.now r)) c.args.rdns.now c.loop-rdn.rdn-index _ c.args.out.now.items c.loop-rdn.out.items c.loop-rdn-test.false c.loop-rdn.invariant.0
+
+pub returns-in_err-put_rdn : goal.returns-in_err-put_rdn
+returns-in_err-put_rdn c = IfOk-from_err _ _ c.from_residual-in_err-put_rdn.ensures.0
+
+pub returns-in_err-extend_from_slice : goal.returns-in_err-extend_from_slice
+returns-in_err-extend_from_slice c = IfOk-from_err _ _ c.from_residual.ensures.0

@@ -1,3 +1,5 @@
+use Rattle.std.proofs.lemmas.Grind.{common_steps}
+use Rattle.std.proofs.lemmas.Result.{IfOk-from_err}
 use Rattle.std.proofs.Common.{◌≡◌, map, reverse, drop, ap, ◌∙◌, arith}
 use Rattle.schema.specs.Rdns.{rdn_key_of}
 use Rattle.schema.proofs.Steps.{step_before, none_yet}
@@ -16,3 +18,12 @@ returns c =
     let none : c.loop-i.i ≡ 0 = omega arith in
     c.into_path.ensures ∙ c.loop-i.invariant
     ∙ ap (λ n. map (rdn_key_of c.args.types.now) (reverse (drop n c.args.rdns.now))) none
+
+pub returns-in_err-path : goal.returns-in_err-path
+returns-in_err-path c = IfOk-from_err _ _ c.from_residual.ensures.0
+
+pub returns-in_err-path-2 : goal.returns-in_err-path-2
+returns-in_err-path-2 c = IfOk-from_err _ _ c.from_residual-in_err-path-2.ensures.0
+
+pub step_down-requires : goal.step_down-requires
+step_down-requires c = grind (arith, common_steps)

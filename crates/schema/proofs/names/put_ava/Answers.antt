@@ -1,4 +1,5 @@
-use Rattle.std.proofs.Common.{◌≡◌, ◌++◌, [], ◌∷◌, List, ℕ, sym, ap, subst, ◌∙◌, append_assoc}
+use Rattle.std.proofs.lemmas.Grind.{common_steps}
+use Rattle.std.proofs.Common.{◌≡◌, ◌++◌, [], ◌∷◌, List, ℕ, sym, ap, subst, ◌∙◌, append_assoc, arith}
 use Rattle.std.specs.Prelude.{OnOk}
 use Rattle.std.proofs.lemmas.Result.{on_err_weaker}
 use Rattle.base.specs.Extends.{Extends}
@@ -32,3 +33,6 @@ pub returns-in_err-extend_from_slice-2-clause-kept : goal.returns-in_err-extend_
 returns-in_err-extend_from_slice-2-clause-kept c =
     let out = c.args.out.now.items in
     on_err_too c.from_residual-in_err-extend_from_slice-2.result (subst (Extends out) (sym (c.in_err-extend_from_slice-2.ensures.items ∙ c.in_ok-extend_from_slice.ensures.items)) (extends_put out _))
+
+pub returns-in_err-extend_from_slice-clause-kept : goal.returns-in_err-extend_from_slice-clause-kept
+returns-in_err-extend_from_slice-clause-kept c = grind (arith, common_steps)

@@ -1,3 +1,4 @@
+use Rattle.std.proofs.lemmas.Result.{IfOk-from_err}
 use Rattle.std.proofs.Common.{◌++◌, ◌∙◌, sym, ap, refl, subst}
 use Rattle.std.specs.List.{join_with_byte}
 use Rattle.std.proofs.lemmas.Simd.{map-map}
@@ -32,3 +33,12 @@ pub returns-clause-put : goal.returns-clause-put
 returns-clause-put c =
     all_put 43 (λ p. ava_text (written_ava c.args.types.now p)) c.args.avas.now c.loop-ava.ava-index _ c.args.out.now.items c.loop-ava.out.items c.loop-ava-test.false c.loop-ava.invariant.put
     ∙ ap (λ ts. c.args.out.now.items ++ join_with_byte 43 ts) (sym (map-map ava_text (written_ava c.args.types.now) c.args.avas.now))
+
+pub returns-in_err-put_ava-clause-put : goal.returns-in_err-put_ava-clause-put
+returns-in_err-put_ava-clause-put c = IfOk-from_err _ _ c.from_residual-in_err-put_ava.ensures.0
+
+pub returns-in_err-extend_from_slice-clause-put : goal.returns-in_err-extend_from_slice-clause-put
+returns-in_err-extend_from_slice-clause-put c = IfOk-from_err _ _ c.from_residual.ensures.0
+
+pub returns-in_err-extend_from_slice-clause-kept : goal.returns-in_err-extend_from_slice-clause-kept
+returns-in_err-extend_from_slice-clause-kept c = on_err_too c.from_residual.result (subst (Extends c.args.out.now.items) (sym c.in_err-extend_from_slice.ensures.items) c.loop-ava.invariant.kept)

@@ -1,3 +1,4 @@
+use Rattle.std.proofs.lemmas.Result.{IfOk-from_err}
 use Rattle.std.proofs.Common.{◌∙◌, ◌++◌, refl, sym, ap}
 use Rattle.std.specs.List.{join_with_byte}
 use Rattle.std.proofs.lemmas.Simd.{map-map}
@@ -21,3 +22,9 @@ unfolding text_of
 returns c =
     all_put 44 (λ r. rdn_text (written_rdn c.args.types.now r)) c.args.rdns.now c.loop-rdn.rdn-index _ c.args.out.now.items c.loop-rdn.out.items c.loop-rdn-test.false c.loop-rdn.invariant
     ∙ ap (λ ts. c.args.out.now.items ++ join_with_byte 44 ts) (sym (map-map rdn_text (written_rdn c.args.types.now) c.args.rdns.now))
+
+pub returns-in_err-put_avas : goal.returns-in_err-put_avas
+returns-in_err-put_avas c = IfOk-from_err _ _ c.from_residual-in_err-put_avas.ensures.0
+
+pub returns-in_err-extend_from_slice : goal.returns-in_err-extend_from_slice
+returns-in_err-extend_from_slice c = IfOk-from_err _ _ c.from_residual.ensures.0

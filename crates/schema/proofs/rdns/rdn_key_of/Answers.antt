@@ -1,3 +1,4 @@
+use Rattle.std.proofs.lemmas.Result.{IfOk-from_err}
 use Rattle.std.proofs.Common.{◌≡◌, ℕ, ◌+◌, List, drop, sym, ap, subst, ◌∙◌}
 use Rattle.schema.specs.Rdns.{key_from, rdn_key_of, put_pair, norm_ava}
 use Rattle.values.specs.declared.types.AttributeType.{AttributeType}
@@ -29,3 +30,9 @@ pub returns : goal.returns
 unfolding rdn_key_of key_from
 returns c =
     c.new.ensures ∙ c.from_vec.ensures ∙ sym (ap (key_from c.args.types.now c.loop-t.pairs.items) (none_left c.args.rdn.now _ c.loop-t.t-index c.avas-t-items.ensures c.loop-t-test.false)) ∙ c.loop-t.invariant.0
+
+pub returns-in_err-norm : goal.returns-in_err-norm
+returns-in_err-norm c = IfOk-from_err _ _ c.from_residual-in_err-norm.ensures.0
+
+pub returns-in_err-put_pair : goal.returns-in_err-put_pair
+returns-in_err-put_pair c = IfOk-from_err _ _ c.from_residual-in_err-put_pair.ensures.0

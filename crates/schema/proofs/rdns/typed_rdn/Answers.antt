@@ -1,3 +1,5 @@
+use Rattle.schema.proofs.WaysOut.{gives_nothing}
+use Rattle.std.proofs.lemmas.Result.{IfOk-from_err}
 use Rattle.std.proofs.Common.{◌≡◌, ℕ, ◌+◌, ◌++◌, [], ◌∷◌, List, drop, Result, Ok, sym, ap, subst, refl, ◌∙◌}
 use Rattle.base.specs.Answers.{◌>>=◌}
 use Rattle.paths.proofs.Unpacked.{all_append}
@@ -41,3 +43,21 @@ returns-clause-gives c =
     sym c.loop-ava.invariant.0
     ∙ ap (avas_from c.args.types.now c.loop-ava.typed.items) (none_left c.args.avas.now _ c.loop-ava.ava-index refl c.loop-ava-test.false)
     ∙ ap (λ (r : TypedRdn). Ok r) (sym (c.new.ensures ∙ c.from_vec.ensures))
+
+pub returns-in_err-from_slice-clause-known : goal.returns-in_err-from_slice-clause-known
+returns-in_err-from_slice-clause-known c = IfOk-from_err _ _ c.from_residual-in_err-from_slice.ensures.0
+
+pub returns-in_err-push-clause-known : goal.returns-in_err-push-clause-known
+returns-in_err-push-clause-known c = IfOk-from_err _ _ c.from_residual-in_err-push.ensures.0
+
+pub returns-in_err-typed-clause-known : goal.returns-in_err-typed-clause-known
+returns-in_err-typed-clause-known c = IfOk-from_err _ _ c.from_residual.ensures.0
+
+pub returns-in_err-push-clause-gives : goal.returns-in_err-push-clause-gives
+returns-in_err-push-clause-gives c = gives_nothing _ c.from_residual-in_err-push.result _ c.from_residual-in_err-push.ensures.1
+
+pub returns-in_err-from_slice-clause-gives : goal.returns-in_err-from_slice-clause-gives
+returns-in_err-from_slice-clause-gives c = gives_nothing _ c.from_residual-in_err-from_slice.result _ c.from_residual-in_err-from_slice.ensures.1
+
+pub returns-in_err-typed-clause-gives : goal.returns-in_err-typed-clause-gives
+returns-in_err-typed-clause-gives c = gives_nothing _ c.from_residual.result _ c.from_residual.ensures.1

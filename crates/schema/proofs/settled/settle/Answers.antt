@@ -1,3 +1,4 @@
+use Rattle.std.proofs.lemmas.Result.{IfOk-from_err}
 use Rattle.std.proofs.Common.{◌∙◌, length, List, ap, subst, sym, ◌+◌}
 use Rattle.std.proofs.lemmas.List.{length-append}
 use Rattle.schema.specs.Classes.{no_class}
@@ -22,3 +23,12 @@ loop-c-preserved c =
           (one_more classes c.requires c.loop-c.c c.index-classes-c.result above c.in_ok-settle_class.field-0 (c.index-classes-c.is ∙ same_place classes c.loop-c.c c.index-classes-c.result no_class c.loop-c-test.true) c.loop-c.invariant.sized c.loop-c.invariant.each
           (subst (λ (xs : List Settled). IsSettledBy xs c.index-classes-c.result c.loop-c.c c.in_ok-settle_class.field-0) c.deref.ensures.value c.in_ok-settle_class.ensures) k lt);
     }
+
+pub returns-in_err-settled : goal.returns-in_err-settled
+returns-in_err-settled c = IfOk-from_err _ _ c.from_residual.ensures.0
+
+pub returns-in_err-push : goal.returns-in_err-push
+returns-in_err-push c = IfOk-from_err _ _ c.from_residual-in_err-push.ensures.0
+
+pub returns-in_err-settle_class : goal.returns-in_err-settle_class
+returns-in_err-settle_class c = IfOk-from_err _ _ c.from_residual-in_err-settle_class.ensures.0

@@ -1,3 +1,5 @@
+use Rattle.schema.proofs.WaysOut.{gives_nothing}
+use Rattle.std.proofs.lemmas.Result.{IfOk-from_err}
 use Rattle.std.proofs.Common.{◌≡◌, ℕ, ◌≤◌, ◌-◌, List, ap, sym, ◌∙◌, length, reverse, map, take, drop, Result, Ok, arith}
 use Rattle.std.proofs.lemmas.List.{drop-map, length-map, length-reverse}
 use Rattle.schema.specs.declared.code.Code.{Code}
@@ -7,8 +9,8 @@ use Rattle.schema.proofs.Below.{isnt_below, is_below, reversed_front, begins_lon
 use Rattle.schema.specs.GoodRdns.{IsRdn}
 use Rattle.schema.proofs.Found.{below_are}
 use Rattle.schema.proofs.Locating.{all_reverse}
-use Rattle.schema.proofs.conf.Conf.below_suffix.Goals as goal
 use Rattle.schema.proofs.conf.Conf.below_suffix.Goals.{After-suffix, After-reverse}
+use Rattle.schema.proofs.conf.Conf.below_suffix.Goals as goal
 
 abbrev ok : List TypedRdn → Result (List TypedRdn) Code
 ok rs = Ok rs
@@ -61,3 +63,12 @@ pub returns-clause-good : goal.returns-clause-good
 returns-clause-good c =
     below_are c.args.self.now.types (IsRdn c.args.self.now.types) (reverse c.args.self.now.suffix) (reverse c.args.typed.rdns.items) c.from_vec.result
     (all_reverse (IsRdn c.args.self.now.types) c.args.typed.rdns.items c.requires.good) (returns-clause-rdns c)
+
+pub returns-in_err-behind-clause-path : goal.returns-in_err-behind-clause-path
+returns-in_err-behind-clause-path c = IfOk-from_err _ _ c.from_residual.ensures.0
+
+pub returns-in_err-behind-clause-good : goal.returns-in_err-behind-clause-good
+returns-in_err-behind-clause-good c = IfOk-from_err _ _ c.from_residual.ensures.0
+
+pub returns-in_err-behind-clause-rdns : goal.returns-in_err-behind-clause-rdns
+returns-in_err-behind-clause-rdns c = gives_nothing _ c.from_residual.result _ c.from_residual.ensures.1
