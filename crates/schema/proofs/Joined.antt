@@ -25,7 +25,8 @@ module _ {X : Type 0} (sep : ℕ) (text : X → List ℕ) (xs : List X) (i : ℕ
       ∙ sym (ap (λ (ys : List X). out ++ behind sep sign (map text ys)) cut)
       ∙ so_far
 
-  pub all_put : (sign old out : List ℕ) → length xs ≤ i → out ++ behind sep sign (map text (drop i xs)) ≡ old ++ behind sep [] (map text xs) → out ≡ old ++ join_with_byte sep (map text xs)
+  pub all_put : (sign old out : List ℕ) → length xs ≤ i → out ++ behind sep sign (map text (drop i xs)) ≡ old ++ behind sep [] (map text xs)
+      → out ≡ old ++ join_with_byte sep (map text xs)
   all_put sign old out le so_far =
       sym (ap (λ (ys : List X). out ++ behind sep sign (map text ys)) (drop_all i xs le) ∙ append-nil out)
       ∙ so_far

@@ -10,11 +10,14 @@ use Rattle.schema.specs.declared.fault.PathFault.TheVariants as faults
 use Rattle.base.specs.Answers.{Fails}
 use Rattle.schema.specs.Gives.{fault_of, Gives, Makes}
 
-pub gives_nothing : {X Y : Type 0} (seen : X → Y) (r : Result X PathFault) (said : Result Y Code) → IsErrAnd r (λ e. e ≡ faults.OutOfMemory) → Gives seen r said
+pub gives_nothing : {X Y : Type 0} (seen : X → Y) (r : Result X PathFault) (said : Result Y Code) → IsErrAnd r (λ e. e ≡ faults.OutOfMemory)
+    → Gives seen r said
 gives_nothing seen r said h = let p = err_from_is_err_and r h in rw (p.1, p.2) tt
 
-pub makes_nothing : {X : Type 0} (r : Result X ValueFault) (valid : Bool) (P : X → Type 0) → IsErrAnd r (λ e. e ≡ value_faults.OutOfMemory) → Makes r valid P
+pub makes_nothing : {X : Type 0} (r : Result X ValueFault) (valid : Bool) (P : X → Type 0) → IsErrAnd r (λ e. e ≡ value_faults.OutOfMemory)
+    → Makes r valid P
 makes_nothing r valid P h = let p = err_from_is_err_and r h in rw (p.1, p.2) tt
 
-pub handed_on : {X Y : Type 0} (seen : X → Y) (r : Result X PathFault) (fault : PathFault) (said : Result Y Code) → IsErrAnd r (λ e. e ≡ fault) → Fails (fault_of fault) said → Gives seen r said
+pub handed_on : {X Y : Type 0} (seen : X → Y) (r : Result X PathFault) (fault : PathFault) (said : Result Y Code) → IsErrAnd r (λ e. e ≡ fault)
+    → Fails (fault_of fault) said → Gives seen r said
 handed_on seen r fault said h fails = let p = err_from_is_err_and r h in rw (p.1, p.2) fails

@@ -14,12 +14,15 @@ pub loop-pair-preserved : goal.loop-pair-preserved
 loop-pair-preserved c =
     let pair = c.pair-item.result in
     let before = c.extend_from_slice.new.self.items in
-    one_put 43 (λ p. ava_text (normal_ava c.args.types.now p)) c.args.pairs.now c.loop-pair.pair-index pair _ c.loop-pair.out.items before c.put_ava.new.out.items _ c.loop-pair-test.true c.pair-item.is c.in_ok-extend_from_slice.ensures.items
-    (c.in_ok-put_ava.ensures ∙ ap (λ (v : List ℕ). before ++ ava_text (normal_ava c.args.types.now (pair.0, v))) c.as_slice.ensures) c.loop-pair.invariant
+    one_put 43 (λ p. ava_text (normal_ava c.args.types.now p)) c.args.pairs.now c.loop-pair.pair-index pair _ c.loop-pair.out.items before
+    c.put_ava.new.out.items _ c.loop-pair-test.true c.pair-item.is c.in_ok-extend_from_slice.ensures.items
+    (c.in_ok-put_ava.ensures ∙ ap (λ (v : List ℕ). before ++ ava_text (normal_ava c.args.types.now (pair.0, v))) c.as_slice.ensures)
+    c.loop-pair.invariant
 
 pub returns : goal.returns
 returns c =
-    all_put 43 (λ p. ava_text (normal_ava c.args.types.now p)) c.args.pairs.now c.loop-pair.pair-index _ c.args.out.now.items c.loop-pair.out.items c.loop-pair-test.false c.loop-pair.invariant
+    all_put 43 (λ p. ava_text (normal_ava c.args.types.now p)) c.args.pairs.now c.loop-pair.pair-index _ c.args.out.now.items
+    c.loop-pair.out.items c.loop-pair-test.false c.loop-pair.invariant
     ∙ ap (λ ts. c.args.out.now.items ++ join_with_byte 43 ts) (sym (map-map ava_text (normal_ava c.args.types.now) c.args.pairs.now))
 
 pub returns-in_err-put_ava : goal.returns-in_err-put_ava

@@ -23,15 +23,19 @@ pub loop-ava-preserved : goal.loop-ava-preserved
 loop-ava-preserved c =
     let before = c.loop-ava.out.items in
     let sign = subst (Extends before) (sym c.in_ok-extend_from_slice.ensures.items) (extends_put before _) in
-    let ava = subst (Extends c.extend_from_slice.new.self.items) (sym c.in_ok-put_ava.ensures.put) (extends_put c.extend_from_slice.new.self.items _) in
+    let ava = subst (Extends c.extend_from_slice.new.self.items) (sym c.in_ok-put_ava.ensures.put)
+    (extends_put c.extend_from_slice.new.self.items _) in
     record {
-      put = one_put 43 (λ p. ava_text (written_ava c.args.types.now p)) c.args.avas.now c.loop-ava.ava-index c.ava-item.result _ before c.extend_from_slice.new.self.items c.put_ava.new.out.items _ c.loop-ava-test.true c.ava-item.is c.in_ok-extend_from_slice.ensures.items c.in_ok-put_ava.ensures.put c.loop-ava.invariant.put;
+      put = one_put 43 (λ p. ava_text (written_ava c.args.types.now p)) c.args.avas.now c.loop-ava.ava-index c.ava-item.result _ before
+          c.extend_from_slice.new.self.items c.put_ava.new.out.items _ c.loop-ava-test.true c.ava-item.is c.in_ok-extend_from_slice.ensures.items
+          c.in_ok-put_ava.ensures.put c.loop-ava.invariant.put;
       kept = extends_on _ _ _ c.loop-ava.invariant.kept (extends_on _ _ _ sign ava);
     }
 
 pub returns-clause-put : goal.returns-clause-put
 returns-clause-put c =
-    all_put 43 (λ p. ava_text (written_ava c.args.types.now p)) c.args.avas.now c.loop-ava.ava-index _ c.args.out.now.items c.loop-ava.out.items c.loop-ava-test.false c.loop-ava.invariant.put
+    all_put 43 (λ p. ava_text (written_ava c.args.types.now p)) c.args.avas.now c.loop-ava.ava-index _ c.args.out.now.items c.loop-ava.out.items
+    c.loop-ava-test.false c.loop-ava.invariant.put
     ∙ ap (λ ts. c.args.out.now.items ++ join_with_byte 43 ts) (sym (map-map ava_text (written_ava c.args.types.now) c.args.avas.now))
 
 pub returns-in_err-put_ava-clause-put : goal.returns-in_err-put_ava-clause-put
@@ -41,4 +45,5 @@ pub returns-in_err-extend_from_slice-clause-put : goal.returns-in_err-extend_fro
 returns-in_err-extend_from_slice-clause-put c = IfOk-from_err _ _ c.from_residual.ensures.0
 
 pub returns-in_err-extend_from_slice-clause-kept : goal.returns-in_err-extend_from_slice-clause-kept
-returns-in_err-extend_from_slice-clause-kept c = on_err_too c.from_residual.result (subst (Extends c.args.out.now.items) (sym c.in_err-extend_from_slice.ensures.items) c.loop-ava.invariant.kept)
+returns-in_err-extend_from_slice-clause-kept c = on_err_too c.from_residual.result
+    (subst (Extends c.args.out.now.items) (sym c.in_err-extend_from_slice.ensures.items) c.loop-ava.invariant.kept)

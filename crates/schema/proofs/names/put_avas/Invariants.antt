@@ -7,6 +7,7 @@ use Rattle.schema.proofs.names.put_avas.Given as goal
 
 abbrev pub invariant-loop-ava : goal.invariant-loop-ava
 invariant-loop-ava l = record {
-  put : l.out.items ++ behind 43 l.sign (map (λ p. ava_text (written_ava l.types p)) (drop l.ava-index l.avas)) ≡ l.fn.out.items ++ behind 43 [] (map (λ p. ava_text (written_ava l.types p)) l.avas);
+  put : l.out.items ++ behind 43 l.sign (map (λ p. ava_text (written_ava l.types p)) (drop l.ava-index l.avas))
+      ≡ l.fn.out.items ++ behind 43 [] (map (λ p. ava_text (written_ava l.types p)) l.avas);
   kept : Extends l.fn.out.items l.out.items;
 }

@@ -14,13 +14,15 @@ loop-rdn-init c = refl
 pub loop-rdn-preserved : goal.loop-rdn-preserved
 loop-rdn-preserved c =
     let before = c.extend_from_slice.new.self.items in
-    one_put 44 (λ r. rdn_text (written_rdn c.args.types.now r)) c.args.rdns.now c.loop-rdn.rdn-index c.rdn-item.result _ c.loop-rdn.out.items before c.put_avas.new.out.items _ c.loop-rdn-test.true c.rdn-item.is c.in_ok-extend_from_slice.ensures.items
+    one_put 44 (λ r. rdn_text (written_rdn c.args.types.now r)) c.args.rdns.now c.loop-rdn.rdn-index c.rdn-item.result _ c.loop-rdn.out.items
+    before c.put_avas.new.out.items _ c.loop-rdn-test.true c.rdn-item.is c.in_ok-extend_from_slice.ensures.items
     (c.in_ok-put_avas.ensures.put ∙ ap (λ (r : TypedRdn). before ++ rdn_text (written_rdn c.args.types.now r)) c.avas.ensures) c.loop-rdn.invariant
 
 pub returns : goal.returns
 unfolding text_of
 returns c =
-    all_put 44 (λ r. rdn_text (written_rdn c.args.types.now r)) c.args.rdns.now c.loop-rdn.rdn-index _ c.args.out.now.items c.loop-rdn.out.items c.loop-rdn-test.false c.loop-rdn.invariant
+    all_put 44 (λ r. rdn_text (written_rdn c.args.types.now r)) c.args.rdns.now c.loop-rdn.rdn-index _ c.args.out.now.items c.loop-rdn.out.items
+    c.loop-rdn-test.false c.loop-rdn.invariant
     ∙ ap (λ ts. c.args.out.now.items ++ join_with_byte 44 ts) (sym (map-map rdn_text (written_rdn c.args.types.now) c.args.rdns.now))
 
 pub returns-in_err-put_avas : goal.returns-in_err-put_avas

@@ -30,13 +30,15 @@ loop-at-init c = omega arith
 
 pub returns-then-ge-clause-place : goal.returns-then-ge-clause-place
 returns-then-ge-clause-place c =
-    let here = from_here c.args.t c.args.pairs.now c.loop-at.at _ true (drop_more c.args.pairs.now c.loop-at.at c.index-pairs-at.result c.loop-at-test.true) (sym c.if-ge.true ∙ c.ge.ensures) in
+    let here = from_here c.args.t c.args.pairs.now c.loop-at.at _ true
+    (drop_more c.args.pairs.now c.loop-at.at c.index-pairs-at.result c.loop-at-test.true) (sym c.if-ge.true ∙ c.ge.ensures) in
     let so_far = c.loop-at.invariant in
     omega (arith, here, so_far)
 
 pub loop-at-preserved : goal.loop-at-preserved
 loop-at-preserved c =
-    let here = from_here c.args.t c.args.pairs.now c.loop-at.at _ false (drop_more c.args.pairs.now c.loop-at.at c.index-pairs-at.result c.loop-at-test.true) (sym c.if-ge.false ∙ c.ge.ensures) in
+    let here = from_here c.args.t c.args.pairs.now c.loop-at.at _ false
+    (drop_more c.args.pairs.now c.loop-at.at c.index-pairs-at.result c.loop-at-test.true) (sym c.if-ge.false ∙ c.ge.ensures) in
     let so_far = c.loop-at.invariant in
     omega (arith, here, so_far)
 

@@ -15,7 +15,8 @@ use Rattle.schema.specs.inner.Keys.{AreKnown}
 use Rattle.schema.proofs.Rest.{first_left, none_left}
 use Rattle.schema.proofs.rdns.typed_rdns.Goals as goal
 
-still_fails : (fault : PathFault) (said : Result TypedRdn Code) (step : TypedRdn → Result (List TypedRdn) Code) (total : Result (List TypedRdn) Code) → Fails (fault_of fault) said → (said >>= step) ≡ total → Fails (fault_of fault) total
+still_fails : (fault : PathFault) (said : Result TypedRdn Code) (step : TypedRdn → Result (List TypedRdn) Code) (total : Result (List TypedRdn) Code)
+    → Fails (fault_of fault) said → (said >>= step) ≡ total → Fails (fault_of fault) total
 still_fails faults.OutOfMemory said step total fails is = tt
 still_fails (faults.Code code) said step total fails is = sym is ∙ ap (λ (r : Result TypedRdn Code). r >>= step) fails
 
@@ -73,5 +74,7 @@ returns-in_err-typed_rdn-clause-gives c =
     let rest = drop (c.loop-rdn.rdn-index + 1) c.args.name.now in
     let cut = first_left c.args.name.now _ c.loop-rdn.rdn-index c.rdns-rdn-items.ensures.rdns c.rdn-item.result c.loop-rdn-test.true c.rdn-item.is in
     let step = λ (r : TypedRdn). rdns_from types (before ++ r ∷ []) rest in
-    let so_far = sym (ap (rdns_from types before) cut ∙ ap (λ (r : names.Rdn). typed_rdn types r >>= step) (sym c.avas.ensures.avas)) ∙ c.loop-rdn.invariant.0 in
-    handed_on _ c.from_residual-in_err-typed_rdn.result _ _ c.from_residual-in_err-typed_rdn.ensures.1 (still_fails c.in_err-typed_rdn.field-0.0 _ step _ c.in_err-typed_rdn.ensures.gives so_far)
+    let so_far = sym (ap (rdns_from types before) cut ∙ ap (λ (r : names.Rdn). typed_rdn types r >>= step) (sym c.avas.ensures.avas))
+    ∙ c.loop-rdn.invariant.0 in
+    handed_on _ c.from_residual-in_err-typed_rdn.result _ _ c.from_residual-in_err-typed_rdn.ensures.1
+    (still_fails c.in_err-typed_rdn.field-0.0 _ step _ c.in_err-typed_rdn.ensures.gives so_far)
