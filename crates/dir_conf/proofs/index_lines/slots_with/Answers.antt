@@ -1,4 +1,6 @@
-use Rattle.std.proofs.Common.{ℕ, ◌+◌, List, ◌∷◌, ◌++◌, map, drop, sym, ap, ◌∙◌, append_assoc}
+use Rattle.std.proofs.lemmas.Grind.{common_steps}
+use Rattle.std.proofs.lemmas.Result.{IfOk-from_err}
+use Rattle.std.proofs.Common.{ℕ, ◌+◌, List, ◌∷◌, ◌++◌, map, drop, sym, ap, ◌∙◌, append_assoc, arith}
 use Rattle.std.proofs.lemmas.List.{drop_more}
 use Rattle.schema.specs.declared.slots.Slot.{Slot}
 use Rattle.dir_conf.specs.IndexLines.{slots_with}
@@ -16,3 +18,9 @@ loop-t-preserved c =
     ∙ ap (λ (u : ℕ). old ++ slots_with (u ∷ drop (i + 1) ts) kinds) c.t-item.is
     ∙ ap (λ (us : List ℕ). old ++ slots_with us kinds) (sym (drop_more ts i t c.loop-t-test.true))
     ∙ c.loop-t.invariant
+
+pub returns-in_err-put_slots : goal.returns-in_err-put_slots
+returns-in_err-put_slots c = IfOk-from_err _ _ c.from_residual.ensures.0
+
+pub returns : goal.returns
+returns c = grind (arith, common_steps)

@@ -1,5 +1,5 @@
 use Rattle.std.proofs.Common.{ℕ, ◌<◌, ◌+◌, List, [], ◌∷◌, length, map, drop, sym, ap, subst, ◌∙◌, Bor}
-use Rattle.std.proofs.lemmas.Result.{err_from_is_err_and}
+use Rattle.std.proofs.lemmas.Result.{err_from_is_err_and, IfOk-from_err}
 use Rattle.std.specs.List.{AllByRecursion}
 use Rattle.base.specs.Answers.{each}
 use Rattle.base.proofs.Each.{with_front, nothing_front, goes_on, ends, is_done}
@@ -44,3 +44,12 @@ pub returns-clause-gives : goal.returns-clause-gives
 returns-clause-gives c =
     let read = type_named c.args.types.now c.args.line in
     is_done read text c.args.names.now c.loop-name.name-index c.loop-name.named.items (each read (map text c.args.names.now)) c.loop-name-test.false c.loop-name.invariant.read
+
+pub returns-in_err-type_named-clause-known : goal.returns-in_err-type_named-clause-known
+returns-in_err-type_named-clause-known c = IfOk-from_err _ _ c.from_residual-in_err-type_named.ensures.0
+
+pub returns-in_err-push-clause-known : goal.returns-in_err-push-clause-known
+returns-in_err-push-clause-known c = IfOk-from_err _ _ c.from_residual-in_err-push.ensures.0
+
+pub returns-in_err-named-clause-known : goal.returns-in_err-named-clause-known
+returns-in_err-named-clause-known c = IfOk-from_err _ _ c.from_residual.ensures.0

@@ -1,4 +1,6 @@
-use Rattle.std.proofs.Common.{Option, ℕ, List, sym, ap, ◌∙◌}
+use Rattle.std.proofs.lemmas.Grind.{common_steps}
+use Rattle.std.proofs.lemmas.Result.{IfOk-from_err}
+use Rattle.std.proofs.Common.{Option, ℕ, List, sym, ap, ◌∙◌, arith}
 use Rattle.std.specs.Prelude.{is_some}
 use Rattle.std.specs.Str.{str_eq_ignore_ascii_case}
 use Rattle.values.specs.declared.name_index.NameEntry.{NameEntry}
@@ -19,3 +21,12 @@ loop-name-preserved c =
     ∙ ap (λ (n : List ℕ). or_if (number_of c.loop-name.seen text) (str_eq_ignore_ascii_case n text) 0) c.as_slice-in-loop-name.ensures)
     c.loop-name-test.true c.name-item.is
     (sym (c.is_some.ensures ∙ ap (λ (o : Option ℕ). is_some o) c.get.ensures ∙ ap (knows c.loop-name.seen) c.as_slice.ensures) ∙ c.if-is_some.false) c.loop-name.invariant
+
+pub returns-in_err-add : goal.returns-in_err-add
+returns-in_err-add c = IfOk-from_err _ _ c.from_residual-in_err-add.ensures.0
+
+pub returns-then-is_some : goal.returns-then-is_some
+returns-then-is_some c = grind (arith, common_steps)
+
+pub returns : goal.returns
+returns c = grind (arith, common_steps)
