@@ -22,14 +22,14 @@ use ldif::{Mode, RawRecord, ReadFault, Reader, WriteFault};
 use std::alloc::Global;
 
 /// How many records of a run were accepted, and how many were refused.
-#[derive(Clone, Copy, Debug, PartialEq, Eq)]
+#[derive(Clone, Copy, PartialEq, Eq)]
 pub struct Tally {
     pub accepted: u64,
     pub refused: u64,
 }
 
 /// Why a run was broken off, with the records that were carried out by then.
-#[derive(Clone, Copy, Debug, PartialEq, Eq)]
+#[derive(Clone, Copy, PartialEq, Eq)]
 pub enum RunFault {
     /// The source failed.
     Read(Tally),

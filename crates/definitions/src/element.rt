@@ -15,7 +15,7 @@ use base::{Bytes, Sequence, is_name, is_oid, is_type_name};
 use std::alloc::{AllocError, Global};
 
 /// What a definition defines.
-#[derive(Clone, Copy, PartialEq, Eq)]
+#[derive(Clone, Copy)]
 pub(crate) enum Sort {
     AttributeType,
     ObjectClass,

@@ -16,7 +16,7 @@ use base::{Bytes, is_oid};
 use std::alloc::Global;
 
 /// A field that names a type, a rule or a syntax.
-#[derive(Clone, Copy, Debug, PartialEq, Eq)]
+#[derive(Clone, Copy)]
 pub enum Reference {
     /// SUP
     Superior,
@@ -31,7 +31,7 @@ pub enum Reference {
 }
 
 /// A field that stands alone.
-#[derive(Clone, Copy, Debug, PartialEq, Eq)]
+#[derive(Clone, Copy)]
 pub enum Flag {
     /// SINGLE-VALUE
     SingleValue,
@@ -42,7 +42,7 @@ pub enum Flag {
 }
 
 /// What a type is for: users' data, or the operation of servers.
-#[derive(Clone, Copy, Debug, PartialEq, Eq)]
+#[derive(Clone, Copy)]
 pub enum Usage {
     /// userApplications
     UserApplications,

@@ -27,7 +27,6 @@ pub struct Attributes {
     values: Vec<Values>,
 }
 
-// A call of its own, so that no caller proves it anew.
 impl Drop for Attributes {
     fn drop(self) {
         let Attributes {

@@ -31,12 +31,7 @@ fn is_plain(syntax: TypeSyntax, value: &[u8]) -> bool
 fn has_type(avas: &[(TypeId, Bytes)], t: TypeId) -> bool
     ensures { result ≡ has_type t avas.now }
 {
-    for ava in avas {
-        if ava.0 == t {
-            return true;
-        }
-    }
-    false
+    avas.iter().any(|ava| ava.0 == t)
 }
 
 // the type of an AVA behind others in its RDN
@@ -107,12 +102,7 @@ fn lower_pairs(pairs: &[(TypeId, Bytes)], t: TypeId) -> usize
     ensures place { result ≡ prefix_len (is_lower t) pairs.now }
     ensures bound { result ≤ length pairs.now }
 {
-    for at in 0..pairs.len() {
-        if pairs[at].0 >= t {
-            return at;
-        }
-    }
-    pairs.len()
+    pairs.iter().take_while(|pair| pair.0 < t).count()
 }
 
 #[tactic(auto, unfolding(crate::specs::Rdns::put_pair))]
