@@ -327,8 +327,5 @@ pub fn search<F: Folder, O: Sink, E: Sink>(
     ensures can_report { IfErr result (λ why. CanReport why (E.written err.new).failed) }
 {
     let filter = filter_of(alloc, asked.filter)?;
-    let ended = load_and_search(alloc, asked, &filter, folder, out, err);
-    // The program ends with its command, and that frees the filter at once.
-    mem::forget(filter);
-    ended
+    load_and_search(alloc, asked, &filter, folder, out, err)
 }

@@ -6,10 +6,10 @@ use Rattle.commands.proofs.Stopping.{filter_stops, filter_first}
 use Rattle.commands.proofs.searching.search.Goals as goal
 
 pub returns-clause-ends : goal.returns-clause-ends
-returns-clause-ends g c = c.load_and_search-ended.ensures.ends
+returns-clause-ends g c = c.load_and_search.ensures.ends
 
 pub returns-clause-can_report : goal.returns-clause-can_report
-returns-clause-can_report g c = c.load_and_search-ended.ensures.can_report
+returns-clause-can_report g c = c.load_and_search.ensures.can_report
 
 pub returns-in_err-filter-clause-ends : goal.returns-in_err-filter-clause-ends
 returns-in_err-filter-clause-ends g c =
