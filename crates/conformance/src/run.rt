@@ -3,9 +3,9 @@
 use crate::case::{Case, Step};
 use crate::report::{put_files, put_stream};
 use commands::{CommandFault, report_fault};
-use device::{TrySink, TrySource};
 use memory_folder::{MemoryFolder, run_command};
 use std::alloc::{AllocError, Global};
+use try_device::{TrySink, TrySource};
 
 /// How many bytes a stream gives or takes at a time: few, so that most texts come and go in several pieces.
 const PIECE: usize = 7;

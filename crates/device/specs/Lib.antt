@@ -1,4 +1,3 @@
 pub mod Device
-pub mod Memory
 pub mod Adapters
 pub mod inner

@@ -3,13 +3,11 @@
 
 mod adapters;
 mod count;
-mod memory;
 mod nowhere;
 mod sink;
 mod source;
 
 pub use adapters::{OfRead, OfWrite};
-pub use memory::{TrySink, TrySource};
 pub use nowhere::Nowhere;
 pub use sink::{Sink, push_all};
 pub use source::{Device, Source};

@@ -2,13 +2,13 @@
 
 ghost use Rattle.std.specs.Prelude.{◌<◌};
 
-use device::{TrySink, TrySource};
 use dir_conf::{ConfFault, read_conf};
 use directory::{Directory, RunFault, Tally, load, run};
 use ldif::Mode;
 use schema::Conf;
 use std::alloc::{AllocError, Global};
 use std::test::Fail;
+use try_device::{TrySink, TrySource};
 
 const CONF: &str = "suffix \"dc=ex\"
 attributetype ( 0.9.2342.19200300.100.1.25 NAME 'dc' EQUALITY caseIgnoreMatch SYNTAX 1.3.6.1.4.1.1466.115.121.1.15 )

@@ -1,11 +1,11 @@
 //! Runs and dumps over sources and sinks that fail behind each number of bytes.
 
 use crate::directories::{Devices, ROOT, has_dump, loaded, run_over};
-use device::TrySink;
 use directory::{Directory, RunFault, Tally};
 use ldif::{Mode, WriteFault};
 use std::alloc::Global;
 use std::test::Fail;
+use try_device::TrySink;
 
 // the record on line 4 is refused
 const TEXT: &str =

@@ -3,13 +3,14 @@
 ghost use Rattle.std.specs.Prelude.{◌<◌, ◌-◌, ◌^◌};
 
 use crate::directories::{has_index, loaded_under};
-use device::{Source, TrySource};
+use device::Source;
 use dir_conf::read_conf;
 use directory::Directory;
 use ldif::{Mode, Reader, read_record};
 use schema::Conf;
 use std::alloc::Global;
 use std::test::Fail;
+use try_device::TrySource;
 
 const CONF: &str = "suffix \"dc=ex\"
 attributetype ( 2.5.4.41 NAME 'name' EQUALITY caseIgnoreMatch SUBSTR caseIgnoreSubstringsMatch SYNTAX 1.3.6.1.4.1.1466.115.121.1.15{32768} )

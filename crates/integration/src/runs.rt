@@ -4,7 +4,6 @@ ghost use Rattle.std.specs.Prelude.{◌≡◌, IfOk};
 
 use crate::directories::{Devices, ROOT, conf, has_dump, loaded, run_over};
 use base::{Bytes, Sequence};
-use device::TrySource;
 use directory::{Directory, Edits, LoadFault, RunFault, Tally, load, load_tree};
 use entries::Refusal;
 use ldif::{Mode, Record};
@@ -12,6 +11,7 @@ use schema::{Conf, Path};
 use std::alloc::Global;
 use std::test::Fail;
 use tree::Tree;
+use try_device::TrySource;
 
 // the records on lines 1, 4 and 9 are refused
 const THREE: &str =

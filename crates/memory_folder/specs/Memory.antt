@@ -7,9 +7,9 @@ use Rattle.std.specs.FinMap as finite
 use Rattle.std.specs.Io.Cursor.{cursor_remaining}
 use Rattle.std.specs.declared.string.String.{String}
 use Rattle.std.specs.declared.vec.Vec.{Vec}
-use Rattle.device.specs.Memory.{source_seen, sink_written}
-use Rattle.device.specs.declared.memory.TrySource.{TrySource}
-use Rattle.device.specs.declared.memory.TrySink.{TrySink}
+use Rattle.try_device.specs.Memory.{source_seen, sink_written}
+use Rattle.try_device.specs.declared.memory.TrySource.{TrySource}
+use Rattle.try_device.specs.declared.memory.TrySink.{TrySink}
 use Rattle.commands.specs.Folders.{Files}
 use Rattle.commands.specs.Locks.{Locking}
 use Rattle.commands.specs.Worlds.{World}

@@ -12,8 +12,9 @@ ghost use Rattle.memory_folder.specs.Memory.{files_of, folder_files, folder_lock
 use crate::contents::Contents;
 use crate::files::MemoryFiles;
 use commands::{FileText, Folder, FolderFault, LockFault};
-use device::{OfRead, TrySink};
+use device::OfRead;
 use std::alloc::Global;
+use try_device::TrySink;
 
 /// How many bytes of a file are stored at a time: few, so that most texts go in several pieces.
 const PIECE: usize = 7;

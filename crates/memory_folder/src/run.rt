@@ -1,14 +1,14 @@
 //! A command over a folder in memory.
 ghost use Rattle.std.specs.Prelude.{◌<◌, ◌-◌, ◌^◌, map};
-ghost use Rattle.device.specs.Memory.{source_seen, sink_written};
+ghost use Rattle.try_device.specs.Memory.{source_seen, sink_written};
 ghost use Rattle.commands.specs.Commands.{CommandEnds};
 ghost use Rattle.memory_folder.specs.Memory.{world_of};
 
 use crate::folder::MemoryFolder;
 use commands::command;
-use device::{TrySink, TrySource};
 use std::alloc::Global;
 use std::convert::AsStr;
+use try_device::{TrySink, TrySource};
 
 /// Carries out the command that the words spell over a folder and streams in memory, and answers its exit status, as `command` does.
 pub fn run_command<W: AsStr>(

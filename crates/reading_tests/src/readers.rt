@@ -4,11 +4,12 @@ ghost use Rattle.std.specs.Prelude.{◌≡◌, ◌<◌};
 ghost use Rattle.ldif_lines.specs.Reader.{source_of, loan_of};
 
 use crate::texts::{push_words, repeated};
-use device::{Device, Source, TrySource};
+use device::{Device, Source};
 use ldif::{RawRecord, ReadFault, Reader};
 use std::alloc::{AllocError, Global};
 use std::process::Abort;
 use std::test::Fail;
+use try_device::TrySource;
 
 /// How many bytes a pull gives at most.
 const PULLS: [usize; 4] = [1, 2, 7, 8192];

@@ -5,7 +5,7 @@ ghost use Rattle.std.specs.Prelude.{◌<◌, ◌-◌, ◌^◌};
 use crate::directories::{PEOPLE, directory};
 use crate::shown::{Shown, print_directory, shown_by};
 use anyhow::{Error, Result};
-use device::{Source, TrySource};
+use device::Source;
 use directory::Directory;
 use entries::Refusal;
 use ldif::{LdifFault, Mode, RawRecord, Reader, read_record};
@@ -13,6 +13,7 @@ use ldif_lines::ReadFault;
 use schema::Code;
 use std::alloc::Global;
 use std::io::Print;
+use try_device::TrySource;
 
 const MODE: Mode = Mode::Changes { add: false };
 

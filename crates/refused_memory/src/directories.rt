@@ -3,11 +3,11 @@
 ghost use Rattle.std.specs.Prelude.{◌≡◌, IfOk};
 
 use anyhow::{Error, Result};
-use device::TrySource;
 use dir_conf::{ConfFault, read_conf};
 use directory::{Directory, LoadFault, load};
 use schema::Conf;
 use std::alloc::{AllocError, Global};
+use try_device::TrySource;
 
 const CONF: &str = "suffix \"dc=ex\"
 attributetype ( 2.5.4.41 NAME 'name' EQUALITY caseIgnoreMatch SUBSTR caseIgnoreSubstringsMatch SYNTAX 1.3.6.1.4.1.1466.115.121.1.15{32768} )

@@ -3,11 +3,11 @@
 use crate::directories::{PEOPLE, directory};
 use crate::shown::{Shown, print_directory, shown_by};
 use anyhow::{Error, Result};
-use device::{TrySink, TrySource};
 use directory::{Directory, RunFault, Tally, run};
 use ldif::Mode;
 use std::alloc::Global;
 use std::io::Print;
+use try_device::{TrySink, TrySource};
 
 /// What a run begins with, and its records.
 struct Run {

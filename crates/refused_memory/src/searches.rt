@@ -6,7 +6,6 @@ use crate::directories::{PEOPLE, directory};
 use crate::shown::shown_by;
 use anyhow::{Error, Result};
 use candidates::asked_keys;
-use device::TrySource;
 use directory::{Directory, Stamp, search_with, stamp_of};
 use entries::{Entry, Refusal};
 use filter::{Prepared, prepare};
@@ -17,6 +16,7 @@ use search::{Hits, Scope, scan};
 use std::alloc::Global;
 use std::io::Print;
 use stored_index::{IndexFault, StoredIndex};
+use try_device::TrySource;
 
 /// Each kind of item, and connectives over them.
 const FILTERS: [&str; 21] = [

@@ -3,10 +3,10 @@
 ghost use Rattle.std.specs.Prelude.{◌<◌};
 
 use anyhow::{Error, Result};
-use device::TrySink;
 use directory::Directory;
 use std::alloc::Global;
 use std::io::Print;
+use try_device::TrySink;
 
 /// Its dump, and the text of its index.
 #[derive(Drop)]

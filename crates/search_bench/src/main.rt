@@ -6,7 +6,6 @@ mod timing;
 ghost use Rattle.std.specs.Prelude.{◌≡◌, IfOk};
 
 use anyhow::{Error, Result};
-use device::TrySource;
 use dir_conf::read_conf;
 use directory::{Directory, load};
 use filter::{Prepared, prepare};
@@ -16,6 +15,7 @@ use std::io::Print;
 use std::rt::Clock;
 use std::{env, fs};
 use timing::{Search, best_of};
+use try_device::TrySource;
 
 /// What is printed without words.
 const HELP: &str = "search_bench DIR.CONF DATA.LDIF FILTER..";

@@ -1,8 +1,8 @@
 use Rattle.std.proofs.Common.{◌+◌, ◌≤◌, length, drop, arith, refl, sym, ap}
 use Rattle.std.proofs.lemmas.List.{length-append, length-drop, length-take, drop_all}
 use Rattle.std.proofs.lemmas.Bool.{le-leb}
-use Rattle.device.proofs.Parts.{front_len, front_cut, front_ended}
-use Rattle.device.proofs.memory.TrySourceSource.pull.Goals as goal
+use Rattle.try_device.proofs.Parts.{front_len, front_cut, front_ended}
+use Rattle.try_device.proofs.memory.TrySourceSource.pull.Goals as goal
 
 pub returns-clause-gave : goal.returns-clause-gave
 returns-clause-gave c =

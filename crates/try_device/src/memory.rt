@@ -1,11 +1,10 @@
-//! A source and a sink over bytes in memory, which can fail: for tests of what uses a device.
+//! Bytes in memory, as a source and as a sink.
 
 ghost use Rattle.std.specs.Prelude.{◌≡◌, ◌+◌, ◌-◌, ◌^◌, ◌<◌, ◌≤◌, ◌↔◌, ◌⊎◌, true, nat_le, length, take, Some, [], IfSome, IsSome, MatchOption, IfOk, IsOk, IsErr, OnOk, OnErr};
 ghost use Rattle.std.specs.Io.KnownBytes.{IsAtEnd};
 ghost use Rattle.device.specs.Device.{Gave, PullFailed, Took, PushFailed};
 
-use crate::sink::Sink;
-use crate::source::{Device, Source};
+use device::{Device, Sink, Source};
 use std::alloc::Global;
 
 /// How many bytes may come or go now that `done` of them did, or `None` where the next call is to fail.
@@ -36,7 +35,7 @@ pub struct TrySource<'a> {
 }
 
 impl<'a> TrySource<'a> {
-    ghost use Rattle.device.specs.Memory.{source_seen, source_most, source_limit};
+    ghost use Rattle.try_device.specs.Memory.{source_seen, source_most, source_limit};
 
     /// A source of these bytes, which gives at most `most` of them a pull.
     ///
@@ -58,7 +57,7 @@ impl<'a> TrySource<'a> {
 }
 
 impl<'a> Source for TrySource<'a> {
-    ghost use Rattle.device.specs.Memory.{source_seen, source_most, source_limit};
+    ghost use Rattle.try_device.specs.Memory.{source_seen, source_most, source_limit};
 
     ghost seen = { source_seen };
 
@@ -105,7 +104,7 @@ pub struct TrySink {
 }
 
 impl TrySink {
-    ghost use Rattle.device.specs.Memory.{sink_written, sink_most, sink_limit};
+    ghost use Rattle.try_device.specs.Memory.{sink_written, sink_most, sink_limit};
 
     /// A sink that takes at most `most` bytes a push.
     ///
@@ -133,7 +132,7 @@ impl TrySink {
 }
 
 impl Sink for TrySink {
-    ghost use Rattle.device.specs.Memory.{sink_written, sink_most, sink_limit, IsSpent, LacksRoom};
+    ghost use Rattle.try_device.specs.Memory.{sink_written, sink_most, sink_limit, IsSpent, LacksRoom};
 
     ghost written = { sink_written };
 

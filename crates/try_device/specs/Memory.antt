@@ -2,8 +2,8 @@
 use Rattle.std.specs.Prelude.{ℕ, ◌+◌, ◌<◌, ◌≤◌, Option, None, Some, nat_le, length, drop, vec_len}
 use Rattle.std.specs.Vec.{vec_capacity}
 use Rattle.device.specs.Device.{Seen, Written}
-use Rattle.device.specs.declared.memory.TrySource.{TrySource}
-use Rattle.device.specs.declared.memory.TrySink.{TrySink}
+use Rattle.try_device.specs.declared.memory.TrySource.{TrySource}
+use Rattle.try_device.specs.declared.memory.TrySink.{TrySink}
 
 abbrev pub source_seen : TrySource → Seen
 source_seen s = record { left = Some (drop s.at s.bytes.now); pulled = s.at; failed = s.failures; ended = nat_le (length s.bytes.now) s.at }
