@@ -45,14 +45,13 @@ fn placed_entries<'a>(
 // the same by their numbers in the tree
 fn by_number<'a>(
     alloc: Global,
-    placed: Vec<PlacedEntry<'a>>,
+    placed: &mut [PlacedEntry<'a>],
 ) -> Result<Vec<Numbered<'a>>, AllocError>
-    ensures { IfOk result (λ es. IsPermutation (map (λ e. e.ranked) placed.entry.items) es.items) }
+    ensures { IfOk result (λ es. IsPermutation (map (λ e. e.ranked) placed.old) es.items) }
 {
-    let mut sorted = placed;
-    sorted.sort_unstable_by_key(|entry| entry.number);
-    let mut entries = Vec::with_capacity(alloc, sorted.len())?;
-    for entry in &sorted {
+    placed.sort_unstable_by_key(|entry| entry.number);
+    let mut entries = Vec::with_capacity(alloc, placed.len())?;
+    for entry in placed.iter() {
         entries.push(entry.ranked)?;
     }
     Ok(entries)
@@ -69,6 +68,6 @@ pub(crate) fn ranked_entries<'a>(
     requires root { root.now ≡ [] }
     ensures { IfOk result (λ es. AreRankedEntries conf.now tree.now.entries es.items) }
 {
-    let placed = placed_entries(alloc, conf, tree, root)?;
-    by_number(alloc, placed)
+    let mut placed = placed_entries(alloc, conf, tree, root)?;
+    by_number(alloc, placed.as_mut_slice())
 }

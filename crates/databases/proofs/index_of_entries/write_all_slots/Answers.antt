@@ -1,7 +1,11 @@
-use Rattle.std.proofs.Common.{◌++◌}
+use Rattle.std.proofs.Common.{◌++◌, arith}
+use Rattle.std.proofs.lemmas.Grind.{common_steps}
 use Rattle.databases.specs.IndexTexts.{slots_lines}
 use Rattle.databases.proofs.Pieces.{wants_memory_on}
 use Rattle.databases.proofs.index_of_entries.write_all_slots.Goals as goal
 
 pub returns-in_err-entries : goal.returns-in_err-entries
 returns-in_err-entries g c = wants_memory_on c.from_residual.result c.from_residual.ensures.1 (g.W.Sink.written c.args.sink.now) (c.args.text.now.items ++ slots_lines c.args.conf.now c.args.tree.now.entries c.args.conf.now.slots) _
+
+pub returns-then-is_empty : goal.returns-then-is_empty
+returns-then-is_empty g c = grind (arith, common_steps)

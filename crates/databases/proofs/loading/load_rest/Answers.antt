@@ -1,4 +1,5 @@
-use Rattle.std.proofs.Common.{◌⊎◌, IfSome, [], ◌∷◌, refl, sym, ◌∙◌, ap, subst}
+use Rattle.std.proofs.Common.{◌⊎◌, IfSome, [], ◌∷◌, refl, sym, ◌∙◌, ap, subst, arith}
+use Rattle.std.proofs.lemmas.Grind.{common_steps}
 use Rattle.std.proofs.lemmas.Result.{err_from_is_err_and}
 use Rattle.device.specs.Device.{GaveSome}
 use Rattle.device.proofs.Pulls.{gave_none, gave_more}
@@ -70,3 +71,9 @@ pub returns-in-Err-Device-clause-read : goal.returns-in-Err-Device-clause-read
 returns-in-Err-Device-clause-read g c = λ _.
     stops_up_to c.args.tree.now.conf c.args.tree.now.entries (TookBeforeEnd g.S.Source.seen c.args.reader.now c.records.reader) c.records.tree.entries (records_left g.S.Source.seen c.args.reader.now) (records_left g.S.Source.seen c.records.reader) c.records.invariant.under_way
     (closed_with c.args.reader.now) (g.S.Source.seen (source_of c.args.reader.now)) (g.S.Source.seen (source_of c.next.new.self)) (up_to g.S.Source.seen c.args.reader.now c.records.reader c.next.new.self (c.in-Err-Device.ensures.breaks (cc)))
+
+pub records-smaller : goal.records-smaller
+records-smaller g c = grind (arith, common_steps)
+
+pub returns-in-Err-OutOfMemory-clause-failures : goal.returns-in-Err-OutOfMemory-clause-failures
+returns-in-Err-OutOfMemory-clause-failures g c = grind (arith, common_steps)

@@ -10,10 +10,10 @@ use Rattle.databases.proofs.placed_entries.by_number.Goals as goal
 pub returns : goal.returns
 returns c =
     let ranked : List PlacedEntry → List Numbered = λ es. map (λ e. e.ranked) es in
+    let sorted : List PlacedEntry = c.sort_unstable_by_key.new.self in
     let past = c.loop-entry-test.false in
-    let all = ap ranked (sym c.deref-entry-items.ensures.value ∙ sym (take_all c.loop-entry.entry-index c.deref-entry-items.result.now (omega (arith, past)))) in
-    subst (IsPermutation (ranked c.args.placed.items)) (all ∙ sym c.loop-entry.invariant.so_far)
-    (IsPermutation-map (λ (e : PlacedEntry). e.ranked) c.args.placed.items c.sort_unstable_by_key.new.self.items c.sort_unstable_by_key.ensures.permutation)
+    subst (IsPermutation (ranked c.args.placed.now)) (ap ranked (sym (take_all c.loop-entry.entry-index sorted (omega (arith, past)))) ∙ sym c.loop-entry.invariant.so_far)
+    (IsPermutation-map (λ (e : PlacedEntry). e.ranked) c.args.placed.now sorted c.sort_unstable_by_key.ensures.permutation)
 
 pub loop-entry-preserved : goal.loop-entry-preserved
 loop-entry-preserved c = grind (arith, common_steps)

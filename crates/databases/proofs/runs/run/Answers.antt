@@ -1,4 +1,5 @@
-use Rattle.std.proofs.Common.{subst, rules}
+use Rattle.std.proofs.Common.{subst, rules, arith}
+use Rattle.std.proofs.lemmas.Grind.{common_steps}
 use Rattle.databases.specs.Folds.{Runs}
 use Rattle.databases.specs.RunEdits.{EditsRise}
 use Rattle.databases.proofs.Pulled.{closed_when_fresh, stops_fresh}
@@ -17,3 +18,9 @@ returns-clause-read g c =
 pub returns-clause-edits : goal.returns-clause-edits
 returns-clause-edits g c =
     subst (λ all. EditsRise g.T.Target.count_edits (g.T.Target.conf c.args.target.now) c.args.mode c.args.go_on (g.T.Target.entries c.args.target.now) (g.T.Target.entries c.run_rest.new.target) all c.run_rest.result (g.T.Target.edits c.args.target.now) (g.T.Target.edits c.run_rest.new.target)) c.new-reader.ensures.records c.run_rest.ensures.edits
+
+pub returns-clause-failures : goal.returns-clause-failures
+returns-clause-failures g c = grind (arith, common_steps)
+
+pub run_rest-requires-clause-source : goal.run_rest-requires-clause-source
+run_rest-requires-clause-source g c = grind (arith, common_steps)

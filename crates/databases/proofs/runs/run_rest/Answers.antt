@@ -1,4 +1,5 @@
 use Rattle.std.proofs.Common.{Bool, ◌≡◌, ◌+◌, ◌⊎◌, IfSome, [], ◌∷◌, ◌<◌, refl, sym, ◌∙◌, ap, subst, arith}
+use Rattle.std.proofs.lemmas.Grind.{common_steps}
 use Rattle.std.specs.Prelude.{Err}
 use Rattle.std.proofs.lemmas.Result.{err_from_is_err_and}
 use Rattle.device.specs.Device.{GaveSome}
@@ -161,3 +162,24 @@ returns-in-Ok-None-clause-edits g c =
     (TookAndEdited g.S.Source.seen c.args.reader.now c.records.reader g.T.Target.count_edits (g.T.Target.conf c.args.target.now) c.args.mode c.args.go_on (g.T.Target.entries c.args.target.now) (g.T.Target.edits c.args.target.now) (g.T.Target.edits c.records.target)) (λ front so. so.1)
     (g.T.Target.entries c.records.target) (records_left g.S.Source.seen c.args.reader.now) (records_left g.S.Source.seen c.records.reader) c.records.tally (g.W.Sink.written c.args.sink.now) (g.W.Sink.written c.records.sink) c.records.invariant.stands
     ((c.in-Ok-None.ensures.end (cc)).0)
+
+pub records-smaller : goal.records-smaller
+records-smaller g c = grind (arith, common_steps)
+
+pub returns-in-Err-OutOfMemory-clause-failures : goal.returns-in-Err-OutOfMemory-clause-failures
+returns-in-Err-OutOfMemory-clause-failures g c = grind (arith, common_steps)
+
+pub returns-then-branch-clause-failures : goal.returns-then-branch-clause-failures
+returns-then-branch-clause-failures g c = grind (arith, common_steps)
+
+pub returns-in-Err-Device-clause-failures : goal.returns-in-Err-Device-clause-failures
+returns-in-Err-Device-clause-failures g c = grind (arith, common_steps)
+
+pub returns-in-Ok-None-clause-failures : goal.returns-in-Ok-None-clause-failures
+returns-in-Ok-None-clause-failures g c = grind (arith, common_steps)
+
+pub returns-in_err-take_record-in-Ok-Some-clause-same_conf : goal.returns-in_err-take_record-in-Ok-Some-clause-same_conf
+returns-in_err-take_record-in-Ok-Some-clause-same_conf g c = grind (arith, common_steps)
+
+pub take_record-requires-clause-room : goal.take_record-requires-clause-room
+take_record-requires-clause-room g c = grind (arith, common_steps)

@@ -1,10 +1,11 @@
-use Rattle.std.proofs.Common.{◌≡◌, ℕ, List, [], ◌∷◌, ◌++◌, filter, None, refl, sym, ap, ◌∙◌, subst, append_assoc}
+use Rattle.std.proofs.Common.{◌≡◌, ℕ, List, [], ◌∷◌, ◌++◌, filter, None, refl, sym, ap, ◌∙◌, subst, append_assoc, arith}
+use Rattle.std.proofs.lemmas.Grind.{common_steps}
 use Rattle.std.specs.Prelude.{Ok, Err}
 use Rattle.std.specs.FinMap as finite
 use Rattle.std.specs.List.{AllByRecursion}
 use Rattle.sha2.specs.Hashers.{Holds256}
 use Rattle.std.proofs.lemmas.List.{append-nil}
-use Rattle.std.proofs.lemmas.Result.{err_from_is_err_and}
+use Rattle.std.proofs.lemmas.Result.{IfOk-from_err, err_from_is_err_and}
 use Rattle.paths.specs.Paths.{Path, begins}
 use Rattle.tree.specs.Directories.{IsDirectory}
 use Rattle.entries.specs.StoredEntries.{Entry}
@@ -112,3 +113,12 @@ returns-clause-stamp g c =
     let whole : before.0 ++ text ≡ dump d.conf d.entries =
     ap (λ (bs : List ℕ). before.0 ++ bs) (sym (none_left d text c.loop-found.found-iterator c.in-None.ensures.steps.0)) ∙ before.2 in
     c.finalize.ensures (dump d.conf d.entries) (subst (Holds256 c.pass_on_stamped.new.hasher) whole (c.in_ok-pass_on_stamped.ensures.holds before.0 before.1))
+
+pub loop-found-smaller : goal.loop-found-smaller
+loop-found-smaller g c = grind (arith, common_steps)
+
+pub returns-in_err-write_stamped_entry-clause-stamp : goal.returns-in_err-write_stamped_entry-clause-stamp
+returns-in_err-write_stamped_entry-clause-stamp g c = IfOk-from_err _ _ c.from_residual.ensures.0
+
+pub returns-in_err-pass_on_stamped-clause-stamp : goal.returns-in_err-pass_on_stamped-clause-stamp
+returns-in_err-pass_on_stamped-clause-stamp g c = IfOk-from_err _ _ c.from_residual-in_err-pass_on_stamped.ensures.0

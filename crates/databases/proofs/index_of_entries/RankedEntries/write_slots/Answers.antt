@@ -1,4 +1,5 @@
 use Rattle.std.proofs.Common.{◌≡◌, ℕ, ◌+◌, List, ◌++◌, drop, refl, ap, ◌∙◌, subst, arith}
+use Rattle.std.proofs.lemmas.Grind.{common_steps}
 use Rattle.std.proofs.Math.ListN.{drop_of_length-le}
 use Rattle.std.proofs.lemmas.List.{append-nil}
 use Rattle.std.proofs.lemmas.Result.{err_from_is_err_and}
@@ -56,3 +57,9 @@ returns g c =
     let none : text ++ slots_lines conf d (drop c.loop-slot.slot-index c.slots-slot-items.result.now) ≡ text =
     ap (λ (ss : List Slot). text ++ slots_lines conf d ss) (drop_of_length-le c.slots-slot-items.result.now (omega (arith, past))) ∙ append-nil text in
     subst (SoFar (g.W.Sink.written c.args.sink.now) (g.W.Sink.written c.loop-slot.sink) (c.args.text.now.items ++ slots_lines conf d conf.slots)) none c.loop-slot.invariant.so_far
+
+pub write_slot-requires-clause-known : goal.write_slot-requires-clause-known
+write_slot-requires-clause-known g c = grind (arith, common_steps)
+
+pub write_slot-requires-clause-norms : goal.write_slot-requires-clause-norms
+write_slot-requires-clause-norms g c = grind (arith, common_steps)
