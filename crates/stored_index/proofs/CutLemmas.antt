@@ -6,6 +6,7 @@ use Rattle.std.proofs.lemmas.List.Splits.{slice_split_at, slice_split_none}
 use Rattle.std.proofs.lemmas.Bool.{eqb-true, false_from_ne_true}
 use Rattle.memchr.specs.Find.{IsFirstByte, is_byte, Passes}
 use Rattle.stored_index.specs.Cuts.{parts}
+use Rattle.stored_index.specs.inner.Lines.{IsCutAt}
 
 -- a list that isn't empty
 abbrev pub IsCons : {X : Type 0} → List X → Type 0
@@ -35,6 +36,17 @@ cut_first byte text i h =
     let cut : text ≡ take i text ++ byte ∷ drop (i + 1) text =
     sym (take-append-drop i text) ∙ ap (λ (r : List ℕ). take i text ++ r) (drop_more text i 0 lt ∙ ap (λ (b : ℕ). b ∷ drop (i + 1) text) at) in
     ap (slice_split (is_byte byte)) cut ∙ slice_split_at (is_byte byte) (take i text) byte (drop (i + 1) text) none (search (rules, tests))
+
+-- a text cut at its first line feed
+pub first_cut : (text : List ℕ) (i : ℕ) → IsFirstByte (is_byte 10) text (Some i) → IsCutAt text (take i text) (take (length text - (i + 1)) (drop (i + 1) text))
+first_cut text i h =
+    let lt : i < length text = h.0.high in
+    let at : get_or text i 0 ≡ 10 = eqb-true _ _ h.1 in
+    let rest : take (length text - (i + 1)) (drop (i + 1) text) ≡ drop (i + 1) text = take_all (length text - (i + 1)) (drop (i + 1) text) (omega (arith, length-drop (i + 1) text)) in
+    record {
+      text_is = sym (take-append-drop i text) ∙ ap (λ (r : List ℕ). take i text ++ r) (drop_more text i 0 lt ∙ ap (λ (b : ℕ). b ∷ drop (i + 1) text) at ∙ ap (λ (r : List ℕ). 10 ∷ r) (sym rest));
+      none = none_before 10 text i (omega arith) (λ k below. h.0.before k (omega arith) below);
+    }
 
 pub cut_none : (byte : ℕ) (text : List ℕ) → IsFirstByte (is_byte byte) text None → parts byte text ≡ text ∷ []
 cut_none byte text h =
