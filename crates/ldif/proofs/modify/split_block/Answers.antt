@@ -1,4 +1,5 @@
-use Rattle.std.proofs.Common.{◌≡◌, ℕ, ◌∷◌, ◌++◌, List, [], take, sym, ap, ◌∙◌}
+use Rattle.std.proofs.Common.{◌≡◌, ℕ, ◌∷◌, ◌++◌, List, [], take, sym, ap, ◌∙◌, arith}
+use Rattle.std.proofs.lemmas.Grind.{common_steps}
 use Rattle.std.proofs.lemmas.List.{append-nil}
 use Rattle.ldif.specs.Reading.{blocks}
 use Rattle.ldif.proofs.Blocks.{blocks_at, blocks_none, plain_push, take_push, rest_push, within_push}
@@ -30,3 +31,9 @@ returns-clause-parts c =
     let front = take c.walk.len ls in
     let whole : ls ≡ front = c.walk.invariant.parts ∙ ap (λ (r : List (List ℕ)). front ++ r) c.in_default.ensures ∙ append-nil front in
     ap blocks whole ∙ blocks_none front (rw (← whole) c.requires) c.walk.invariant.plain ∙ ap (λ (f : List (List ℕ)). f ∷ blocks []) (sym c.front-2.ensures) ∙ ap (λ (r : List (List ℕ)). c.front-2.result ∷ blocks r) (sym c.in_default.ensures)
+
+pub overflow_add-len : goal.overflow_add-len
+overflow_add-len c = grind (arith, common_steps)
+
+pub returns-then-is_dash-clause-fewer : goal.returns-then-is_dash-clause-fewer
+returns-then-is_dash-clause-fewer c = grind (arith, common_steps)
