@@ -1,3 +1,4 @@
+use Rattle.std.proofs.lemmas.Grind.{common_steps}
 use Rattle.std.proofs.Common.{◌≡◌, ℕ, List, [], ◌∷◌, ◌++◌, map, refl, sym, ap, subst, ◌∙◌, append_assoc, arith}
 use Rattle.std.proofs.lemmas.List.{append-nil}
 use Rattle.std.proofs.lemmas.Result.{IfErr-weaker, IfOk-weaker}
@@ -225,3 +226,18 @@ list_at-returns-in_err-operand-clause-front t c =
     (faulty_in SomeFilter SomeSpacedList old.0 c.args.bytes.now c.operands.rest.now old.1
     (λ t h. ([], (contents_then (map view c.operands.operands.items) (And_then h.0 No_more), old.2 (And_then h.0 No_more) (t ++ []) (t, [], refl, h.1, ([], [], refl, tt, refl)))))
     _ c.in_err-operand.ensures.front)
+
+pub comp_at-overflow_add-result : goal.comp_at-overflow_add-result
+comp_at-overflow_add-result t c = grind (arith, common_steps)
+
+pub comp_at-returns-in-Ok-clause-no_longer : goal.comp_at-returns-in-Ok-clause-no_longer
+comp_at-returns-in-Ok-clause-no_longer t c = grind (arith, common_steps)
+
+pub comp_at-returns-in-Some-after-clause-no_longer : goal.comp_at-returns-in-Some-after-clause-no_longer
+comp_at-returns-in-Some-after-clause-no_longer t c = grind (arith, common_steps)
+
+pub filter_at-returns-clause-shorter : goal.filter_at-returns-clause-shorter
+filter_at-returns-clause-shorter t c = grind (arith, common_steps)
+
+pub filter_at-returns-in_default-clause-found : goal.filter_at-returns-in_default-clause-found
+filter_at-returns-in_default-clause-found t c = grind (arith, common_steps)

@@ -1,3 +1,4 @@
+use Rattle.std.proofs.lemmas.Grind.{common_steps}
 use Rattle.std.proofs.Common.{◌≡◌, ℕ, ◌<◌, ◌==◌, List, [], ◌∷◌, ◌++◌, Option, Some, None, refl, sym, ap, subst, ◌∙◌, append_assoc, arith, length}
 use Rattle.std.proofs.lemmas.List.{append-nil}
 use Rattle.filter_text.specs.declared.comparison.Comparison.{Comparison}
@@ -204,3 +205,6 @@ returns-in_default-comparison_at-clause-only c i h =
     ap (λ (a : List ℕ). Extensible (Some a) c.in_ok-words-2.words c.in_ok-words-2.value) c.in_ok-attribute-2.ensures
     ∙ ap (λ (ws : List (List ℕ)). Extensible (Some name) ws c.in_ok-words-2.value) read.0 ∙ ap (Extensible (Some name) r.0) read.1
     ∙ ap (λ (a : Option (List ℕ)). Extensible a r.0 r.1) (sym (name_back name (some, n.run))) ∙ of_shape i (Rule name r.0 r.1) c.args.text.now h r.2
+
+pub compared-requires : goal.compared-requires
+compared-requires c = grind (arith, common_steps)
