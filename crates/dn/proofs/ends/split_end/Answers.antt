@@ -1,4 +1,5 @@
-use Rattle.std.proofs.Common.{◌∷◌, ◌∙◌, sym, ap}
+use Rattle.std.proofs.lemmas.Grind.{common_steps}
+use Rattle.std.proofs.Common.{◌∷◌, ◌∙◌, sym, ap, arith}
 use Rattle.std.proofs.lemmas.List.{append_cancel_right}
 use Rattle.dn.specs.Apart.{may_end}
 use Rattle.dn.specs.Reading.{name_of}
@@ -17,3 +18,6 @@ pub returns-then-not-may_end-clause-none : goal.returns-then-not-may_end-clause-
 returns-then-not-may_end-clause-none c = λ front is.
     ap may_end (append_cancel_right front c.in_ok-front.front.now (44 ∷ c.args.end.now) (sym is ∙ c.in_ok-front.ensures))
     ∙ sym c.may_end.ensures ∙ c.if-not-may_end.true
+
+pub returns-in_err-front-clause-read : goal.returns-in_err-front-clause-read
+returns-in_err-front-clause-read c = grind (arith, common_steps)

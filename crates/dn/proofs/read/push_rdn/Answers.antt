@@ -1,5 +1,6 @@
-use Rattle.std.proofs.Common.{ap, subst, sym, ◌∙◌}
-use Rattle.std.proofs.lemmas.Result.{err_from_is_err_and}
+use Rattle.std.proofs.lemmas.Grind.{common_steps}
+use Rattle.std.proofs.Common.{ap, subst, sym, ◌∙◌, arith}
+use Rattle.std.proofs.lemmas.Result.{err_from_is_err_and, IfOk-from_err}
 use Rattle.dn.specs.Gives.{fault_of}
 use Rattle.dn.specs.Names.{Rdn}
 use Rattle.base.specs.Answers.{Fails}
@@ -48,3 +49,15 @@ pub returns-clause-ok : goal.returns-clause-ok
 returns-clause-ok c =
     let read = first_read c.args.text.now c.in_ok-ava.ava c.in_ok-ava.behind.now (c.in_ok-start.ensures.exact ∙ c.in_ok-ava.ensures.exact) in
     (c.in_ok-rdn.rdn, read ∙ c.in_ok-rdn.ensures, c.in_ok-push-3.ensures.ok)
+
+pub returns-in_err-start-clause-ok : goal.returns-in_err-start-clause-ok
+returns-in_err-start-clause-ok c = grind (arith, common_steps)
+
+pub returns-in_err-rdn-clause-ok : goal.returns-in_err-rdn-clause-ok
+returns-in_err-rdn-clause-ok c = IfOk-from_err _ _ c.from_residual-in_err-rdn.ensures.0
+
+pub returns-in_err-ava-clause-ok : goal.returns-in_err-ava-clause-ok
+returns-in_err-ava-clause-ok c = IfOk-from_err _ _ c.from_residual-in_err-ava.ensures.0
+
+pub rdn_from-requires : goal.rdn_from-requires
+rdn_from-requires c = grind (arith, common_steps)
