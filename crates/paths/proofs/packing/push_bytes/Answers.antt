@@ -13,3 +13,6 @@ returns-in_err-push_byte c = IfOk-from_err _ _ c.from_residual-in_err-push_byte.
 
 pub loop-byte-preserved : goal.loop-byte-preserved
 loop-byte-preserved c = grind (arith, common_steps)
+
+pub returns : goal.returns
+returns c = grind (arith, common_steps)
