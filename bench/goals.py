@@ -5,8 +5,8 @@ A goal that has no answer in `Answers.antt` is left to `search`, and then to `gr
 those are worth an answer by hand. FN is a function's name as a check prints it, or its end; without one all functions of the crate are looked at.
 In a copy of the crate each such goal gets two modules of its own, one for either tactic, and the times of the files that the check writes tell what
 each takes. The libraries below have to be built: by `build`, for a crate of the program. It takes up to three times as long as the functions'
-check, and prints what takes a tenth of a second or more. A function's `using(..)` and `unfolding(..)` aren't tried, and a check answers the goals
-of closures and those called `..-iterator-requires` or `size_hint-requires` in another way, at once."""
+check, and prints what takes a tenth of a second or more. A function's `using(..)` and `unfolding(..)` aren't tried. A check answers the goals
+of closures in another way, at once, and so those that are called as `AT_ONCE` says, which are left out."""
 import importlib.util
 import re
 import shutil
@@ -20,6 +20,7 @@ from pathlib import Path
 TOP = Path(__file__).resolve().parent.parent
 TACTICS = {"Search": "search rules", "Grind": "grind (arith, common_steps)"}
 GOAL = re.compile(r"^pub (\S+) :\s+goal\.", re.M)
+AT_ONCE = re.compile(r"(into_iter|size_hint|from_residual|branch-|drop-)(.*-)?requires")
 LEAST = 0.1
 
 
@@ -79,7 +80,7 @@ class Probe:
         head = "\n".join(it for it in blocks if not GOAL.search(it))
         head += "".join(f"\nuse Rattle.std.proofs.{where}.{{{name}}}" for where, name in (("Common", "arith"), ("lemmas.Grind", "common_steps"))
                         if not re.search(rf"\b{name}\b", head))
-        goals = [it for it in blocks if (found := GOAL.search(it)) and found[1] not in GOAL.findall(own)]
+        goals = [it for it in blocks if (found := GOAL.search(it)) and not AT_ONCE.match(found[1]) and found[1] not in GOAL.findall(own)]
         modules, answered = {}, ""
         # The first one is there twice: what is loaded with it counts for none.
         for at, goal in enumerate([*goals[:1], *goals]):
