@@ -5,8 +5,8 @@ A goal that has no answer in `Answers.antt` is left to `search`, and then to `gr
 those are worth an answer by hand. FN is a function's name as a check prints it, or its end; without one all functions of the crate are looked at.
 In a copy of the crate each such goal gets two modules of its own, one for either tactic, and the times of the files that the check writes tell what
 each takes. The libraries below have to be built: by `build`, for a crate of the program. It takes up to three times as long as the functions'
-check, and prints what takes a tenth of a second or more. A function's `using(..)` and `unfolding(..)` aren't tried. A check answers the goals
-of closures in another way, at once, and so those that are called as `AT_ONCE` says, which are left out."""
+check, and prints what takes a tenth of a second or more. A function's `using(..)` and `unfolding(..)` aren't tried. The goals of closures
+a check answers at once, in another way. So it does those whose names `AT_ONCE` matches: they are left out."""
 import importlib.util
 import re
 import shutil
