@@ -24,11 +24,13 @@ ok ys = Ok ys
 abbrev found : Rdn → List ℕ → Found
 found ps rest = Ok (ps, rest)
 
-pub avas_begin : (p : Ava) (rest : List ℕ) (new : Rdn) → new ≡ p ∷ [] → onto new (avas_behind rest) ≡ avas_from (p, rest)
-avas_begin p rest new is = ap (λ (ps : Rdn). onto ps (avas_behind rest)) is ∙ onto_one p (avas_behind rest)
+pub onto_is : (front : Rdn) (r : Found) → onto front r ≡ (r >>= λ t. Ok (front ++ t.0, t.1))
+unfolding onto
+onto_is front (Ok s) = refl
+onto_is front (Err e) = refl
 
-pub first_read : (text : List ℕ) (p : Ava) (rest : List ℕ) → first_ava text ≡ before rest p → first_rdn text ≡ avas_from (p, rest)
-first_read text p rest h = rdn_first text ∙ ap (λ (r : Result (Ava × List ℕ) NameFaultKind). r >>= avas_from) h
+pub rdn_starts : (text : List ℕ) (said : Result (Ava × List ℕ) NameFaultKind) → first_ava text ≡ said → first_rdn text ≡ (said >>= avas_from)
+rdn_starts text said h = rdn_first text ∙ ap (λ (r : Result (Ava × List ℕ) NameFaultKind). r >>= avas_from) h
 
 pub avas_fail : (text : List ℕ) (e : Option NameFaultKind) → Fails e (first_ava text) → Fails e (first_rdn text)
 avas_fail text e = passed_on e (first_ava text) (first_rdn text) λ fault h. rdn_first text ∙ ap (λ (r : Result (Ava × List ℕ) NameFaultKind). r >>= avas_from) h
@@ -125,10 +127,12 @@ no_plus (b ∷ bs) h = ap (λ (t : Bool). cond t (first_rdn bs) (found [] (b ∷
 pub one_only : (p : Ava) (rest : List ℕ) → begins_with plus_sign rest ≡ false → avas_from (p, rest) ≡ before rest (p ∷ [])
 one_only p rest plain = ap (with_ava p) (no_plus rest plain)
 
-pub one_plain : (text : List ℕ) (p : Ava) (rest : List ℕ) → first_ava text ≡ before rest p → begins_with plus_sign rest ≡ false → first_rdn text ≡ before rest (p ∷ [])
-one_plain text p rest h plain = rdn_first text ∙ ap (λ (r : Result (Ava × List ℕ) NameFaultKind). r >>= avas_from) h ∙ ap (with_ava p) (no_plus rest plain)
+-- said: what the first AVA reads as
+pub one_at : (said : Result (Ava × List ℕ) NameFaultKind) (p : Ava) (rest : List ℕ) → said ≡ before rest p → begins_with plus_sign rest ≡ false → (said >>= avas_from) ≡ before rest (p ∷ [])
+one_at said p rest h plain = ap (λ (r : Result (Ava × List ℕ) NameFaultKind). r >>= avas_from) h ∙ one_only p rest plain
 
-pub two_plain : (text : List ℕ) (p : Ava) (rest more : List ℕ) (q : Ava) (end : List ℕ) → first_ava text ≡ before rest p → rest ≡ 43 ∷ more → first_ava more ≡ before end q → begins_with plus_sign end ≡ false → first_rdn text ≡ before end (p ∷ q ∷ [])
+pub two_at : (said : Result (Ava × List ℕ) NameFaultKind) (p : Ava) (rest more : List ℕ) (q : Ava) (end : List ℕ) → said ≡ before rest p → rest ≡ 43 ∷ more → first_ava more ≡ before end q → begins_with plus_sign end ≡ false → (said >>= avas_from) ≡ before end (p ∷ q ∷ [])
 unfolding avas_behind
-two_plain text p rest more q end h is g plain =
-    first_read text p rest h ∙ ap (λ (x : List ℕ). avas_from (p, x)) is ∙ ap (with_ava p) (one_plain more q end g plain)
+two_at said p rest more q end h is g plain =
+    ap (λ (r : Result (Ava × List ℕ) NameFaultKind). r >>= avas_from) h ∙ ap (λ (x : List ℕ). avas_from (p, x)) is
+    ∙ ap (with_ava p) (rdn_starts more (before end q) g ∙ one_only q end plain)

@@ -20,7 +20,7 @@ use Rattle.dn.proofs.Firsts.{before}
 use Rattle.dn.proofs.SpelledAvas.{ava_sound, ava_complete}
 use Rattle.dn.proofs.Wholes.{IsWhole, ava_whole}
 use Rattle.dn.proofs.Steps.{Found, with_ava, rdn_first, names, names_in, names_behind, names_from, name_first, onto_rdn, split_at}
-use Rattle.dn.proofs.Loop.{first_read}
+use Rattle.dn.proofs.Loop.{rdn_starts}
 use Rattle.dn.proofs.AvaFaults.{ava_fails, fails_ava}
 
 abbrev failed : {X : Type 0} → NameFaultKind → Result X NameFaultKind
@@ -87,7 +87,7 @@ by_separator p s rest f false is =
 after_ava : (ava : List ℕ) (p : Ava) (s : ℕ) (rest : List ℕ) (f : NameFaultKind) → SpellsAva ava p → is_separator s ≡ true → Same f (names (ava ++ s ∷ rest)) (names rest)
 after_ava ava p s rest f spelled is =
     let text = ava ++ s ∷ rest in
-    let e : names text ≡ (avas_from (p, s ∷ rest) >>= names_from) = name_first text ∙ ap (λ (r : Found). r >>= names_from) (first_read text p (s ∷ rest) (ava_then ava p s rest spelled is)) in
+    let e : names text ≡ (avas_from (p, s ∷ rest) >>= names_from) = name_first text ∙ ap (λ (r : Found). r >>= names_from) (rdn_starts text (before (s ∷ rest) p) (ava_then ava p s rest spelled is)) in
     let k = by_separator p s rest f (eqb s 43) refl in
     (λ h. k.0 (sym e ∙ h), λ h. e ∙ k.1 h)
 
@@ -136,7 +136,7 @@ no_fault f n e = absurd cc
 
 last_reads : (text : List ℕ) (p : Ava) → first_ava text ≡ before [] p → names text ≡ Ok ((p ∷ []) ∷ [])
 unfolding avas_behind names_in
-last_reads text p h = name_first text ∙ ap (λ (r : Found). r >>= names_from) (first_read text p [] h)
+last_reads text p h = name_first text ∙ ap (λ (r : Found). r >>= names_from) (rdn_starts text (before [] p) h)
 
 shorter : (ava : List ℕ) (s : ℕ) (more : List ℕ) (n : ℕ) → length (ava ++ s ∷ more) < suc n → length more < n
 shorter ava s more n lt = omega (arith, lt, length-append ava (s ∷ more))

@@ -2,13 +2,13 @@
 
 ghost use Rattle.std.specs.Prelude.{◌≡◌, ◌==◌, ◌++◌, not, true, false, length, Ok, IfOk, IfErr, IfSome, OnOk};
 ghost use Rattle.std.specs.List.{list_all, prefix_len};
-ghost use Rattle.dn.specs.Names.{Name, is_type, is_ava};
+ghost use Rattle.dn.specs.Names.{Name, is_type, is_ava, is_rdn};
 ghost use Rattle.dn.specs.Spelling.{Spells};
 ghost use Rattle.dn.specs.NameFaults.{IsWhy};
 ghost use Rattle.base.specs.Answers.{each, Fails};
 ghost use Rattle.base.specs.Ends.{is_space, without_front};
 ghost use Rattle.dn.specs.Reading.{after_equals, cut_raw, rdn_of, name_of};
-ghost use Rattle.dn.specs.inner.Cuts.{first_value, first_ava, first_rdn, ava_from, avas_from, Pushes};
+ghost use Rattle.dn.specs.inner.Cuts.{first_value, first_ava, first_rdn, ava_from, avas_on, avas_from, rdn_at, Pushes};
 ghost use Rattle.dn.specs.inner.Texts.{Starts};
 ghost use Rattle.dn.specs.Gives.{Gives, fault_of};
 
@@ -148,6 +148,22 @@ fn ava_in(alloc: Global, text: &[u8]) -> Result<(Ava, &[u8]), NameFault>
     ava_of(alloc, start, split_plain(start.rest))
 }
 
+/// Puts the AVAs behind the plus signs at the front of a text at the end of others, and answers what stands behind them.
+fn push_avas<'a>(alloc: Global, avas: &mut Vec<Ava>, text: &'a [u8]) -> Result<&'a [u8], NameFault>
+    requires good { is_rdn avas.old.items ≡ true }
+    ensures ok { IfOk result (λ rest. avas_on avas.old.items text.now ≡ Ok (avas.new.items, rest.now)) }
+    ensures err { IfErr result (λ e. Fails (fault_of e) (avas_on avas.old.items text.now)) }
+    ensures good { OnOk result (is_rdn avas.new.items ≡ true) }
+{
+    let mut rest = text;
+    while let Some(more) = after_plus(rest) {
+        let (ava, behind) = ava_in(alloc, more)?;
+        avas.push(ava)?;
+        rest = behind;
+    }
+    Ok(rest)
+}
+
 /// The RDN with this first AVA, up to the first comma that is not escaped, and what stands from there on.
 #[inline(always)]
 fn rdn_from<'a>(alloc: Global, ava: Ava, behind: &'a [u8]) -> Result<(Rdn, &'a [u8]), NameFault>
@@ -158,40 +174,58 @@ fn rdn_from<'a>(alloc: Global, ava: Ava, behind: &'a [u8]) -> Result<(Rdn, &'a [
         return Ok((Rdn::one(alloc, ava), behind));
     }
     let mut avas = vec![in alloc; ava]?;
-    let mut rest = behind;
-    while let Some(more) = after_plus(rest) {
-        let (ava, behind) = ava_in(alloc, more)?;
-        avas.push(ava)?;
-        rest = behind;
-    }
+    let rest = push_avas(alloc, &mut avas, behind)?;
     Ok((Rdn::many(avas), rest))
 }
 
-/// Puts the RDN at the front of a text at the end of a name, and answers what stands behind it. Most RDNs have one short AVA
-/// or two: those are made in place.
+/// The RDN whose first AVA starts so, where it has one short AVA or two, which are made in place, and what stands behind it.
+#[inline(always)]
+fn short_rdn<'a>(
+    alloc: Global,
+    start: Start<'a>,
+    plain: Option<Plain<'a>>,
+) -> Option<(Rdn, &'a [u8])>
+    requires type_text { is_type start.type_text.now ≡ true }
+    requires text { Starts start.text.now start.type_text.now start.rest.now }
+    requires plain { IfSome plain (λ p. first_value start.rest.now ≡ Ok (p.value.now, p.behind.now)) }
+    requires split { IfSome plain (λ p. start.rest.now ≡ p.value.now ++ p.after.now) }
+    ensures { IfSome result (λ r. rdn_at start.entry.type_text.now start.entry.rest.now ≡ Ok (r.0, r.1.now)) }
+{
+    let Some(plain) = plain else {
+        return None;
+    };
+    let ava = short_ava(start, plain)?;
+    let Some(more) = after_plus(plain.behind) else {
+        return Some((Rdn::one(alloc, ava), plain.behind));
+    };
+    let (second, end) = short_in(more)?;
+    if begins_with_plus(end) {
+        return None;
+    }
+    Some((Rdn::two(alloc, ava, second), end))
+}
+
+/// The RDN at the front of a text, and what stands behind it.
+#[inline(always)]
+fn rdn_in(alloc: Global, text: &[u8]) -> Result<(Rdn, &[u8]), NameFault>
+    ensures { Gives (λ r. (r.0, r.1.now)) result (first_rdn text.now) }
+{
+    let start = start_in(text)?;
+    let plain = split_plain(start.rest);
+    if let Some(found) = short_rdn(alloc, start, plain) {
+        return Ok(found);
+    }
+    let (ava, behind) = ava_of(alloc, start, plain)?;
+    rdn_from(alloc, ava, behind)
+}
+
+/// Puts the RDN at the front of a text at the end of a name, and answers what stands behind it.
 #[inline(always)]
 fn push_rdn<'a>(alloc: Global, name: &mut Name, text: &'a [u8]) -> Result<&'a [u8], NameFault>
     ensures ok { IfOk result (λ rest. Pushes name.old name.new rest.now (first_rdn text.now)) }
     ensures err { IfErr result (λ e. Fails (fault_of e) (first_rdn text.now)) }
 {
-    let start = start_in(text)?;
-    let plain = split_plain(start.rest);
-    if let Some(plain) = plain {
-        if let Some(ava) = short_ava(start, plain) {
-            let Some(more) = after_plus(plain.behind) else {
-                name.push(Rdn::one(alloc, ava))?;
-                return Ok(plain.behind);
-            };
-            if let Some((second, end)) = short_in(more) {
-                if !begins_with_plus(end) {
-                    name.push(Rdn::two(alloc, ava, second))?;
-                    return Ok(end);
-                }
-            }
-        }
-    }
-    let (ava, behind) = ava_of(alloc, start, plain)?;
-    let (rdn, behind) = rdn_from(alloc, ava, behind)?;
+    let (rdn, behind) = rdn_in(alloc, text)?;
     name.push(rdn)?;
     Ok(behind)
 }

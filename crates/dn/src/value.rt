@@ -161,10 +161,12 @@ impl ValueDraft {
     }
 }
 
-fn octets_of(alloc: Global, text: &[u8]) -> Result<SmallVec<u8, 24>, NameFault>
-    ensures { Gives (λ v. v.items) result (value_from (octets_from reading.Plain text.now)) }
+/// Puts the octets that a text spells into a draft that has none.
+fn put_octets(draft: &mut ValueDraft, text: &[u8]) -> Result<(), NameFault>
+    requires bytes { draft.old.bytes.items ≡ [] }
+    requires kept { draft.old.kept ≡ 0 }
+    ensures { Gives (λ _. take draft.new.kept draft.new.bytes.items) result (value_from (octets_from reading.Plain text.now)) }
 {
-    let mut draft = ValueDraft::new(alloc, text.len())?;
     let mut state = State::Plain;
     for byte in text {
         match step(state, *byte) {
@@ -176,9 +178,17 @@ fn octets_of(alloc: Global, text: &[u8]) -> Result<SmallVec<u8, 24>, NameFault>
         }
     }
     match state {
-        State::Plain => Ok(draft.finish()),
+        State::Plain => Ok(()),
         _ => Err(NameFault::Fault(NameFaultKind::Escape)),
     }
+}
+
+fn octets_of(alloc: Global, text: &[u8]) -> Result<SmallVec<u8, 24>, NameFault>
+    ensures { Gives (λ v. v.items) result (value_from (octets_from reading.Plain text.now)) }
+{
+    let mut draft = ValueDraft::new(alloc, text.len())?;
+    put_octets(&mut draft, text)?;
+    Ok(draft.finish())
 }
 
 fn begins_form(text: &[u8]) -> bool

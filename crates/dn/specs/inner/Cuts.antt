@@ -43,9 +43,17 @@ unfoldable pub avas_behind : List ℕ → Result (Rdn × List ℕ) NameFaultKind
 avas_behind [] = Ok ([], [])
 avas_behind (b ∷ bs) = if b == plus_sign then first_rdn bs else Ok ([], b ∷ bs)
 
+-- AVAs that were read, and those that follow
+abbrev pub avas_on : Rdn → List ℕ → Result (Rdn × List ℕ) NameFaultKind
+avas_on front text = avas_behind text >>= λ t. Ok (front ++ t.0, t.1)
+
 -- an RDN whose first AVA was read, by what stands behind that
 abbrev pub avas_from : Ava × List ℕ → Result (Rdn × List ℕ) NameFaultKind
 avas_from s = avas_behind s.1 >>= λ t. Ok (s.0 ∷ t.0, t.1)
+
+-- an RDN whose first type was read, from its value on
+abbrev pub rdn_at : List ℕ → List ℕ → Result (Rdn × List ℕ) NameFaultKind
+rdn_at ty text = ava_from ty text >>= avas_from
 
 abbrev pub ends_piece : List ℕ → Bool
 ends_piece [] = true

@@ -3,7 +3,7 @@ use Rattle.dn.specs.Reading.{Plain, octets_from, value_from}
 use Rattle.dn.specs.inner.Drafts.{IsInRange}
 use Rattle.dn.specs.inner.Octets.{state_seen}
 use Rattle.dn.proofs.Drafts.{finished}
-use Rattle.dn.proofs.value.octets_of.Given as goal
+use Rattle.dn.proofs.value.put_octets.Given as goal
 
 abbrev pub invariant-loop-byte : goal.invariant-loop-byte
 invariant-loop-byte l = record {

@@ -2,10 +2,10 @@ use Rattle.std.proofs.Common.{sym, ap, arith}
 use Rattle.dn.specs.Reading.{Plain, octets_from, value_from}
 use Rattle.dn.specs.inner.Octets.{any_seen, state_seen}
 use Rattle.dn.proofs.Drafts.{is_plain, finished_new, goes_on, faults, kept_within, ends_plain, ends_inside}
-use Rattle.dn.proofs.value.octets_of.Goals as goal
+use Rattle.dn.proofs.value.put_octets.Goals as goal
 
 pub loop-byte-init : goal.loop-byte-init
-loop-byte-init c = rw (c.in_ok-draft.ensures.bytes, c.in_ok-draft.ensures.kept) (record { same = finished_new _; within = omega arith; in_range = tt })
+loop-byte-init c = rw (c.requires.bytes, c.requires.kept) (record { same = finished_new _; within = omega arith; in_range = tt })
 
 pub returns-in-Err : goal.returns-in-Err
 returns-in-Err c =
@@ -24,7 +24,7 @@ loop-byte-preserved c =
 
 pub returns-in-Plain : goal.returns-in-Plain
 returns-in-Plain c =
-    rw c.finish.ensures (ends_plain c.loop-byte.draft.bytes.items c.loop-byte.draft.kept (state_seen c.loop-byte.state) c.args.text.now c.loop-byte.byte-index (value_from (octets_from Plain c.args.text.now)) c.loop-byte-test.false c.loop-byte.invariant.same (ap state_seen c.in-Plain.is))
+    (ends_plain c.loop-byte.draft.bytes.items c.loop-byte.draft.kept (state_seen c.loop-byte.state) c.args.text.now c.loop-byte.byte-index (value_from (octets_from Plain c.args.text.now)) c.loop-byte-test.false c.loop-byte.invariant.same (ap state_seen c.in-Plain.is))
 
 pub returns-in_default : goal.returns-in_default
 returns-in_default c =

@@ -1,12 +1,12 @@
 use Rattle.std.proofs.Common.{◌≡◌, true, length}
 use Rattle.dn.specs.Names.{is_rdn}
-use Rattle.dn.specs.inner.Cuts.{avas_behind, avas_from}
+use Rattle.dn.specs.inner.Cuts.{avas_behind, avas_on}
 use Rattle.base.proofs.Each.{onto}
-use Rattle.dn.proofs.read.rdn_from.Given as goal
+use Rattle.dn.proofs.read.push_avas.Given as goal
 
 abbrev pub invariant-loop-more : goal.invariant-loop-more
 invariant-loop-more l = record {
-  same : onto l.avas.items (avas_behind l.rest) ≡ avas_from (l.fn.ava, l.behind);
+  same : onto l.avas.items (avas_behind l.rest) ≡ avas_on l.fn.avas.items l.text;
   good : is_rdn l.avas.items ≡ true;
 }
 
