@@ -68,6 +68,19 @@ fn operands_on<'p, P: Postings>(
     Ok(numbers)
 }
 
+// the same, with no set lent
+fn owned_on<P: Postings>(
+    alloc: Global,
+    filter: &PreparedFilter,
+    postings: &P,
+    side: Side,
+) -> Result<Numbers<P::Set>, AllocError>
+    ensures { IfOk result (HasExactly P.Set.members (λ n. on side (sides (P.shown postings.now) n (prepared_view filter.now)))) }
+{
+    let numbers = numbers_on(alloc, filter, postings, side)?;
+    owned_numbers(alloc, numbers)
+}
+
 /// The candidates of a filter: of which entries it may be True, and of which it may be False, by what the postings show.
 pub fn candidates<P: Postings>(
     alloc: Global,
@@ -77,12 +90,10 @@ pub fn candidates<P: Postings>(
     ensures may { IfOk result (λ b. HasExactly P.Set.members (may_be_true (P.shown postings.now) filter.now) b.may) }
     ensures may_not { IfOk result (λ b. HasExactly P.Set.members (may_be_false (P.shown postings.now) filter.now) b.may_not) }
 {
-    let may = numbers_on(alloc, filter.root(), postings, Side::MayBeTrue)?;
-    let may_not = numbers_on(alloc, filter.root(), postings, Side::MayBeFalse)?;
-    Ok(Bracket {
-        may: owned_numbers(alloc, may)?,
-        may_not: owned_numbers(alloc, may_not)?,
-    })
+    let root = filter.root();
+    let may = owned_on(alloc, root, postings, Side::MayBeTrue)?;
+    let may_not = owned_on(alloc, root, postings, Side::MayBeFalse)?;
+    Ok(Bracket { may, may_not })
 }
 
 /// The numbers of the entries of which a filter may be True: `may` of its candidates, without the work for the other side.
@@ -93,6 +104,5 @@ pub fn may_match<P: Postings>(
 ) -> Result<Numbers<P::Set>, AllocError>
     ensures { IfOk result (HasExactly P.Set.members (may_be_true (P.shown postings.now) filter.now)) }
 {
-    let numbers = numbers_on(alloc, filter.root(), postings, Side::MayBeTrue)?;
-    owned_numbers(alloc, numbers)
+    owned_on(alloc, filter.root(), postings, Side::MayBeTrue)
 }

@@ -3,7 +3,8 @@
 ghost use Rattle.std.specs.Prelude.{◌≡◌, ◌&&◌, ◌||◌, not, ℕ, IfOk, MatchOption};
 ghost use Rattle.std.specs.FinSet as set;
 ghost use Rattle.candidates.specs.Numbers.{HasExactly};
-ghost use Rattle.candidates.specs.inner.Held.{members_of, held_contains, hold, HoldExactly};
+ghost use Rattle.candidates.specs.inner.Held.{members_of, held_contains, hold, owned, HoldExactly};
+ghost use Rattle.candidates.specs.inner.Numbers.{only, all_but, others};
 ghost use Rattle.candidates.specs.inner.OneSide.{both_or_either};
 
 use crate::numbers::Numbers;
@@ -43,6 +44,16 @@ fn into_owned<S: IdSet>(alloc: Global, held: Held<S>) -> Result<S, AllocError>
     }
 }
 
+// a set that was made, as one that isn't lent
+fn owned<'p, S: IdSet>(set: Result<S, AllocError>) -> Result<Held<'p, S>, AllocError>
+    ensures { result ≡ owned set }
+{
+    match set {
+        Ok(set) => Ok(Held::Owned(set)),
+        Err(error) => Err(error),
+    }
+}
+
 // the numbers in both sets
 fn meet<'p, S: IdSet>(
     alloc: Global,
@@ -55,7 +66,7 @@ fn meet<'p, S: IdSet>(
         None => Ok(Held::Nothing),
         Some(left) => match b.set() {
             None => Ok(Held::Nothing),
-            Some(right) => Ok(Held::Owned(left.meet(alloc, right)?)),
+            Some(right) => owned(left.meet(alloc, right)),
         },
     }
 }
@@ -72,7 +83,7 @@ fn join<'p, S: IdSet>(
         None => Ok(b),
         Some(left) => match b.set() {
             None => Ok(a),
-            Some(right) => Ok(Held::Owned(left.join(alloc, right)?)),
+            Some(right) => owned(left.join(alloc, right)),
         },
     }
 }
@@ -89,7 +100,7 @@ fn minus<'p, S: IdSet>(
         None => Ok(Held::Nothing),
         Some(left) => match b.set() {
             None => Ok(a),
-            Some(right) => Ok(Held::Owned(left.minus(alloc, right)?)),
+            Some(right) => owned(left.minus(alloc, right)),
         },
     }
 }
@@ -105,6 +116,36 @@ pub(crate) fn all_or_none<'p, P: Postings>(_postings: &'p P, all: bool) -> Numbe
     }
 }
 
+// the members of a set, where it was made
+fn only<S: Drop>(set: Result<S, AllocError>) -> Result<Numbers<S>, AllocError>
+    ensures { result ≡ only set }
+{
+    match set {
+        Ok(set) => Ok(Numbers::Only(set)),
+        Err(error) => Err(error),
+    }
+}
+
+// all numbers but the members of a set, where it was made
+fn all_but<S: Drop>(set: Result<S, AllocError>) -> Result<Numbers<S>, AllocError>
+    ensures { result ≡ all_but set }
+{
+    match set {
+        Ok(set) => Ok(Numbers::AllBut(set)),
+        Err(error) => Err(error),
+    }
+}
+
+// all numbers but these
+fn others<S: Drop>(numbers: Numbers<S>) -> Numbers<S>
+    ensures { result ≡ others numbers }
+{
+    match numbers {
+        Numbers::Only(set) => Numbers::AllBut(set),
+        Numbers::AllBut(set) => Numbers::Only(set),
+    }
+}
+
 /// The numbers that are among both.
 pub(crate) fn meet_numbers<'p, S: IdSet>(
     alloc: Global,
@@ -115,33 +156,27 @@ pub(crate) fn meet_numbers<'p, S: IdSet>(
 {
     match left {
         Numbers::Only(a) => match right {
-            Numbers::Only(b) => Ok(Numbers::Only(meet(alloc, a, b)?)),
-            Numbers::AllBut(b) => Ok(Numbers::Only(minus(alloc, a, b)?)),
+            Numbers::Only(b) => only(meet(alloc, a, b)),
+            Numbers::AllBut(b) => only(minus(alloc, a, b)),
         },
         Numbers::AllBut(a) => match right {
-            Numbers::Only(b) => Ok(Numbers::Only(minus(alloc, b, a)?)),
-            Numbers::AllBut(b) => Ok(Numbers::AllBut(join(alloc, a, b)?)),
+            Numbers::Only(b) => only(minus(alloc, b, a)),
+            Numbers::AllBut(b) => all_but(join(alloc, a, b)),
         },
     }
 }
 
-/// The numbers that are among one of them.
-pub(crate) fn join_numbers<'p, S: IdSet>(
+// The numbers that are among one of them: all but those that are among the others of both.
+fn join_numbers<'p, S: IdSet>(
     alloc: Global,
     left: Numbers<Held<'p, S>>,
     right: Numbers<Held<'p, S>>,
 ) -> Result<Numbers<Held<'p, S>>, AllocError>
     ensures { IfOk result (HoldExactly S.members (λ n. hold S.members left.entry n || hold S.members right.entry n)) }
 {
-    match left {
-        Numbers::Only(a) => match right {
-            Numbers::Only(b) => Ok(Numbers::Only(join(alloc, a, b)?)),
-            Numbers::AllBut(b) => Ok(Numbers::AllBut(minus(alloc, b, a)?)),
-        },
-        Numbers::AllBut(a) => match right {
-            Numbers::Only(b) => Ok(Numbers::AllBut(minus(alloc, a, b)?)),
-            Numbers::AllBut(b) => Ok(Numbers::AllBut(meet(alloc, a, b)?)),
-        },
+    match meet_numbers(alloc, others(left), others(right)) {
+        Ok(numbers) => Ok(others(numbers)),
+        Err(error) => Err(error),
     }
 }
 
@@ -169,7 +204,7 @@ pub(crate) fn owned_numbers<S: IdSet>(
     ensures { IfOk result (HasExactly S.members (λ n. hold S.members numbers.entry n)) }
 {
     match numbers {
-        Numbers::Only(held) => Ok(Numbers::Only(into_owned(alloc, held)?)),
-        Numbers::AllBut(held) => Ok(Numbers::AllBut(into_owned(alloc, held)?)),
+        Numbers::Only(held) => only(into_owned(alloc, held)),
+        Numbers::AllBut(held) => all_but(into_owned(alloc, held)),
     }
 }

@@ -1,5 +1,5 @@
 -- Sets that are lent perhaps.
-use Rattle.std.specs.Prelude.{ℕ, Bool}
+use Rattle.std.specs.Prelude.{ℕ, Bool, Result, Ok, Err}
 use Rattle.std.specs.Ordering.{nat_cmp}
 use Rattle.std.specs.FinSet.{FinSet, empty, contains}
 use Rattle.candidates.specs.declared.numbers.Numbers.{Numbers}
@@ -11,6 +11,11 @@ abbrev pub members_of : {S : Type 0} → (S → FinSet nat_cmp) → Held S → F
 members_of members Nothing = empty
 members_of members (Lent s) = members s.now
 members_of members (Owned s) = members s
+
+-- a set that was made, as one that isn't lent
+abbrev pub owned : {S F : Type 0} → Result S F → Result (Held S) F
+owned (Ok s) = Ok (Owned s)
+owned (Err e) = Err e
 
 -- whether a number is one of them
 abbrev pub held_contains : {S : Type 0} → (S → FinSet nat_cmp) → Held S → ℕ → Bool

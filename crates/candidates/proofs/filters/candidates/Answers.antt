@@ -12,15 +12,3 @@ returns-in_err-may_not-clause-may g c = IfOk-from_err _ _ c.from_residual-in_err
 
 pub returns-in_err-may_not-clause-may_not : goal.returns-in_err-may_not-clause-may_not
 returns-in_err-may_not-clause-may_not g c = IfOk-from_err _ _ c.from_residual-in_err-may_not.ensures.0
-
-pub returns-in_err-owned_numbers-clause-may : goal.returns-in_err-owned_numbers-clause-may
-returns-in_err-owned_numbers-clause-may g c = IfOk-from_err _ _ c.from_residual-in_err-owned_numbers.ensures.0
-
-pub returns-in_err-owned_numbers-clause-may_not : goal.returns-in_err-owned_numbers-clause-may_not
-returns-in_err-owned_numbers-clause-may_not g c = IfOk-from_err _ _ c.from_residual-in_err-owned_numbers.ensures.0
-
-pub returns-in_err-owned_numbers-2-clause-may : goal.returns-in_err-owned_numbers-2-clause-may
-returns-in_err-owned_numbers-2-clause-may g c = IfOk-from_err _ _ c.from_residual-in_err-owned_numbers-2.ensures.0
-
-pub returns-in_err-owned_numbers-2-clause-may_not : goal.returns-in_err-owned_numbers-2-clause-may_not
-returns-in_err-owned_numbers-2-clause-may_not g c = IfOk-from_err _ _ c.from_residual-in_err-owned_numbers-2.ensures.0

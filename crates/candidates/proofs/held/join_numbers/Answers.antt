@@ -1,14 +1,9 @@
-use Rattle.std.proofs.lemmas.Result.{IfOk-from_err}
+use Rattle.std.proofs.Common.{◌||◌, sym, subst}
+use Rattle.candidates.specs.inner.Held.{hold, HoldExactly}
+use Rattle.candidates.proofs.Sets.{joined_by_others}
 use Rattle.candidates.proofs.held.join_numbers.Goals as goal
 
-pub returns-in_err-join-in-Only-right : goal.returns-in_err-join-in-Only-right
-returns-in_err-join-in-Only-right g c = IfOk-from_err _ _ c.from_residual.ensures.0
-
-pub returns-in_err-minus-in-AllBut-right : goal.returns-in_err-minus-in-AllBut-right
-returns-in_err-minus-in-AllBut-right g c = IfOk-from_err _ _ c.from_residual-in_err-minus-in-AllBut-right.ensures.0
-
-pub returns-in_err-minus-in-Only-right-2 : goal.returns-in_err-minus-in-Only-right-2
-returns-in_err-minus-in-Only-right-2 g c = IfOk-from_err _ _ c.from_residual-in_err-minus-in-Only-right-2.ensures.0
-
-pub returns-in_err-meet-in-AllBut-right-2 : goal.returns-in_err-meet-in-AllBut-right-2
-returns-in_err-meet-in-AllBut-right-2 g c = IfOk-from_err _ _ c.from_residual-in_err-meet-in-AllBut-right-2.ensures.0
+pub returns-in-Ok : goal.returns-in-Ok
+returns-in-Ok g c =
+    subst (HoldExactly _ (λ n. hold _ c.args.left n || hold _ c.args.right n)) (sym c.others-in-Ok.ensures)
+    (joined_by_others _ c.args.left c.args.right c.others.result c.others-2.result c.in-Ok.numbers c.others.ensures c.others-2.ensures c.in-Ok.ensures)
