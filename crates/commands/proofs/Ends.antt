@@ -1,40 +1,47 @@
 -- What is printed of a directory that was loaded.
-use Rattle.std.proofs.Common.{◌≡◌, ℕ, Bool, true, nat_lt, List, map, Option, Some, None, refl, sym, ap, ◌∙◌, subst, Bor}
-use Rattle.std.specs.Prelude.{Result, Ok, Err, IfOk, IfErr, OnOk, is_some}
+use Rattle.std.proofs.Common.{◌≡◌, ℕ, Bool, true, nat_lt, inl, inr, List, map, Option, Some, None, refl, sym, ap, ◌∙◌, subst, Bor}
+use Rattle.std.specs.Prelude.{Result, Ok, Err, IfOk, IfErr, OnOk, is_some, codes}
 use Rattle.std.specs.Option.{option_copied, option_map}
 use Rattle.std.specs.FinMap as finite
 use Rattle.std.proofs.lemmas.List.{length-map}
 use Rattle.device.specs.Device.{Written, Took}
+use Rattle.ldif.specs.declared.write.WriteFault.{WriteFault}
+use Rattle.databases.specs.Dumps.{Writes, end_of}
+use Rattle.tree.specs.Directories.{Entries}
 use Rattle.paths.specs.Paths.{Path}
 use Rattle.schema.specs.Conf.{Conf, IsConf}
 use Rattle.entries.specs.Entries.{EntryContent}
 use Rattle.tree.specs.Trees.{Tree}
-use Rattle.filter_text.specs.Spells.{view}
+use Rattle.filter_text.specs.Spells.{FilterContent, view}
+use Rattle.filter_text.specs.declared.filters.Filter.{Filter}
 use Rattle.filter.specs.Made.{Made}
 use Rattle.index_text.specs.Postings.{Shown}
 use Rattle.search.specs.declared.scope.Scope.{Scope}
+use Rattle.search.specs.declared.scope.Scope.TheVariants.{Sub}
 use Rattle.search.specs.Searches.{scan, scan_among}
 use Rattle.stored_index.specs.Stored.{Stored, shown_by}
 use Rattle.databases.specs.IndexTexts.{index_text}
 use Rattle.databases.specs.Searches.{may_by_rank, ShowsTo, ReflectsDump}
 use Rattle.databases.specs.Selections.{Selection}
-use Rattle.databases.specs.Found.{found_text, up_to, goes_past}
-use Rattle.commands.specs.Asked.{IsFilter, IsBase, IsSelection}
+use Rattle.databases.specs.Found.{WritesFound, found_text, up_to, goes_past}
+use Rattle.commands.specs.Asked.{IsFilter, base_of, IsBase, IsSelection}
 use Rattle.commands.specs.Failures.{FailsToWrite}
 use Rattle.commands.specs.Folders.{Files}
 use Rattle.commands.specs.Loaded.{IsLoaded}
 use Rattle.commands.specs.IndexFiles.{Said, said_by, found_by}
 use Rattle.commands.specs.Excerpts.{excerpt_text}
-use Rattle.commands.specs.Prints.{HasPut, IsFoundText}
-use Rattle.commands.specs.Queries.{Query, Basis, HasBasis, Begins, HasBegun, PrintsPartly}
+use Rattle.commands.specs.Prints.{HasPut, IsExcerpt, search_query, IsFoundText}
+use Rattle.commands.specs.Queries.{Query, Basis, HasBasis, LacksBase, IsBegun, Begins, HasBegun, PrintsPartly}
 use Rattle.commands.specs.Worlds.{World}
 use Rattle.commands.specs.inner.IndexFiles.{Keeps}
-use Rattle.commands.specs.inner.Printed.{HasPrinted}
+use Rattle.commands.specs.inner.Printed.{HasPrinted, PrintsFound}
+use Rattle.commands.specs.inner.Refusals.{Refuses}
 use Rattle.commands.specs.inner.Views.{basis_of}
 use Rattle.commands.specs.declared.index_file.IndexFile.TheVariants as kept_files
 use Rattle.commands.specs.declared.messages.CommandFault.{CommandFault}
+use Rattle.command_line.specs.declared.request.CatOptions.{CatOptions}
 use Rattle.command_line.specs.declared.request.SearchOptions.{SearchOptions}
-use Rattle.commands.proofs.Stopping.{of_faults, unwritten_prints, prints_more}
+use Rattle.commands.proofs.Stopping.{of_faults, unwritten_prints, prints_more, refuses_more, refused_prints}
 
 -- ---- texts
 
@@ -68,9 +75,20 @@ pub found_there : {A : Type 0} (d : Tree) (base : Path) (as_content : A → Entr
 found_there {A} d base as_content None is some = cc
 found_there {A} d base as_content (Some x) is some = ap is_some (sym is)
 
--- the excerpt of the same entries, by the same base and filter
-pub excerpt_same : (dir dir' : Tree) (base base' : Path) (made made' : Made) → dir' ≡ dir → base' ≡ base → made' ≡ made → excerpt_text dir'.conf dir'.entries base' (view made'.filter) ≡ excerpt_text dir.conf dir.entries base (view made.filter)
-excerpt_same dir dir' base base' made made' same_dir same_base same_made = rw (same_dir, same_base, same_made) refl
+-- its text is that of what was found from its base on, which is there
+pub excerpt_is : (conf : Conf) (d : Entries) (base : Path) (f : FilterContent) (s : Selection) (es : List (Path × EntryContent)) → s ≡ None → es ≡ scan conf d base Sub f → true ≡ finite.contains_key d base
+    → found_text conf d s es ≡ excerpt_text conf d base f
+excerpt_is conf d base f s es all found there = rw (all, found, sym there) refl
+
+-- what was found was written, as a text without a limit
+pub found_written : (answer : Result Bool WriteFault) (wanted : Bool) (a b : Written) (bytes text : List ℕ) → bytes ≡ text → WritesFound answer wanted a b bytes → Writes (end_of answer) a b text
+found_written (Ok past) wanted a b bytes text is h = subst (Took a b) is h.written
+found_written (Err fault) wanted a b bytes text is h = subst (Writes (Err fault) a b) is h
+
+-- the excerpt by a filter that was prepared is the one that is asked for
+pub excerpt_by : (asked : CatOptions) (filter : Filter) (d : Tree) (base : Path) (conf : Conf) (made : Made) → IsBase d.conf (option_copied asked.base) base → (is_some asked.base ≡ true → finite.contains_key d.entries base ≡ true)
+    → made ≡ record { conf = conf; filter = filter } → IsExcerpt asked (basis_of filter d) (excerpt_text d.conf d.entries base (view made.filter))
+excerpt_by asked filter d base conf made based there is = record { base = base; base_is = based; there = there; text_is = ap (λ (m : Made). excerpt_text d.conf d.entries base (view m.filter)) is }
 
 -- ---- what is found
 
@@ -100,11 +118,26 @@ pub past_seen : {A B : Type 0} (see : A → B) (limit : Option ℕ) (xs : List A
 past_seen {A} {B} see None xs = refl
 past_seen {A} {B} see (Some n) xs = ap (nat_lt n) (sym (length-map xs see))
 
--- it was printed, and it was answered whether there is more
-pub printed_so : (IsText : Bool → List ℕ → Type 0) (wanted : Bool) (text : List ℕ) → ((past : Bool) → past ≡ wanted → IsText past text) → (answer : Result Bool CommandFault) (a b : Written)
-    → IfOk answer (λ past. past ≡ wanted) → OnOk answer (Took a b text) → IfOk answer (λ past. HasPrinted (IsText past) a b)
-printed_so IsText wanted text so (Ok past) a b is took = record { text = text; is = so past is; took = took }
-printed_so IsText wanted text so (Err f) a b is took = tt
+-- what was found was printed, or a beginning of it
+module _ (asked : SearchOptions) (said : Said) (basis : Basis) (s : Selection) (es : List (Path × EntryContent)) where
+  pub hits_printed : ((past : Bool) → past ≡ goes_past asked.limit es → IsFoundText asked said basis past (found_text basis.conf basis.entries s (up_to asked.limit es)))
+      → (answer : Result Bool CommandFault) (a b : Written) → IfOk answer (λ past. past ≡ goes_past asked.limit es) → OnOk answer (Took a b (found_text basis.conf basis.entries s (up_to asked.limit es)))
+      → IfErr answer (FailsToWrite (codes "output")) → IfErr answer (λ f. IsBegun f a b (found_text basis.conf basis.entries s (up_to asked.limit es))) → PrintsFound asked said basis a b answer
+  hits_printed so (Ok past) a b is took fails begun = record { text = found_text basis.conf basis.entries s (up_to asked.limit es); is = so past is; took = took }
+  hits_printed so (Err f) a b is took fails begun = (
+    inr fails,
+    unwritten_prints (HasBegun (λ text. (past : Bool) × IsFoundText asked said basis past text) None) a b (codes "output") f fails
+        (record { text = found_text basis.conf basis.entries s (up_to asked.limit es); is = (goes_past asked.limit es, so (goes_past asked.limit es) refl); begins = begun }),
+  )
+
+-- no base was found, and nothing printed
+pub base_lacks : (asked : SearchOptions) (said : Said) (filter : Filter) (t : Tree) (conf : Conf) (a : Written) → t.conf ≡ conf → (f : CommandFault) → Refuses (codes "search") (λ code. base_of conf (option_copied asked.base) ≡ Err code) f
+    → PrintsFound asked said (basis_of filter t) a a (Err f)
+base_lacks asked said filter t conf a same f h = (
+  inl (refuses_more (codes "search") (λ code. base_of conf (option_copied asked.base) ≡ Err code) (LacksBase (search_query asked) t.conf t.entries)
+      (λ code is. (refl, inl (ap (λ (conf : Conf). base_of conf (option_copied asked.base)) same ∙ is))) f h),
+  refused_prints (HasBegun (λ text. (past : Bool) × IsFoundText asked said (basis_of filter t) past text) None) a a refl (codes "search") (λ code. base_of conf (option_copied asked.base) ≡ Err code) f h,
+)
 
 -- what is found by what an index shows, for a filter that was prepared under the configuration of the tree
 by_index : (f : Made) (t : Tree) (x : Stored) (base : Path) (scope : Scope) → f.conf ≡ t.conf

@@ -1,6 +1,6 @@
 -- How a search ends, from what its parts say.
 use Rattle.std.proofs.Common.{◌≡◌, ℕ, inl, inr, Bool, true, false, List, [], Option, Some, None, refl, sym, subst}
-use Rattle.std.specs.Prelude.{Ok, Err, codes}
+use Rattle.std.specs.Prelude.{Result, Ok, Err, codes}
 use Rattle.device.specs.Device.{Written}
 use Rattle.schema.specs.declared.code.Code.TheVariants.{SizeLimitExceeded}
 use Rattle.stored_index.specs.declared.fault.IndexFaultKind.{IndexFaultKind}
@@ -14,7 +14,7 @@ use Rattle.commands.specs.Prints.{search_query, IsFoundText, SearchText, SearchG
 use Rattle.commands.specs.Queries.{Basis, StopsWith, HasBegun, PrintsPartly}
 use Rattle.commands.specs.Worlds.{World}
 use Rattle.commands.specs.inner.IndexFiles.{FailsToReport, HasLoaded}
-use Rattle.commands.specs.inner.Printed.{HasPrinted}
+use Rattle.commands.specs.inner.Printed.{HasPrinted, PrintsFound}
 use Rattle.commands.specs.inner.Stopped.{CanReport, HasStopped}
 use Rattle.commands.specs.inner.Views.{basis_of}
 use Rattle.commands.specs.declared.index_file.IndexFile.{IndexFile}
@@ -23,8 +23,8 @@ use Rattle.commands.specs.declared.messages.Status.{Status}
 use Rattle.commands.specs.declared.messages.Status.TheVariants.{Done, Refused}
 use Rattle.commands.specs.declared.messages.Stop.{Stop}
 use Rattle.commands.specs.declared.messages.Stop.TheVariants as stops
-use Rattle.commands.proofs.Ends.{has_basis}
-use Rattle.commands.proofs.Stopping.{stopped, query_stops, first_prints, of_memory}
+use Rattle.commands.proofs.Ends.{has_basis, printed_more}
+use Rattle.commands.proofs.Stopping.{stopped, query_stops, first_prints, prints_more, of_memory}
 
 -- what was loaded, and what its index.txt says
 module _ (asked : SearchOptions) (files : Option Files) (f : Made) (t : Tree) (file : IndexFile) (h : HasLoaded asked files f t file) where
@@ -86,9 +86,9 @@ module _ (asked : SearchOptions) (w : World) where
       reported = (refl, refl);
     }
 
-    pub searched_past : (output messages : Written) (text : List ℕ) (wanted status : Status) → HasPrinted (SearchText asked w.files s true) w.output output
-        → text ≡ code_text (codes "search") SizeLimitExceeded → wanted ≡ Refused → IsReported m messages text wanted status → SearchGoesThrough asked w (record w { output = output; messages = messages }) status
-    searched_past output messages text wanted status h same_text same_status reported = record {
+    pub searched_past : (output messages : Written) (status : Status) → HasPrinted (SearchText asked w.files s true) w.output output
+        → IsReported m messages (code_text (codes "search") SizeLimitExceeded) Refused status → SearchGoesThrough asked w (record w { output = output; messages = messages }) status
+    searched_past output messages status h reported = record {
       said = s;
       past = true;
       text = h.text;
@@ -97,10 +97,7 @@ module _ (asked : SearchOptions) (w : World) where
       reports = index_reported;
       mid = record w { output = output; messages = m };
       printed = record { took = h.took; stays = refl };
-      reported = record {
-        reported = subst (λ (t : List ℕ). IsReported m messages t Refused status) same_text (subst (λ (o : Status). IsReported m messages text o status) same_status reported);
-        stays = refl;
-      };
+      reported = record { reported = reported; stays = refl };
     }
 
 -- the messages can fail once more where they could before
@@ -111,5 +108,13 @@ still_can why n k same = subst (CanReport why) (sym same)
 beside_a_fault : (asked : SearchOptions) (basis : Basis) (fault : IndexFaultKind) (past : Bool) (text : List ℕ) → IsFoundText asked None basis past text → IsFoundText asked (Some (Err fault)) basis past text
 beside_a_fault asked basis fault past text h = record { base = h.base; selection = h.selection; base_is = h.base_is; there = h.there; selects = h.selects; past_is = h.past_is; text_is = h.text_is; whole = λ own. refl }
 
-pub beside : (asked : SearchOptions) (basis : Basis) (s : Said) (fault : IndexFaultKind) → s ≡ Some (Err fault) → (past : Bool) (text : List ℕ) → IsFoundText asked None basis past text → IsFoundText asked s basis past text
-beside asked basis s fault is past text h = subst (λ (s : Said). IsFoundText asked s basis past text) (sym is) (beside_a_fault asked basis fault past text h)
+pub beside : (asked : SearchOptions) (basis : Basis) (said : Said) (fault : IndexFaultKind) → said ≡ Some (Err fault) → (a b : Written) (result : Result Bool CommandFault) → PrintsFound asked None basis a b result → PrintsFound asked said basis a b result
+beside asked basis said fault is a b result printed = subst (λ (s : Said). PrintsFound asked s basis a b result) (sym is) (by result printed)
+  where
+    by : (result : Result Bool CommandFault) → PrintsFound asked None basis a b result → PrintsFound asked (Some (Err fault)) basis a b result
+    by (Ok past) h = printed_more (IsFoundText asked None basis past) (IsFoundText asked (Some (Err fault)) basis past) (beside_a_fault asked basis fault past) a b h
+    by (Err f) h = (
+      h.0,
+      prints_more (HasBegun (λ text. (past : Bool) × IsFoundText asked None basis past text) None) (HasBegun (λ text. (past : Bool) × IsFoundText asked (Some (Err fault)) basis past text) None) a b
+          (λ f begun. record { text = begun.text; is = (begun.is.0, beside_a_fault asked basis fault begun.is.0 begun.text begun.is.1); begins = begun.begins }) f h.1,
+    )

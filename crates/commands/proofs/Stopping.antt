@@ -188,6 +188,18 @@ module _ (q : Query) (files : Option Files) where
     refused_stops conf d loaded f (inl refuses) = refused_so conf d loaded f refuses
     refused_stops conf d loaded f (inr unwritten) = unwritten_stops f unwritten
 
+-- what holds of the code that a command ends with, said of more
+pub refuses_more : (command : List ℕ) (Less More : Code → Type 0) → ((code : Code) → Less code → More code) → (f : CommandFault) → Refuses command Less f → Refuses command More f
+refuses_more command Less More goes faults.Words h = h
+refuses_more command Less More goes (faults.Filter fault) h = h
+refuses_more command Less More goes (faults.Code by code) h = (h.0, goes code h.1)
+refuses_more command Less More goes (faults.Configuration line kind) h = h
+refuses_more command Less More goes (faults.Data line why) h = h
+refuses_more command Less More goes (faults.CannotRead name) h = h
+refuses_more command Less More goes (faults.CannotWrite name) h = h
+refuses_more command Less More goes (faults.InUse name) h = h
+refuses_more command Less More goes faults.OutOfMemory h = h
+
 -- a query stops with this fault
 pub query_stops : (q : Query) (IsText : List ℕ → Type 0) (w w' : World) (f : CommandFault) → StopsWith q w.files f → PrintsPartly (HasBegun IsText q.file) w.output w'.output f → w' ≡ record w { output = w'.output }
     → QueryStops q IsText w (record { why = stops.Fault f; stored = []; world = w' })

@@ -127,8 +127,10 @@ fn run_records<F: Folder, S: Source, E: Sink>(
     let Some(name) = task.file else {
         return run_source(alloc, task, database, input, "input", err);
     };
-    let mut source = open_present(alloc, folder, name)?;
-    run_source(alloc, task, database, &mut source, name, err)
+    match open_present(alloc, folder, name) {
+        Ok(mut source) => run_source(alloc, task, database, &mut source, name, err),
+        Err(fault) => Err(Stop::Fault(fault)),
+    }
 }
 
 /// Runs the records, and stores what they leave.
@@ -153,8 +155,10 @@ fn run_and_store<F: Folder, S: Source, E: Sink>(
     if task.dry_run {
         return Ok(Status::of_tally(tally));
     }
-    store_database(alloc, folder, task.db, database)?;
-    Ok(Status::of_tally(tally))
+    match store_database(alloc, folder, task.db, database) {
+        Ok(()) => Ok(Status::of_tally(tally)),
+        Err(fault) => Err(Stop::Fault(fault)),
+    }
 }
 
 /// Loads the directory, runs the records, and stores what they leave.
@@ -173,11 +177,15 @@ fn load_and_run<F: Folder, S: Source, E: Sink>(
     ensures locking { F.locking folder.new ≡ F.locking folder.old }
     ensures can_report { IfErr result (λ why. CanReport why (E.written err.new).failed) }
 {
-    let mut database = load_database(alloc, folder, task.db)?;
-    let ended = run_and_store(alloc, task, &mut database, folder, input, err);
-    // The program ends with its command, and that frees the entries at once.
-    mem::forget(database);
-    ended
+    match load_database(alloc, folder, task.db) {
+        Ok(mut database) => {
+            let ended = run_and_store(alloc, task, &mut database, folder, input, err);
+            // The program ends with its command, and that frees the entries at once.
+            mem::forget(database);
+            ended
+        }
+        Err(fault) => Err(Stop::Fault(fault)),
+    }
 }
 
 /// Carries out the records of the file, or of the input, on the directory in a folder, with a line on `err` for each that is refused, and
@@ -199,8 +207,10 @@ pub fn change<F: Folder, S: Source, E: Sink>(
     ensures can_report { IfErr result (λ why. CanReport why (E.written err.new).failed) }
 {
     if !task.dry_run {
-        lock(alloc, folder, task.db)?;
-        return load_and_run(alloc, task, folder, input, err);
+        return match lock(alloc, folder, task.db) {
+            Ok(()) => load_and_run(alloc, task, folder, input, err),
+            Err(fault) => Err(Stop::Fault(fault)),
+        };
     }
     load_and_run(alloc, task, folder, input, err)
 }

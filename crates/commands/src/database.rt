@@ -1,8 +1,9 @@
 //! The files of a directory: its configuration and its entries.
-ghost use Rattle.std.specs.Prelude.{◌≡◌, ◌<◌, ◌-◌, ◌^◌, ⊤, IfOk, IfErr, IfSome, OnOk, OnErr, Some, string_bytes};
+ghost use Rattle.std.specs.Prelude.{◌≡◌, ℕ, ◌<◌, ◌-◌, ◌^◌, ⊤, List, Option, Ok, IfOk, IfErr, IfSome, OnOk, OnErr, Some, string_bytes};
 ghost use Rattle.std.specs.Option.{option_map};
 ghost use Rattle.databases.specs.Runs.{dump};
-ghost use Rattle.commands.specs.Folders.{Finds, with_file, file_in, conf_name};
+ghost use Rattle.dir_conf.specs.Configurations.{conf_of};
+ghost use Rattle.commands.specs.Folders.{Files, Finds, with_file, file_in, conf_name, data_name};
 ghost use Rattle.commands.specs.Locks.{Takes};
 ghost use Rattle.commands.specs.Locked.{LockFails};
 ghost use Rattle.commands.specs.Loaded.{IsConfigured, IsLoaded, LoadsFound, LoadFails};
@@ -60,27 +61,46 @@ pub fn open_present<F: Folder>(alloc: Global, folder: &F, name: &str) -> Result<
     ensures err { IfErr result (FailsToRead name.now) }
     ensures ok { IfOk result (λ s. (F.In.seen s).failed ≡ 0) }
 {
-    match open(alloc, folder, name)? {
-        Some(source) => Ok(source),
-        None => Err(CommandFault::cannot_read(alloc, name)),
+    match open(alloc, folder, name) {
+        Ok(Some(source)) => Ok(source),
+        Ok(None) => Err(CommandFault::cannot_read(alloc, name)),
+        Err(fault) => Err(fault),
+    }
+}
+
+/// Takes the lock of the directory in the folder `db`, whose dir.conf has this name, likewise.
+#[tactic(auto, using(crate::proofs::Locked::memory_locks, crate::proofs::Locked::unlocked, crate::proofs::Locked::used))]
+fn lock_file<F: Folder>(
+    alloc: Global,
+    folder: &mut F,
+    db: &str,
+    name: &str,
+) -> Result<(), CommandFault>
+    requires { name.now ≡ conf_name db.now }
+    ensures ok { OnOk result (Takes (conf_name db.now) (F.files folder.old) (F.files folder.new) (F.locking folder.old) (F.locking folder.new)) }
+    ensures same_files { OnErr result (F.files folder.new ≡ F.files folder.old) }
+    ensures same_locking { OnErr result (F.locking folder.new ≡ F.locking folder.old) }
+    ensures err { IfErr result (LockFails (F.files folder.old) (F.locking folder.old).others db.now) }
+{
+    match folder.lock(name) {
+        Ok(()) => Ok(()),
+        Err(LockFault::InUse) => Err(CommandFault::in_use(alloc, db)),
+        Err(LockFault::Device) => Err(CommandFault::cannot_read(alloc, name)),
+        Err(LockFault::OutOfMemory) => Err(CommandFault::OutOfMemory),
     }
 }
 
 /// Takes the lock of the directory in the folder `db`, which is that of its dir.conf. The fault is `InUse` where another process holds it,
 /// `CannotRead` where dir.conf can't be opened or locked, and else `OutOfMemory`.
-#[tactic(auto, using(crate::proofs::Locked::memory_locks, crate::proofs::Locked::unlocked, crate::proofs::Locked::used))]
 pub fn lock<F: Folder>(alloc: Global, folder: &mut F, db: &str) -> Result<(), CommandFault>
     ensures ok { OnOk result (Takes (conf_name db.now) (F.files folder.old) (F.files folder.new) (F.locking folder.old) (F.locking folder.new)) }
     ensures same_files { OnErr result (F.files folder.new ≡ F.files folder.old) }
     ensures same_locking { OnErr result (F.locking folder.new ≡ F.locking folder.old) }
     ensures err { IfErr result (LockFails (F.files folder.old) (F.locking folder.old).others db.now) }
 {
-    let name = path(alloc, db, "dir.conf")?;
-    match folder.lock(name.as_str()) {
-        Ok(()) => Ok(()),
-        Err(LockFault::InUse) => Err(CommandFault::in_use(alloc, db)),
-        Err(LockFault::Device) => Err(CommandFault::cannot_read(alloc, name.as_str())),
-        Err(LockFault::OutOfMemory) => Err(CommandFault::OutOfMemory),
+    match path(alloc, db, "dir.conf") {
+        Ok(name) => lock_file(alloc, folder, db, name.as_str()),
+        Err(_) => Err(CommandFault::OutOfMemory),
     }
 }
 
@@ -126,8 +146,37 @@ fn file_contents<F: Folder>(alloc: Global, folder: &F, name: &str) -> Result<Vec
     ensures found { IfOk result (λ v. Finds (F.files folder.now) name.now (Some (Some v.items))) }
     ensures err { IfErr result (FailsToRead name.now) }
 {
-    let mut source = open_present(alloc, folder, name)?;
-    contents(alloc, &mut source, name)
+    match open_present(alloc, folder, name) {
+        Ok(mut source) => contents(alloc, &mut source, name),
+        Err(fault) => Err(fault),
+    }
+}
+
+/// The configuration that the text of a dir.conf says.
+fn conf_of(alloc: Global, text: &[u8]) -> Result<Conf, CommandFault>
+    ensures ok { IfOk result (λ c. conf_of text.now ≡ Ok c) }
+    ensures err { (files : Option Files) (db : List ℕ) → Finds files (conf_name db) (Some (Some text.now)) → IfErr result (LoadFails files db) }
+{
+    match read_conf(alloc, text) {
+        Ok(conf) => Ok(conf),
+        Err(ConfFault::Line { line, kind }) => Err(CommandFault::Configuration { line, kind }),
+        Err(ConfFault::OutOfMemory) => Err(CommandFault::OutOfMemory),
+    }
+}
+
+/// The configuration that the file of this name says, which has to be there.
+fn read_configuration<F: Folder>(
+    alloc: Global,
+    folder: &F,
+    name: &str,
+) -> Result<Conf, CommandFault>
+    ensures ok { IfOk result (IsConfigured (F.files folder.now) name.now) }
+    ensures err { (db : List ℕ) → name.now ≡ conf_name db → IfErr result (LoadFails (F.files folder.now) db) }
+{
+    match file_contents(alloc, folder, name) {
+        Ok(text) => conf_of(alloc, &text),
+        Err(fault) => Err(fault),
+    }
 }
 
 /// The configuration that the folder's dir.conf says.
@@ -135,12 +184,9 @@ fn configuration<F: Folder>(alloc: Global, folder: &F, db: &str) -> Result<Conf,
     ensures err { IfErr result (LoadFails (F.files folder.now) db.now) }
     ensures ok { IfOk result (λ c. IsConfigured (F.files folder.now) (conf_name db.now) c) }
 {
-    let name = path(alloc, db, "dir.conf")?;
-    let text = file_contents(alloc, folder, name.as_str())?;
-    match read_conf(alloc, &text) {
-        Ok(conf) => Ok(conf),
-        Err(ConfFault::Line { line, kind }) => Err(CommandFault::Configuration { line, kind }),
-        Err(ConfFault::OutOfMemory) => Err(CommandFault::OutOfMemory),
+    match path(alloc, db, "dir.conf") {
+        Ok(name) => read_configuration(alloc, folder, name.as_str()),
+        Err(_) => Err(CommandFault::OutOfMemory),
     }
 }
 
@@ -172,6 +218,26 @@ fn tree_of<S: Source>(
     }
 }
 
+/// The tree of the entries in the file of this name, under a configuration. Where there is no such file, there is none.
+fn read_entries<F: Folder>(
+    alloc: Global,
+    folder: &F,
+    name: &str,
+    conf: &Conf,
+) -> Result<Tree, CommandFault>
+    ensures same_conf { IfOk result (λ t. t.conf ≡ conf.now) }
+    ensures loaded { (db : List ℕ) → IsConfigured (F.files folder.now) (conf_name db) conf.now → name.now ≡ data_name db
+        → IfOk result (λ t. IsLoaded (F.files folder.now) db conf.now t.entries) }
+    ensures err { (db : List ℕ) → IsConfigured (F.files folder.now) (conf_name db) conf.now → name.now ≡ data_name db
+        → IfErr result (LoadFails (F.files folder.now) db) }
+{
+    match open(alloc, folder, name) {
+        Ok(Some(mut source)) => tree_of(alloc, conf, &mut source, name),
+        Ok(None) => Ok(Tree::new(alloc, conf)),
+        Err(fault) => Err(fault),
+    }
+}
+
 /// The tree of the entries in the folder `db`, under its configuration. Where the folder has no data.ldif, there is none.
 fn load_entries<F: Folder>(
     alloc: Global,
@@ -184,10 +250,9 @@ fn load_entries<F: Folder>(
     ensures loaded { IfOk result (λ t. IsLoaded (F.files folder.now) db.now conf.now t.entries) }
     ensures err { IfErr result (LoadFails (F.files folder.now) db.now) }
 {
-    let name = path(alloc, db, "data.ldif")?;
-    match open(alloc, folder, name.as_str())? {
-        Some(mut source) => tree_of(alloc, conf, &mut source, name.as_str()),
-        None => Ok(Tree::new(alloc, conf)),
+    match path(alloc, db, "data.ldif") {
+        Ok(name) => read_entries(alloc, folder, name.as_str(), conf),
+        Err(_) => Err(CommandFault::OutOfMemory),
     }
 }
 
@@ -201,6 +266,8 @@ pub fn load_database<F: Folder>(
     ensures loaded { IfOk result (λ d. IsLoaded (F.files folder.now) db.now d.tree.conf d.tree.entries) }
 {
     let conf = configuration(alloc, folder, db)?;
-    let tree = load_entries(alloc, folder, db, &conf)?;
-    Ok(Database { conf, tree })
+    match load_entries(alloc, folder, db, &conf) {
+        Ok(tree) => Ok(Database { conf, tree }),
+        Err(fault) => Err(fault),
+    }
 }

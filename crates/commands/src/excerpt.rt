@@ -14,43 +14,25 @@ use std::alloc::Global;
 /// The entries at a base and below it that a filter is True of.
 #[derive(Clone, Copy, Drop)]
 pub struct Excerpt<'a> {
-    database: &'a Database,
-    base: &'a Path,
-    filter: &'a Prepared,
+    pub database: &'a Database,
+    pub base: &'a Path,
+    pub filter: &'a Prepared,
     ghost same_conf: { filter.now.conf ≡ database.now.tree.conf },
 }
 
-impl<'a> Excerpt<'a> {
-    pub fn new(database: &'a Database, base: &'a Path, filter: &'a Prepared) -> Excerpt<'a>
-        requires { filter.now.conf ≡ database.now.tree.conf }
-        ensures database { result.database.now ≡ database.now }
-        ensures base { result.base.now ≡ base.now }
-        ensures filter { result.filter.now ≡ filter.now }
-    {
-        Excerpt {
-            database,
-            base,
-            filter,
-        }
-    }
-}
-
 impl<'a> FileText for Excerpt<'a> {
-    type Answer = ();
+    /// Whether entries were left out, which none are.
+    type Answer = bool;
 
     ghost answers = { λ _ _. ⊤ };
 
     ghost text = { λ p. excerpt_text p.database.now.tree.conf p.database.now.tree.entries p.base.now (view p.filter.now.filter) };
 
-    fn write<W: Sink>(&self, alloc: Global, sink: &mut W) -> Result<(), WriteFault> {
-        let all = Selection::all();
+    fn write<W: Sink>(&self, alloc: Global, sink: &mut W) -> Result<bool, WriteFault> {
         let Database { conf, tree } = self.database;
         match search_tree(alloc, tree, self.base, Scope::Sub, self.filter) {
-            Some(hits) => match write_found(alloc, tree, conf, sink, hits, None, &all) {
-                Ok(_) => Ok(()),
-                Err(fault) => Err(fault),
-            },
-            None => Ok(()),
+            Some(hits) => write_found(alloc, tree, conf, sink, hits, None, &Selection::all()),
+            None => Ok(false),
         }
     }
 }

@@ -12,7 +12,7 @@ use std::alloc::{AllocError, AllocFailed, Global};
 use std::io::{self, ErrorKind};
 
 /// Why a file was not opened or not stored.
-#[derive(Clone, Copy, PartialEq, Eq)]
+#[derive(Clone, Copy)]
 pub enum FolderFault {
     Device,
     OutOfMemory,
@@ -58,7 +58,7 @@ impl From<WriteFault> for FolderFault {
 }
 
 /// Why a lock was not taken.
-#[derive(Clone, Copy, PartialEq, Eq)]
+#[derive(Clone, Copy)]
 pub enum LockFault {
     /// Another process holds it.
     InUse,

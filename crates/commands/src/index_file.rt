@@ -2,7 +2,11 @@
 ghost use Rattle.std.specs.Prelude.{◌≡◌, ℕ, ◌<◌, ◌-◌, ◌^◌, List, Option, Some, IfOk, IfErr, OnOk, string_bytes};
 ghost use Rattle.std.specs.List.{AllByRecursion};
 ghost use Rattle.device.specs.Device.{Took};
+ghost use Rattle.candidates.specs.Asked.{asked_keys};
+ghost use Rattle.candidates.specs.Candidates.{prepared_of};
+ghost use Rattle.databases.specs.IndexTexts.{stamp as stamp_by};
 ghost use Rattle.filter.specs.Made.{Made};
+ghost use Rattle.index_text.specs.Postings.{slot_in};
 ghost use Rattle.stored_index.specs.Rows.{IsByte};
 ghost use Rattle.commands.specs.Failures.{FailsToRead};
 ghost use Rattle.commands.specs.Folders.{Files, Finds, index_name};
@@ -15,9 +19,10 @@ use crate::database::{open, path};
 use crate::folder::Folder;
 use crate::messages::{CommandFault, Stop};
 use candidates::asked_keys;
-use databases::{Database, index_texts_reflect_dumps, kept_index_texts_are_read, stamp_of};
+use databases::{Database, Stamp, index_texts_reflect_dumps, kept_index_texts_are_read, stamp_of};
 use device::{Sink, Source, push_all};
 use filter::Prepared;
+use index_text::SlotKey;
 use std::alloc::{AllocError, Global};
 use stored_index::{IndexFault, IndexFaultKind, StoredIndex};
 
@@ -37,6 +42,37 @@ fn are_bytes(bytes: &[u8])
     ensures { AllByRecursion IsByte bytes.now }
 {}
 
+/// Reads an index text of a directory from a source that has this name, and keeps of it these keys, which are those that a filter asks for.
+fn read_keys<S: Source>(
+    alloc: Global,
+    source: &mut S,
+    name: &str,
+    database: &Database,
+    filter: &Prepared,
+    asked: &[SlotKey],
+    stamp: Stamp,
+) -> Result<IndexFile, CommandFault>
+    requires can_fail { (S.seen source.old).failed < 2 ^ 64 - 1 }
+    requires asked { asked.now ≡ asked_keys (slot_in database.now.conf.slots) (prepared_of filter.now) }
+    requires stamp { stamp ≡ stamp_by database.now.tree.conf database.now.tree.entries }
+    ensures read { IfOk result (λ file. (files : Option Files) (db : List ℕ) → Finds files (index_name db) (Some (S.seen source.old).left)
+        → HasRead files db database.now.tree filter.now file) }
+    ensures err { IfErr result (FailsToRead name.now) }
+{
+    database.conf.rules_are_kept();
+    database.tree.entries_are_a_directory();
+    index_texts_reflect_dumps();
+    kept_index_texts_are_read();
+    are_bytes(&stamp);
+    let entries = database.tree.len();
+    match StoredIndex::read(alloc, source, &database.conf, &stamp, entries, asked) {
+        Ok(stored) => Ok(IndexFile::Read(stored)),
+        Err(IndexFault::Fault(kind)) => Ok(IndexFile::Faulty(kind)),
+        Err(IndexFault::Device) => Err(CommandFault::cannot_read(alloc, name)),
+        Err(IndexFault::OutOfMemory) => Err(CommandFault::OutOfMemory),
+    }
+}
+
 /// Reads an index text of a directory from a source that has this name, and keeps of it what a filter asks for.
 fn read_source<S: Source>(
     alloc: Global,
@@ -50,25 +86,38 @@ fn read_source<S: Source>(
         → HasRead files db database.now.tree filter.now file) }
     ensures err { IfErr result (FailsToRead name.now) }
 {
-    database.conf.rules_are_kept();
-    database.tree.entries_are_a_directory();
-    index_texts_reflect_dumps();
-    kept_index_texts_are_read();
-    let asked = asked_keys(alloc, filter, database.conf.slots())?;
-    let stamp = stamp_of(alloc, &database.tree, &database.conf)?;
-    are_bytes(&stamp);
-    match StoredIndex::read(
+    let Ok(stamp) = stamp_of(alloc, &database.tree, &database.conf) else {
+        return Err(CommandFault::OutOfMemory);
+    };
+    let Ok(asked) = asked_keys(alloc, filter, database.conf.slots()) else {
+        return Err(CommandFault::OutOfMemory);
+    };
+    read_keys(
         alloc,
         source,
-        &database.conf,
-        &stamp,
-        database.tree.len(),
+        name,
+        database,
+        filter,
         asked.as_slice(),
-    ) {
-        Ok(stored) => Ok(IndexFile::Read(stored)),
-        Err(IndexFault::Fault(kind)) => Ok(IndexFile::Faulty(kind)),
-        Err(IndexFault::Device) => Err(CommandFault::cannot_read(alloc, name)),
-        Err(IndexFault::OutOfMemory) => Err(CommandFault::OutOfMemory),
+        stamp,
+    )
+}
+
+/// Reads the index text of a directory in the file of this name, and keeps of it what a filter asks for.
+fn read_named<F: Folder>(
+    alloc: Global,
+    folder: &F,
+    name: &str,
+    database: &Database,
+    filter: &Prepared,
+) -> Result<IndexFile, CommandFault>
+    ensures read { IfOk result (λ file. (db : List ℕ) → name.now ≡ index_name db → HasRead (F.files folder.now) db database.now.tree filter.now file) }
+    ensures err { IfErr result (FailsToRead name.now) }
+{
+    match open(alloc, folder, name) {
+        Ok(Some(mut source)) => read_source(alloc, &mut source, name, database, filter),
+        Ok(None) => Ok(IndexFile::Missing),
+        Err(fault) => Err(fault),
     }
 }
 
@@ -83,11 +132,10 @@ pub fn read_index<F: Folder>(
     ensures read { IfOk result (HasRead (F.files folder.now) db.now database.now.tree filter.now) }
     ensures err { IfErr result (FailsToRead (index_name db.now)) }
 {
-    let name = path(alloc, db, "index.txt")?;
-    match open(alloc, folder, name.as_str())? {
-        Some(mut source) => read_source(alloc, &mut source, name.as_str(), database, filter),
-        None => Ok(IndexFile::Missing),
-    }
+    let Ok(name) = path(alloc, db, "index.txt") else {
+        return Err(CommandFault::OutOfMemory);
+    };
+    read_named(alloc, folder, name.as_str(), database, filter)
 }
 
 fn line_of_fault(alloc: Global, fault: IndexFaultKind) -> Result<String, AllocError>

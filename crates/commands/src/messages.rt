@@ -19,7 +19,7 @@ use std::alloc::{AllocError, AllocFailed, Global};
 use std::fmt;
 
 /// How a command ends.
-#[derive(Clone, Copy, PartialEq, Eq)]
+#[derive(Clone, Copy)]
 pub enum Status {
     Done,
     /// A record was refused, or a search ended with a result code.

@@ -6,22 +6,21 @@ ghost use Rattle.schema.specs.declared.code.Code.TheVariants.{SizeLimitExceeded}
 ghost use Rattle.search.specs.Walks.{seen};
 ghost use Rattle.databases.specs.Found.{AreThere, limited_text, goes_past};
 ghost use Rattle.filter_text.specs.Spells.{view};
-ghost use Rattle.commands.specs.Asked.{base_of, IsFilter};
+ghost use Rattle.commands.specs.Asked.{IsBase, IsFilter};
 ghost use Rattle.commands.specs.Failures.{FailsToWrite};
 ghost use Rattle.commands.specs.Loaded.{IsLoaded};
 ghost use Rattle.commands.specs.Worlds.{World};
-ghost use Rattle.commands.specs.Messages.{code_text, fault_text};
-ghost use Rattle.commands.specs.Statuses.{status_of_fault};
-ghost use Rattle.commands.specs.Queries.{IsBegun, HasBegun, PrintsPartly};
+ghost use Rattle.commands.specs.Messages.{code_text, IsReported};
+ghost use Rattle.commands.specs.Queries.{IsBegun};
 ghost use Rattle.commands.specs.IndexFiles.{Said};
-ghost use Rattle.commands.specs.Prints.{search_query, IsFoundText, MayBeFound, SearchGoesThrough, SearchStops};
+ghost use Rattle.commands.specs.Prints.{SearchGoesThrough, SearchStops};
 ghost use Rattle.commands.specs.inner.IndexFiles.{Keeps, HasLoaded};
-ghost use Rattle.commands.specs.inner.Refusals.{Refuses, RefusesOrBreaks};
-ghost use Rattle.commands.specs.inner.Printed.{HasPrinted};
+ghost use Rattle.commands.specs.inner.Printed.{PrintsFound};
 ghost use Rattle.commands.specs.inner.Views.{basis_of};
 ghost use Rattle.commands.specs.inner.Sought.{IsWanted};
 ghost use Rattle.commands.specs.inner.Stopped.{CanReport, HasEnded};
 ghost use Rattle.commands.specs.declared.index_file.IndexFile.TheVariants.{Read};
+ghost use Rattle.commands.specs.declared.messages.Status.TheVariants.{Refused};
 
 use crate::database::load_database;
 use crate::finding::{filter_of, path_of, refused};
@@ -44,32 +43,23 @@ use tree::Tree;
 /// The name that its result codes are printed with.
 const NAME: &str = "search";
 
-/// What a search ends with where more entries match than it may print (RFC 4511, 4.5.1.4).
-fn past_limit() -> CommandFault
-    ensures status { status_of_fault result ≡ Status.Refused }
-    ensures text { fault_text result ≡ code_text (codes "search") SizeLimitExceeded }
+/// Reports that more entries match than a search may print (RFC 4511, 4.5.1.4), and answers how it ends.
+fn report_past_limit<E: Sink>(alloc: Global, err: &mut E) -> Status
+    requires { (E.written err.old).failed < 2 ^ 64 - 1 }
+    ensures { IsReported (E.written err.old) (E.written err.new) (code_text (codes "search") SizeLimitExceeded) Refused result }
 {
-    CommandFault::Code {
+    let fault = CommandFault::Code {
         command: NAME,
         code: Code::SizeLimitExceeded,
-    }
+    };
+    report_fault(alloc, err, &fault)
 }
 
 /// What is searched for, and printed of it, under a configuration.
-#[derive(Drop)]
-struct Wanted {
-    base: Path,
-    selection: Selection,
-}
-
-/// Reads what is asked for under a configuration.
-fn wanted_by(alloc: Global, asked: &SearchOptions<'_>, conf: &Conf) -> Result<Wanted, CommandFault>
-    ensures wanted { IfOk result (IsWanted asked.now conf.now) }
-    ensures fault { IfErr result (Refuses (codes "search") (λ code. base_of conf.now (option_copied asked.now.base) ≡ Err code)) }
-{
-    let base = path_of(alloc, conf, asked.base, NAME)?;
-    let selection = Selection::of(alloc, conf, asked.attributes.as_slice())?;
-    Ok(Wanted { base, selection })
+#[derive(Clone, Copy, Drop)]
+struct Wanted<'a> {
+    base: &'a Path,
+    selection: &'a Selection,
 }
 
 /// Prints the entries that were found, and answers whether there are more than may be printed.
@@ -102,7 +92,7 @@ fn print_hits<S: IdSet, O: Sink>(
 fn print_by_text<O: Sink>(
     alloc: Global,
     asked: &SearchOptions<'_>,
-    wanted: &Wanted,
+    wanted: &Wanted<'_>,
     filter: &Prepared,
     database: &Database,
     stored: &StoredIndex,
@@ -111,17 +101,13 @@ fn print_by_text<O: Sink>(
     requires can_fail { (O.written out.old).failed < 2 ^ 64 - 1 }
     requires wanted { IsWanted asked.now database.now.conf wanted.now }
     requires prepared { filter.now.conf ≡ database.now.tree.conf }
-    ensures found { (said : Said) → Keeps database.now.tree filter.now (Read stored.now) said → IfOk result (λ past. HasPrinted
-        (IsFoundText asked.now said (basis_of filter.now.filter database.now.tree) past)
-        (O.written out.old) (O.written out.new)) }
-    ensures fault { IfErr result (RefusesOrBreaks (search_query asked.now) database.now.tree.conf database.now.tree.entries) }
-    ensures partly { (said : Said) → Keeps database.now.tree filter.now (Read stored.now) said → IfErr result (PrintsPartly (HasBegun
-        (MayBeFound asked.now said (basis_of filter.now.filter database.now.tree)) None) (O.written out.old) (O.written out.new)) }
+    ensures { (said : Said) → Keeps database.now.tree filter.now (Read stored.now) said → PrintsFound asked.now said
+        (basis_of filter.now.filter database.now.tree) (O.written out.old) (O.written out.new) result }
 {
     let Database { conf, tree } = database;
     conf.rules_are_kept();
-    match search_with(alloc, tree, stored, &wanted.base, asked.scope, filter) {
-        Ok(hits) => print_hits(alloc, tree, conf, hits, asked.limit, &wanted.selection, out),
+    match search_with(alloc, tree, stored, wanted.base, asked.scope, filter) {
+        Ok(hits) => print_hits(alloc, tree, conf, hits, asked.limit, wanted.selection, out),
         Err(refusal) => Err(refused(refusal, NAME)),
     }
 }
@@ -130,7 +116,7 @@ fn print_by_text<O: Sink>(
 fn print_by_scan<O: Sink>(
     alloc: Global,
     asked: &SearchOptions<'_>,
-    wanted: &Wanted,
+    wanted: &Wanted<'_>,
     filter: &Prepared,
     database: &Database,
     out: &mut O,
@@ -138,16 +124,11 @@ fn print_by_scan<O: Sink>(
     requires can_fail { (O.written out.old).failed < 2 ^ 64 - 1 }
     requires wanted { IsWanted asked.now database.now.conf wanted.now }
     requires prepared { filter.now.conf ≡ database.now.tree.conf }
-    ensures found { IfOk result (λ past. HasPrinted
-        (IsFoundText asked.now None (basis_of filter.now.filter database.now.tree) past)
-        (O.written out.old) (O.written out.new)) }
-    ensures fault { IfErr result (RefusesOrBreaks (search_query asked.now) database.now.tree.conf database.now.tree.entries) }
-    ensures partly { IfErr result (PrintsPartly (HasBegun
-        (MayBeFound asked.now None (basis_of filter.now.filter database.now.tree)) None) (O.written out.old) (O.written out.new)) }
+    ensures { PrintsFound asked.now None (basis_of filter.now.filter database.now.tree) (O.written out.old) (O.written out.new) result }
 {
     let Database { conf, tree } = database;
-    match search_tree(alloc, tree, &wanted.base, asked.scope, filter) {
-        Some(hits) => print_hits(alloc, tree, conf, hits, asked.limit, &wanted.selection, out),
+    match search_tree(alloc, tree, wanted.base, asked.scope, filter) {
+        Some(hits) => print_hits(alloc, tree, conf, hits, asked.limit, wanted.selection, out),
         None => Err(CommandFault::Code {
             command: NAME,
             code: Code::NoSuchObject,
@@ -159,7 +140,7 @@ fn print_by_scan<O: Sink>(
 fn print_wanted<O: Sink>(
     alloc: Global,
     asked: &SearchOptions<'_>,
-    wanted: &Wanted,
+    wanted: &Wanted<'_>,
     filter: &Prepared,
     database: &Database,
     file: &IndexFile,
@@ -168,12 +149,8 @@ fn print_wanted<O: Sink>(
     requires can_fail { (O.written out.old).failed < 2 ^ 64 - 1 }
     requires wanted { IsWanted asked.now database.now.conf wanted.now }
     requires prepared { filter.now.conf ≡ database.now.tree.conf }
-    ensures found { (said : Said) → Keeps database.now.tree filter.now file.now said → IfOk result (λ past. HasPrinted
-        (IsFoundText asked.now said (basis_of filter.now.filter database.now.tree) past)
-        (O.written out.old) (O.written out.new)) }
-    ensures fault { IfErr result (RefusesOrBreaks (search_query asked.now) database.now.tree.conf database.now.tree.entries) }
-    ensures partly { (said : Said) → Keeps database.now.tree filter.now file.now said → IfErr result (PrintsPartly (HasBegun
-        (MayBeFound asked.now said (basis_of filter.now.filter database.now.tree)) None) (O.written out.old) (O.written out.new)) }
+    ensures { (said : Said) → Keeps database.now.tree filter.now file.now said → PrintsFound asked.now said
+        (basis_of filter.now.filter database.now.tree) (O.written out.old) (O.written out.new) result }
 {
     match file {
         IndexFile::Read(stored) => print_by_text(
@@ -184,7 +161,35 @@ fn print_wanted<O: Sink>(
     }
 }
 
-/// Reads what is wanted, and prints what is found of it.
+/// Prints what is found from this base on, likewise.
+fn print_from<O: Sink>(
+    alloc: Global,
+    asked: &SearchOptions<'_>,
+    base: &Path,
+    filter: &Prepared,
+    database: &Database,
+    file: &IndexFile,
+    out: &mut O,
+) -> Result<bool, CommandFault>
+    requires can_fail { (O.written out.old).failed < 2 ^ 64 - 1 }
+    requires base { IsBase database.now.conf (option_copied asked.now.base) base.now }
+    requires prepared { filter.now.conf ≡ database.now.tree.conf }
+    ensures { (said : Said) → Keeps database.now.tree filter.now file.now said → PrintsFound asked.now said
+        (basis_of filter.now.filter database.now.tree) (O.written out.old) (O.written out.new) result }
+{
+    match Selection::of(alloc, &database.conf, asked.attributes.as_slice()) {
+        Ok(selection) => {
+            let wanted = Wanted {
+                base,
+                selection: &selection,
+            };
+            print_wanted(alloc, asked, &wanted, filter, database, file, out)
+        }
+        Err(_) => Err(CommandFault::OutOfMemory),
+    }
+}
+
+/// Looks up the base that is asked for, and prints what is found from there on.
 fn print_found<O: Sink>(
     alloc: Global,
     asked: &SearchOptions<'_>,
@@ -195,15 +200,13 @@ fn print_found<O: Sink>(
 ) -> Result<bool, CommandFault>
     requires can_fail { (O.written out.old).failed < 2 ^ 64 - 1 }
     requires prepared { filter.now.conf ≡ database.now.tree.conf }
-    ensures found { (said : Said) → Keeps database.now.tree filter.now file.now said → IfOk result (λ past. HasPrinted
-        (IsFoundText asked.now said (basis_of filter.now.filter database.now.tree) past)
-        (O.written out.old) (O.written out.new)) }
-    ensures fault { IfErr result (RefusesOrBreaks (search_query asked.now) database.now.tree.conf database.now.tree.entries) }
-    ensures partly { (said : Said) → Keeps database.now.tree filter.now file.now said → IfErr result (PrintsPartly (HasBegun
-        (MayBeFound asked.now said (basis_of filter.now.filter database.now.tree)) None) (O.written out.old) (O.written out.new)) }
+    ensures { (said : Said) → Keeps database.now.tree filter.now file.now said → PrintsFound asked.now said
+        (basis_of filter.now.filter database.now.tree) (O.written out.old) (O.written out.new) result }
 {
-    let wanted = wanted_by(alloc, asked, &database.conf)?;
-    print_wanted(alloc, asked, &wanted, filter, database, file, out)
+    match path_of(alloc, &database.conf, asked.base, NAME) {
+        Ok(base) => print_from(alloc, asked, &base, filter, database, file, out),
+        Err(fault) => Err(fault),
+    }
 }
 
 /// Reports what is wrong with index.txt, and prints what is found.
@@ -225,11 +228,13 @@ fn search_loaded<O: Sink, E: Sink>(
         (record w { output = O.written out.new; messages = E.written err.new }) result }
     ensures can_report { IfErr result (λ why. CanReport why (E.written err.new).failed) }
 {
-    report_index(alloc, err, file)?;
-    match print_found(alloc, asked, filter, database, file, out) {
-        Ok(false) => Ok(Status::Done),
-        Ok(true) => Ok(report_fault(alloc, err, &past_limit())),
-        Err(fault) => Err(Stop::Fault(fault)),
+    match report_index(alloc, err, file) {
+        Ok(()) => match print_found(alloc, asked, filter, database, file, out) {
+            Ok(false) => Ok(Status::Done),
+            Ok(true) => Ok(report_past_limit(alloc, err)),
+            Err(fault) => Err(Stop::Fault(fault)),
+        },
+        Err(stop) => Err(stop),
     }
 }
 
@@ -253,11 +258,15 @@ fn search_by<F: Folder, O: Sink, E: Sink>(
         (record w { files = F.files folder.now; output = O.written out.new; messages = E.written err.new }) result }
     ensures can_report { IfErr result (λ why. CanReport why (E.written err.new).failed) }
 {
-    let file = read_index(alloc, folder, asked.db, database, filter)?;
-    let ended = search_loaded(alloc, asked, filter, database, &file, out, err);
-    // The program ends with its command, and that frees the index at once.
-    mem::forget(file);
-    ended
+    match read_index(alloc, folder, asked.db, database, filter) {
+        Ok(file) => {
+            let ended = search_loaded(alloc, asked, filter, database, &file, out, err);
+            // The program ends with its command, and that frees the index at once.
+            mem::forget(file);
+            ended
+        }
+        Err(fault) => Err(Stop::Fault(fault)),
+    }
 }
 
 /// Searches a directory that is loaded.
@@ -279,8 +288,10 @@ fn search_directory<F: Folder, O: Sink, E: Sink>(
         (record w { files = F.files folder.now; output = O.written out.new; messages = E.written err.new }) result }
     ensures can_report { IfErr result (λ why. CanReport why (E.written err.new).failed) }
 {
-    let prepared = prepare(alloc, filter, &database.conf)?;
-    search_by(alloc, asked, &prepared, database, folder, out, err)
+    match prepare(alloc, filter, &database.conf) {
+        Ok(prepared) => search_by(alloc, asked, &prepared, database, folder, out, err),
+        Err(_) => Err(Stop::Fault(CommandFault::OutOfMemory)),
+    }
 }
 
 /// Loads the directory, and searches it.
@@ -300,11 +311,15 @@ fn load_and_search<F: Folder, O: Sink, E: Sink>(
         (record w { files = F.files folder.now; output = O.written out.new; messages = E.written err.new }) result }
     ensures can_report { IfErr result (λ why. CanReport why (E.written err.new).failed) }
 {
-    let database = load_database(alloc, folder, asked.db)?;
-    let ended = search_directory(alloc, asked, filter, &database, folder, out, err);
-    // The program ends with its command, and that frees the entries at once.
-    mem::forget(database);
-    ended
+    match load_database(alloc, folder, asked.db) {
+        Ok(database) => {
+            let ended = search_directory(alloc, asked, filter, &database, folder, out, err);
+            // The program ends with its command, and that frees the entries at once.
+            mem::forget(database);
+            ended
+        }
+        Err(fault) => Err(Stop::Fault(fault)),
+    }
 }
 
 /// Prints the entries of the directory in a folder that are in scope of the base and that the filter is True of, with the attributes that
@@ -326,6 +341,8 @@ pub fn search<F: Folder, O: Sink, E: Sink>(
         (record w { files = F.files folder.now; output = O.written out.new; messages = E.written err.new }) result }
     ensures can_report { IfErr result (λ why. CanReport why (E.written err.new).failed) }
 {
-    let filter = filter_of(alloc, asked.filter)?;
-    load_and_search(alloc, asked, &filter, folder, out, err)
+    match filter_of(alloc, asked.filter) {
+        Ok(filter) => load_and_search(alloc, asked, &filter, folder, out, err),
+        Err(fault) => Err(Stop::Fault(fault)),
+    }
 }

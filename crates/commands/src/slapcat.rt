@@ -64,10 +64,10 @@ fn put<T: FileText, F: Folder, O: Sink>(
     ensures begins { IfErr result (λ f. Begins (option_copied file.entry) f (O.written out.old) (O.written out.new) (T.text text.now)) }
 {
     match file {
-        Some(name) => {
-            store(alloc, folder, name, text)?;
-            Ok(())
-        }
+        Some(name) => match store(alloc, folder, name, text) {
+            Ok(_) => Ok(()),
+            Err(fault) => Err(fault),
+        },
         None => print_text(alloc, text, out),
     }
 }
@@ -86,6 +86,43 @@ fn base_of(alloc: Global, asked: &CatOptions<'_>, database: &Database) -> Result
         });
     }
     Ok(base)
+}
+
+/// Puts the entries at this base and below it that the filter is True of.
+fn put_from<F: Folder, O: Sink>(
+    alloc: Global,
+    asked: &CatOptions<'_>,
+    base: &Path,
+    filter: &Filter,
+    database: &Database,
+    folder: &mut F,
+    out: &mut O,
+) -> Result<(), CommandFault>
+    requires can_fail { (O.written out.old).failed < 2 ^ 64 - 1 }
+    requires base { IsBase database.now.tree.conf (option_copied asked.now.base) base.now }
+    requires there { is_some asked.now.base ≡ true → finite.contains_key database.now.tree.entries base.now ≡ true }
+    ensures same { OnErr result (F.files folder.new ≡ F.files folder.old) }
+    ensures locking { F.locking folder.new ≡ F.locking folder.old }
+    ensures put { (w : World) → OnOk result (HasPut (IsCatText false asked.now
+        (basis_of filter.now database.now.tree)) (option_copied asked.now.file)
+        (record w { files = F.files folder.old; output = O.written out.old })
+        (record w { files = F.files folder.new; output = O.written out.new })) }
+    ensures fault { IfErr result (RefusesOrBreaks (cat_query asked.now) database.now.tree.conf database.now.tree.entries) }
+    ensures partly { IfErr result (PrintsPartly (HasBegun (IsCatText false asked.now
+        (basis_of filter.now database.now.tree)) (option_copied asked.now.file))
+        (O.written out.old) (O.written out.new)) }
+{
+    match prepare(alloc, filter, &database.conf) {
+        Ok(prepared) => {
+            let excerpt = Excerpt {
+                database,
+                base,
+                filter: &prepared,
+            };
+            put(alloc, &excerpt, asked.file, folder, out)
+        }
+        Err(_) => Err(CommandFault::OutOfMemory),
+    }
 }
 
 fn put_excerpt<F: Folder, O: Sink>(
@@ -108,10 +145,10 @@ fn put_excerpt<F: Folder, O: Sink>(
         (basis_of filter.now database.now.tree)) (option_copied asked.now.file))
         (O.written out.old) (O.written out.new)) }
 {
-    let base = base_of(alloc, asked, database)?;
-    let prepared = prepare(alloc, filter, &database.conf)?;
-    let excerpt = Excerpt::new(database, &base, &prepared);
-    put(alloc, &excerpt, asked.file, folder, out)
+    match base_of(alloc, asked, database) {
+        Ok(base) => put_from(alloc, asked, &base, filter, database, folder, out),
+        Err(fault) => Err(fault),
+    }
 }
 
 fn put_entries<F: Folder, O: Sink>(
@@ -159,11 +196,15 @@ fn load_and_put<F: Folder, O: Sink>(
     ensures partly { IfErr result (PrintsPartly (HasBegun (CatText asked.now (F.files folder.old)) (option_copied asked.now.file))
         (O.written out.old) (O.written out.new)) }
 {
-    let database = load_database(alloc, folder, asked.db)?;
-    let done = put_entries(alloc, asked, filter, &database, folder, out);
-    // The program ends with its command, and that frees the entries at once.
-    mem::forget(database);
-    done
+    match load_database(alloc, folder, asked.db) {
+        Ok(database) => {
+            let done = put_entries(alloc, asked, filter, &database, folder, out);
+            // The program ends with its command, and that frees the entries at once.
+            mem::forget(database);
+            done
+        }
+        Err(fault) => Err(fault),
+    }
 }
 
 /// Writes the directory in a folder to the file, or to `out`: all entries, or those at the base and below it that the filter is True of. It
@@ -181,12 +222,11 @@ pub fn slapcat<F: Folder, O: Sink>(
         (record w { files = F.files folder.new; output = O.written out.new }) result }
     ensures locking { F.locking folder.new ≡ F.locking folder.old }
 {
-    let filter = filter_of(alloc, asked.filter)?;
-    let done = load_and_put(alloc, asked, &filter, folder, out);
-    // The program ends with its command, and that frees the filter at once.
-    mem::forget(filter);
-    match done {
-        Ok(()) => Ok(Status::Done),
+    match filter_of(alloc, asked.filter) {
+        Ok(filter) => match load_and_put(alloc, asked, &filter, folder, out) {
+            Ok(()) => Ok(Status::Done),
+            Err(fault) => Err(Stop::Fault(fault)),
+        },
         Err(fault) => Err(Stop::Fault(fault)),
     }
 }

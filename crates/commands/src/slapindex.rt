@@ -22,12 +22,18 @@ fn make_index<F: Folder>(
         (record w { files = F.files folder.new }) result }
     ensures locking { F.locking folder.new ≡ F.locking folder.old }
 {
-    let database = load_database(alloc, folder, asked.db)?;
-    let stored = store_index(alloc, folder, asked.db, &database);
-    // The program ends with its command, and that frees the entries at once.
-    mem::forget(database);
-    stored?;
-    Ok(Status::Done)
+    match load_database(alloc, folder, asked.db) {
+        Ok(database) => {
+            let stored = store_index(alloc, folder, asked.db, &database);
+            // The program ends with its command, and that frees the entries at once.
+            mem::forget(database);
+            match stored {
+                Ok(()) => Ok(Status::Done),
+                Err(fault) => Err(Stop::Fault(fault)),
+            }
+        }
+        Err(fault) => Err(Stop::Fault(fault)),
+    }
 }
 
 /// Makes the index of the directory in a folder from its entries alone, and puts its text in place of index.txt, under the directory's lock.
@@ -41,6 +47,8 @@ pub fn slapindex<F: Folder>(
         (record w { files = F.files folder.old; lock = F.locking folder.old })
         (record w { files = F.files folder.new; lock = F.locking folder.new }) result }
 {
-    lock(alloc, folder, asked.db)?;
-    make_index(alloc, asked, folder)
+    match lock(alloc, folder, asked.db) {
+        Ok(()) => make_index(alloc, asked, folder),
+        Err(fault) => Err(Stop::Fault(fault)),
+    }
 }

@@ -69,8 +69,10 @@ pub fn store_in<F: Folder, T: FileText>(
     ensures locking { F.locking folder.new ≡ F.locking folder.old }
     ensures err { IfErr result (FailsToWrite (file_in db.now name.now)) }
 {
-    let path = path(alloc, db, name)?;
-    store(alloc, folder, path.as_str(), text)
+    match path(alloc, db, name) {
+        Ok(path) => store(alloc, folder, path.as_str(), text),
+        Err(_) => Err(CommandFault::OutOfMemory),
+    }
 }
 
 /// Puts the text of the index of these entries in place of the folder's index.txt, where the stamp of their dump is at hand.
@@ -106,8 +108,10 @@ pub fn store_index<F: Folder>(
     ensures err { IfErr result (StoresPartly (index_file db.now database.now.tree.conf database.now.tree.entries ∷ []) (F.files folder.old) (F.files folder.new)) }
     ensures locking { F.locking folder.new ≡ F.locking folder.old }
 {
-    let stamp = stamp_of(alloc, &database.tree, &database.conf)?;
-    store_index_with(alloc, folder, db, database, &stamp)
+    match stamp_of(alloc, &database.tree, &database.conf) {
+        Ok(stamp) => store_index_with(alloc, folder, db, database, &stamp),
+        Err(_) => Err(CommandFault::OutOfMemory),
+    }
 }
 
 /// Puts the dump of these entries in place of the folder's data.ldif, and then the text of their index in place of index.txt.
@@ -121,6 +125,8 @@ pub fn store_database<F: Folder>(
     ensures err { IfErr result (StoresPartly (kept_files db.now database.now.tree.conf database.now.tree.entries) (F.files folder.old) (F.files folder.new)) }
     ensures locking { F.locking folder.new ≡ F.locking folder.old }
 {
-    let stamp = store_in(alloc, folder, db, "data.ldif", &StampedDump { database })?;
-    store_index_with(alloc, folder, db, database, &stamp)
+    match store_in(alloc, folder, db, "data.ldif", &StampedDump { database }) {
+        Ok(stamp) => store_index_with(alloc, folder, db, database, &stamp),
+        Err(fault) => Err(fault),
+    }
 }

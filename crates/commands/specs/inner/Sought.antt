@@ -7,5 +7,5 @@ use Rattle.commands.specs.Asked.{IsBase, IsSelection}
 use Rattle.commands.specs.declared.searching.Wanted.{Wanted}
 
 pub record IsWanted (asked : SearchOptions) (conf : Conf) (wanted : Wanted) : Type 0 where
-  pub base : IsBase conf (option_copied asked.base) wanted.base
-  pub selection : IsSelection conf (map (λ w. w.now) asked.attributes.items) wanted.selection
+  pub base : IsBase conf (option_copied asked.base) wanted.base.now
+  pub selection : IsSelection conf (map (λ w. w.now) asked.attributes.items) wanted.selection.now

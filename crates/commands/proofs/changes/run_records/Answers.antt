@@ -1,7 +1,7 @@
 use Rattle.std.proofs.Common.{Option, ℕ, List, refl, sym, ap, subst}
 use Rattle.std.specs.Prelude.{Err}
 use Rattle.std.specs.Option.{option_copied}
-use Rattle.std.proofs.lemmas.Result.{IfOk-weaker, err_from_is_err_and}
+use Rattle.std.proofs.lemmas.Result.{IfOk-weaker}
 use Rattle.commands.specs.Changes.{Breaks, source_name, HasNoSource}
 use Rattle.commands.specs.inner.Views.{run_of}
 use Rattle.commands.specs.declared.messages.Stop.TheVariants as stops
@@ -21,38 +21,35 @@ returns-in_default-clause-stops g c = of_faults c.run_source.result
     (subst (λ (file : Option (List ℕ)). Breaks broke.0 (source_name file) why) (sym (ap option_copied c.in_default.is)) broke.1))
     c.run_source.ensures.broke
 
-pub returns-clause-ran : goal.returns-clause-ran
-returns-clause-ran g c = IfOk-weaker c.run_source-2.result _ _
-    (λ t ran w. of_file c.args.task.now _ _ _ c.requires.loaded c.in-Some.name.now _ _ (ap option_copied c.in-Some.is) c.in_ok-source.ensures.finds refl
+pub returns-in-Ok-clause-ran : goal.returns-in-Ok-clause-ran
+returns-in-Ok-clause-ran g c = IfOk-weaker c.run_source-in-Ok.result _ _
+    (λ t ran w. of_file c.args.task.now _ _ _ c.requires.loaded c.in-Some.name.now _ _ (ap option_copied c.in-Some.is) c.in-Ok.ensures.finds refl
     (ran (record w { files = g.F.Folder.files c.args.folder.now })))
-    c.run_source-2.ensures.ran
+    c.run_source-in-Ok.ensures.ran
 
-pub returns-clause-stops : goal.returns-clause-stops
-returns-clause-stops g c = of_faults c.run_source-2.result
-    (λ why broke w. broken_off c.args.task.now (run_of c.args.database.now.tree c.run_source-2.new.database.tree (Err broke.0)) _ _ broke.0 why refl
-    (of_file c.args.task.now _ _ _ c.requires.loaded c.in-Some.name.now _ _ (ap option_copied c.in-Some.is) c.in_ok-source.ensures.finds refl
+pub returns-in-Ok-clause-stops : goal.returns-in-Ok-clause-stops
+returns-in-Ok-clause-stops g c = of_faults c.run_source-in-Ok.result
+    (λ why broke w. broken_off c.args.task.now (run_of c.args.database.now.tree c.run_source-in-Ok.new.database.tree (Err broke.0)) _ _ broke.0 why refl
+    (of_file c.args.task.now _ _ _ c.requires.loaded c.in-Some.name.now _ _ (ap option_copied c.in-Some.is) c.in-Ok.ensures.finds refl
     (broke.2 (record w { files = g.F.Folder.files c.args.folder.now })))
     (subst (λ (file : Option (List ℕ)). Breaks broke.0 (source_name file) why) (sym (ap option_copied c.in-Some.is)) broke.1))
-    c.run_source-2.ensures.broke
+    c.run_source-in-Ok.ensures.broke
 
-pub returns-in_err-source-clause-stops : goal.returns-in_err-source-clause-stops
-returns-in_err-source-clause-stops g c =
-    let p = err_from_is_err_and c.from_residual.result c.from_residual.ensures.1 in
-    rw (p.1, p.2) (λ w. not_opened c.args.task.now _ _ _ _ c.requires.loaded
-    (subst (λ (file : Option (List ℕ)). HasNoSource file (stops.Fault c.in_err-source.field-0.0)) (sym (ap option_copied c.in-Some.is)) c.in_err-source.ensures.err))
+pub returns-in-Err-clause-stops : goal.returns-in-Err-clause-stops
+returns-in-Err-clause-stops g c =
+    λ w. not_opened c.args.task.now _ _ _ _ c.requires.loaded
+    (subst (λ (file : Option (List ℕ)). HasNoSource file (stops.Fault c.in-Err.fault)) (sym (ap option_copied c.in-Some.is)) c.in-Err.ensures.err)
 
-pub returns-in_err-source-clause-ran : goal.returns-in_err-source-clause-ran
-returns-in_err-source-clause-ran g c =
-    let p = err_from_is_err_and c.from_residual.result c.from_residual.ensures.1 in
-    rw (p.1) tt
+pub returns-in-Err-clause-ran : goal.returns-in-Err-clause-ran
+returns-in-Err-clause-ran g c =
+    tt
 
 pub returns-in_default-clause-can_report : goal.returns-in_default-clause-can_report
 returns-in_default-clause-can_report g c = c.run_source.ensures.can_report
 
-pub returns-in_err-source-clause-can_report : goal.returns-in_err-source-clause-can_report
-returns-in_err-source-clause-can_report g c =
-    let p = err_from_is_err_and c.from_residual.result c.from_residual.ensures.1 in
-    rw (p.1, p.2) c.requires.err
+pub returns-in-Err-clause-can_report : goal.returns-in-Err-clause-can_report
+returns-in-Err-clause-can_report g c =
+    c.requires.err
 
-pub returns-clause-can_report : goal.returns-clause-can_report
-returns-clause-can_report g c = c.run_source-2.ensures.can_report
+pub returns-in-Ok-clause-can_report : goal.returns-in-Ok-clause-can_report
+returns-in-Ok-clause-can_report g c = c.run_source-in-Ok.ensures.can_report
