@@ -25,6 +25,20 @@ at since n = get (slice_cmp nat_cmp) since n
 one_more : (n : List ℕ) (vs : List Value) (v : Value) → cond (bytes_eq v.norm n) true (has_norm n vs) ≡ has_norm n (vs ++ v ∷ [])
 one_more n vs v = or_swap (bytes_eq v.norm n) (has_norm n vs) ∙ sym (list_any-append (λ (w : Value). bytes_eq w.norm n) vs (v ∷ []))
 
+none_in : (o : Option ℕ) (i : ℕ) → is_some o ≡ false → is_from i o ≡ false
+none_in None i e = refl
+none_in (Some k) i e = absurd cc
+
+-- a value whose normal form isn't in
+module _ (old new : Since) (same : (q : List ℕ) → at new q ≡ at old q) (v : Value) (out : is_some (at old v.norm) ≡ false) where
+  still_left : (vs : List Value) (i : ℕ) → left_from new i (vs ++ v ∷ []) ≡ left_from old i vs
+  unfolding left_from
+  still_left [] i = ap (λ (o : Option ℕ). cond (is_from i o) (v ∷ []) []) (same v.norm) ∙ ap (λ b. cond b (v ∷ []) []) (none_in (at old v.norm) i out)
+  still_left (w ∷ vs) i = let more = still_left vs (i + 1) in λ j. cond (is_from i (same w.norm j)) (w ∷ more j) (more j)
+
+  pub are_still_left : (vs : List Value) → AreLeft old vs → AreLeft new (vs ++ v ∷ [])
+  are_still_left vs h = record { each = λ q. ap is_some (same q) ∙ h.each q ∙ ap (has_norm q) (sym (still_left vs 0)) }
+
 -- a value that is left by two tests
 abbrev but_norm_at : Bool → Bool → Value → List Value → List Value
 but_norm_at keeps o v rest = cond o (cond keeps (v ∷ rest) rest) rest
@@ -37,10 +51,6 @@ module _ (old new : Since) (n : List ℕ) where
     comes q = updates q ∙ ap (λ b. cond b (Some place) (at old q)) (is_eq-slice_cmp n q)
 
     module _ (fresh : is_some (at old n) ≡ false) where
-      none_in : (o : Option ℕ) (i : ℕ) → is_some o ≡ false → is_from i o ≡ false
-      none_in None i e = refl
-      none_in (Some k) i e = absurd cc
-
       -- those before its place are left as before
       before : (i : ℕ) (v : Value) → i < place → is_left new i v ≡ is_left old i v
       before i v lt = ap (is_from i) (comes v.norm) ∙ by (bytes_eq n v.norm) refl

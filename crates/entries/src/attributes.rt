@@ -36,13 +36,6 @@ fn runs_in(lines: &[Attr<'_>]) -> usize {
     count
 }
 
-/// Whether there is an attribute objectClass.
-pub(crate) fn has_class(attrs: &Attributes) -> bool
-    ensures { result ≡ has_class (attributes_of attrs.now.entries) }
-{
-    attrs.get(TypeId::OBJECT_CLASS).is_some()
-}
-
 /// Adds lines to attributes under a configuration; `mode` says what kind of records they stand in.
 #[derive(Clone, Copy)]
 struct LineAdder<'a> {

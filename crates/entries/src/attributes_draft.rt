@@ -24,11 +24,16 @@ use values::Values;
 ///
 /// The values of the type that was changed last stay as they are made ready for changes: so many blocks of one type with a value each,
 /// one right after the other, take no more time than one block with all values.
-#[derive(Drop)]
 pub(crate) struct AttributesDraft {
     attrs: Attributes,
     // a type and its values, whose place `attrs` keeps
     taken: Option<(TypeId, ValuesDraft)>,
+}
+
+impl Drop for AttributesDraft {
+    fn drop(self) {
+        let AttributesDraft { attrs: _, taken: _ } = self;
+    }
 }
 
 impl Model for AttributesDraft {

@@ -1,14 +1,13 @@
 //! What its object classes ask of an entry (RFC 4512, 2.4 and 3.3).
 
-ghost use Rattle.std.specs.Prelude.{◌≡◌, ◌<◌, ◌&&◌, true, false, IfOk, MatchOption, length};
+ghost use Rattle.std.specs.Prelude.{◌≡◌, ◌<◌, true, [], IfOk, OnOk, length};
 ghost use Rattle.std.specs.List.{list_all, AllByRecursion};
 ghost use Rattle.schema.specs.Superclasses.{lineage};
 ghost use Rattle.entries.specs.Entries.{values_of};
-ghost use Rattle.entries.specs.EntryClasses.{has_type, defines_classes, has_required, fits_classes, has_its_classes};
-ghost use Rattle.entries.specs.inner.ClassChecks.{FindsClasses, fits_each, has_all_required, is_allowed_by, may_have, may_have_all};
+ghost use Rattle.entries.specs.EntryClasses.{has_type, are_classes, named_classes, defines_classes, has_required, fits_classes, has_its_classes};
+ghost use Rattle.entries.specs.inner.ClassChecks.{fits_each, has_all_required, is_allowed_by, may_have, may_have_all};
 ghost use Rattle.entries.specs.StoredEntries.{attributes_of, raws, IsMade};
 
-use crate::attributes::has_class;
 use crate::kept_attributes::Attributes;
 use schema::{Conf, TypeId};
 use smallvec::SmallVec;
@@ -18,38 +17,20 @@ use values::Values;
 // An entry names few classes: up to eight take no allocation.
 type ClassNumbers = SmallVec<usize, 8>;
 
-// The classes that values name, or None where one of them names none.
-fn named_classes(
-    alloc: Global,
-    conf: &Conf,
-    values: &Values,
-) -> Result<Option<ClassNumbers>, AllocError>
-    ensures named { IfOk result (λ found. FindsClasses found (λ cs. cs.items) conf.now.classes (raws values.now)) }
-    ensures known { IfOk result (λ found. MatchOption found Unit (λ cs. AllByRecursion (λ c. c < length conf.now.classes) cs.items)) }
+// Puts the classes that values name into a list that has none yet, and tells whether each of them names one.
+fn put_classes(conf: &Conf, values: &Values, classes: &mut ClassNumbers) -> Result<bool, AllocError>
+    requires { classes.old.items ≡ [] }
+    ensures all { IfOk result (λ all. all ≡ are_classes conf.now.classes (raws values.now)) }
+    ensures named { IfOk result (λ all. all ≡ true → classes.new.items ≡ named_classes conf.now.classes (raws values.now)) }
+    ensures known { OnOk result (AllByRecursion (λ c. c < length conf.now.classes) classes.new.items) }
 {
-    let mut classes = SmallVec::new(alloc);
     for value in values.iter() {
         match conf.class_of(value.raw()) {
             Some(class) => classes.push(class)?,
-            None => return Ok(None),
+            None => return Ok(false),
         }
     }
-    Ok(Some(classes))
-}
-
-// The classes that an entry names, or None where a value of objectClass names none.
-fn own_classes(
-    alloc: Global,
-    conf: &Conf,
-    attrs: &Attributes,
-) -> Result<Option<ClassNumbers>, AllocError>
-    ensures named { IfOk result (λ found. FindsClasses found (λ cs. cs.items) conf.now.classes (raws (values_of attrs.now.entries 0))) }
-    ensures known { IfOk result (λ found. MatchOption found Unit (λ cs. AllByRecursion (λ c. c < length conf.now.classes) cs.items)) }
-{
-    match attrs.get(TypeId::OBJECT_CLASS) {
-        Some(values) => named_classes(alloc, conf, values),
-        None => Ok(Some(SmallVec::new(alloc))),
-    }
+    Ok(true)
 }
 
 fn has_type(attrs: &Attributes, t: TypeId) -> bool
@@ -58,18 +39,18 @@ fn has_type(attrs: &Attributes, t: TypeId) -> bool
     attrs.get(t).is_some()
 }
 
-fn has_each(attrs: &Attributes, types: &[TypeId]) -> bool
-    ensures { result ≡ list_all (has_type (attributes_of attrs.now.entries)) types.now }
-{
-    types.iter().all(|t| has_type(attrs, *t))
-}
-
 // Whether an entry has what a class and its superclasses require.
 fn has_required(conf: &Conf, class: usize, attrs: &Attributes) -> bool
     requires { class < length conf.now.classes }
     ensures { result ≡ has_required conf.now.classes (attributes_of attrs.now.entries) (lineage conf.now.classes class) }
 {
-    has_each(attrs, conf.required(class))
+    let types = conf.required(class);
+    for t in types {
+        if !has_type(attrs, *t) {
+            return false;
+        }
+    }
+    true
 }
 
 fn has_all_required(conf: &Conf, named: &[usize], attrs: &Attributes) -> bool
@@ -126,16 +107,20 @@ fn fits_each(conf: &Conf, named: &[usize], attrs: &Attributes) -> bool
     has_all_required(conf, named, attrs) && may_have_all(conf, named, attrs)
 }
 
-// The same, where each value of objectClass names a class.
-fn fits_classes(alloc: Global, conf: &Conf, attrs: &Attributes) -> Result<bool, AllocError>
-    requires { IsMade conf.now.types attrs.now.entries }
+// Whether an entry with these values of objectClass is as its classes ask.
+fn fits_classes(
+    alloc: Global,
+    conf: &Conf,
+    values: &Values,
+    attrs: &Attributes,
+) -> Result<bool, AllocError>
+    requires made { IsMade conf.now.types attrs.now.entries }
+    requires values { values.now ≡ values_of attrs.now.entries 0 }
     ensures { IfOk result (λ fits. fits ≡ fits_classes conf.now (attributes_of attrs.now.entries)) }
 {
-    let found = own_classes(alloc, conf, attrs)?;
-    match found {
-        Some(named) => Ok(fits_each(conf, &named, attrs)),
-        None => Ok(false),
-    }
+    let mut named: ClassNumbers = SmallVec::new(alloc);
+    let all = put_classes(conf, values, &mut named)?;
+    Ok(all && fits_each(conf, &named, attrs))
 }
 
 fn defines_classes(conf: &Conf) -> bool
@@ -149,11 +134,11 @@ pub fn has_its_classes(alloc: Global, conf: &Conf, attrs: &Attributes) -> Result
     requires { IsMade conf.now.types attrs.now.entries }
     ensures { IfOk result (λ has. has ≡ has_its_classes conf.now (attributes_of attrs.now.entries)) }
 {
-    if !has_class(attrs) {
+    let Some(values) = attrs.get(TypeId::OBJECT_CLASS) else {
         return Ok(false);
-    }
+    };
     if !defines_classes(conf) {
         return Ok(true);
     }
-    fits_classes(alloc, conf, attrs)
+    fits_classes(alloc, conf, values, attrs)
 }

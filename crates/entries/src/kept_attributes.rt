@@ -57,6 +57,17 @@ fn place_of(types: &[TypeId], t: TypeId) -> Option<usize>
     types.iter().position(|other| t == *other)
 }
 
+// Puts copies of values into a list that has none yet.
+fn copy_each(alloc: Global, values: &[Values], copies: &mut Vec<Values>) -> Result<(), AllocError>
+    requires { copies.old.items ≡ [] }
+    ensures { OnOk result (copies.new.items ≡ values.now) }
+{
+    for of_type in values {
+        copies.push(of_type.copy(alloc)?)?;
+    }
+    Ok(())
+}
+
 impl Attributes {
     /// No attribute.
     pub(crate) fn new(alloc: Global) -> Attributes
@@ -112,9 +123,7 @@ impl Attributes {
     {
         let types = Vec::from_slice(alloc, &self.types)?;
         let mut values = Vec::with_capacity(alloc, self.values.len())?;
-        for of_type in &self.values {
-            values.push(of_type.copy(alloc)?)?;
-        }
+        copy_each(alloc, &self.values, &mut values)?;
         Ok(Attributes { types, values })
     }
 

@@ -68,6 +68,22 @@ fn modified_fault(
     entry_fault(alloc, conf, attrs)
 }
 
+// The attributes that the blocks make of these ones.
+fn modified_attributes(
+    alloc: Global,
+    conf: &Conf,
+    attrs: Attributes,
+    mods: &[Mod],
+) -> Result<Attributes, Refusal>
+    requires { IsMade conf.now.types attrs.entries }
+    ensures made { IfOk result (λ attrs. IsMade conf.now.types attrs.entries) }
+    ensures gives { Gives (λ attrs. attributes_of attrs.entries) result (through (modify_block conf.now.types) (attributes_of attrs.entries) mods.now) }
+{
+    let mut draft = AttributesDraft::new(attrs);
+    modify(alloc, conf, &mut draft, mods)?;
+    Ok(draft.into_attributes(alloc)?)
+}
+
 /// The entry that the blocks of a modify make of this one. The first check that fails answers, and then the entry is as it was.
 #[tactic(auto, unfolding(crate::specs::Modifies::modify_entry))]
 pub fn modified(alloc: Global, conf: &Conf, entry: &Entry, mods: &[Mod]) -> Result<Entry, Refusal>
@@ -76,14 +92,10 @@ pub fn modified(alloc: Global, conf: &Conf, entry: &Entry, mods: &[Mod]) -> Resu
     ensures made { IfOk result (λ e. IsMade conf.now.types e.attrs) }
     ensures gives { Gives (λ e. content_of e) result (modify_entry conf.now (content_of entry.now) mods.now) }
 {
-    let mut draft = AttributesDraft::new(entry.copy_attributes(alloc)?);
-    modify(alloc, conf, &mut draft, mods)?;
-    let attrs = draft.into_attributes(alloc)?;
-    match modified_fault(alloc, conf, entry.rdn(), &attrs)? {
-        Some(code) => Err(Refusal::Code(code)),
-        None => {
-            let rdn = entry.rdn().copy(alloc)?;
-            Ok(Entry::new(rdn, attrs))
-        }
+    let attrs = modified_attributes(alloc, conf, entry.copy_attributes(alloc)?, mods)?;
+    if let Some(code) = modified_fault(alloc, conf, entry.rdn(), &attrs)? {
+        return Err(Refusal::Code(code));
     }
+    let rdn = entry.rdn().copy(alloc)?;
+    Ok(Entry::new(rdn, attrs))
 }

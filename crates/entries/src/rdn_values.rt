@@ -37,10 +37,15 @@ pub(crate) fn valid_value(
 fn has_raw(attrs: &Attributes, t: TypeId, raw: &[u8]) -> bool
     ensures { result ≡ list_any (λ v. bytes_eq v.raw raw.now) (values_of attrs.now.entries t) }
 {
-    match attrs.get(t) {
-        Some(values) => values.iter().any(|value| value.raw() == raw),
-        None => false,
+    let Some(values) = attrs.get(t) else {
+        return false;
+    };
+    for value in values.iter() {
+        if value.raw() == raw {
+            return true;
+        }
     }
+    false
 }
 
 fn add_ava(

@@ -5,7 +5,7 @@ ghost use Rattle.std.specs.List.{AllByRecursion, list_any};
 ghost use Rattle.std.specs.Str.{bytes_eq};
 ghost use Rattle.schema.specs.GoodRdns.{IsAva, IsRdn};
 ghost use Rattle.schema.specs.Values.{norm_at};
-ghost use Rattle.entries.specs.Modifies.{without_old_ava, without_rdn, rename_entry};
+ghost use Rattle.entries.specs.Modifies.{without_old_ava, without_rdn, renamed_attrs, entry_fault, rename_entry};
 ghost use Rattle.entries.specs.StoredEntries.{attributes_of, content_of, IsMade};
 ghost use Rattle.entries.specs.Gives.{Gives};
 
@@ -15,7 +15,7 @@ use crate::kept_attributes::Attributes;
 use crate::rdn_values::{add_rdn, valid_value};
 use crate::refusal::Refusal;
 use base::Bytes;
-use schema::{Conf, TypeId, TypedRdn};
+use schema::{Code, Conf, TypeId, TypedRdn};
 use std::alloc::{AllocError, Global};
 
 // whether an AVA has this type and a value with this normal form
@@ -101,6 +101,29 @@ fn remove_rdn(
     Ok(())
 }
 
+// Puts the values of another RDN in, takes those of the old one out where that is asked for, and looks at the whole.
+fn rename_attributes(
+    alloc: Global,
+    conf: &Conf,
+    attrs: &mut Attributes,
+    new: &TypedRdn,
+    old: &TypedRdn,
+    delete_old: bool,
+) -> Result<Option<Code>, AllocError>
+    requires made { IsMade conf.now.types attrs.old.entries }
+    requires new { AllByRecursion (IsAva conf.now.types) new.now }
+    requires avas { AllByRecursion (IsAva conf.now.types) old.now }
+    ensures made { OnOk result (IsMade conf.now.types attrs.new.entries) }
+    ensures values { OnOk result (attributes_of attrs.new.entries ≡ renamed_attrs conf.now.types (record { rdn = old.now; attrs = attributes_of attrs.old.entries }) new.now delete_old) }
+    ensures fault { IfOk result (λ fault. fault ≡ entry_fault conf.now (attributes_of attrs.new.entries)) }
+{
+    add_rdn(alloc, conf, attrs, new)?;
+    if delete_old {
+        remove_rdn(alloc, conf, attrs, new, old)?;
+    }
+    entry_fault(alloc, conf, attrs)
+}
+
 /// The entry with another RDN. The first check that fails answers.
 #[tactic(auto, unfolding(crate::specs::Modifies::rename_entry))]
 pub fn renamed(
@@ -117,12 +140,8 @@ pub fn renamed(
     ensures gives { Gives (λ e. content_of e) result (rename_entry conf.now (content_of entry.now) new delete_old) }
 {
     let mut attrs = entry.copy_attributes(alloc)?;
-    add_rdn(alloc, conf, &mut attrs, &new)?;
-    if delete_old {
-        remove_rdn(alloc, conf, &mut attrs, &new, entry.rdn())?;
+    match rename_attributes(alloc, conf, &mut attrs, &new, entry.rdn(), delete_old)? {
+        Some(code) => Err(Refusal::Code(code)),
+        None => Ok(Entry::new(new, attrs)),
     }
-    if let Some(code) = entry_fault(alloc, conf, &attrs)? {
-        return Err(Refusal::Code(code));
-    }
-    Ok(Entry::new(new, attrs))
 }

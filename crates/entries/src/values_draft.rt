@@ -104,7 +104,7 @@ pub(crate) fn push_new(alloc: Global, values: &mut Values, value: Value) -> Resu
     Ok(true)
 }
 
-// the same, where places tell which ones are left
+// The same, where places tell which ones are left. They do so where memory runs out, too.
 fn push_last(
     alloc: Global,
     values: &mut Values,
@@ -112,18 +112,23 @@ fn push_last(
     value: Value,
 ) -> Result<bool, AllocError>
     requires { KeepsPlaces places.old values.old }
-    ensures places { OnOk result (KeepsPlaces places.new values.new) }
+    ensures places { KeepsPlaces places.new values.new }
     ensures is_new { IfOk result (λ put. put ≡ not (has_norm value.norm (left_from places.old.since 0 values.old))) }
     ensures values { IfOk result (λ put. left_from places.new.since 0 values.new ≡ put_if put (left_from places.old.since 0 values.old) value) }
 {
+    let place = places.count;
+    let count = place.checked_add(1).ok_or(AllocError)?;
     let key = Bytes::from_slice(alloc, value.norm())?;
     if places.since.contains_key(&key) {
         return Ok(false);
     }
-    let count = places.count.checked_add(1).ok_or(AllocError)?;
-    places.since.insert(key, places.count)?;
-    places.count = count;
     values.push(alloc, value)?;
+    let all_left = places.all_left;
+    places.count = count;
+    // it is left as soon as its normal form is in
+    places.all_left = false;
+    places.since.insert(key, place)?;
+    places.all_left = all_left;
     Ok(true)
 }
 
@@ -145,7 +150,7 @@ fn remove_places(
     norm: &[u8],
 ) -> Result<bool, AllocError>
     requires { KeepsPlaces places.old values.now }
-    ensures places { OnOk result (KeepsPlaces places.new values.now) }
+    ensures places { KeepsPlaces places.new values.now }
     ensures there { IfOk result (λ there. there ≡ has_norm norm.now (left_from places.old.since 0 values.now)) }
     ensures values { OnOk result (left_from places.new.since 0 values.now ≡ but_norm norm.now (left_from places.old.since 0 values.now)) }
 {
@@ -231,14 +236,9 @@ impl ValuesDraft {
         ensures values { IfOk result (λ put. self.new ≡ put_if put self.old value) }
     {
         self.search(alloc)?;
-        // the places come back, unless memory runs out
-        match self.places.take() {
+        match &mut self.places {
             None => push_new(alloc, &mut self.values, value),
-            Some(mut places) => {
-                let put = push_last(alloc, &mut self.values, &mut places, value)?;
-                self.places = Some(places);
-                Ok(put)
-            }
+            Some(places) => push_last(alloc, &mut self.values, places, value),
         }
     }
 
@@ -248,13 +248,9 @@ impl ValuesDraft {
         ensures values { OnOk result (self.new ≡ but_norm norm.now self.old) }
     {
         self.search(alloc)?;
-        match self.places.take() {
+        match &mut self.places {
             None => remove_norm(alloc, &mut self.values, norm),
-            Some(mut places) => {
-                let there = remove_places(alloc, &self.values, &mut places, norm)?;
-                self.places = Some(places);
-                Ok(there)
-            }
+            Some(places) => remove_places(alloc, &self.values, places, norm),
         }
     }
 

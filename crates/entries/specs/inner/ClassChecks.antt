@@ -1,20 +1,12 @@
 -- What an entry's classes ask, class by class of those that it names, each with its superclasses.
-use Rattle.std.specs.Prelude.{◌≡◌, ℕ, Bool, true, false, ◌&&◌, ◌||◌, List, nat_eq, Option, MatchOption}
+use Rattle.std.specs.Prelude.{ℕ, Bool, ◌&&◌, ◌||◌, List, nat_eq}
 use Rattle.std.specs.List.{list_any, list_all}
 use Rattle.values.specs.Types.{type_at}
 use Rattle.schema.specs.Conf.{Conf}
 use Rattle.schema.specs.declared.object_class.ObjectClass.{ObjectClass}
 use Rattle.schema.specs.Superclasses.{lineage, is_named, is_extensible}
 use Rattle.entries.specs.Contents.{Attributes}
-use Rattle.entries.specs.EntryClasses.{are_classes, named_classes, has_required}
-
--- these are the classes that values of objectClass name, where each of them names one
-abbrev pub AreNamed : List ObjectClass → List (List ℕ) → List ℕ → Type 0
-AreNamed classes vs cs = (are_classes classes vs ≡ true) × (cs ≡ named_classes classes vs)
-
--- what is found are the classes that these values name, or nothing where one of them names none
-abbrev pub FindsClasses : {X : Type 0} → Option X → (X → List ℕ) → List ObjectClass → List (List ℕ) → Type 0
-FindsClasses found numbers classes vs = MatchOption found (are_classes classes vs ≡ false) (λ x. AreNamed classes vs (numbers x))
+use Rattle.entries.specs.EntryClasses.{has_required}
 
 abbrev pub has_all_required : List ObjectClass → Attributes → List ℕ → Bool
 has_all_required classes attrs named = list_all (λ c. has_required classes attrs (lineage classes c)) named

@@ -1,9 +1,10 @@
 use Rattle.std.proofs.Common.{Bool, sym, ap, ◌∙◌}
+use Rattle.std.proofs.lemmas.Result.{IfOk-from_err}
 use Rattle.schema.specs.GoodRdns.{IsAva}
 use Rattle.schema.specs.Rdns.{Ava}
 use Rattle.entries.specs.Entries.{values_of, has_equal}
 use Rattle.entries.specs.StoredEntries.{attributes_of}
-use Rattle.entries.proofs.LoopSteps.{one_passes, one_fails, this_one}
+use Rattle.entries.proofs.LoopSteps.{one_passes, one_fails, all_passed, this_one}
 use Rattle.entries.proofs.RdnsBegun.{left_of_avas}
 use Rattle.entries.proofs.rdn_values.has_rdn.Goals as goal
 
@@ -23,3 +24,11 @@ returns-then-not-branch c =
 
 pub has_value-requires-clause-ava : goal.has_value-requires-clause-ava
 has_value-requires-clause-ava c = this_one (IsAva c.args.conf.now.types) c.avas-ava-items.result.now c.loop-ava.ava-index c.ava-item.result c.loop-ava-test.true c.ava-item.is c.loop-ava.invariant.left
+
+pub returns : goal.returns
+returns c =
+    let test : Ava → Bool = λ p. has_equal c.args.conf.now.types p.0 p.1 (values_of (attributes_of c.args.attrs.now.entries) p.0) in
+    sym (all_passed test c.avas-ava-items.result.now c.loop-ava.ava-index c.loop-ava-test.false) ∙ c.loop-ava.invariant.rest
+
+pub returns-in_err-has_value : goal.returns-in_err-has_value
+returns-in_err-has_value c = IfOk-from_err _ _ c.from_residual.ensures.0

@@ -1,9 +1,10 @@
 use Rattle.std.proofs.Common.{Bool, ◌&&◌, nat_eq, sym, ap, ◌∙◌}
 use Rattle.std.specs.Str.{bytes_eq}
+use Rattle.std.proofs.lemmas.Result.{IfOk-from_err}
 use Rattle.schema.specs.GoodRdns.{IsAva}
 use Rattle.schema.specs.Rdns.{Ava}
 use Rattle.schema.specs.Values.{norm_at}
-use Rattle.entries.proofs.LoopSteps.{one_other, one_found, this_one}
+use Rattle.entries.proofs.LoopSteps.{one_other, one_found, none_found, this_one}
 use Rattle.entries.proofs.RdnsBegun.{left_of_avas}
 use Rattle.entries.proofs.renames.has_ava.Goals as goal
 
@@ -23,3 +24,11 @@ returns-then-branch c =
 
 pub is_same_ava-requires : goal.is_same_ava-requires
 is_same_ava-requires c = this_one (IsAva c.args.conf.now.types) c.avas-ava-items.result.now c.loop-ava.ava-index c.ava-item.result c.loop-ava-test.true c.ava-item.is c.loop-ava.invariant.left
+
+pub returns : goal.returns
+returns c =
+    let test : Ava → Bool = λ q. nat_eq c.args.t q.0 && bytes_eq (norm_at c.args.conf.now.types c.args.t q.1) c.args.norm.now in
+    sym (none_found test c.avas-ava-items.result.now c.loop-ava.ava-index c.loop-ava-test.false) ∙ c.loop-ava.invariant.rest
+
+pub returns-in_err-is_same_ava : goal.returns-in_err-is_same_ava
+returns-in_err-is_same_ava c = IfOk-from_err _ _ c.from_residual.ensures.0

@@ -1,12 +1,6 @@
 use Rattle.std.proofs.lemmas.Result.{IfOk-from_err}
 use Rattle.entries.proofs.values_draft.ValuesDraft.remove.Goals as goal
 
-pub returns-in_err-there-in-Some-clause-values : goal.returns-in_err-there-in-Some-clause-values
-returns-in_err-there-in-Some-clause-values c = IfOk-from_err _ _ c.from_residual-in_err-there-in-Some.ensures.0
-
-pub returns-in_err-there-in-Some-clause-there : goal.returns-in_err-there-in-Some-clause-there
-returns-in_err-there-in-Some-clause-there c = IfOk-from_err _ _ c.from_residual-in_err-there-in-Some.ensures.0
-
 pub returns-in_err-search-clause-there : goal.returns-in_err-search-clause-there
 returns-in_err-search-clause-there c = IfOk-from_err _ _ c.from_residual.ensures.0
 

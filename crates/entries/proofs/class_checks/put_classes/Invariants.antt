@@ -2,7 +2,7 @@ use Rattle.std.proofs.Common.{◌≡◌, ◌<◌, ◌++◌, length}
 use Rattle.std.specs.List.{AllByRecursion}
 use Rattle.entries.specs.EntryClasses.{are_classes, named_classes}
 use Rattle.entries.specs.StoredEntries.{raws}
-use Rattle.entries.proofs.class_checks.named_classes.Given as goal
+use Rattle.entries.proofs.class_checks.put_classes.Given as goal
 
 abbrev pub invariant-loop-value : goal.invariant-loop-value
 invariant-loop-value l = record {
