@@ -3,10 +3,10 @@
 ghost use Rattle.std.specs.Prelude.{◌≡◌, ◌<◌, not, [], if◌then◌else◌, IfOk, IfSome, OnOk, length};
 ghost use Rattle.values.specs.Types.{type_of};
 ghost use Rattle.schema.specs.Values.{norm_at};
-ghost use Rattle.entries.specs.Entries.{values_of, push_value, is_barred, line_value, add_line, add_lines, has_class};
+ghost use Rattle.entries.specs.Entries.{values_of, push_value, is_barred, line_value, add_line, add_lines};
 ghost use Rattle.entries.specs.StoredEntries.{attributes_of, IsMade};
 ghost use Rattle.values.specs.Norms.{has_norm};
-ghost use Rattle.entries.specs.inner.StoredEntries.{AreNormsOf};
+ghost use Rattle.entries.specs.inner.StoredEntries.{AreNormsOf, HasNorms};
 ghost use Rattle.entries.specs.Gives.{Gives};
 
 use crate::kept_attributes::Attributes;
@@ -34,6 +34,60 @@ fn runs_in(lines: &[Attr<'_>]) -> usize {
         last = line.name();
     }
     count
+}
+
+/// The normal forms of values, each with its type.
+type Norms = BTreeSet<(TypeId, Bytes)>;
+
+// those of no value yet, for lines of which there are many
+fn norms_for(alloc: Global, count: usize) -> Option<Norms>
+    ensures { HasNorms result [] }
+{
+    if count <= FEW_LINES {
+        None
+    } else {
+        Some(BTreeSet::new(alloc))
+    }
+}
+
+// Puts a value last among those of its type, unless an equal one is there, and tells whether it did. The normal forms are those of the
+// attributes.
+fn put_by_norm(
+    alloc: Global,
+    attrs: &mut Attributes,
+    norms: &mut Norms,
+    t: TypeId,
+    value: Value,
+) -> Result<bool, AllocError>
+    requires { AreNormsOf norms.old attrs.old.entries }
+    ensures norms { OnOk result (AreNormsOf norms.new attrs.new.entries) }
+    ensures is_new { IfOk result (λ put. put ≡ not (has_norm value.norm (values_of attrs.old.entries t))) }
+    ensures entries { IfOk result (λ put. attrs.new.entries ≡ (if put then push_value attrs.old.entries t value else attrs.old.entries)) }
+{
+    if !norms.insert((t, Bytes::from_slice(alloc, value.norm())?))? {
+        return Ok(false);
+    }
+    attrs.push(alloc, t, value)?;
+    Ok(true)
+}
+
+// the same, where normal forms may be kept
+fn put_new(
+    alloc: Global,
+    attrs: &mut Attributes,
+    norms: &mut Option<Norms>,
+    t: TypeId,
+    value: Value,
+) -> Result<bool, AllocError>
+    requires { HasNorms norms.old attrs.old.entries }
+    ensures norms { OnOk result (HasNorms norms.new attrs.new.entries) }
+    ensures is_new { IfOk result (λ put. put ≡ not (has_norm value.norm (values_of attrs.old.entries t))) }
+    ensures entries { IfOk result (λ put. attrs.new.entries ≡ (if put then push_value attrs.old.entries t value else attrs.old.entries)) }
+{
+    match norms {
+        None => attrs.put(alloc, t, value),
+        Some(norms) => put_by_norm(alloc, attrs, norms, t, value),
+    }
 }
 
 /// Adds lines to attributes under a configuration; `mode` says what kind of records they stand in.
@@ -94,67 +148,30 @@ impl LineAdder<'_> {
         Ok((t, value))
     }
 
-    fn add_line(&self, attrs: &mut Attributes, line: &Attr<'_>) -> Result<(), Refusal>
-        requires { IsMade self.now.conf.now.types attrs.old.entries }
-        ensures made { OnOk result (IsMade self.now.conf.now.types attrs.new.entries) }
-        ensures gives { Gives (λ _. attributes_of attrs.new.entries) result (add_line self.now.mode self.now.conf.now.types (attributes_of attrs.old.entries) line.now) }
-    {
-        let (t, value) = self.line_value(attrs, line)?;
-        if !attrs.put(self.alloc, t, value)? {
-            return Err(Refusal::Code(Code::AttributeOrValueExists));
-        }
-        Ok(())
-    }
-
-    // the same, where the normal forms of the values that came before are kept in a set
-    fn add_line_by_norm(
+    // Adds what a line gives. The normal forms are those of the values that came before, where they are kept.
+    fn add_line(
         &self,
         attrs: &mut Attributes,
-        norms: &mut BTreeSet<(TypeId, Bytes)>,
+        norms: &mut Option<Norms>,
         line: &Attr<'_>,
     ) -> Result<(), Refusal>
         requires made { IsMade self.now.conf.now.types attrs.old.entries }
-        requires norms { AreNormsOf norms.old attrs.old.entries }
+        requires norms { HasNorms norms.old attrs.old.entries }
         ensures made { OnOk result (IsMade self.now.conf.now.types attrs.new.entries) }
-        ensures norms { OnOk result (AreNormsOf norms.new attrs.new.entries) }
+        ensures norms { OnOk result (HasNorms norms.new attrs.new.entries) }
         ensures gives { Gives (λ _. attributes_of attrs.new.entries) result (add_line self.now.mode self.now.conf.now.types (attributes_of attrs.old.entries) line.now) }
     {
         let (t, value) = self.line_value(attrs, line)?;
-        if !norms.insert((t, Bytes::from_slice(self.alloc, value.norm())?))? {
+        if !put_new(self.alloc, attrs, norms, t, value)? {
             return Err(Refusal::Code(Code::AttributeOrValueExists));
         }
-        attrs.push(self.alloc, t, value)?;
         Ok(())
-    }
-
-    #[tactic(auto, unfolding(crate::specs::Entries::add_lines))]
-    fn attributes_of_few(&self, lines: &[Attr<'_>]) -> Result<Attributes, Refusal>
-        ensures made { IfOk result (λ attrs. IsMade self.now.conf.now.types attrs.entries) }
-        ensures gives { Gives (λ attrs. attributes_of attrs.entries) result (add_lines self.now.mode self.now.conf.now.types [] lines.now) }
-    {
-        let mut attrs = Attributes::with_capacity(self.alloc, runs_in(lines).min(FEW_ATTRIBUTES))?;
-        for line in lines {
-            self.add_line(&mut attrs, line)?;
-        }
-        Ok(attrs)
-    }
-
-    #[tactic(auto, unfolding(crate::specs::Entries::add_lines))]
-    fn attributes_of_many(&self, lines: &[Attr<'_>]) -> Result<Attributes, Refusal>
-        ensures made { IfOk result (λ attrs. IsMade self.now.conf.now.types attrs.entries) }
-        ensures gives { Gives (λ attrs. attributes_of attrs.entries) result (add_lines self.now.mode self.now.conf.now.types [] lines.now) }
-    {
-        let mut attrs = Attributes::new(self.alloc);
-        let mut norms = BTreeSet::new(self.alloc);
-        for line in lines {
-            self.add_line_by_norm(&mut attrs, &mut norms, line)?;
-        }
-        Ok(attrs)
     }
 }
 
 /// The attributes that lines give, in order. The first line that is refused answers. Where the types of the lines are the `likely` ones, in
 /// this order, they are found sooner.
+#[tactic(auto, unfolding(crate::specs::Entries::add_lines))]
 pub fn attributes_of_lines(
     alloc: Global,
     conf: &Conf,
@@ -171,9 +188,10 @@ pub fn attributes_of_lines(
         mode,
         likely,
     };
-    if lines.len() <= FEW_LINES {
-        adder.attributes_of_few(lines)
-    } else {
-        adder.attributes_of_many(lines)
+    let mut attrs = Attributes::with_capacity(alloc, runs_in(lines).min(FEW_ATTRIBUTES))?;
+    let mut norms = norms_for(alloc, lines.len());
+    for line in lines {
+        adder.add_line(&mut attrs, &mut norms, line)?;
     }
+    Ok(attrs)
 }
