@@ -14,7 +14,7 @@ use Rattle.std.proofs.lemmas.Map.Views.{any-filter_same}
 use Rattle.std.proofs.lemmas.Slice.Eq.{bytes_eq-Decides}
 use Rattle.values.specs.Values.{Value}
 use Rattle.values.specs.Norms.{has_norm, but_norm}
-use Rattle.entries.specs.inner.ValuesDrafts.{Since, is_from, is_left, left_from, left_of, AreLeft, IsAtStart, AreAllLeft, KeepsPlaces}
+use Rattle.entries.specs.inner.ValuesDrafts.{Since, put_if, is_from, is_left, left_from, left_of, AreLeft, IsAtStart, AreAllLeft, KeepsPlaces}
 use Rattle.entries.specs.declared.values_draft.Places.{Places}
 use Rattle.entries.proofs.NormLemmas.{or_swap}
 
@@ -185,11 +185,17 @@ module _ (since : Since) (place : ℕ) (s t : List Value) (v : Value) (first : s
   unfolding left_from
   from_here b is = ap (λ (vs : List Value). front ++ left_from since place vs) first ∙ ap (λ x. front ++ cond x (v ∷ left_from since (place + 1) t) (left_from since (place + 1) t)) is
 
-  pub one_stays : is_left since place v ≡ true → left ≡ front ++ v ∷ [] → left ++ left_from since (place + 1) t ≡ front ++ left_from since place s
+  one_stays : is_left since place v ≡ true → left ≡ front ++ v ∷ [] → left ++ left_from since (place + 1) t ≡ front ++ left_from since place s
   one_stays is put = ap (λ (vs : List Value). vs ++ left_from since (place + 1) t) put ∙ append_assoc front (v ∷ []) (left_from since (place + 1) t) ∙ sym (from_here true is)
 
-  pub one_goes : is_left since place v ≡ false → left ≡ front → left ++ left_from since (place + 1) t ≡ front ++ left_from since place s
+  one_goes : is_left since place v ≡ false → left ≡ front → left ++ left_from since (place + 1) t ≡ front ++ left_from since place s
   one_goes is same = ap (λ (vs : List Value). vs ++ left_from since (place + 1) t) same ∙ sym (from_here false is)
+
+  pub one_through : left ≡ put_if (is_left since place v) front v → left ++ left_from since (place + 1) t ≡ front ++ left_from since place s
+  one_through put = elim (is_left since place v) as (λ b. is_left since place v ≡ b → left ≡ put_if b front v → left ++ left_from since (place + 1) t ≡ front ++ left_from since place s) [
+    | true ↦ one_stays
+    | false ↦ one_goes
+  ] refl put
 
 -- ---- whether any are left
 

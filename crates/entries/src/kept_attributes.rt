@@ -69,16 +69,6 @@ fn copy_each(alloc: Global, values: &[Values], copies: &mut Vec<Values>) -> Resu
 }
 
 impl Attributes {
-    /// No attribute.
-    pub(crate) fn new(alloc: Global) -> Attributes
-        ensures { result.entries ≡ [] }
-    {
-        Attributes {
-            types: Vec::new(alloc),
-            values: Vec::new(alloc),
-        }
-    }
-
     /// No attribute yet, and room for as many.
     pub(crate) fn with_capacity(alloc: Global, count: usize) -> Result<Attributes, AllocError>
         ensures { IfOk result (λ a. a.entries ≡ []) }

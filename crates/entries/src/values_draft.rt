@@ -1,12 +1,9 @@
 //! The values of an attribute while a modify changes them.
 
-ghost use Rattle.std.specs.Prelude.{◌≡◌, not, IfOk, OnErr, OnOk};
-ghost use Rattle.std.specs.BTreeMap.{get};
-ghost use Rattle.std.specs.Cmp.Lexicographic.{slice_cmp};
-ghost use Rattle.std.specs.Ordering.{nat_cmp};
+ghost use Rattle.std.specs.Prelude.{◌≡◌, ◌+◌, not, IfOk, OnErr, OnOk};
 ghost use Rattle.entries.specs.Modifies.{has_values};
 ghost use Rattle.values.specs.Norms.{has_norm, but_norm};
-ghost use Rattle.entries.specs.inner.ValuesDrafts.{put_if, is_from, left_from, KeepsPlaces, AreAllLeft};
+ghost use Rattle.entries.specs.inner.ValuesDrafts.{put_if, is_left, left_from, IsLeftFrom, KeepsPlaces, AreAllLeft};
 
 use base::Bytes;
 use schema::Value;
@@ -74,21 +71,30 @@ impl Model for ValuesDraft {
     ghost invariant = { λ d. KeepPlaces d.places d.values };
 }
 
+// One more place, and the normal form there is left from the first place on.
+fn add_place(alloc: Global, places: &mut Places, norm: &[u8]) -> Result<(), AllocError>
+    ensures count { OnOk result (places.new.count ≡ places.old.count + 1) }
+    ensures since { OnOk result (IsLeftFrom 0 norm.now places.old.since places.new.since) }
+{
+    let count = places.count.checked_add(1).ok_or(AllocError)?;
+    places.since.insert(Bytes::from_slice(alloc, norm)?, 0)?;
+    places.count = count;
+    Ok(())
+}
+
 // All values are left, from the first place on.
 fn first_places(alloc: Global, values: &Values) -> Result<Places, AllocError>
     ensures { IfOk result (λ places. AreAllLeft places values.now) }
 {
-    let mut since = BTreeMap::new(alloc);
-    let mut count = 0usize;
-    for value in values.iter() {
-        since.insert(Bytes::from_slice(alloc, value.norm())?, 0)?;
-        count = count.checked_add(1).ok_or(AllocError)?;
-    }
-    Ok(Places {
-        since,
-        count,
+    let mut places = Places {
+        since: BTreeMap::new(alloc),
+        count: 0,
         all_left: true,
-    })
+    };
+    for value in values.iter() {
+        add_place(alloc, &mut places, value.norm())?;
+    }
+    Ok(places)
 }
 
 /// Puts a value last, unless an equal one is there, and tells whether it did; or changes nothing.
@@ -160,19 +166,20 @@ fn remove_places(
     Ok(places.since.remove(&key).is_some())
 }
 
-// whether a value with this normal form is left at a place
-fn is_left(
+// Puts a copy of a value behind others, if it is left at a place.
+fn put_left(
     alloc: Global,
-    since: &BTreeMap<Bytes, usize>,
+    places: &Places,
     place: usize,
-    norm: &[u8],
-) -> Result<bool, AllocError>
-    ensures { IfOk result (λ b. b ≡ is_from place (get (slice_cmp nat_cmp) since.now norm.now)) }
+    value: &Value,
+    left: &mut Values,
+) -> Result<(), AllocError>
+    ensures { OnOk result (left.new ≡ put_if (is_left places.now.since place value.now) left.old value.now) }
 {
-    let key = Bytes::from_slice(alloc, norm)?;
-    match since.get(&key) {
-        Some(first) => Ok(*first <= place),
-        None => Ok(false),
+    let key = Bytes::from_slice(alloc, value.norm())?;
+    match places.since.get(&key) {
+        Some(since) if *since <= place => left.push(alloc, value.copy(alloc)?),
+        _ => Ok(()),
     }
 }
 
@@ -185,9 +192,7 @@ fn left_from(alloc: Global, values: &Values, places: &Places) -> Result<Values, 
     let mut left = Values::new();
     let mut place = 0usize;
     for value in values.iter() {
-        if is_left(alloc, &places.since, place, value.norm())? {
-            left.push(alloc, value.copy(alloc)?)?;
-        }
+        put_left(alloc, places, place, value, &mut left)?;
         place += 1;
     }
     Ok(left)

@@ -2,7 +2,7 @@
 use Rattle.std.specs.Prelude.{◌≡◌, ℕ, ◌+◌, Bool, false, List, [], ◌∷◌, ◌++◌, nat_eq, nat_le, is_some, IsTrue, length, Option, Some, None, if◌then◌else◌}
 use Rattle.std.specs.BTreeMap.{BTreeMap, get}
 use Rattle.std.specs.Cmp.Lexicographic.{slice_cmp}
-use Rattle.std.specs.Ordering.{nat_cmp}
+use Rattle.std.specs.Ordering.{nat_cmp, is_eq}
 use Rattle.std.specs.Map.{lookup}
 use Rattle.values.specs.Values.{Value}
 use Rattle.entries.specs.declared.values_draft.Places.{Places}
@@ -17,6 +17,10 @@ Since = BTreeMap (List ℕ) ℕ
 abbrev pub is_from : ℕ → Option ℕ → Bool
 is_from place None = false
 is_from place (Some first) = nat_le first place
+
+-- a map after this normal form came in from a place on
+abbrev pub IsLeftFrom : ℕ → List ℕ → Since → Since → Type 0
+IsLeftFrom place norm old new = (q : List ℕ) → get (slice_cmp nat_cmp) new q ≡ (if is_eq (slice_cmp nat_cmp norm q) then Some place else get (slice_cmp nat_cmp) old q)
 
 -- whether the value at a place is left
 abbrev pub is_left : Since → ℕ → Value → Bool
