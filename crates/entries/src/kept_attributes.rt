@@ -1,6 +1,6 @@
 //! The attributes of an entry as they are kept.
 
-ghost use Rattle.std.specs.Prelude.{◌≡◌, [], ℕ, List, None, not, if◌then◌else◌, nat_eq, length, IfOk, OnOk, OnErr};
+ghost use Rattle.std.specs.Prelude.{◌≡◌, [], ℕ, List, None, not, if◌then◌else◌, nat_eq, length, vec_len, vec_capacity, IfOk, OnOk, OnErr};
 ghost use Rattle.std.specs.List.{position, IsDistinct};
 ghost use Rattle.std.specs.Map.{lookup, remove_entry, keys_of};
 ghost use Rattle.std.specs.Option.{option_copied};
@@ -57,13 +57,15 @@ fn place_of(types: &[TypeId], t: TypeId) -> Option<usize>
     types.iter().position(|other| t == *other)
 }
 
-// Puts copies of values into a list that has none yet.
+// Puts copies of values into a list that has none yet, and room for all.
 fn copy_each(alloc: Global, values: &[Values], copies: &mut Vec<Values>) -> Result<(), AllocError>
-    requires { copies.old.items ≡ [] }
+    requires none { copies.old.items ≡ [] }
+    requires len { vec_len copies.old ≡ 0 }
+    requires room { vec_capacity copies.old ≡ length values.now }
     ensures { OnOk result (copies.new.items ≡ values.now) }
 {
     for of_type in values {
-        copies.push(of_type.copy(alloc)?)?;
+        copies.push_reserved(of_type.copy(alloc)?);
     }
     Ok(())
 }
