@@ -1,8 +1,6 @@
-use Rattle.std.proofs.Common.{◌≡◌, ◌∙◌, sym, subst, ap, cond, true, List, ℕ}
-use Rattle.std.proofs.lemmas.Result.{IfOk-from_err}
+use Rattle.std.proofs.Common.{◌∙◌, sym, subst, ap, cond, true, List, ℕ}
 use Rattle.std.specs.BTreeSet.{contains}
 use Rattle.std.specs.Ordering.{is_eq}
-use Rattle.std.proofs.lemmas.Bool.{not-false, not-true}
 use Rattle.paths.specs.Paths.{pair_cmp}
 use Rattle.entries.specs.inner.StoredEntries.{AreNormsOf}
 use Rattle.entries.proofs.NormLemmas.{norms_pushed}

@@ -1,6 +1,5 @@
-use Rattle.std.proofs.Common.{arith, ap, List, length, ◌∙◌}
+use Rattle.std.proofs.Common.{arith, ap, length, ◌∙◌}
 use Rattle.std.proofs.lemmas.Result.{IfOk-from_err}
-use Rattle.values.specs.Values.{Value}
 use Rattle.entries.proofs.LeftFrom.{one_through}
 use Rattle.entries.proofs.values_draft.left_from.Goals as goal
 
