@@ -1,7 +1,8 @@
 use Rattle.std.proofs.Common.{◌∙◌}
+use Rattle.std.proofs.lemmas.Result.{IfOk-from_err}
 use Rattle.schema.specs.GoodRdns.{IsAva}
 use Rattle.entries.specs.StoredEntries.{attributes_of}
-use Rattle.entries.proofs.LoopSteps.{old_ava_out, old_avas_out}
+use Rattle.entries.proofs.LoopSteps.{old_ava_out, old_avas_out, this_one}
 use Rattle.entries.proofs.RdnsBegun.{left_of_avas}
 use Rattle.entries.proofs.renames.remove_rdn.Goals as goal
 
@@ -17,3 +18,12 @@ loop-ava-preserved c =
 
 pub returns-clause-values : goal.returns-clause-values
 returns-clause-values c = old_avas_out c.args.conf.now.types c.args.new.now c.avas-ava-items.result.now c.loop-ava.ava-index (attributes_of c.loop-ava.attrs.entries) c.loop-ava-test.false ∙ c.loop-ava.invariant.rest
+
+pub returns-in_err-remove_ava-clause-made : goal.returns-in_err-remove_ava-clause-made
+returns-in_err-remove_ava-clause-made c = IfOk-from_err _ _ c.from_residual.ensures.0
+
+pub returns-in_err-remove_ava-clause-values : goal.returns-in_err-remove_ava-clause-values
+returns-in_err-remove_ava-clause-values c = IfOk-from_err _ _ c.from_residual.ensures.0
+
+pub remove_ava-requires-clause-ava : goal.remove_ava-requires-clause-ava
+remove_ava-requires-clause-ava c = this_one (IsAva c.args.conf.now.types) c.avas-ava-items.result.now c.loop-ava.ava-index c.ava-item.result c.loop-ava-test.true c.ava-item.is c.loop-ava.invariant.left
