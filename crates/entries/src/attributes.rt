@@ -162,10 +162,11 @@ impl LineAdder<'_> {
         ensures gives { Gives (λ _. attributes_of attrs.new.entries) result (add_line self.now.mode self.now.conf.now.types (attributes_of attrs.old.entries) line.now) }
     {
         let (t, value) = self.line_value(attrs, line)?;
-        if !put_new(self.alloc, attrs, norms, t, value)? {
-            return Err(Refusal::Code(Code::AttributeOrValueExists));
+        match put_new(self.alloc, attrs, norms, t, value) {
+            Ok(true) => Ok(()),
+            Ok(false) => Err(Refusal::Code(Code::AttributeOrValueExists)),
+            Err(AllocError) => Err(Refusal::OutOfMemory),
         }
-        Ok(())
     }
 }
 

@@ -12,7 +12,7 @@ use crate::values_draft::ValuesDraft;
 use base::Bytes;
 use ldif::Op;
 use schema::{Code, Conf, TypeId};
-use std::alloc::Global;
+use std::alloc::{AllocError, Global};
 use values::Values;
 
 // Puts a value last, unless an equal one is there.
@@ -29,10 +29,11 @@ fn append_value(
     ensures gives { Gives (λ _. raws values.new) result (append_value conf.now.types t (raws values.old) raw.now) }
 {
     let value = conf.make_value(alloc, t, raw)?;
-    if !values.push(alloc, value)? {
-        return Err(Refusal::Code(Code::AttributeOrValueExists));
+    match values.push(alloc, value) {
+        Ok(true) => Ok(()),
+        Ok(false) => Err(Refusal::Code(Code::AttributeOrValueExists)),
+        Err(AllocError) => Err(Refusal::OutOfMemory),
     }
-    Ok(())
 }
 
 // Each value behind those before it.
@@ -69,10 +70,11 @@ fn remove_value(
     ensures gives { Gives (λ _. raws values.new) result (remove_value conf.now.types t (raws values.old) raw.now) }
 {
     let value = conf.make_value(alloc, t, raw)?;
-    if !values.remove(alloc, value.norm())? {
-        return Err(Refusal::Code(Code::NoSuchAttribute));
+    match values.remove(alloc, value.norm()) {
+        Ok(true) => Ok(()),
+        Ok(false) => Err(Refusal::Code(Code::NoSuchAttribute)),
+        Err(AllocError) => Err(Refusal::OutOfMemory),
     }
-    Ok(())
 }
 
 #[tactic(auto, unfolding(base::specs::Answers::through))]

@@ -9,28 +9,28 @@ use Rattle.entries.proofs.LineLemmas.{line_is}
 use Rattle.entries.proofs.StoredLemmas.{raws_pushed, made_pushed}
 use Rattle.entries.proofs.attributes.LineAdder.add_line.Goals as goal
 
-pub returns-then-not-branch-clause-gives : goal.returns-then-not-branch-clause-gives
-returns-then-not-branch-clause-gives c =
+pub returns-in-Ok-false-clause-gives : goal.returns-in-Ok-false-clause-gives
+returns-in-Ok-false-clause-gives c =
     let es : List EntryAttribute = c.args.attrs.now.entries in
     let v : Value = c.in_ok-t.value in
-    let there : has_norm v.norm (values_of es c.in_ok-t.t) ≡ true = not-false _ (sym c.in_ok-put_new.ensures.is_new ∙ c.if-not-branch.true) in
+    let there : has_norm v.norm (values_of es c.in_ok-t.t) ≡ true = not-false _ (sym c.in-Ok-false.ensures.is_new ∙ c.in-Ok-false.field-0-test) in
     line_is c.args.self.now.conf.now.types es c.requires.made c.in_ok-t.t v c.in_ok-t.ensures.normal (has_norm v.norm (values_of es c.in_ok-t.t)) refl c.args.self.now.mode c.args.line.now c.in_ok-t.ensures.gives
     ∙ ap (λ b. cond b (Err AttributeOrValueExists) (Ok (push_value (attributes_of es) c.in_ok-t.t v.raw))) there
 
-pub returns-clause-made : goal.returns-clause-made
-returns-clause-made c =
+pub returns-in-Ok-true-clause-made : goal.returns-in-Ok-true-clause-made
+returns-in-Ok-true-clause-made c =
     let es : List EntryAttribute = c.args.attrs.now.entries in
     let put : c.put_new.new.attrs.entries ≡ push_value es c.in_ok-t.t c.in_ok-t.value =
-    c.in_ok-put_new.ensures.entries ∙ ap (λ (b : Bool). cond b (push_value es c.in_ok-t.t c.in_ok-t.value) es) c.if-not-branch.false in
+    c.in-Ok-true.ensures.entries ∙ ap (λ (b : Bool). cond b (push_value es c.in_ok-t.t c.in_ok-t.value) es) c.in-Ok-true.field-0-test in
     subst (IsMade c.args.self.now.conf.now.types) (sym put) (made_pushed c.args.self.now.conf.now.types c.in_ok-t.t es c.in_ok-t.value c.requires.made c.in_ok-t.ensures.known c.in_ok-t.ensures.normal)
 
-pub returns-clause-gives : goal.returns-clause-gives
-returns-clause-gives c =
+pub returns-in-Ok-true-clause-gives : goal.returns-in-Ok-true-clause-gives
+returns-in-Ok-true-clause-gives c =
     let es : List EntryAttribute = c.args.attrs.now.entries in
     let v : Value = c.in_ok-t.value in
     let put : c.put_new.new.attrs.entries ≡ push_value es c.in_ok-t.t v =
-    c.in_ok-put_new.ensures.entries ∙ ap (λ (b : Bool). cond b (push_value es c.in_ok-t.t v) es) c.if-not-branch.false in
-    let new : has_norm v.norm (values_of es c.in_ok-t.t) ≡ false = not-true _ (sym c.in_ok-put_new.ensures.is_new ∙ c.if-not-branch.false) in
+    c.in-Ok-true.ensures.entries ∙ ap (λ (b : Bool). cond b (push_value es c.in_ok-t.t v) es) c.in-Ok-true.field-0-test in
+    let new : has_norm v.norm (values_of es c.in_ok-t.t) ≡ false = not-true _ (sym c.in-Ok-true.ensures.is_new ∙ c.in-Ok-true.field-0-test) in
     line_is c.args.self.now.conf.now.types es c.requires.made c.in_ok-t.t v c.in_ok-t.ensures.normal (has_norm v.norm (values_of es c.in_ok-t.t)) refl c.args.self.now.mode c.args.line.now c.in_ok-t.ensures.gives
     ∙ ap (λ b. cond b (Err AttributeOrValueExists) (Ok (push_value (attributes_of es) c.in_ok-t.t v.raw))) new
     ∙ ap (λ (x : Attributes). Ok x) (sym (raws_pushed es c.in_ok-t.t v) ∙ ap attributes_of (sym put))
