@@ -140,8 +140,9 @@ pub fn renamed(
     ensures gives { Gives (λ e. content_of e) result (rename_entry conf.now (content_of entry.now) new delete_old) }
 {
     let mut attrs = entry.copy_attributes(alloc)?;
-    match rename_attributes(alloc, conf, &mut attrs, &new, entry.rdn(), delete_old)? {
-        Some(code) => Err(Refusal::Code(code)),
-        None => Ok(Entry::new(new, attrs)),
+    match rename_attributes(alloc, conf, &mut attrs, &new, entry.rdn(), delete_old) {
+        Ok(None) => Ok(Entry::new(new, attrs)),
+        Ok(Some(code)) => Err(Refusal::Code(code)),
+        Err(AllocError) => Err(Refusal::OutOfMemory),
     }
 }

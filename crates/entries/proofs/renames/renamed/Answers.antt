@@ -6,9 +6,3 @@ returns-in_err-attrs-clause-made c = IfOk-from_err _ _ c.from_residual.ensures.0
 
 pub returns-in_err-attrs-clause-gives : goal.returns-in_err-attrs-clause-gives
 returns-in_err-attrs-clause-gives c = let p = err_from_is_err_and c.from_residual.result c.from_residual.ensures.1 in rw (p.1, p.2) tt
-
-pub returns-in_err-code-clause-made : goal.returns-in_err-code-clause-made
-returns-in_err-code-clause-made c = IfOk-from_err _ _ c.from_residual-in_err-code.ensures.0
-
-pub returns-in_err-code-clause-gives : goal.returns-in_err-code-clause-gives
-returns-in_err-code-clause-gives c = let p = err_from_is_err_and c.from_residual-in_err-code.result c.from_residual-in_err-code.ensures.1 in rw (p.1, p.2) tt
