@@ -1,6 +1,6 @@
 -- What plans of a modify and of a rename lead to.
-use Rattle.std.proofs.Common.{◌≡◌, ◌≢◌, Bool, true, false, List, [], ◌∷◌, ◌++◌, Some, sym, ap, subst, ◌∙◌}
-use Rattle.std.specs.Prelude.{is_some}
+use Rattle.std.proofs.Common.{◌≡◌, ◌≢◌, Bool, true, false, cond, not, List, [], ◌∷◌, ◌++◌, Some, refl, sym, ap, subst, ◌∙◌}
+use Rattle.std.specs.Prelude.{is_some, ◌&&◌}
 use Rattle.std.specs.FinMap as finite
 use Rattle.ldif.specs.declared.record.Mod.{Mod}
 use Rattle.paths.specs.Paths.{RdnKey, Path, path_cmp, begins, parent_of, is_root}
@@ -12,10 +12,10 @@ use Rattle.tree.specs.Directories.{Entries, IsDirectory}
 use Rattle.entries.specs.StoredEntries.{Entry, EntryAttribute, content_of, IsMade}
 use Rattle.tree.specs.Changes.{MayStand, MayMove}
 use Rattle.entries.specs.Modifies.{modify_entry, rename_entry, changed_to}
-use Rattle.tree.specs.Renames.{same_path}
+use Rattle.tree.specs.Renames.{same_path, is_taken}
 use Rattle.tree.specs.Trees.{Tree}
 use Rattle.tree.specs.declared.plans.Change.TheVariants as changes
-use Rattle.tree.specs.inner.Plans.{IsChange}
+use Rattle.tree.specs.inner.Plans.{renaming, IsChange}
 use Rattle.tree.proofs.Adding.{parent_is}
 use Rattle.tree.proofs.Kept.{equal, not_root}
 use Rattle.tree.proofs.Leaves.{replaced_kept}
@@ -89,16 +89,23 @@ module _ (t : Tree) (conf : Conf) (p to upper : Path) (old : EntryContent) (new 
       stands t.conf conf to upper new (content_of out) same place k.0 k.1
 
   -- another spelling of its name
-  pub respelled_change : same_path p to ≡ true → IsChange t (changes.Replace p out)
+  respelled_change : same_path p to ≡ true → IsChange t (changes.Replace p out)
   respelled_change tie = record {
     fit = (ap is_some at, made_under t.conf conf out.attrs same made);
     directory = replaced_kept t.conf t.entries p (content_of out) h (ap is_some at)
         (subst (λ (y : Path). MayStand t.conf y (content_of out)) (sym (path_exact p to (equal (path_cmp p to) tie))) may_stand);
   }
 
-  pub moved_change : begins p upper ≡ false → finite.contains_key t.entries upper ≡ true → finite.contains_key t.entries to ≡ false → IsChange t (changes.Move p to out)
+  moved_change : begins p upper ≡ false → finite.contains_key t.entries upper ≡ true → finite.contains_key t.entries to ≡ false → IsChange t (changes.Move p to out)
   moved_change apart above free = record {
     fit = (ap is_some at, free, made_under t.conf conf out.attrs same made);
     directory = moved_kept t.conf t.entries p to (content_of out) h
         (moves t.entries p to upper (rdn_key_of conf.types new) place (ap is_some at) apart above) may_stand;
   }
+
+  -- either of them
+  pub renaming_change : begins p upper ≡ false → finite.contains_key t.entries upper ≡ true → is_taken t.entries p to ≡ false → IsChange t (renaming p to out)
+  renaming_change apart above free = elim (same_path p to) as (λ (b : Bool). same_path p to ≡ b → not b && finite.contains_key t.entries to ≡ false → IsChange t (cond b (changes.Replace p out) (changes.Move p to out))) [
+    | true ↦ λ tie _. respelled_change tie
+    | false ↦ λ tie free. moved_change apart above free
+  ] refl free

@@ -1,11 +1,12 @@
 -- A change as a plan keeps it: values come with their normal forms, and a new entry is told from one in place of another.
-use Rattle.std.specs.Prelude.{◌≡◌, ◌≢◌, ℕ, true, false, Option, Some}
+use Rattle.std.specs.Prelude.{◌≡◌, ◌≢◌, ℕ, true, false, Option, Some, if◌then◌else◌}
 use Rattle.std.specs.FinMap as finite
 use Rattle.paths.specs.Paths.{Path, begins}
 use Rattle.tree.specs.declared.plans.Change as stored
 use Rattle.tree.specs.declared.plans.Change.TheVariants as changes
 use Rattle.tree.specs.Directories.{IsDirectory}
-use Rattle.entries.specs.StoredEntries.{content_of, IsMade}
+use Rattle.entries.specs.StoredEntries.{Entry, content_of, IsMade}
+use Rattle.tree.specs.Renames.{same_path}
 use Rattle.tree.specs.Changes.{Change, Nothing, Put, Remove, Move, changed}
 use Rattle.tree.specs.Trees.{Tree, IsNumbered}
 use Rattle.tree.specs.Plans.{Planned, number_of}
@@ -16,6 +17,10 @@ seen_change (changes.Add path entry) = Put path (content_of entry)
 seen_change (changes.Replace path entry) = Put path (content_of entry)
 seen_change (changes.Remove path) = Remove path
 seen_change (changes.Move from to entry) = Move from to (content_of entry)
+
+-- an entry that gets another name: where that is another spelling of its own, it stays where it is
+abbrev pub renaming : Path → Path → Entry → stored.Change
+renaming path to entry = if same_path path to then changes.Replace path entry else changes.Move path to entry
 
 -- what comes was made under the configuration; it is new, or in place of what is there
 abbrev pub IsFit : Tree → stored.Change → Type 0

@@ -7,12 +7,6 @@ use Rattle.tree.proofs.planner.Planner.rename_at.Goals as goal
 pub returns-in_err-upper-clause-change : goal.returns-in_err-upper-clause-change
 returns-in_err-upper-clause-change c = IfOk-from_err _ _ c.from_residual-in_err-upper.ensures.0
 
-pub returns-in_err-upper-clause-path : goal.returns-in_err-upper-clause-path
-returns-in_err-upper-clause-path c = IfOk-from_err _ _ c.from_residual-in_err-upper.ensures.0
-
-pub returns-in_err-new-clause-path : goal.returns-in_err-new-clause-path
-returns-in_err-new-clause-path c = IfOk-from_err _ _ c.from_residual.ensures.0
-
 pub returns-in_err-new-clause-change : goal.returns-in_err-new-clause-change
 returns-in_err-new-clause-change c = IfOk-from_err _ _ c.from_residual.ensures.0
 
@@ -27,6 +21,3 @@ rename_below-requires-clause-there c = sym c.in-Some.ensures.entry
 
 pub returns-clause-change : goal.returns-clause-change
 returns-clause-change c = c.rename_below.ensures.change
-
-pub returns-clause-path : goal.returns-clause-path
-returns-clause-path c = c.rename_below.ensures.path
