@@ -54,7 +54,7 @@ fn moved_entries(
 {
     let mut led = Vec::with_capacity(alloc, entries.len())?;
     for (path, number) in entries {
-        led.push((moved_path(alloc, path, from, to)?, *number))?;
+        led.push_reserved((moved_path(alloc, path, from, to)?, *number));
     }
     Ok(led)
 }

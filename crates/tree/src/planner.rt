@@ -111,5 +111,10 @@ fn controls_of<'a>(asked: &'a Record<'_>) -> &'a [Control]
 fn has_critical(controls: &[Control]) -> bool
     ensures { result ≡ has_critical controls.now }
 {
-    controls.iter().any(|control| control.critical)
+    for control in controls {
+        if control.critical {
+            return true;
+        }
+    }
+    false
 }
