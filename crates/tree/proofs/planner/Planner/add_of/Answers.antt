@@ -32,3 +32,11 @@ returns-in_err-entry-clause-path c = IfOk-from_err _ _ c.from_residual-in_err-en
 
 pub returns-in_err-entry-clause-change : goal.returns-in_err-entry-clause-change
 returns-in_err-entry-clause-change c = IfOk-from_err _ _ c.from_residual-in_err-entry.ensures.0
+
+pub returns-clause-gives : goal.returns-clause-gives
+returns-clause-gives c =
+    let d = c.args.self.now.tree.now in
+    let conf = c.args.self.now.conf.now in
+    add_found conf c.args.self.now.mode d.entries c.args.dn.now c.args.lines.now c.in_ok-place.place.rdns c.in_ok-place.place.path c.in_ok-place.ensures.rdns c.in_ok-place.ensures.path
+    ∙ ap (λ (rs : List TypedRdn). add_there conf c.args.self.now.mode d.entries c.in_ok-place.place.path rs c.args.lines.now) (sym c.as_slice.ensures)
+    ∙ c.in_ok-entry.ensures.gives
