@@ -6,7 +6,7 @@ use Rattle.std.proofs.Common.{◌≡◌, ℕ, ◌+◌, ◌<◌, ◌≤◌, arith
 use Rattle.std.specs.List.{list_all}
 use Rattle.std.proofs.lemmas.List.Folds.{list_all-append}
 use Rattle.dn.specs.declared.faults.NameFaultKind.{NameFaultKind}
-use Rattle.base.proofs.Each.{passed_on, with_front, nothing_front, more, onto, onto_more, onto_one}
+use Rattle.base.proofs.Each.{passed_on, with_front, nothing_front, more, onto, onto_more}
 use Rattle.base.specs.Ascii.{plus_sign}
 use Rattle.base.specs.Ends.{begins_with}
 use Rattle.base.specs.Answers.{◌>>=◌, Fails}

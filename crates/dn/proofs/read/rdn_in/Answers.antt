@@ -1,9 +1,7 @@
-use Rattle.std.proofs.Common.{ap, subst, sym, ◌∙◌}
+use Rattle.std.proofs.Common.{subst, sym, ◌∙◌}
 use Rattle.std.proofs.lemmas.Result.{err_from_is_err_and}
 use Rattle.base.specs.Answers.{Fails}
 use Rattle.dn.specs.Gives.{Gives, fault_of}
-use Rattle.dn.specs.inner.Cuts.{avas_from}
-use Rattle.dn.proofs.Firsts.{before}
 use Rattle.dn.proofs.Loop.{rdn_starts, avas_fail}
 use Rattle.dn.proofs.read.rdn_in.Goals as goal
 
