@@ -2,6 +2,7 @@ pub mod Pulled
 pub mod Records
 pub mod Whole
 pub mod RunEdits
+pub mod Running
 pub mod Pieces
 pub mod EntryText
 pub mod LoadLaw

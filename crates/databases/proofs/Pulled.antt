@@ -1,13 +1,15 @@
 -- What calls of a reader took, one after the other.
-use Rattle.std.proofs.Common.{◌≡◌, ◌⊎◌, inl, inr, ℕ, Bool, true, false, List, [], ◌∷◌, ◌++◌, refl, sym, ◌∙◌, ap, subst, append_assoc}
+use Rattle.std.proofs.Common.{◌≡◌, ◌<◌, ◌⊎◌, inl, inr, ℕ, Bool, true, false, List, [], ◌∷◌, ◌++◌, Option, Some, IfSome, refl, sym, ◌∙◌, ap, subst, append_assoc}
 use Rattle.std.proofs.lemmas.List.{append-nil}
 use Rattle.base.specs.Ascii.{line_feed}
 use Rattle.std.specs.Prelude.{Result, Ok, Err, IfErr}
-use Rattle.device.specs.Device.{Seen, Pulled, Written}
+use Rattle.device.specs.Device.{Seen, Pulled, Written, GaveSome}
 use Rattle.device.specs.declared.source.Source.{Ghosts}
 use Rattle.device.proofs.Pulls.{pulled_none, pulled_more}
 use Rattle.ldif_lines.specs.Records.{RawRecord, closed_from, closed_records}
-use Rattle.ldif_lines.specs.Reader.{source_of, unread, next_is_first, next_number, has_ended}
+use Rattle.ldif_lines.specs.Reader.{Takes, source_of, loan_of, is_failed, unread, next_is_first, next_number, has_ended, records_left, bytes_left, AtSamePlace}
+use Rattle.ldif_lines.specs.View.{view}
+use Rattle.ldif_lines.specs.declared.raw_record.RawRecord as raws
 use Rattle.ldif_lines.specs.Pulls.{closed_in, TakesBlock, TakesRest, Breaks}
 use Rattle.ldif_lines.specs.declared.draft.RecordDraft.{RecordDraft}
 use Rattle.ldif_lines.specs.declared.reader.Reader.{Reader}
@@ -21,7 +23,7 @@ use Rattle.databases.specs.declared.runs.Tally.{Tally}
 use Rattle.databases.specs.declared.runs.RunFault.{RunFault}
 use Rattle.databases.specs.declared.runs.RunFault.TheVariants as faults
 
-not_both : {b : Bool} → b ≡ true → b ≡ false → ⊥
+pub not_both : {b : Bool} → b ≡ true → b ≡ false → ⊥
 not_both e f = (cc)
 
 module _ {S : Type 0} {g : Ghosts S} (seen : S → Seen) where
@@ -75,6 +77,36 @@ module _ {S : Type 0} {g : Ghosts S} (seen : S → Seen) where
       let on : has_ended c ≡ false = sym e.ended ∙ off in
       took_same a c d (rs ++ r ∷ []) e (took_more a b c rs (r ∷ []) (h (sym t.same_end ∙ on)) (took_block b c r t))
   took_next a b c d r (inr t) e rs h = λ off. absurd (not_both t.ended (sym e.ended ∙ off))
+
+  -- a reader that took a record, and has its memory back
+  pub record TookOne (b d : Reader S RecordDraft g) (r : RawRecord) : Type 0 where
+    pub same_loan : loan_of d ≡ loan_of b
+    pub going : is_failed d ≡ false
+    pub failed : (seen (source_of d)).failed ≡ (seen (source_of b)).failed
+    pub gave : GaveSome (seen (source_of b)) (seen (source_of d))
+    pub falls : bytes_left seen d < bytes_left seen b
+    pub taken : Takes (records_left seen b) (records_left seen d) (r ∷ [])
+    pub took : (a : Reader S RecordDraft g) (rs : List RawRecord) → TookBeforeEnd seen a b rs → TookBeforeEnd seen a d (rs ++ r ∷ [])
+
+  -- by what a call of `next` says, and then one of `reuse`
+  module _ (b c d : Reader S RecordDraft g) (raw : raws.RawRecord) (found : Option raws.RawRecord) (is : found ≡ Some raw) where
+    pub took_one : loan_of c ≡ loan_of b → is_failed c ≡ false → (seen (source_of c)).failed ≡ (seen (source_of b)).failed → GaveSome (seen (source_of b)) (seen (source_of c))
+        → IfSome found (λ _. bytes_left seen c < bytes_left seen b)
+        → IfSome found (λ r. Takes (records_left seen b) (records_left seen c) (view r ∷ []))
+        → IfSome found (λ r. TakesBlock seen b c (view r) ⊎ TakesRest seen b c (view r ∷ []))
+        → loan_of d ≡ loan_of c → source_of d ≡ source_of c → records_left seen d ≡ records_left seen c → bytes_left seen d ≡ bytes_left seen c → is_failed d ≡ is_failed c → AtSamePlace d c
+        → TookOne b d (view raw)
+    took_one loan going failed gave falls taken took loan' source records bytes failed' place = record {
+      same_loan = loan' ∙ loan;
+      going = failed' ∙ going;
+      failed = ap (λ (x : S). (seen x).failed) source ∙ failed;
+      gave = subst (λ (x : S). GaveSome (seen (source_of b)) (seen x)) (sym source) gave;
+      falls = subst (λ n. n < bytes_left seen b) (sym bytes) (subst (λ (o : Option raws.RawRecord). IfSome o (λ _. bytes_left seen c < bytes_left seen b)) is falls);
+      taken = subst (λ (left : Option (List RawRecord)). Takes (records_left seen b) left (view raw ∷ [])) (sym records) (subst (λ (o : Option raws.RawRecord). IfSome o (λ r. Takes (records_left seen b) (records_left seen c) (view r ∷ []))) is taken);
+      took = λ a. took_next a b c d (view raw)
+          (subst (λ (o : Option raws.RawRecord). IfSome o (λ r. TakesBlock seen b c (view r) ⊎ TakesRest seen b c (view r ∷ []))) is took)
+          (record { source = source; number = place.0; first = place.1; unread = place.2; ended = place.3 });
+    }
 
   -- where the source fails
   pub up_to : (a b c : Reader S RecordDraft g) → Breaks seen b c → (rs : List RawRecord) → TookBeforeEnd seen a b rs → (got : List ℕ) × Pulled (seen (source_of a)) (seen (source_of c)) got × (closed_with a got ≡ rs)

@@ -6,3 +6,4 @@ pub mod Found
 pub mod Pulls
 pub mod RecordEdits
 pub mod RankedEntries
+pub mod Running

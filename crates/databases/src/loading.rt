@@ -3,20 +3,18 @@
 ghost use Rattle.std.specs.Prelude.{◌≡◌, ◌<◌, ◌-◌, ◌^◌, false, Err, IfOk, IfErr, OnOk, option_map};
 ghost use Rattle.std.specs.FinMap as finite;
 ghost use Rattle.device.specs.Device.{GaveSome};
-ghost use Rattle.ldif.specs.declared.record.Mode.TheVariants.{Content};
 ghost use Rattle.ldif_lines.specs.Records.{records, closed_records};
-ghost use Rattle.ldif_lines.specs.Reader.{source_of, loan_of, is_failed, records_left};
-ghost use Rattle.databases.specs.Runs.{outcome_of, LoadsRecords};
+ghost use Rattle.ldif_lines.specs.Reader.{source_of, is_failed};
+ghost use Rattle.databases.specs.Runs.{LoadsRecords};
 ghost use Rattle.databases.specs.Folds.{Over};
 ghost use Rattle.databases.specs.Loading.{StopsAt, PullFailures};
 ghost use Rattle.databases.specs.FailedReads.{LoadedUpTo};
-ghost use Rattle.databases.specs.inner.Pulls.{closed_with};
-ghost use Rattle.databases.specs.inner.Loading.{IsLoaded, Explains};
+ghost use Rattle.databases.specs.inner.Loading.{load_outcome, load_fault_of, LoadsStep, HasLoaded};
 
 use crate::applying::carry_out;
 use crate::refusal::{Outcome, RecordRefusal};
 use device::Source;
-use ldif::{Mode, RawRecord, ReadFault, Reader};
+use ldif::{Mode, ReadFault, Reader};
 use schema::Conf;
 use std::alloc::{AllocError, Global};
 use tree::Tree;
@@ -41,24 +39,50 @@ impl From<AllocError> for LoadFault {
     }
 }
 
-// one record
-fn load_record(
+// whether loading goes on behind the record that begins on this line
+fn load_outcome(line: u64, outcome: Result<Outcome, AllocError>) -> Result<bool, LoadFault>
+    ensures { result ≡ load_outcome line outcome }
+{
+    match outcome {
+        Ok(Outcome::Refused(refusal)) => Err(LoadFault::Refused { line, refusal }),
+        Ok(Outcome::Nothing | Outcome::Accepted) => Ok(true),
+        Err(_) => Err(LoadFault::OutOfMemory),
+    }
+}
+
+// why nothing is loaded where there is no next record
+fn fault_of(fault: ReadFault) -> LoadFault
+    requires { fault ≡ ReadFault.Failed → ⊥ }
+    ensures { result ≡ load_fault_of fault }
+{
+    match fault {
+        ReadFault::Device => LoadFault::Read,
+        ReadFault::OutOfMemory => LoadFault::OutOfMemory,
+        ReadFault::Failed => unreachable!(),
+    }
+}
+
+// loads the next record; it answers whether there is one
+fn load_record<S: Source>(
     alloc: Global,
     tree: &mut Tree,
     conf: &Conf,
-    raw: &RawRecord,
-) -> Result<(), LoadFault>
-    requires { tree.old.conf ≡ conf.now }
-    ensures same_conf { tree.new.conf ≡ tree.old.conf }
-    ensures loaded { OnOk result (IsLoaded (outcome_of tree.old.conf Content tree.old.entries raw.now) tree.new.entries) }
-    ensures refused { IfErr result (λ f. Explains f raw.now.line (outcome_of tree.old.conf Content tree.old.entries raw.now)) }
+    reader: &mut Reader<'_, S>,
+) -> Result<bool, LoadFault>
+    requires made { tree.old.conf ≡ conf.now }
+    requires source { (S.seen (source_of reader.old)).failed < 2 ^ 64 - 1 }
+    requires going { is_failed reader.old ≡ false }
+    ensures { LoadsStep S.seen tree.old.conf reader.old tree.old.entries tree.new.conf reader.new tree.new.entries result }
 {
-    match carry_out(alloc, tree, conf, raw, Mode::Content)? {
-        Outcome::Refused(refusal) => Err(LoadFault::Refused {
-            line: raw.line,
-            refusal,
-        }),
-        Outcome::Nothing | Outcome::Accepted => Ok(()),
+    match reader.next() {
+        Ok(Some(raw)) => {
+            let line = raw.line;
+            let outcome = carry_out(alloc, tree, conf, &raw, Mode::Content);
+            reader.reuse(raw);
+            load_outcome(line, outcome)
+        }
+        Ok(None) => Ok(false),
+        Err(fault) => Err(fault_of(fault)),
     }
 }
 
@@ -72,24 +96,13 @@ fn load_rest<S: Source>(
     requires made { tree.old.conf ≡ conf.now }
     requires source { (S.seen (source_of reader.old)).failed < 2 ^ 64 - 1 }
     requires going { is_failed reader.old ≡ false }
-    ensures same_loan { loan_of reader.new ≡ loan_of reader.old }
-    ensures same_conf { tree.new.conf ≡ tree.old.conf }
-    ensures loads { OnOk result (Over (records_left S.seen reader.old) (λ given. LoadsRecords tree.old.conf tree.old.entries given tree.new.entries)) }
-    ensures stops { IfErr result (λ f. StopsAt f tree.old.conf tree.old.entries (records_left S.seen reader.old)) }
-    ensures read { result ≡ Err LoadFault.Read → LoadedUpTo (closed_with reader.old) tree.old.conf tree.old.entries (S.seen (source_of reader.old)) (S.seen (source_of reader.new)) }
-    ensures failures { PullFailures result (S.seen (source_of reader.old)).failed (S.seen (source_of reader.new)).failed }
-    ensures gave { GaveSome (S.seen (source_of reader.old)) (S.seen (source_of reader.new)) }
+    ensures { HasLoaded S.seen tree.old.conf reader.old tree.old.entries tree.new.conf reader.new tree.new.entries result }
 {
     'records: loop {
-        match reader.next() {
-            Ok(Some(raw)) => {
-                load_record(alloc, tree, conf, &raw)?;
-                reader.reuse(raw);
-            }
-            Ok(None) => return Ok(()),
-            Err(ReadFault::Device) => return Err(LoadFault::Read),
-            Err(ReadFault::OutOfMemory) => return Err(LoadFault::OutOfMemory),
-            Err(ReadFault::Failed) => unreachable!(),
+        match load_record(alloc, tree, conf, reader) {
+            Ok(true) => {}
+            Ok(false) => return Ok(()),
+            Err(fault) => return Err(fault),
         }
     }
 }

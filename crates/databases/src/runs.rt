@@ -3,22 +3,19 @@
 ghost use Rattle.std.specs.Prelude.{◌≡◌, ◌<◌, ◌≤◌, ◌+◌, ◌-◌, ◌^◌, false, IfOk, IfErr, OnOk, Err, option_map};
 ghost use Rattle.device.specs.Device.{Took, Broke, GaveSome};
 ghost use Rattle.ldif_lines.specs.Records.{records, closed_records};
-ghost use Rattle.ldif.specs.Reading.{reading};
-ghost use Rattle.databases.specs.Runs.{outcome_of};
 ghost use Rattle.databases.specs.Reports.{report_line};
 ghost use Rattle.databases.specs.Faults.{Failures};
 ghost use Rattle.databases.specs.Folds.{Runs};
 ghost use Rattle.databases.specs.RunEdits.{EditsRise};
 ghost use Rattle.databases.specs.FailedReads.{StopsReading};
-ghost use Rattle.databases.specs.inner.Pulls.{closed_with};
-ghost use Rattle.databases.specs.inner.RecordEdits.{RiseBy};
-ghost use Rattle.databases.specs.inner.Steps.{IsTaken, IsBrokenOff};
-ghost use Rattle.ldif_lines.specs.Reader.{source_of, loan_of, is_failed, records_left, bytes_left};
+ghost use Rattle.databases.specs.inner.Steps.{Counts, run_fault_of};
+ghost use Rattle.databases.specs.inner.Running.{HasRun, TakesStep};
+ghost use Rattle.ldif_lines.specs.Reader.{source_of, is_failed, bytes_left};
 
 use crate::refusal::{Outcome, RecordRefusal, report_line};
 use crate::target::Target;
-use device::{Device, Sink, Source, push_all};
-use ldif::{Mode, RawRecord, ReadFault, Reader, WriteFault};
+use device::{Sink, Source, push_all};
+use ldif::{Mode, ReadFault, Reader, WriteFault};
 use std::alloc::Global;
 
 /// How many records of a run were accepted, and how many were refused.
@@ -55,28 +52,19 @@ fn write_report<W: Sink>(
     Ok(())
 }
 
-// one record; it answers whether the run has ended
-fn take_record<T: Target, W: Sink>(
+// counts what became of a record, and reports a refusal; it answers whether the run has ended
+fn count<W: Sink>(
     alloc: Global,
-    target: &mut T,
-    raw: &RawRecord,
     sink: &mut W,
-    mode: Mode,
+    line: u64,
+    outcome: Outcome,
     go_on: bool,
     tally: &mut Tally,
 ) -> Result<bool, RunFault>
     requires can_fail { (W.written sink.old).failed < 2 ^ 64 - 1 }
     requires room { tally.old.accepted + tally.old.refused < 2 ^ 64 - 1 }
-    ensures same_conf { T.conf target.new ≡ T.conf target.old }
-    ensures taken { IfOk result (λ ended. IsTaken (outcome_of (T.conf target.old) mode (T.entries target.old) raw.now) go_on raw.now.line
-        (T.entries target.new) tally.old tally.new (W.written sink.old) (W.written sink.new) ended) }
-    ensures edits { RiseBy (T.count_edits (T.conf target.old) mode (T.entries target.old) (reading mode raw.now.first raw.now.lines)) result (T.edits target.old) (T.edits target.new) }
-    ensures broken { IfErr result (IsBrokenOff (outcome_of (T.conf target.old) mode (T.entries target.old) raw.now) raw.now.line
-        (T.entries target.old) (T.entries target.new) tally.old (W.written sink.old) (W.written sink.new)) }
+    ensures { Counts outcome go_on line tally.old tally.new (W.written sink.old) (W.written sink.new) result }
 {
-    let Ok(outcome) = target.carry_out(alloc, raw, mode) else {
-        return Err(RunFault::OutOfMemory(*tally));
-    };
     match outcome {
         Outcome::Nothing => Ok(false),
         Outcome::Accepted => {
@@ -85,12 +73,56 @@ fn take_record<T: Target, W: Sink>(
         }
         Outcome::Refused(refusal) => {
             tally.refused += 1;
-            match write_report(alloc, sink, raw.line, refusal) {
+            match write_report(alloc, sink, line, refusal) {
                 Ok(()) => Ok(!go_on),
                 Err(WriteFault::Device) => Err(RunFault::Write(*tally)),
                 Err(WriteFault::OutOfMemory) => Err(RunFault::OutOfMemory(*tally)),
             }
         }
+    }
+}
+
+// why a run is broken off where there is no next record
+fn fault_of(fault: ReadFault, tally: Tally) -> RunFault
+    requires { fault ≡ ReadFault.Failed → ⊥ }
+    ensures { result ≡ run_fault_of fault tally }
+{
+    match fault {
+        ReadFault::Device => RunFault::Read(tally),
+        ReadFault::OutOfMemory => RunFault::OutOfMemory(tally),
+        ReadFault::Failed => unreachable!(),
+    }
+}
+
+// carries out the next record; it answers whether the run has ended
+fn take_record<T: Target, S: Source, W: Sink>(
+    alloc: Global,
+    target: &mut T,
+    reader: &mut Reader<'_, S>,
+    sink: &mut W,
+    mode: Mode,
+    go_on: bool,
+    tally: &mut Tally,
+) -> Result<bool, RunFault>
+    requires source { (S.seen (source_of reader.old)).failed < 2 ^ 64 - 1 }
+    requires sink { (W.written sink.old).failed < 2 ^ 64 - 1 }
+    requires going { is_failed reader.old ≡ false }
+    requires few { tally.old.accepted + tally.old.refused + bytes_left S.seen reader.old ≤ 2 ^ 64 }
+    ensures { TakesStep S.seen T.count_edits mode go_on (T.conf target.old) reader.old (T.entries target.old) (T.edits target.old) (W.written sink.old) tally.old
+        (T.conf target.new) reader.new (T.entries target.new) (T.edits target.new) (W.written sink.new) tally.new result }
+{
+    match reader.next() {
+        Ok(Some(raw)) => {
+            let line = raw.line;
+            let carried_out = target.carry_out(alloc, &raw, mode);
+            reader.reuse(raw);
+            match carried_out {
+                Ok(outcome) => count(alloc, sink, line, outcome, go_on, tally),
+                Err(_) => Err(RunFault::OutOfMemory(*tally)),
+            }
+        }
+        Ok(None) => Ok(true),
+        Err(fault) => Err(fault_of(fault, *tally)),
     }
 }
 
@@ -107,30 +139,18 @@ fn run_rest<T: Target, S: Source, W: Sink>(
     requires sink { (W.written sink.old).failed < 2 ^ 64 - 1 }
     requires going { is_failed reader.old ≡ false }
     requires bound { bytes_left S.seen reader.old ≤ 2 ^ 64 }
-    ensures same_loan { loan_of reader.new ≡ loan_of reader.old }
-    ensures same_conf { T.conf target.new ≡ T.conf target.old }
-    ensures runs { Runs (T.conf target.old) mode go_on (T.entries target.old) (T.entries target.new) (records_left S.seen reader.old) result (W.written sink.old) (W.written sink.new) }
-    ensures edits { EditsRise T.count_edits (T.conf target.old) mode go_on (T.entries target.old) (T.entries target.new) (records_left S.seen reader.old) result (T.edits target.old) (T.edits target.new) }
-    ensures read { IfErr result (λ f. StopsReading f (closed_with reader.old) (T.conf target.old) mode go_on (T.entries target.old) (T.entries target.new) (S.seen (source_of reader.old)) (S.seen (source_of reader.new)) (W.written sink.old) (W.written sink.new)) }
-    ensures failures { Failures result (S.seen (source_of reader.old)).failed (S.seen (source_of reader.new)).failed (W.written sink.old).failed (W.written sink.new).failed }
-    ensures gave { GaveSome (S.seen (source_of reader.old)) (S.seen (source_of reader.new)) }
+    ensures { HasRun S.seen T.count_edits mode go_on (T.conf target.old) reader.old (T.entries target.old) (T.edits target.old) (W.written sink.old)
+        (T.conf target.new) reader.new (T.entries target.new) (T.edits target.new) (W.written sink.new) result }
 {
     let mut tally = Tally {
         accepted: 0,
         refused: 0,
     };
     'records: loop {
-        match reader.next() {
-            Ok(Some(raw)) => {
-                if take_record(alloc, target, &raw, sink, mode, go_on, &mut tally)? {
-                    return Ok(tally);
-                }
-                reader.reuse(raw);
-            }
-            Ok(None) => return Ok(tally),
-            Err(ReadFault::Device) => return Err(RunFault::Read(tally)),
-            Err(ReadFault::OutOfMemory) => return Err(RunFault::OutOfMemory(tally)),
-            Err(ReadFault::Failed) => unreachable!(),
+        match take_record(alloc, target, reader, sink, mode, go_on, &mut tally) {
+            Ok(false) => {}
+            Ok(true) => return Ok(tally),
+            Err(fault) => return Err(fault),
         }
     }
 }

@@ -1,6 +1,8 @@
 -- One record of a run: what it does to the counts and to the report.
-use Rattle.std.specs.Prelude.{◌≡◌, ℕ, ◌+◌, ◌⊎◌, Bool, false, not, List, []}
+use Rattle.std.specs.Prelude.{◌≡◌, ℕ, ◌+◌, ◌⊎◌, Bool, false, not, List, [], Result, Ok, Err}
 use Rattle.device.specs.Device.{Written, Took, Broke}
+use Rattle.ldif_lines.specs.declared.reader.ReadFault.{ReadFault}
+use Rattle.ldif_lines.specs.declared.reader.ReadFault.TheVariants as reads
 use Rattle.tree.specs.Directories.{Entries}
 use Rattle.databases.specs.Reports.{report_line}
 use Rattle.databases.specs.declared.refusal.RecordRefusal.{RecordRefusal}
@@ -49,3 +51,16 @@ abbrev pub IsBrokenOff : Entries × Outcome → ℕ → Entries → Entries → 
 IsBrokenOff o line old new t a b (faults.Read t') = ⊥
 IsBrokenOff o line old new t a b (faults.Write t') = (why : RecordRefusal) × IsCounted o new t t' why × Broke a b (report_line (line, why))
 IsBrokenOff o line old new t a b (faults.OutOfMemory t') = IsUntouched old new t t' a b ⊎ ((why : RecordRefusal) × IsCounted o new t t' why × (b ≡ a))
+
+-- an outcome was counted, and its report was written, or broken off
+abbrev pub Counts : Outcome → Bool → ℕ → Tally → Tally → Written → Written → Result Bool RunFault → Type 0
+Counts o go_on line t t' a b (Ok ended) = (t' ≡ counts_after o t) × Took a b (reported line o) × (ended ≡ ends go_on o)
+Counts o go_on line t t' a b (Err (faults.Read u)) = ⊥
+Counts o go_on line t t' a b (Err (faults.Write u)) = (why : RecordRefusal) × (o ≡ Refused why) × (u ≡ counts_after o t) × Broke a b (report_line (line, why))
+Counts o go_on line t t' a b (Err (faults.OutOfMemory u)) = (why : RecordRefusal) × (o ≡ Refused why) × (u ≡ counts_after o t) × (b ≡ a)
+
+-- a source that failed, and want of memory
+abbrev pub run_fault_of : ReadFault → Tally → RunFault
+run_fault_of reads.Device t = faults.Read t
+run_fault_of reads.OutOfMemory t = faults.OutOfMemory t
+run_fault_of reads.Failed t = faults.OutOfMemory t
