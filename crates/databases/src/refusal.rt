@@ -19,7 +19,7 @@ pub enum RecordRefusal {
 }
 
 /// What becomes of a record.
-#[derive(Clone, Copy, PartialEq, Eq)]
+#[derive(Clone, Copy)]
 pub enum Outcome {
     /// It is empty, and isn't counted.
     Nothing,

@@ -1,4 +1,5 @@
-use Rattle.std.proofs.Common.{refl}
+use Rattle.std.proofs.Common.{refl, arith}
+use Rattle.std.proofs.lemmas.Grind.{common_steps}
 use Rattle.ldif_lines.specs.View.{view}
 use Rattle.databases.proofs.Pulled.{took_one}
 use Rattle.databases.proofs.Running.{ends, fails, wants, steps}
@@ -32,3 +33,6 @@ returns-in-Err g c = λ conf r d e a h.
     fails g.S.Source.seen g.T.Target.count_edits c.args.mode c.args.go_on conf r d e a _ c.args.reader.now _ _ _ _ h
     c.next.new.self c.in-Err.fault _ refl c.in-Err.ensures.failed c.requires.going c.in-Err.ensures.same_loan c.in-Err.ensures.gave c.in-Err.ensures.device c.in-Err.ensures.memory c.in-Err.ensures.breaks
     c.fault_of.result c.fault_of.ensures
+
+pub count-requires-clause-room : goal.count-requires-clause-room
+count-requires-clause-room g c = grind (arith, common_steps)

@@ -1,8 +1,9 @@
-use Rattle.std.proofs.Common.{◌≡◌, ℕ, ◌+◌, List, ◌++◌, drop, refl, ap, ◌∙◌, subst, arith}
+use Rattle.std.proofs.Common.{◌≡◌, ℕ, ◌+◌, List, ◌++◌, drop, refl, sym, ap, ◌∙◌, subst, arith}
 use Rattle.std.proofs.lemmas.Grind.{common_steps}
 use Rattle.std.proofs.Math.ListN.{drop_of_length-le}
 use Rattle.std.proofs.lemmas.List.{append-nil}
 use Rattle.std.proofs.lemmas.Result.{err_from_is_err_and}
+use Rattle.index_keys.specs.TypeNorms.{AreNormsOf}
 use Rattle.schema.specs.declared.slots.Slot.{Slot}
 use Rattle.schema.specs.Conf.{Conf}
 use Rattle.tree.specs.Directories.{Entries}
@@ -62,4 +63,6 @@ pub write_slot-requires-clause-known : goal.write_slot-requires-clause-known
 write_slot-requires-clause-known g c = grind (arith, common_steps)
 
 pub write_slot-requires-clause-norms : goal.write_slot-requires-clause-norms
-write_slot-requires-clause-norms g c = grind (arith, common_steps)
+write_slot-requires-clause-norms g c =
+    subst (λ t. AreNormsOf c.args.self.now.conf.now.types c.args.self.now.entries.now t c.as_slice.result.now) c.in_ok-of_type.ensures.of_type
+    (subst (λ ns. AreNormsOf c.args.self.now.conf.now.types c.args.self.now.entries.now c.in_ok-of_type.of_type.type_id ns) (sym c.as_slice.ensures.value) c.in_ok-of_type.ensures.norms)
