@@ -9,8 +9,8 @@ use Rattle.clap.specs.declared.parser.matches.ValueSource.{ValueSource}
 use Rattle.clap.specs.declared.parser.matches.ValueSource.TheVariants.{CommandLine}
 use Rattle.clap.specs.declared.error.kind.ErrorKind.{ErrorKind}
 use Rattle.clap.specs.declared.error.kind.ErrorKind.TheVariants as kind
-use Rattle.search.specs.declared.scope.Scope.{Scope}
-use Rattle.search.specs.declared.scope.Scope.TheVariants.{Base, One, Sub, Children}
+use Rattle.paths.specs.declared.scope.Scope.{Scope}
+use Rattle.paths.specs.declared.scope.Scope.TheVariants.{Base, One, Sub, Children}
 use Rattle.command_line.specs.declared.request.AddOptions.{AddOptions}
 use Rattle.command_line.specs.declared.request.ModifyOptions.{ModifyOptions}
 use Rattle.command_line.specs.declared.request.IndexOptions.{IndexOptions}

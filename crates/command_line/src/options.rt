@@ -1,6 +1,6 @@
 //! The commands and their options, for `clap`.
 ghost use Rattle.std.specs.Prelude.{◌≡◌, false, map, IfOk};
-ghost use Rattle.clap.specs.Words.{app_of, rule_of, shape_of};
+ghost use Rattle.clap.specs.Words.{app_of, rule_of, shape_of, with_subcommand};
 ghost use Rattle.command_line.specs.CommandLine as commands;
 
 use clap::{Arg, ArgAction, Command};
@@ -208,6 +208,17 @@ fn slapcat() -> Tool<'static>
     }
 }
 
+/// A command with one more below it.
+fn with_tool<'a>(
+    alloc: Global,
+    command: Command<'a>,
+    tool: Tool<'a>,
+) -> Result<Command<'a>, AllocError>
+    ensures { IfOk result (λ c. app_of c ≡ with_subcommand (app_of command.entry) (commands.shape tool.entry)) }
+{
+    command.subcommand(command_of(alloc, tool)?)
+}
+
 /// The commands of slaptools, of which one has to be named.
 pub(crate) fn slaptools<'a>(alloc: Global) -> Result<Command<'a>, AllocError>
     ensures { IfOk result (λ c. app_of c ≡ commands.slaptools) }
@@ -216,7 +227,7 @@ pub(crate) fn slaptools<'a>(alloc: Global) -> Result<Command<'a>, AllocError>
         .about("Tools for an LDAP directory that is kept as LDIF, without a server")
         .subcommand_required(true);
     for tool in &[slapadd(), ldapmodify(), slapindex(), search(), slapcat()] {
-        command = command.subcommand(command_of(alloc, *tool)?)?;
+        command = with_tool(alloc, command, *tool)?;
     }
     Ok(command)
 }

@@ -12,7 +12,7 @@ use crate::request::{
 use clap::error::ErrorKind;
 use clap::parser::ValueSource;
 use clap::{ArgMatches, Error};
-use search::Scope;
+use paths::Scope;
 use std::alloc::{AllocError, Global};
 use std::convert::AsStr;
 
@@ -167,14 +167,16 @@ fn search_options<'a>(
     ensures asked { IfOk result (asks.IsSearch (rows_of (found_of found.now))) }
     ensures faulty { IfErr result (asks.IsFaultOfSearch (rows_of (found_of found.now))) }
 {
+    let scope = scope_of(alloc, text_of(found, "scope"))?;
+    let limit = limit_of(alloc, text_of(found, "limit"))?;
     let (filter, names) = split_words(words_of(found).unwrap_or(&[]));
     let mut attributes = Vec::new(alloc);
     attributes.extend_from_slice(names)?;
     Ok(SearchOptions {
         db: folder_of(found),
         base: text_of(found, "base"),
-        scope: scope_of(alloc, text_of(found, "scope"))?,
-        limit: limit_of(alloc, text_of(found, "limit"))?,
+        scope,
+        limit,
         filter,
         attributes,
     })

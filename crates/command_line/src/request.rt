@@ -2,7 +2,7 @@
 ghost use Rattle.std.specs.Prelude.{◌≡◌};
 ghost use Rattle.command_line.specs.declared.request.UsageFault.TheVariants.{OutOfMemory};
 
-use search::Scope;
+use paths::Scope;
 use std::alloc::{AllocError, AllocFailed};
 
 /// What slapadd is asked for.

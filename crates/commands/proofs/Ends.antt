@@ -6,7 +6,7 @@ use Rattle.std.specs.FinMap as finite
 use Rattle.std.proofs.lemmas.List.{length-map}
 use Rattle.device.specs.Device.{Written, Took}
 use Rattle.ldif.specs.declared.write.WriteFault.{WriteFault}
-use Rattle.databases.specs.Dumps.{Writes, end_of}
+use Rattle.ldif.specs.Written.{Writes, end_of}
 use Rattle.tree.specs.Directories.{Entries}
 use Rattle.paths.specs.Paths.{Path}
 use Rattle.schema.specs.Conf.{Conf, IsConf}
@@ -16,9 +16,9 @@ use Rattle.filter_text.specs.Spells.{FilterContent, view}
 use Rattle.filter_text.specs.declared.filters.Filter.{Filter}
 use Rattle.filter.specs.Made.{Made}
 use Rattle.index_text.specs.Postings.{Shown}
-use Rattle.search.specs.declared.scope.Scope.{Scope}
-use Rattle.search.specs.declared.scope.Scope.TheVariants.{Sub}
-use Rattle.search.specs.Searches.{scan, scan_among}
+use Rattle.paths.specs.declared.scope.Scope.{Scope}
+use Rattle.paths.specs.declared.scope.Scope.TheVariants.{Sub}
+use Rattle.databases.specs.Scanned.{scan, scan_among}
 use Rattle.stored_index.specs.Stored.{Stored, shown_by}
 use Rattle.databases.specs.IndexTexts.{index_text}
 use Rattle.databases.specs.Searches.{may_by_rank, ShowsTo, ReflectsDump}
@@ -26,7 +26,7 @@ use Rattle.databases.specs.Selections.{Selection}
 use Rattle.databases.specs.Found.{WritesFound, found_text, up_to, goes_past}
 use Rattle.commands.specs.Asked.{IsFilter, base_of, IsBase, IsSelection}
 use Rattle.commands.specs.Failures.{FailsToWrite}
-use Rattle.commands.specs.Folders.{Files}
+use Rattle.folders.specs.Folders.{Files}
 use Rattle.commands.specs.Loaded.{IsLoaded}
 use Rattle.commands.specs.IndexFiles.{Said, said_by, found_by}
 use Rattle.commands.specs.Excerpts.{excerpt_text}

@@ -4,7 +4,7 @@ use Rattle.std.specs.Prelude.{IfSome}
 use Rattle.schema.specs.Conf.{Conf}
 use Rattle.tree.specs.Directories.{Entries}
 use Rattle.command_line.specs.declared.request.IndexOptions.{IndexOptions}
-use Rattle.commands.specs.Folders.{Files, with_files}
+use Rattle.folders.specs.Folders.{Files, with_files}
 use Rattle.commands.specs.Indexing.{IndexesFiles, IndexGoesThrough, IndexStops}
 use Rattle.commands.specs.Loaded.{IsLoaded, LoadFails}
 use Rattle.commands.specs.Stored.{index_file}

@@ -14,7 +14,7 @@ use Rattle.databases.specs.declared.runs.RunFault.{RunFault}
 use Rattle.commands.specs.declared.changes.Task.{Task}
 use Rattle.commands.specs.declared.messages.Status.{Status}
 use Rattle.commands.specs.declared.messages.Stop.{Stop}
-use Rattle.commands.specs.Folders.{Files, Finds, with_files}
+use Rattle.folders.specs.Folders.{Files, Finds, with_files}
 use Rattle.commands.specs.Worlds.{World}
 use Rattle.commands.specs.Loaded.{IsLoaded, LoadsFiles, LoadsFound, LoadsFile}
 use Rattle.commands.specs.Changes.{IsSource, KnowsText, text_of, stored_by, RunsAndStores, Changes, ChangeGoesThrough, ChangeStops}

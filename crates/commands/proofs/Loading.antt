@@ -3,7 +3,8 @@ use Rattle.std.proofs.Common.{◌≡◌, ℕ, List, Option, Some, None, Result, 
 use Rattle.std.specs.Option.{option_map}
 use Rattle.schema.specs.Conf.{Conf}
 use Rattle.tree.specs.Directories.{Entries}
-use Rattle.commands.specs.Folders.{Files, Finds, conf_name, data_name}
+use Rattle.folders.specs.Folders.{Files, Finds}
+use Rattle.commands.specs.DirectoryFiles.{conf_name, data_name}
 use Rattle.commands.specs.Loaded.{IsConfigured, IsLoaded, LoadsFound, LoadFails}
 use Rattle.commands.specs.inner.LoadFaults.{EntriesFail}
 use Rattle.commands.specs.declared.messages.CommandFault.{CommandFault}

@@ -8,9 +8,10 @@ use Rattle.commands.specs.Changes.{written_by}
 use Rattle.commands.specs.Commands.{RequestGoesThrough, RequestStops, writes_in}
 use Rattle.commands.specs.Endings.{StoppedAt, ReportsStop}
 use Rattle.commands.specs.Failures.{IsMemory, FailsToRead, TellsInUse}
-use Rattle.commands.specs.Folders.{Files, Finds, conf_name}
+use Rattle.folders.specs.Folders.{Files, Finds}
+use Rattle.commands.specs.DirectoryFiles.{conf_name}
 use Rattle.commands.specs.Locked.{LockFails, HasNoLock, EndsUnder}
-use Rattle.commands.specs.Locks.{Locking, Others, IsInUse, IsFree, Takes}
+use Rattle.folders.specs.Locks.{Locking, Others, IsInUse, IsFree, Takes}
 use Rattle.commands.specs.Worlds.{World}
 use Rattle.commands.specs.inner.Stopped.{HasEnded, HasEndedUnder}
 use Rattle.commands.specs.declared.changes.Task.{Task}

@@ -8,7 +8,7 @@ use Rattle.tree.specs.Directories.{Entries}
 use Rattle.databases.specs.declared.runs.Tally.{Tally}
 use Rattle.databases.specs.declared.runs.RunFault.{RunFault}
 use Rattle.commands.specs.Changes.{Run, RunsInput, RunsSource, IsSource, stored_by, HasNoSource, Breaks, source_name, ChangeStops}
-use Rattle.commands.specs.Folders.{File, Files, Finds, with_files}
+use Rattle.folders.specs.Folders.{File, Files, Finds, with_files}
 use Rattle.commands.specs.Loaded.{IsLoaded}
 use Rattle.commands.specs.Stored.{kept_files}
 use Rattle.commands.specs.Worlds.{World}

@@ -7,7 +7,7 @@ use Rattle.stored_index.specs.declared.fault.IndexFaultKind.{IndexFaultKind}
 use Rattle.command_line.specs.declared.request.SearchOptions.{SearchOptions}
 use Rattle.filter.specs.Made.{Made}
 use Rattle.tree.specs.Trees.{Tree}
-use Rattle.commands.specs.Folders.{Files}
+use Rattle.folders.specs.Folders.{Files}
 use Rattle.commands.specs.IndexFiles.{Said, SaysOf, ReportsFault, IsFaultReported}
 use Rattle.commands.specs.Messages.{IsReported, code_text}
 use Rattle.commands.specs.Prints.{search_query, IsFoundText, SearchText, SearchGoesThrough, IsSaid, ComesFirst, SearchStops}

@@ -10,7 +10,7 @@ use Rattle.ldif.specs.declared.write.WriteFault.TheVariants as writes
 use Rattle.schema.specs.Conf.{Conf}
 use Rattle.schema.specs.declared.code.Code.{Code}
 use Rattle.tree.specs.Directories.{Entries}
-use Rattle.databases.specs.Dumps.{Writes}
+use Rattle.ldif.specs.Written.{Writes}
 use Rattle.databases.specs.Faults.{Failures}
 use Rattle.databases.specs.Loading.{StopsAt}
 use Rattle.databases.specs.declared.runs.RunFault.{RunFault}
@@ -19,7 +19,8 @@ use Rattle.databases.specs.declared.loading.LoadFault.{LoadFault}
 use Rattle.databases.specs.declared.loading.LoadFault.TheVariants as loads
 use Rattle.filter_text.specs.Spells.{FilterContent}
 use Rattle.commands.specs.Asked.{IsFilter, HasFilter}
-use Rattle.commands.specs.Folders.{Files, Finds, conf_name, data_name, index_name}
+use Rattle.folders.specs.Folders.{Files, Finds}
+use Rattle.commands.specs.DirectoryFiles.{conf_name, data_name, index_name}
 use Rattle.commands.specs.Worlds.{World}
 use Rattle.commands.specs.Endings.{StoppedAt, ReportsStop, Stops}
 use Rattle.commands.specs.Loaded.{IsConfigured, IsLoaded, LoadFails}

@@ -2,7 +2,7 @@
 use Rattle.std.proofs.Common.{◌≡◌, List, [], ◌∷◌, Option, refl, ap, ◌∙◌}
 use Rattle.std.specs.Prelude.{Result, Ok, Err, IfErr, OnErr}
 use Rattle.commands.specs.Failures.{IsMemory, FailsToWrite}
-use Rattle.commands.specs.Folders.{File, Files, with_file, with_files}
+use Rattle.folders.specs.Folders.{File, Files, with_file, with_files}
 use Rattle.commands.specs.Stored.{FailsToStore}
 use Rattle.commands.specs.Worlds.{World}
 use Rattle.commands.specs.inner.Stores.{StoresPartly}

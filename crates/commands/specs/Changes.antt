@@ -15,7 +15,7 @@ use Rattle.databases.specs.declared.runs.RunFault.{RunFault}
 use Rattle.databases.specs.declared.runs.RunFault.TheVariants as run_faults
 use Rattle.command_line.specs.declared.request.AddOptions.{AddOptions}
 use Rattle.command_line.specs.declared.request.ModifyOptions.{ModifyOptions}
-use Rattle.commands.specs.Folders.{File, Files, Finds, with_files}
+use Rattle.folders.specs.Folders.{File, Files, Finds, with_files}
 use Rattle.commands.specs.Worlds.{World}
 use Rattle.commands.specs.Endings.{StoppedAt, IsAtOnce, IsFault}
 use Rattle.commands.specs.Loaded.{IsLoaded, LoadsFiles, LoadFails}

@@ -1,7 +1,7 @@
 -- How a command ends: it goes through, or it stops and reports why.
 use Rattle.std.specs.Prelude.{◌≡◌, ◌⊎◌, List, [], string_bytes}
 use Rattle.device.specs.Device.{Written}
-use Rattle.commands.specs.Folders.{File, with_files}
+use Rattle.folders.specs.Folders.{File, with_files}
 use Rattle.commands.specs.Worlds.{World}
 use Rattle.commands.specs.Messages.{IsTextReported, IsReported, fault_text}
 use Rattle.commands.specs.Statuses.{status_of_fault}

@@ -5,8 +5,8 @@ use Rattle.paths.specs.Paths.{Path}
 use Rattle.schema.specs.Conf.{Conf}
 use Rattle.tree.specs.Directories.{Entries}
 use Rattle.filter_text.specs.Spells.{FilterContent}
-use Rattle.search.specs.declared.scope.Scope.TheVariants.{Sub}
-use Rattle.search.specs.Searches.{scan}
+use Rattle.paths.specs.declared.scope.Scope.TheVariants.{Sub}
+use Rattle.databases.specs.Scanned.{scan}
 use Rattle.databases.specs.Found.{found_text}
 
 -- the entries at a base and below it of which a filter is True, whole; nothing where the base isn't there

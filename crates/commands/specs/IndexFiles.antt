@@ -10,14 +10,15 @@ use Rattle.tree.specs.Directories.{Entries}
 use Rattle.filter_text.specs.Spells.{FilterContent}
 use Rattle.filter.specs.Prepared.{prepared_filter}
 use Rattle.candidates.specs.Sides.{sides}
-use Rattle.search.specs.declared.scope.Scope.{Scope}
-use Rattle.search.specs.Ranks.{rank_in}
-use Rattle.search.specs.Searches.{scan, scan_among}
+use Rattle.paths.specs.declared.scope.Scope.{Scope}
+use Rattle.databases.specs.Ranks.{rank_in}
+use Rattle.databases.specs.Scanned.{scan, scan_among}
 use Rattle.stored_index.specs.Faults.{fault_report}
 use Rattle.stored_index.specs.Stored.{Stored, index_in, shown_by}
 use Rattle.stored_index.specs.declared.fault.IndexFaultKind.{IndexFaultKind}
 use Rattle.databases.specs.IndexTexts.{stamp}
-use Rattle.commands.specs.Folders.{Files, Finds, index_name}
+use Rattle.folders.specs.Folders.{Files, Finds}
+use Rattle.commands.specs.DirectoryFiles.{index_name}
 use Rattle.commands.specs.Messages.{line_of}
 use Rattle.commands.specs.Worlds.{World}
 

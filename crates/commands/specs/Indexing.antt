@@ -3,7 +3,7 @@ use Rattle.std.specs.Prelude.{◌≡◌, ◌⊎◌, [], ◌∷◌, IfSome, Some}
 use Rattle.schema.specs.Conf.{Conf}
 use Rattle.tree.specs.Directories.{Entries}
 use Rattle.command_line.specs.declared.request.IndexOptions.{IndexOptions}
-use Rattle.commands.specs.Folders.{Files, with_files}
+use Rattle.folders.specs.Folders.{Files, with_files}
 use Rattle.commands.specs.Worlds.{World}
 use Rattle.commands.specs.Endings.{StoppedAt, IsAtOnce, IsFault}
 use Rattle.commands.specs.Loaded.{IsLoaded, LoadsFiles, LoadFails}

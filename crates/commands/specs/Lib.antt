@@ -3,8 +3,7 @@ pub mod Messages
 pub mod Failures
 pub mod Asked
 pub mod Excerpts
-pub mod Folders
-pub mod Locks
+pub mod DirectoryFiles
 pub mod Worlds
 pub mod Endings
 pub mod Locked

@@ -11,7 +11,8 @@ use Rattle.tree.specs.Directories.{Entries}
 use Rattle.databases.specs.Runs.{LoadsRecords, Loads, loaded_after}
 use Rattle.databases.specs.Folds.{Over}
 use Rattle.databases.specs.declared.refusal.RecordRefusal.{RecordRefusal}
-use Rattle.commands.specs.Folders.{Files, Finds, conf_name, data_name}
+use Rattle.folders.specs.Folders.{Files, Finds}
+use Rattle.commands.specs.DirectoryFiles.{conf_name, data_name}
 use Rattle.commands.specs.Failures.{IsMemory}
 use Rattle.commands.specs.declared.messages.CommandFault.{CommandFault}
 use Rattle.commands.specs.declared.messages.CommandFault.TheVariants as faults

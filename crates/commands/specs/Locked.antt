@@ -1,7 +1,8 @@
 -- How a command ends that writes: under the lock of the directory's dir.conf, or at once where it has no lock.
 use Rattle.std.specs.Prelude.{◌≡◌, ℕ, ◌⊎◌, List, Option, None, Some, string_bytes}
-use Rattle.commands.specs.Folders.{Files, Finds, conf_name}
-use Rattle.commands.specs.Locks.{Others, IsInUse, IsFree, Takes}
+use Rattle.folders.specs.Folders.{Files, Finds}
+use Rattle.commands.specs.DirectoryFiles.{conf_name}
+use Rattle.folders.specs.Locks.{Others, IsInUse, IsFree, Takes}
 use Rattle.commands.specs.Worlds.{World}
 use Rattle.commands.specs.Endings.{StoppedAt, IsAtOnce, IsFault, Stops, Ends}
 use Rattle.commands.specs.Failures.{IsMemory}

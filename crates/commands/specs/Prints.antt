@@ -7,7 +7,7 @@ use Rattle.paths.specs.Paths.{Path}
 use Rattle.schema.specs.Conf.{Conf}
 use Rattle.schema.specs.declared.code.Code.TheVariants.{SizeLimitExceeded}
 use Rattle.tree.specs.Directories.{Entries}
-use Rattle.search.specs.Searches.{scan}
+use Rattle.databases.specs.Scanned.{scan}
 use Rattle.stored_index.specs.declared.fault.IndexFaultKind.{IndexFaultKind}
 use Rattle.databases.specs.Selections.{Selection}
 use Rattle.databases.specs.Found.{limited_text, goes_past}
@@ -16,7 +16,7 @@ use Rattle.databases.specs.Runs.{dump}
 use Rattle.command_line.specs.declared.request.CatOptions.{CatOptions}
 use Rattle.command_line.specs.declared.request.SearchOptions.{SearchOptions}
 use Rattle.commands.specs.Asked.{IsBase, IsSelection}
-use Rattle.commands.specs.Folders.{Files, with_file}
+use Rattle.folders.specs.Folders.{Files, with_file}
 use Rattle.commands.specs.Worlds.{World, IsPrinted, Reports}
 use Rattle.commands.specs.Endings.{StoppedAt, IsFault}
 use Rattle.commands.specs.Messages.{code_text, line_of}

@@ -8,9 +8,10 @@ use Rattle.schema.specs.declared.code.Code.{Code}
 use Rattle.schema.specs.declared.code.Code.TheVariants.{NoSuchObject}
 use Rattle.tree.specs.Directories.{Entries}
 use Rattle.filter_text.specs.Spells.{FilterContent}
-use Rattle.databases.specs.Dumps.{Begun}
+use Rattle.ldif.specs.Written.{Begun}
 use Rattle.commands.specs.Asked.{IsFilter, HasFilter, IsNoFilterFor, base_of, IsBase}
-use Rattle.commands.specs.Folders.{Files, index_name}
+use Rattle.folders.specs.Folders.{Files}
+use Rattle.commands.specs.DirectoryFiles.{index_name}
 use Rattle.commands.specs.Worlds.{World}
 use Rattle.commands.specs.Endings.{StoppedAt, HasOnlyPrinted}
 use Rattle.commands.specs.Loaded.{IsLoaded, LoadFails}

@@ -4,7 +4,8 @@ use Rattle.schema.specs.Conf.{Conf}
 use Rattle.tree.specs.Directories.{Entries}
 use Rattle.databases.specs.Runs.{dump}
 use Rattle.databases.specs.IndexTexts.{index_text}
-use Rattle.commands.specs.Folders.{File, data_name, index_name}
+use Rattle.folders.specs.Folders.{File}
+use Rattle.commands.specs.DirectoryFiles.{data_name, index_name}
 use Rattle.commands.specs.Worlds.{World}
 use Rattle.commands.specs.Endings.{StoppedAt, IsFault}
 use Rattle.commands.specs.Failures.{FailsToWrite}

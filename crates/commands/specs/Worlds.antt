@@ -1,8 +1,8 @@
 -- What a command reads and writes, as it stands at one moment.
 use Rattle.std.specs.Prelude.{◌≡◌, ℕ, List, Option}
 use Rattle.device.specs.Device.{Seen, Written, Took}
-use Rattle.commands.specs.Folders.{Files}
-use Rattle.commands.specs.Locks.{Locking}
+use Rattle.folders.specs.Folders.{Files}
+use Rattle.folders.specs.Locks.{Locking}
 use Rattle.commands.specs.Messages.{IsReported}
 use Rattle.commands.specs.declared.messages.Status.{Status}
 

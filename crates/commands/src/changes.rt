@@ -8,12 +8,12 @@ ghost use Rattle.commands.specs.inner.Views.{run_of};
 ghost use Rattle.commands.specs.inner.Stopped.{CanReport, HasStopped, HasEnded, HasEndedUnder};
 
 use crate::database::{load_database, lock, open_present};
-use crate::folder::Folder;
 use crate::messages::{CommandFault, Status, Stop};
 use crate::storing::store_database;
 use command_line::{AddOptions, ModifyOptions};
 use databases::{Database, RunFault, Tally, run};
 use device::{Sink, Source};
+use folders::Folder;
 use ldif::Mode;
 use std::alloc::Global;
 use std::mem;

@@ -3,18 +3,19 @@ ghost use Rattle.std.specs.Prelude.{◌≡◌, ℕ, ◌<◌, ◌-◌, ◌^◌, �
 ghost use Rattle.std.specs.Option.{option_map};
 ghost use Rattle.databases.specs.Runs.{dump};
 ghost use Rattle.dir_conf.specs.Configurations.{conf_of};
-ghost use Rattle.commands.specs.Folders.{Files, Finds, with_file, file_in, conf_name, data_name};
-ghost use Rattle.commands.specs.Locks.{Takes};
+ghost use Rattle.folders.specs.Folders.{Files, Finds, with_file};
+ghost use Rattle.commands.specs.DirectoryFiles.{file_in, conf_name, data_name};
+ghost use Rattle.folders.specs.Locks.{Takes};
 ghost use Rattle.commands.specs.Locked.{LockFails};
 ghost use Rattle.commands.specs.Loaded.{IsConfigured, IsLoaded, LoadsFound, LoadFails};
 ghost use Rattle.commands.specs.Failures.{FailsToRead, FailsToWrite};
 ghost use Rattle.commands.specs.inner.LoadFaults.{TellsLoadFault, EntriesFail};
 
-use crate::folder::{FileText, Folder, FolderFault, LockFault};
 use crate::messages::CommandFault;
 use databases::{Database, LoadFault, load_tree, write_dump};
 use device::{Device, Sink, Source};
 use dir_conf::{ConfFault, read_conf};
+use folders::{FileText, Folder, FolderFault, LockFault};
 use ldif::WriteFault;
 use schema::Conf;
 use std::alloc::{AllocError, Global};
@@ -23,15 +24,21 @@ use tree::Tree;
 /// How many bytes are asked of a file at a time.
 const PIECE: usize = 65536;
 
-impl FileText for Database {
+/// The dump of a database.
+#[derive(Clone, Copy, Drop)]
+pub struct Dump<'a> {
+    pub database: &'a Database,
+}
+
+impl FileText for Dump<'_> {
     type Answer = ();
 
-    ghost text = { λ d. dump d.tree.conf d.tree.entries };
+    ghost text = { λ d. dump d.database.now.tree.conf d.database.now.tree.entries };
 
     ghost answers = { λ _ _. ⊤ };
 
     fn write<W: Sink>(&self, alloc: Global, sink: &mut W) -> Result<(), WriteFault> {
-        write_dump(alloc, &self.tree, &self.conf, sink)
+        write_dump(alloc, &self.database.tree, &self.database.conf, sink)
     }
 }
 

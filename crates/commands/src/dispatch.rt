@@ -5,13 +5,13 @@ ghost use Rattle.commands.specs.Commands.{HelpGoesThrough, HelpStops, RequestGoe
 ghost use Rattle.commands.specs.inner.Stopped.{CanReport, HasEnded, HasEndedUnder};
 
 use crate::changes::{Task, change};
-use crate::folder::Folder;
 use crate::messages::{CommandFault, Status, Stop, report_stop};
 use crate::searching::search;
 use crate::slapcat::slapcat;
 use crate::slapindex::slapindex;
 use command_line::{Request, UsageFault, read};
 use device::{Device, Sink, Source, push_all};
+use folders::Folder;
 use std::alloc::Global;
 use std::convert::AsStr;
 

@@ -3,10 +3,10 @@ ghost use Rattle.std.specs.Prelude.{◌≡◌, ⊤};
 ghost use Rattle.filter_text.specs.Spells.{view};
 ghost use Rattle.commands.specs.Excerpts.{excerpt_text};
 
-use crate::folder::FileText;
 use databases::{Database, Scope, Selection, search_tree, write_found};
 use device::Sink;
 use filter::Prepared;
+use folders::FileText;
 use ldif::WriteFault;
 use schema::Path;
 use std::alloc::Global;

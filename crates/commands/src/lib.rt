@@ -6,7 +6,6 @@ mod database;
 mod dispatch;
 mod excerpt;
 mod finding;
-mod folder;
 mod index_file;
 mod messages;
 mod searching;
@@ -15,5 +14,4 @@ mod slapindex;
 mod storing;
 
 pub use dispatch::command;
-pub use folder::{FileText, Folder, FolderFault, LockFault};
 pub use messages::{CommandFault, Status, report_fault};

@@ -3,7 +3,7 @@ ghost use Rattle.std.specs.Prelude.{◌≡◌, ℕ, ◌<◌, ◌-◌, ◌^◌, B
 ghost use Rattle.std.specs.Option.{option_copied};
 ghost use Rattle.device.specs.Device.{Took};
 ghost use Rattle.schema.specs.declared.code.Code.TheVariants.{SizeLimitExceeded};
-ghost use Rattle.search.specs.Walks.{seen};
+ghost use Rattle.databases.specs.Walks.{seen};
 ghost use Rattle.databases.specs.Found.{AreThere, limited_text, goes_past};
 ghost use Rattle.filter_text.specs.Spells.{view};
 ghost use Rattle.commands.specs.Asked.{IsBase, IsFilter};
@@ -24,17 +24,16 @@ ghost use Rattle.commands.specs.declared.messages.Status.TheVariants.{Refused};
 
 use crate::database::load_database;
 use crate::finding::{filter_of, path_of, refused};
-use crate::folder::Folder;
 use crate::index_file::{IndexFile, read_index, report_index};
 use crate::messages::{CommandFault, Status, Stop, report_fault};
 use command_line::SearchOptions;
-use databases::{Database, Selection, search_tree, search_with, write_found};
+use databases::{Database, Hits, Selection, search_tree, search_with, write_found};
 use device::Sink;
 use filter::{Prepared, prepare};
 use filter_text::Filter;
+use folders::Folder;
 use id_sets::IdSet;
 use schema::{Code, Conf, Path};
-use search::Hits;
 use std::alloc::Global;
 use std::mem;
 use stored_index::StoredIndex;

@@ -13,16 +13,16 @@ ghost use Rattle.commands.specs.inner.Refusals.{Refuses, RefusesOrBreaks};
 ghost use Rattle.commands.specs.inner.Views.{basis_of};
 ghost use Rattle.commands.specs.inner.Stopped.{HasEnded};
 
-use crate::database::{load_database, store};
+use crate::database::{Dump, load_database, store};
 use crate::excerpt::Excerpt;
 use crate::finding::{filter_of, path_of};
-use crate::folder::{FileText, Folder};
 use crate::messages::{CommandFault, Status, Stop};
 use command_line::CatOptions;
 use databases::Database;
 use device::Sink;
 use filter::prepare;
 use filter_text::Filter;
+use folders::{FileText, Folder};
 use schema::{Code, Path};
 use std::alloc::Global;
 use std::mem;
@@ -172,7 +172,7 @@ fn put_entries<F: Folder, O: Sink>(
         (O.written out.old) (O.written out.new)) }
 {
     if asked.filter.is_none() && asked.base.is_none() {
-        return put(alloc, database, asked.file, folder, out);
+        return put(alloc, &Dump { database }, asked.file, folder, out);
     }
     put_excerpt(alloc, asked, filter, database, folder, out)
 }

@@ -5,10 +5,10 @@ ghost use Rattle.commands.specs.Indexing.{IndexGoesThrough, IndexStops};
 ghost use Rattle.commands.specs.inner.Stopped.{HasEnded, HasEndedUnder};
 
 use crate::database::{load_database, lock};
-use crate::folder::Folder;
 use crate::messages::{Status, Stop};
 use crate::storing::store_index;
 use command_line::IndexOptions;
+use folders::Folder;
 use std::alloc::Global;
 use std::mem;
 

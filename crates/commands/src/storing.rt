@@ -2,20 +2,21 @@
 ghost use Rattle.std.specs.Prelude.{◌≡◌, [], ◌∷◌, ⊤, IfOk, IfErr, OnOk, OnErr};
 ghost use Rattle.databases.specs.Runs.{dump};
 ghost use Rattle.databases.specs.IndexTexts.{stamp as stamp_by, index_text};
-ghost use Rattle.commands.specs.Folders.{with_file, with_files, file_in};
+ghost use Rattle.folders.specs.Folders.{with_file, with_files};
+ghost use Rattle.commands.specs.DirectoryFiles.{file_in};
 ghost use Rattle.commands.specs.Failures.{FailsToWrite};
 ghost use Rattle.commands.specs.Stored.{index_file, kept_files};
 ghost use Rattle.commands.specs.inner.Stores.{StoresPartly};
 
 use crate::database::{path, store};
-use crate::folder::{FileText, Folder};
 use crate::messages::CommandFault;
 use databases::{Database, Stamp, stamp_of, write_index_of_entries, write_stamped_dump};
 use device::Sink;
+use folders::{FileText, Folder};
 use ldif::WriteFault;
 use std::alloc::Global;
 
-/// The dump of a database.
+/// The dump of a database, of which the stamp is answered.
 #[derive(Clone, Copy, Drop)]
 struct StampedDump<'a> {
     database: &'a Database,

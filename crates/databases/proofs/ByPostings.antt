@@ -19,7 +19,7 @@ use Rattle.candidates.specs.Asked.{asked_keys, HaveSameSlots, ShowAlike}
 use Rattle.candidates.specs.Brackets.{Reflects, Allows}
 use Rattle.candidates.specs.Candidates.{prepared_of, may_be_true}
 use Rattle.candidates.specs.Sides.{sides}
-use Rattle.search.specs.Ranks.{rank_in}
+use Rattle.databases.specs.Ranks.{rank_in}
 use Rattle.databases.specs.Searches.{may_by_rank, ShowsTo}
 
 -- ---- a part of what postings show

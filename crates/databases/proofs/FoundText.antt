@@ -16,11 +16,11 @@ use Rattle.tree.specs.Directories.{Entries, IsDirectory}
 use Rattle.filter_text.specs.Spells.{FilterContent}
 use Rattle.filter.specs.Truths.{is_true}
 use Rattle.filter.specs.Filters.{truth}
-use Rattle.search.specs.declared.scope.Scope.{Scope}
-use Rattle.search.specs.Scopes.{is_in_scope}
-use Rattle.search.specs.Searches.{scan, is_tested, scan_among}
-use Rattle.search.specs.Walks.{Lent, seen}
-use Rattle.databases.specs.Dumps.{SoFar, Writes}
+use Rattle.paths.specs.declared.scope.Scope.{Scope}
+use Rattle.paths.specs.Scopes.{is_in_scope}
+use Rattle.databases.specs.Scanned.{scan, is_tested, scan_among}
+use Rattle.databases.specs.Walks.{Lent, seen}
+use Rattle.ldif.specs.Written.{SoFar, Writes}
 use Rattle.databases.specs.Selections.{Selection}
 use Rattle.databases.specs.Found.{AreThere, found_record, found_text, up_to, goes_past}
 use Rattle.databases.specs.inner.Dumps.{entry_text}

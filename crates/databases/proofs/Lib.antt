@@ -20,3 +20,5 @@ pub mod WrittenLines
 pub mod IndexExamples
 pub mod RankedEntries
 pub mod SortedRows
+pub mod Places
+pub mod Scans

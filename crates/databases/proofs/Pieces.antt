@@ -8,7 +8,7 @@ use Rattle.device.specs.Device.{Written, Took, Broke}
 use Rattle.device.proofs.Taken.{took_none, took_more, broke_after, broke_before}
 use Rattle.ldif.specs.declared.write.WriteFault.{WriteFault}
 use Rattle.ldif.specs.declared.write.WriteFault.TheVariants as faults
-use Rattle.databases.specs.Dumps.{SoFar, Begun, Writes, WritesOn}
+use Rattle.ldif.specs.Written.{SoFar, Begun, Writes, WritesOn}
 
 pub begins : (a : Written) (whole : List ℕ) → SoFar a a whole whole
 begins a whole = record { front = []; parts = refl; written = took_none a }

@@ -23,8 +23,8 @@ use Rattle.tree.proofs.Order.{path_exact}
 use Rattle.id_sets.specs.Lists.{holds}
 use Rattle.index_keys.specs.EntryKeys.{has_key}
 use Rattle.index_text.specs.Postings.{Shown, slot_in}
-use Rattle.search.specs.Ranks.{rank_in}
-use Rattle.search.proofs.Places.{AreRanked, all_ranked}
+use Rattle.databases.specs.Ranks.{rank_in}
+use Rattle.databases.proofs.Places.{AreRanked, all_ranked}
 use Rattle.databases.specs.IndexTexts.{ranks_with, contents}
 use Rattle.databases.specs.Searches.{ReflectsDump, ShowsIndexText}
 

@@ -9,7 +9,7 @@ use Rattle.schema.specs.Conf.{Conf}
 use Rattle.tree.specs.Directories.{Entries}
 use Rattle.index_text.specs.IndexTexts.{ended, end_line}
 use Rattle.index_text.specs.IndexTexts as texts
-use Rattle.databases.specs.Dumps.{SoFar, Writes}
+use Rattle.ldif.specs.Written.{SoFar, Writes}
 use Rattle.databases.specs.IndexTexts.{index_text, first_line, slot_lines, slots_lines}
 use Rattle.databases.proofs.Pieces as pieces
 

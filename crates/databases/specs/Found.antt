@@ -10,7 +10,7 @@ use Rattle.schema.specs.Conf.{Conf}
 use Rattle.entries.specs.Entries.{EntryContent}
 use Rattle.tree.specs.Directories.{Entries, record_at}
 use Rattle.databases.specs.Selections.{Selection, selected}
-use Rattle.databases.specs.Dumps.{Writes}
+use Rattle.ldif.specs.Written.{Writes}
 
 -- these are entries of the directory
 abbrev pub AreThere : Entries → List (Path × EntryContent) → Type 0

@@ -1,7 +1,6 @@
 pub mod Reports
 pub mod Runs
 pub mod Faults
-pub mod Dumps
 pub mod IndexTexts
 pub mod Loading
 pub mod Folds
@@ -10,4 +9,8 @@ pub mod FailedReads
 pub mod Searches
 pub mod Selections
 pub mod Found
+pub mod Ranks
+pub mod Scanned
+pub mod TreeSearches
+pub mod Walks
 pub mod inner

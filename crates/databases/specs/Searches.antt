@@ -19,7 +19,7 @@ use Rattle.index_text.specs.Postings.{Shown, slot_in}
 use Rattle.candidates.specs.Asked.{asked_keys, HaveSameSlots, ShowAlike}
 use Rattle.candidates.specs.Brackets.{Reflects}
 use Rattle.candidates.specs.Candidates.{prepared_of, may_be_true}
-use Rattle.search.specs.Ranks.{rank_in}
+use Rattle.databases.specs.Ranks.{rank_in}
 use Rattle.databases.specs.IndexTexts.{ranks_with, contents}
 
 -- why a search finds nothing: its base isn't there, or memory ran out

@@ -2,6 +2,8 @@ pub mod Steps
 pub mod Dumps
 pub mod Loading
 pub mod Stands
+pub mod Marks
+pub mod Numberings
 pub mod Found
 pub mod Pulls
 pub mod RecordEdits

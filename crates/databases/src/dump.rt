@@ -5,7 +5,7 @@ ghost use Rattle.std.specs.FinMap as finite;
 ghost use Rattle.ldif.specs.Writing.{written_line};
 ghost use Rattle.entries.specs.StoredEntries.{content_of};
 ghost use Rattle.databases.specs.Runs.{dump, LoadsBack};
-ghost use Rattle.databases.specs.Dumps.{Writes, WritesOn};
+ghost use Rattle.ldif.specs.Written.{Writes, WritesOn};
 ghost use Rattle.databases.specs.inner.Dumps.{AreKnown, values_text, attribute_text, selected_text, entry_text, tree_entry_text};
 
 use crate::laws::loading_a_dump;

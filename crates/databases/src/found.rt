@@ -1,17 +1,17 @@
 //! The entries that a search finds, as LDIF.
 
 ghost use Rattle.std.specs.Prelude.{◌≡◌, ◌<◌, ◌-◌, ◌^◌, ◌++◌, false, map};
-ghost use Rattle.search.specs.Walks.{seen};
+ghost use Rattle.databases.specs.Walks.{seen};
 ghost use Rattle.databases.specs.Found.{AreThere, limited_text, goes_past, WritesFound};
 ghost use Rattle.databases.specs.inner.Found.{is_used_up, one_fewer, WritesFoundOn};
 
 use crate::dump::{Printer, pass_on};
+use crate::hits::Hits;
 use crate::selection::Selection;
 use device::Sink;
 use id_sets::IdSet;
 use ldif::WriteFault;
 use schema::Conf;
-use search::Hits;
 use std::alloc::Global;
 use tree::{Names, Tree};
 

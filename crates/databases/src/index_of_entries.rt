@@ -3,7 +3,7 @@
 ghost use Rattle.std.specs.Prelude.{◌≡◌, ◌<◌, ◌≤◌, ◌-◌, ◌^◌, ◌++◌, ◌∷◌, [], List, ℕ, map, length, IfOk, IfErr, Err};
 ghost use Rattle.index_keys.specs.TypeNorms.{AreNormsOf};
 ghost use Rattle.index_keys.specs.RankedKeys.{rows_text};
-ghost use Rattle.databases.specs.Dumps.{SoFar, Writes, WritesOn};
+ghost use Rattle.ldif.specs.Written.{SoFar, Writes, WritesOn};
 ghost use Rattle.databases.specs.IndexTexts.{stamp as stamp_by, index_text, first_line, slot_lines, slots_lines, keys_lines};
 ghost use Rattle.databases.specs.inner.RankedEntries.{AreRankedEntries};
 

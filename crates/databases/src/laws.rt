@@ -1,9 +1,13 @@
-//! What holds of dumps, and of index texts.
+//! What holds of dumps, of index texts, and of searches among candidates.
 
-ghost use Rattle.std.specs.Prelude.{◌≡◌, length, Ok};
-ghost use Rattle.std.specs.List.{AllByRecursion};
+ghost use Rattle.std.specs.Prelude.{◌≡◌, length, Ok, ℕ, Bool, Some};
+ghost use Rattle.std.specs.List.{AllByRecursion, slice_get};
 ghost use Rattle.std.specs.FinMap as finite;
+ghost use Rattle.paths.specs.Paths.{Path};
+ghost use Rattle.paths.specs.declared.scope.Scope.{Scope};
 ghost use Rattle.schema.specs.Conf.{Conf, IsConf};
+ghost use Rattle.filter_text.specs.Spells.{FilterContent};
+ghost use Rattle.entries.specs.Entries.{EntryContent};
 ghost use Rattle.tree.specs.Directories.{Entries, IsDirectory};
 ghost use Rattle.index_text.specs.Postings.{Shown};
 ghost use Rattle.stored_index.specs.Rows.{IsByte};
@@ -11,6 +15,8 @@ ghost use Rattle.stored_index.specs.Stored.{index_in, stored, shown_by};
 ghost use Rattle.databases.specs.IndexTexts.{index_rows, index_text, stamp};
 ghost use Rattle.databases.specs.Runs.{LoadsBack};
 ghost use Rattle.databases.specs.Searches.{ReflectsDump, ShowsIndexText};
+ghost use Rattle.databases.specs.Ranks.{rank_in};
+ghost use Rattle.databases.specs.Scanned.{scan, Suffices, scan_among};
 
 /// Loading the dump of a directory gives the same directory, and refuses none of its records.
 #[tactic(auto, using(crate::proofs::LoadLaw::loads_back))]
@@ -36,3 +42,14 @@ pub fn kept_index_texts_are_read()
 {
     stored_index::written_texts_are_read();
 }
+
+/// Where each entry of which the filter is True is a candidate, a scan among the candidates finds what a scan of all entries finds.
+pub fn candidates_suffice()
+    ensures { (conf : Conf) (d : Entries) (is_candidate : Path → Bool) (base : Path) (scope : Scope) (f : FilterContent)
+        → Suffices conf d is_candidate f → scan_among conf d is_candidate base scope f ≡ scan conf d base scope f }
+{}
+
+/// The rank of an entry is its place in the dump, from 0 on.
+pub fn ranks_are_places()
+    ensures { (d : Entries) (n : ℕ) (p : Path) (e : EntryContent) → slice_get (finite.entries d) n ≡ Some (p, e) → rank_in d p ≡ n }
+{}

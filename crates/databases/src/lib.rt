@@ -8,12 +8,17 @@ mod applying;
 mod database;
 mod dump;
 mod found;
+mod hits;
 mod index_of_entries;
 mod laws;
 mod loading;
+mod marked;
+mod numbering;
 mod placed_entries;
+mod ranks;
 mod refusal;
 mod runs;
+mod scanning;
 mod searching;
 mod selection;
 mod stamps;
@@ -22,12 +27,17 @@ mod target;
 pub use database::Database;
 pub use dump::{pass_on, pass_on_long, write_dump};
 pub use found::write_found;
+pub use hits::Hits;
 pub use index_of_entries::{begin_index_text, write_index_of_entries};
-pub use laws::{index_texts_reflect_dumps, kept_index_texts_are_read, loading_a_dump};
+pub use laws::{
+    candidates_suffice, index_texts_reflect_dumps, kept_index_texts_are_read, loading_a_dump,
+    ranks_are_places,
+};
 pub use loading::{LoadFault, load_tree};
+pub use paths::Scope;
 pub use refusal::{Outcome, RecordRefusal};
 pub use runs::{RunFault, Tally, run};
-pub use search::{Hits, Scope};
+pub use scanning::{scan, search, search_by_ranks};
 pub use searching::{search_tree, search_with};
 pub use selection::Selection;
 pub use stamps::{Stamp, stamp_of, write_stamped_dump};

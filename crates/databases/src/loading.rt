@@ -20,7 +20,7 @@ use std::alloc::{AllocError, Global};
 use tree::Tree;
 
 /// Why nothing was loaded.
-#[derive(Clone, Copy, Debug, PartialEq, Eq)]
+#[derive(Clone, Copy)]
 pub enum LoadFault {
     /// The source failed.
     Read,

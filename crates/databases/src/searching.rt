@@ -5,19 +5,22 @@ ghost use Rattle.std.specs.FinMap as finite;
 ghost use Rattle.schema.specs.Conf.{IsConf};
 ghost use Rattle.filter_text.specs.Spells.{view};
 ghost use Rattle.index_text.specs.Postings.{Shown};
-ghost use Rattle.search.specs.Searches.{scan, count_in_scope, count_among};
-ghost use Rattle.search.specs.TreeSearches.{found, counted_found};
-ghost use Rattle.search.specs.Walks.{seen, counted};
+ghost use Rattle.databases.specs.Scanned.{scan, count_in_scope, count_among};
+ghost use Rattle.databases.specs.TreeSearches.{found, counted_found};
+ghost use Rattle.databases.specs.Walks.{seen, counted};
 ghost use Rattle.databases.specs.Found.{AreThere};
 ghost use Rattle.databases.specs.Searches.{IsRefused, may_by_rank, ShowsTo, ReflectsDump};
 
+use crate::hits::Hits;
+use crate::laws::candidates_suffice;
+use crate::scanning::{scan, search_by_ranks};
 use candidates::{asked_keys_suffice, brackets_hold, may_match};
 use entries::Refusal;
 use filter::Prepared;
 use id_sets::ListSet;
 use index_text::Postings;
+use paths::Scope;
 use schema::{Code, Path};
-use search::{Hits, Scope, candidates_suffice, scan, search_by_ranks};
 use std::alloc::Global;
 use tree::Tree;
 

@@ -5,7 +5,7 @@ ghost use Rattle.std.specs.FinMap as finite;
 ghost use Rattle.sha2.specs.Hashers.{Holds256};
 ghost use Rattle.entries.specs.StoredEntries.{content_of};
 ghost use Rattle.databases.specs.Runs.{dump};
-ghost use Rattle.databases.specs.Dumps.{Writes, end_of, WritesOn};
+ghost use Rattle.ldif.specs.Written.{Writes, end_of, WritesOn};
 ghost use Rattle.databases.specs.IndexTexts.{stamp};
 ghost use Rattle.databases.specs.inner.Dumps.{HashesOn, tree_entry_text};
 

@@ -29,9 +29,9 @@ use Rattle.index_text.specs.Postings.{Shown, slot_in, shown_by}
 use Rattle.candidates.specs.Brackets.{Reflects}
 use Rattle.candidates.specs.Candidates.{prepared_of}
 use Rattle.candidates.specs.Sides.{Sides, exactly, at_most, if_indexed, assertion_sides, item_sides, all_sides, any_sides, swapped, sides, sides_each}
-use Rattle.search.specs.declared.scope.Scope.{Scope}
-use Rattle.search.specs.Scopes.{is_in_scope}
-use Rattle.search.specs.Searches.{is_tested, count_among, counted_by, counted_scan}
+use Rattle.paths.specs.declared.scope.Scope.{Scope}
+use Rattle.paths.specs.Scopes.{is_in_scope}
+use Rattle.databases.specs.Scanned.{is_tested, count_among, counted_by, counted_scan}
 use Rattle.directory.specs.Indexes.{IsIndexOf}
 use Rattle.directory.specs.Searches.{may_by_number}
 use Rattle.directory.proofs.RanksByNumber.{there_number}

@@ -8,9 +8,9 @@ use Rattle.filter.specs.Made.{Made}
 use Rattle.index_text.specs.Indexes.{Index}
 use Rattle.index_text.specs.Postings.{Shown, shown_by}
 use Rattle.candidates.specs.Candidates.{may_be_true}
-use Rattle.search.specs.declared.scope.Scope.{Scope}
-use Rattle.search.specs.Searches.{count_among}
-use Rattle.search.specs.TreeSearches.{counted_found}
+use Rattle.paths.specs.declared.scope.Scope.{Scope}
+use Rattle.databases.specs.Scanned.{count_among}
+use Rattle.databases.specs.TreeSearches.{counted_found}
 use Rattle.directory.specs.Indexes.{IsIndexOf}
 
 -- whether the filter may be True of the entry at a path, by what postings show of its number

@@ -2,7 +2,7 @@
 
 ghost use Rattle.std.specs.Prelude.{◌≡◌, ◌<◌, ◌-◌, ◌^◌, ◌++◌, Some, OnOk};
 ghost use Rattle.std.specs.List.{slice_get};
-ghost use Rattle.databases.specs.Dumps.{Writes, WritesOn};
+ghost use Rattle.ldif.specs.Written.{Writes, WritesOn};
 ghost use Rattle.directory.specs.Indexes.{IsIndexOf};
 ghost use Rattle.databases.specs.IndexTexts.{stamp as stamp_by, index_text, slot_lines, slots_lines};
 ghost use Rattle.directory.specs.inner.IndexRows.{row_text, rows_text, IsListing};

@@ -12,12 +12,11 @@ mod searching;
 
 pub use applying::Edits;
 pub use databases::{
-    Database, LoadFault, Outcome, RecordRefusal, RunFault, Selection, Stamp, Tally, Target,
-    index_texts_reflect_dumps, kept_index_texts_are_read, load_tree, loading_a_dump, run,
-    search_tree, search_with, stamp_of, write_dump, write_found, write_index_of_entries,
+    Database, Hits, LoadFault, Outcome, RecordRefusal, RunFault, Scope, Selection, Stamp, Tally,
+    Target, index_texts_reflect_dumps, kept_index_texts_are_read, load_tree, loading_a_dump, run,
+    scan, search_tree, search_with, stamp_of, write_dump, write_found, write_index_of_entries,
     write_stamped_dump,
 };
 pub use directory::Directory;
 pub use index_texts::write_index_text;
 pub use loading::load;
-pub use search::{Hits, Scope};

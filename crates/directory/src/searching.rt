@@ -3,20 +3,20 @@
 ghost use Rattle.std.specs.Prelude.{◌≡◌, true, map, IfOk, IfErr};
 ghost use Rattle.std.specs.FinMap as finite;
 ghost use Rattle.filter_text.specs.Spells.{view};
-ghost use Rattle.search.specs.Searches.{scan};
-ghost use Rattle.search.specs.Walks.{seen, counted};
+ghost use Rattle.databases.specs.Scanned.{scan};
+ghost use Rattle.databases.specs.Walks.{seen, counted};
 ghost use Rattle.databases.specs.Found.{AreThere};
 ghost use Rattle.directory.specs.Indexes.{IsIndexOf};
 ghost use Rattle.databases.specs.Searches.{IsRefused};
 ghost use Rattle.directory.specs.Searches.{AreSteps, IsTestCount};
 
 use candidates::{brackets_hold, indexes_reflect_entries, may_match};
+use databases::{Hits, Scope, candidates_suffice, search};
 use dense_sets::KeySet;
 use entries::Refusal;
 use filter::Prepared;
 use index::Index;
 use schema::{Code, Conf, Path};
-use search::{Hits, Scope, candidates_suffice, search};
 use std::alloc::Global;
 use tree::Tree;
 

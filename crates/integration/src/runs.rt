@@ -63,7 +63,7 @@ fn a_load_ends_where_the_source_fails(rt: HostRuntime) -> Result<(), Fail> {
     for limit in 0..ROOT.len() {
         let mut source = TrySource::new(ROOT.as_bytes(), 11, Some(limit));
         let found = load(rt.alloc(), conf(rt.alloc())?, &mut source).err();
-        assert_eq!(rt; found, Some(LoadFault::Read));
+        assert!(rt; matches!(found, Some(LoadFault::Read)), "{limit}");
     }
     Ok(())
 }

@@ -3,14 +3,13 @@
 ghost use Rattle.std.specs.Prelude.{◌≡◌, IfOk};
 
 use crate::indexes::{TURNED, empty, indexed};
-use directory::{Directory, search_with};
+use directory::{Directory, Hits, Scope, search_with};
 use entries::{Entry, Refusal};
 use filter::{Prepared, prepare};
 use filter_text::read_filter;
 use id_sets::IdSet;
 use index::Index;
 use schema::{Code, Path};
-use search::{Hits, Scope};
 use std::alloc::Global;
 use std::test::Fail;
 

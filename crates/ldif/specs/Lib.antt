@@ -5,6 +5,7 @@ pub mod Controls
 pub mod LineValues
 pub mod Reading
 pub mod Writing
+pub mod Written
 pub mod Attrs
 pub mod Contents
 pub mod Forms

@@ -20,7 +20,7 @@ use Rattle.std.specs.FinMap.Entries.{find}
 use Rattle.std.proofs.lemmas.Cmp.{nat_list_cmp_total}
 use Rattle.std.proofs.lemmas.List.Elements.{same_from_all_zip}
 use Rattle.std.proofs.lemmas.Map.Text.{is_eq-slice_cmp, btree_map_updates_text}
-use Rattle.commands.specs.Folders.{Files}
+use Rattle.folders.specs.Folders.{Files}
 use Rattle.memory_folder.specs.Memory.{file_seen, files_in, appended}
 
 abbrev bytes_cmp : List ℕ → List ℕ → Ordering

@@ -10,13 +10,13 @@ use Rattle.std.specs.declared.vec.Vec.{Vec}
 use Rattle.try_device.specs.Memory.{source_seen, sink_written}
 use Rattle.try_device.specs.declared.memory.TrySource.{TrySource}
 use Rattle.try_device.specs.declared.memory.TrySink.{TrySink}
-use Rattle.commands.specs.Folders.{Files}
-use Rattle.commands.specs.Locks.{Locking}
+use Rattle.folders.specs.Folders.{Files}
+use Rattle.folders.specs.Locks.{Locking}
 use Rattle.commands.specs.Worlds.{World}
-use Rattle.commands.specs.declared.folder.FolderFault.{FolderFault}
-use Rattle.commands.specs.declared.folder.FolderFault.TheVariants as folder_faults
-use Rattle.commands.specs.declared.folder.LockFault.{LockFault}
-use Rattle.commands.specs.declared.folder.LockFault.TheVariants as lock_faults
+use Rattle.folders.specs.declared.folder.FolderFault.{FolderFault}
+use Rattle.folders.specs.declared.folder.FolderFault.TheVariants as folder_faults
+use Rattle.folders.specs.declared.folder.LockFault.{LockFault}
+use Rattle.folders.specs.declared.folder.LockFault.TheVariants as lock_faults
 use denote.Ref.{Bor}
 use Rattle.memory_folder.specs.declared.contents.Contents.{Contents}
 use Rattle.memory_folder.specs.declared.files.Change.{Change}

@@ -3,16 +3,16 @@ ghost use Rattle.std.specs.Prelude.{◌≡◌, ℕ, true, false, List, Option, N
 ghost use Rattle.std.specs.Option.{option_map};
 ghost use Rattle.std.specs.FinMap as finite;
 ghost use Rattle.device.specs.Adapters.{read_seen};
-ghost use Rattle.commands.specs.Folders.{Finds, with_file};
-ghost use Rattle.commands.specs.Locks.{IsNotTaken, Takes};
-ghost use Rattle.commands.specs.declared.folder.FolderFault.{FolderFault};
-ghost use Rattle.commands.specs.declared.folder.LockFault.{LockFault};
+ghost use Rattle.folders.specs.Folders.{Finds, with_file};
+ghost use Rattle.folders.specs.Locks.{IsNotTaken, Takes};
+ghost use Rattle.folders.specs.declared.folder.FolderFault.{FolderFault};
+ghost use Rattle.folders.specs.declared.folder.LockFault.{LockFault};
 ghost use Rattle.memory_folder.specs.Memory.{files_of, folder_files, folder_locking, folder_trouble, trouble_at, left_of, reading_limit, storing_limit, lock_fault};
 
 use crate::contents::Contents;
 use crate::files::MemoryFiles;
-use commands::{FileText, Folder, FolderFault, LockFault};
 use device::OfRead;
+use folders::{FileText, Folder, FolderFault, LockFault};
 use std::alloc::Global;
 use try_device::TrySink;
 

@@ -1,3 +1,4 @@
 pub mod Paths
 pub mod PathLaws
 pub mod Packed
+pub mod Scopes

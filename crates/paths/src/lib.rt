@@ -7,9 +7,11 @@ mod draft;
 mod laws;
 mod packing;
 mod path;
+mod scope;
 mod type_id;
 
 pub use draft::PathDraft;
 pub use laws::order_of_paths;
 pub use path::{Path, RdnKey, TypedRdn};
+pub use scope::Scope;
 pub use type_id::TypeId;

@@ -3,11 +3,10 @@
 ghost use Rattle.std.specs.Prelude.{◌≡◌};
 
 use anyhow::{Error, Result};
-use directory::Directory;
+use directory::{Directory, Hits, Scope, scan};
 use filter::Prepared;
 use id_sets::IdSet;
 use schema::Path;
-use search::{Hits, Scope, scan};
 use std::alloc::Global;
 use std::rt::Clock;
 use std::time::{Duration, Instant};

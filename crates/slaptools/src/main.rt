@@ -1,13 +1,9 @@
 //! Tools for an LDAP directory that is kept as LDIF, without a server.
 #![tactic(auto)]
 
-mod files;
-mod placeholders;
-
 use commands::{CommandFault, command, report_fault};
 use device::{OfRead, OfWrite};
-use files::Files;
-use placeholders::Placeholders;
+use folders::{Placeholders, SystemFiles};
 use std::env;
 use std::io::{self, ErrorKind};
 use std::process::ExitCode;
@@ -54,7 +50,7 @@ fn main(rt: HostRuntime) -> ExitCode {
         Ok(start) => start,
         Err(fault) => return ExitCode::from(report_fault(rt.alloc(), &mut err, &fault).number()),
     };
-    let mut folder = Files::new(&rt);
+    let mut folder = SystemFiles::new(&rt);
     let mut input = OfRead::new(rt.stdin());
     let mut out = OfWrite::new(rt.stdout());
     ExitCode::from(command(

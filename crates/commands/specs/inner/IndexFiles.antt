@@ -14,7 +14,7 @@ use Rattle.filter_text.specs.Spells.{view}
 use Rattle.command_line.specs.declared.request.SearchOptions.{SearchOptions}
 use Rattle.commands.specs.Asked.{IsFilter}
 use Rattle.commands.specs.Failures.{IsMemory}
-use Rattle.commands.specs.Folders.{Files}
+use Rattle.folders.specs.Folders.{Files}
 use Rattle.commands.specs.IndexFiles.{Said, said_by, SaysOf, index_fault_text}
 use Rattle.commands.specs.Loaded.{IsLoaded}
 use Rattle.commands.specs.Messages.{line_of}

@@ -1,6 +1,6 @@
 -- How a command has ended, before it reports why it stops.
 use Rattle.std.specs.Prelude.{◌≡◌, ℕ, ◌<◌, ◌-◌, ◌^◌, ◌⊎◌, List, Option, None, Some, Result, Ok, Err, ⊤}
-use Rattle.commands.specs.Folders.{File, with_files}
+use Rattle.folders.specs.Folders.{File, with_files}
 use Rattle.commands.specs.Worlds.{World}
 use Rattle.commands.specs.Endings.{StoppedAt}
 use Rattle.commands.specs.Locked.{HasNoLock, Under}

@@ -1,6 +1,6 @@
 -- How far storing came.
 use Rattle.std.specs.Prelude.{◌≡◌, List, ◌∷◌, ◌++◌, Option}
-use Rattle.commands.specs.Folders.{File, Files, with_files}
+use Rattle.folders.specs.Folders.{File, Files, with_files}
 use Rattle.commands.specs.Failures.{FailsToWrite}
 use Rattle.commands.specs.declared.messages.CommandFault.{CommandFault}
 

@@ -2,7 +2,7 @@
 use Rattle.std.specs.Prelude.{◌≡◌, ℕ, ◌-◌, ◌==◌, Bool, false, List, Option, Some, None, Result, Ok, Err}
 use Rattle.device.specs.Device.{Written}
 use Rattle.ldif.specs.declared.write.WriteFault.{WriteFault}
-use Rattle.databases.specs.Dumps.{SoFar, Writes}
+use Rattle.ldif.specs.Written.{SoFar, Writes}
 
 abbrev pub is_used_up : Option ℕ → Bool
 is_used_up None = false

@@ -1,11 +1,10 @@
 use Rattle.std.proofs.Common.{◌≡◌, ◌∙◌, ◌∷◌, [], List, ap, ap₂, sym, drop, map, true, ◌+◌}
 use Rattle.std.specs.Prelude.{fold}
 use Rattle.std.proofs.lemmas.List.{at_drop_all, at_drop_more}
-use Rattle.clap.specs.Words.{App, Shape, app_of, with_subcommand}
+use Rattle.clap.specs.Words.{App, app_of, with_subcommand}
 use Rattle.clap.specs.Simple.{app_of_fields, on_top}
 use Rattle.command_line.specs.CommandLine.{shape}
 use Rattle.command_line.specs.declared.options.Tool.{Tool}
-use Rattle.command_line.proofs.Added.{local}
 use Rattle.command_line.proofs.options.slaptools.Goals as goal
 
 -- the command with all commands of a list
@@ -24,9 +23,7 @@ pub loop-tool-preserved : goal.loop-tool-preserved
 loop-tool-preserved c =
     let at = c.loop-tool in
     let tools = c.slapadd.result ∷ c.ldapmodify.result ∷ c.slapindex.result ∷ c.search.result ∷ c.slapcat.result ∷ [] in
-    let plain = local c.in_ok-command_of.field-0 (ap (λ (s : Shape). s.is_plain) c.in_ok-command_of.ensures) in
-    let added = c.in_ok-command.ensures.shape plain ∙ ap (with_subcommand (app_of at.command)) c.in_ok-command_of.ensures in
-    ap (λ a. with_all a (drop (at.tool-index + 1) tools)) added ∙ sym (at_drop_more (with_all (app_of at.command)) tools at.tool-index _ c.loop-tool-test.true) ∙ at.invariant
+    ap (λ a. with_all a (drop (at.tool-index + 1) tools)) c.in_ok-command.ensures ∙ sym (at_drop_more (with_all (app_of at.command)) tools at.tool-index _ c.loop-tool-test.true) ∙ at.invariant
 
 pub returns : goal.returns
 returns c =

@@ -1,7 +1,7 @@
 use Rattle.std.proofs.Common.{sym, subst, ℕ, List}
 use Rattle.std.proofs.lemmas.Result.{IfOk-weaker}
 use Rattle.std.specs.Prelude.{Some}
-use Rattle.commands.specs.Folders.{Finds}
+use Rattle.folders.specs.Folders.{Finds}
 use Rattle.commands.proofs.Stopping.{conf_unread}
 use Rattle.commands.proofs.database.read_configuration.Goals as goal
 

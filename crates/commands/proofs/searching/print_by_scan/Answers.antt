@@ -2,7 +2,7 @@ use Rattle.std.proofs.Common.{map, refl, sym, subst}
 use Rattle.std.specs.Prelude.{None}
 use Rattle.std.specs.Option.{option_copied}
 use Rattle.schema.specs.Conf.{Conf}
-use Rattle.search.specs.Walks.{seen}
+use Rattle.databases.specs.Walks.{seen}
 use Rattle.commands.specs.Asked.{IsBase}
 use Rattle.commands.specs.inner.Views.{basis_of}
 use Rattle.commands.proofs.Ends.{found_so, selection_so, hits_printed}

@@ -1,7 +1,7 @@
 use Rattle.std.proofs.Common.{map, refl, sym, subst}
 use Rattle.std.specs.Option.{option_copied}
 use Rattle.schema.specs.Conf.{Conf, IsConf}
-use Rattle.search.specs.Walks.{seen}
+use Rattle.databases.specs.Walks.{seen}
 use Rattle.commands.specs.Asked.{IsBase}
 use Rattle.commands.specs.inner.Views.{basis_of}
 use Rattle.commands.proofs.Ends.{found_by_part, selection_so, hits_printed}

@@ -1,5 +1,5 @@
 use Rattle.std.proofs.Common.{◌∙◌}
-use Rattle.search.specs.Walks.{seen}
+use Rattle.databases.specs.Walks.{seen}
 use Rattle.commands.proofs.Ends.{past_seen}
 use Rattle.commands.proofs.Stopping.{write_told, begun_told}
 use Rattle.commands.proofs.searching.print_hits.Goals as goal

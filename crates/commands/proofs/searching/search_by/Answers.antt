@@ -1,6 +1,6 @@
 use Rattle.std.proofs.Common.{refl}
 use Rattle.filter_text.specs.Spells.{view}
-use Rattle.commands.specs.Folders.{index_name}
+use Rattle.commands.specs.DirectoryFiles.{index_name}
 use Rattle.commands.specs.Prints.{search_query}
 use Rattle.commands.proofs.Searched.{stopped_at_once}
 use Rattle.commands.proofs.Stopping.{index_stops, unread_first}

@@ -1,6 +1,6 @@
 use Rattle.std.proofs.Common.{Option, refl, ap}
 use Rattle.std.specs.Option.{option_copied}
-use Rattle.commands.specs.Folders.{Files}
+use Rattle.folders.specs.Folders.{Files}
 use Rattle.commands.specs.Prints.{cat_query, CatText, CatStops}
 use Rattle.commands.specs.Queries.{HasBegun}
 use Rattle.commands.proofs.Stopping.{stopped, query_stops, filter_stops, filter_prints}

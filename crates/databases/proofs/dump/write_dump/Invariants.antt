@@ -1,7 +1,7 @@
 use Rattle.std.proofs.Common.{◌≡◌, ◌++◌, None}
 use Rattle.std.specs.List.{AllByRecursion}
 use Rattle.databases.specs.Runs.{dump}
-use Rattle.databases.specs.Dumps.{SoFar}
+use Rattle.ldif.specs.Written.{SoFar}
 use Rattle.databases.specs.inner.Dumps.{IsThere, entries_text}
 use Rattle.databases.proofs.dump.write_dump.Given as goal
 

@@ -1,8 +1,8 @@
 use Rattle.std.proofs.Common.{◌≡◌, ℕ, List, ◌∷◌, ◌++◌, map, Option, Some, refl, sym, ap, ◌∙◌, subst}
 use Rattle.std.proofs.lemmas.Result.{err_from_is_err_and}
 use Rattle.tree.specs.Trees.{Tree}
-use Rattle.search.specs.Walks.{Walk, Lent, seen}
-use Rattle.databases.specs.Dumps.{SoFar}
+use Rattle.databases.specs.Walks.{Walk, Lent, seen}
+use Rattle.ldif.specs.Written.{SoFar}
 use Rattle.databases.specs.Found.{AreThere, found_text, up_to, goes_past}
 use Rattle.databases.specs.inner.Dumps.{entry_text}
 use Rattle.databases.specs.inner.Found.{one_fewer}

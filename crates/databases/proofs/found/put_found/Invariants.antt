@@ -1,6 +1,6 @@
 use Rattle.std.proofs.Common.{◌≡◌, ◌++◌, map}
-use Rattle.search.specs.Walks.{seen}
-use Rattle.databases.specs.Dumps.{SoFar}
+use Rattle.databases.specs.Walks.{seen}
+use Rattle.ldif.specs.Written.{SoFar}
 use Rattle.databases.specs.Found.{AreThere, found_text, up_to, goes_past}
 use Rattle.databases.proofs.found.put_found.Given as goal
 

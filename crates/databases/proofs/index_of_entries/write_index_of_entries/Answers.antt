@@ -3,7 +3,7 @@ use Rattle.std.proofs.lemmas.Result.{err_from_is_err_and}
 use Rattle.schema.specs.Conf.{Conf}
 use Rattle.tree.specs.Directories.{Entries}
 use Rattle.index_text.specs.IndexTexts.{ended, end_line}
-use Rattle.databases.specs.Dumps.{SoFar}
+use Rattle.ldif.specs.Written.{SoFar}
 use Rattle.databases.specs.IndexTexts.{index_text, slots_lines}
 use Rattle.databases.proofs.Pieces.{wants_memory, ends}
 use Rattle.databases.proofs.WrittenLines.{longer, stopped_early, in_parts}

@@ -1,6 +1,6 @@
 use Rattle.std.proofs.Common.{◌≡◌, ◌++◌, map, length}
 use Rattle.index_keys.specs.RankedKeys.{rows_text}
-use Rattle.databases.specs.Dumps.{SoFar}
+use Rattle.ldif.specs.Written.{SoFar}
 use Rattle.databases.proofs.index_of_entries.write_rows.Given as goal
 
 abbrev pub invariant-loop-parts : goal.invariant-loop-parts

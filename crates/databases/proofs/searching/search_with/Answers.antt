@@ -1,8 +1,8 @@
 use Rattle.std.proofs.Common.{◌∙◌, sym, subst}
 use Rattle.tree.specs.Trees.{Tree}
 use Rattle.filter_text.specs.Spells.{view}
-use Rattle.search.specs.Ranks.{rank_in}
-use Rattle.search.specs.Searches.{scan_among, counted_scan, count_among}
+use Rattle.databases.specs.Ranks.{rank_in}
+use Rattle.databases.specs.Scanned.{scan_among, counted_scan, count_among}
 use Rattle.databases.specs.Found.{AreThere}
 use Rattle.databases.specs.Searches.{may_by_rank}
 use Rattle.databases.proofs.ByPostings.{by_whole, is_candidate}

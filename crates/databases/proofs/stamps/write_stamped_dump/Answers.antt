@@ -11,7 +11,7 @@ use Rattle.tree.specs.Directories.{IsDirectory}
 use Rattle.entries.specs.StoredEntries.{Entry}
 use Rattle.tree.specs.Trees.{Tree, seen_entries}
 use Rattle.databases.specs.Runs.{dump}
-use Rattle.databases.specs.Dumps.{SoFar}
+use Rattle.ldif.specs.Written.{SoFar}
 use Rattle.databases.specs.inner.Dumps.{IsThere, entry_text, entries_text}
 use Rattle.databases.proofs.DumpText.{dump_is, all_in}
 use Rattle.databases.proofs.Pieces as pieces

@@ -2,7 +2,7 @@ use Rattle.std.proofs.Common.{◌≡◌, ◌++◌, ℕ, List, None}
 use Rattle.std.specs.List.{AllByRecursion}
 use Rattle.sha2.specs.Hashers.{Holds256}
 use Rattle.databases.specs.Runs.{dump}
-use Rattle.databases.specs.Dumps.{SoFar}
+use Rattle.ldif.specs.Written.{SoFar}
 use Rattle.databases.specs.inner.Dumps.{IsThere, entries_text}
 use Rattle.databases.proofs.stamps.write_stamped_dump.Given as goal
 

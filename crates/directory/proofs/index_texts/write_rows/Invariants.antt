@@ -1,5 +1,5 @@
 use Rattle.std.proofs.Common.{◌≡◌, ◌++◌}
-use Rattle.databases.specs.Dumps.{SoFar}
+use Rattle.ldif.specs.Written.{SoFar}
 use Rattle.directory.specs.inner.IndexRows.{rows_text}
 use Rattle.directory.proofs.index_texts.write_rows.Given as goal
 

@@ -4,7 +4,7 @@ use Rattle.tree.specs.Trees.{Tree, number_at}
 use Rattle.filter_text.specs.Spells.{view}
 use Rattle.index_text.specs.Postings.{shown_by}
 use Rattle.candidates.specs.Brackets.{Reflects}
-use Rattle.search.specs.Searches.{scan_among, counted_scan, count_among}
+use Rattle.databases.specs.Scanned.{scan_among, counted_scan, count_among}
 use Rattle.databases.specs.Found.{AreThere}
 use Rattle.directory.specs.Searches.{may_by_number}
 use Rattle.databases.proofs.ByPostings.{is_candidate}

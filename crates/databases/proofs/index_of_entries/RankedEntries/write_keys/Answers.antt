@@ -7,7 +7,7 @@ use Rattle.schema.specs.Conf.{Conf}
 use Rattle.tree.specs.Directories.{Entries}
 use Rattle.index_keys.specs.Pairs.{norm_pairs, window_pairs}
 use Rattle.index_keys.specs.RankedKeys.{rows_text}
-use Rattle.databases.specs.Dumps.{WritesOn}
+use Rattle.ldif.specs.Written.{WritesOn}
 use Rattle.databases.specs.IndexTexts.{keys_lines}
 use Rattle.databases.proofs.Pieces.{wants_memory_on}
 use Rattle.databases.proofs.SortedRows.{lines_same}

@@ -2,7 +2,7 @@ use Rattle.std.proofs.Common.{◌≡◌, ℕ, List, ◌++◌, ap, ◌∙◌, sub
 use Rattle.schema.specs.Conf.{Conf}
 use Rattle.tree.specs.Directories.{Entries}
 use Rattle.index_text.specs.IndexTexts.{ended, slot_line}
-use Rattle.databases.specs.Dumps.{WritesOn}
+use Rattle.ldif.specs.Written.{WritesOn}
 use Rattle.databases.specs.IndexTexts.{slot_lines, keys_lines}
 use Rattle.databases.proofs.Pieces.{wants_memory_on}
 use Rattle.databases.proofs.index_of_entries.RankedEntries.write_slot.Goals as goal

@@ -1,7 +1,7 @@
 use Rattle.std.proofs.Common.{◌≡◌, ◌++◌, drop}
 use Rattle.std.specs.Prelude.{IfSome}
 use Rattle.index_keys.specs.TypeNorms.{AreNormsOf}
-use Rattle.databases.specs.Dumps.{SoFar}
+use Rattle.ldif.specs.Written.{SoFar}
 use Rattle.databases.specs.IndexTexts.{slots_lines}
 use Rattle.databases.proofs.index_of_entries.RankedEntries.write_slots.Given as goal
 

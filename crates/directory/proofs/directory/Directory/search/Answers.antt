@@ -1,6 +1,6 @@
 use Rattle.std.proofs.Common.{map, IfOk, sym, subst}
 use Rattle.schema.specs.Conf.{Conf}
-use Rattle.search.specs.Walks.{counted}
+use Rattle.databases.specs.Walks.{counted}
 use Rattle.directory.specs.Directories.{Directory, tree_of}
 use Rattle.directory.specs.Searches.{AreSteps, IsTestCount}
 use Rattle.directory.proofs.directory.Directory.search.Goals as goal

@@ -6,7 +6,7 @@ use Rattle.tree.specs.Trees.{Tree}
 use Rattle.tree.proofs.Order.{path_total}
 use Rattle.index_text.specs.IndexTexts.{ended, slot_line, key_line}
 use Rattle.databases.specs.IndexTexts.{slot_rows, contents, slot_lines}
-use Rattle.databases.specs.Dumps.{WritesOn}
+use Rattle.ldif.specs.Written.{WritesOn}
 use Rattle.directory.specs.inner.IndexRows.{rows_text}
 use Rattle.directory.proofs.IndexRows.{lines_are}
 use Rattle.databases.proofs.Pieces.{wants_memory_on}

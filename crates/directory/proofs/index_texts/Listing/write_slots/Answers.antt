@@ -7,7 +7,7 @@ use Rattle.std.proofs.lemmas.Result.{err_from_is_err_and}
 use Rattle.schema.specs.declared.slots.Slot.{Slot}
 use Rattle.schema.specs.Conf.{Conf}
 use Rattle.tree.specs.Directories.{Entries}
-use Rattle.databases.specs.Dumps.{SoFar}
+use Rattle.ldif.specs.Written.{SoFar}
 use Rattle.databases.specs.IndexTexts.{slot_lines, slots_lines}
 use Rattle.databases.proofs.Pieces.{nothing_yet}
 use Rattle.databases.proofs.WrittenLines.{further, stopped, next_slot}

@@ -1,5 +1,5 @@
 use Rattle.std.proofs.Common.{◌≡◌, ◌++◌, drop}
-use Rattle.databases.specs.Dumps.{SoFar}
+use Rattle.ldif.specs.Written.{SoFar}
 use Rattle.databases.specs.IndexTexts.{slots_lines}
 use Rattle.directory.proofs.index_texts.Listing.write_slots.Given as goal
 

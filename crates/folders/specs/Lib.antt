@@ -1,0 +1,3 @@
+pub mod Folders
+pub mod Locks
+pub mod WriteFaults

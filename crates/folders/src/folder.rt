@@ -1,0 +1,127 @@
+//! Files by their paths.
+ghost use Rattle.std.specs.Prelude.{◌≡◌, ◌<◌, ◌-◌, ◌^◌, ℕ, List, Option, IfOk, IfErr, IfSome, OnOk, OnErr};
+ghost use Rattle.std.specs.Option.{option_map};
+ghost use Rattle.ldif.specs.Written.{Writes, end_of};
+ghost use Rattle.folders.specs.Folders.{Files, Finds, with_file};
+ghost use Rattle.folders.specs.Locks.{Locking, IsNotTaken, Takes};
+ghost use Rattle.folders.specs.declared.folder.FolderFault.TheVariants.{OutOfMemory};
+
+use device::{Sink, Source};
+use ldif::WriteFault;
+use std::alloc::{AllocError, AllocFailed, Global};
+use std::io::{self, ErrorKind};
+
+/// Why a file was not opened or not stored.
+#[derive(Clone, Copy)]
+pub enum FolderFault {
+    Device,
+    OutOfMemory,
+}
+
+impl From<AllocError> for FolderFault {
+    ghost from_gives = { λ _ f. f ≡ OutOfMemory };
+
+    fn from(_: AllocError) -> FolderFault {
+        FolderFault::OutOfMemory
+    }
+}
+
+impl<T: Drop> From<AllocFailed<T>> for FolderFault {
+    ghost from_gives = { λ _ f. f ≡ OutOfMemory };
+
+    fn from(_: AllocFailed<T>) -> FolderFault {
+        FolderFault::OutOfMemory
+    }
+}
+
+impl From<io::Error> for FolderFault {
+    fn from(error: io::Error) -> FolderFault {
+        match error.kind() {
+            ErrorKind::OutOfMemory => FolderFault::OutOfMemory,
+            _ => FolderFault::Device,
+        }
+    }
+}
+
+impl From<WriteFault> for FolderFault {
+    ghost use Rattle.std.specs.Prelude.{◌≡◌};
+    ghost use Rattle.folders.specs.WriteFaults.{folder_fault};
+
+    ghost from_gives = { λ w f. f ≡ folder_fault w };
+
+    fn from(fault: WriteFault) -> FolderFault {
+        match fault {
+            WriteFault::Device => FolderFault::Device,
+            WriteFault::OutOfMemory => FolderFault::OutOfMemory,
+        }
+    }
+}
+
+/// Why a lock was not taken.
+#[derive(Clone, Copy)]
+pub enum LockFault {
+    /// Another process holds it.
+    InUse,
+    /// The file can't be opened, or can't be locked.
+    Device,
+    OutOfMemory,
+}
+
+impl From<io::Error> for LockFault {
+    fn from(error: io::Error) -> LockFault {
+        match error.kind() {
+            ErrorKind::OutOfMemory => LockFault::OutOfMemory,
+            _ => LockFault::Device,
+        }
+    }
+}
+
+/// What can be written to a sink in pieces, so that it need not be in memory whole.
+pub trait FileText {
+    /// What is answered of it once it was written.
+    type Answer: Drop;
+
+    /// Its bytes.
+    ghost text: { Self → List ℕ };
+
+    /// What holds of an answer.
+    ghost answers: { Self → Self.Answer → Type 0 };
+
+    /// Writes all of it. On a fault a beginning was written.
+    fn write<W: Sink>(&self, alloc: Global, sink: &mut W) -> Result<Self::Answer, WriteFault>
+        requires { (W.written sink.old).failed < 2 ^ 64 - 1 }
+        ensures writes { Writes (end_of result) (W.written sink.old) (W.written sink.new) (text self.now) }
+        ensures answer { IfOk result (answers self.now) };
+}
+
+/// Files by their paths.
+pub trait Folder {
+    type In: Source + Drop;
+
+    /// The files and their bytes, where the folder tells them: those in memory can, the system's can't.
+    ghost files: { Self → Option Files };
+
+    /// Whether it holds a lock, and what other processes do, where it tells that.
+    ghost locking: { Self → Locking };
+
+    /// Takes the lock of the file of this name, which one process at most holds at a time, and holds it for good: no call gives it back. Other
+    /// processes may have written files until then, and where they write under this lock, they write none from then on. On a fault all stays
+    /// as it was.
+    fn lock(&mut self, name: &str) -> Result<(), LockFault>
+        ensures ok { OnOk result (Takes name.now (files self.old) (files self.new) (locking self.old) (locking self.new)) }
+        ensures err { IfErr result (IsNotTaken (files self.old) (locking self.old).others name.now) }
+        ensures same_files { OnErr result (files self.new ≡ files self.old) }
+        ensures same_locking { OnErr result (locking self.new ≡ locking self.old) };
+
+    /// The file's bytes from its beginning, or `None` where there is no such file.
+    fn open(&self, name: &str) -> Result<Option<Self::In>, FolderFault>
+        ensures finds { IfOk result (λ o. Finds (files self.now) name.now (option_map (λ s. (Self.In.seen s).left) o)) }
+        ensures failed { IfOk result (λ o. IfSome o (λ s. (Self.In.seen s).failed ≡ 0)) };
+
+    /// Puts a file there whole, in place of the one before, and changes no other. On a fault all files stay as they were.
+    fn store<T: FileText>(&mut self, name: &str, text: &T) -> Result<T::Answer, FolderFault>
+        ensures ok { OnOk result (files self.new ≡ with_file (files self.old) name.now (T.text text.now)) }
+        ensures answer { IfOk result (T.answers text.now) }
+        ensures err { OnErr result (files self.new ≡ files self.old) }
+        ensures locking { locking self.new ≡ locking self.old };
+}

@@ -1,5 +1,0 @@
-use Rattle.search.proofs.Places.{rank_is_place}
-use Rattle.search.proofs.laws.ranks_are_places.Goals as goal
-
-pub returns : goal.returns
-returns c = rank_is_place
