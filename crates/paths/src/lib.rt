@@ -1,4 +1,4 @@
-//! RDNs of types by their numbers, and paths: where entries stand, in the order of a dump.
+//! RDNs of types by their numbers; paths: where entries stand, in the order of a dump; and which of them a search looks at.
 //!
 //! The functions of `laws` do nothing: a call of one is made for what it states alone.
 #![tactic(auto)]

@@ -17,7 +17,7 @@ pub enum Scope {
 }
 
 impl Scope {
-    /// Whether it has an entry of this depth, which is the base, of depth `base`, or stands below it.
+    /// Whether it has an entry of this depth that is the base or stands below it. The base has the depth `base`.
     pub fn fits(self, base: usize, depth: usize) -> bool
         ensures { result ≡ depth_fits self base depth }
     {
