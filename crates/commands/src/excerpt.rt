@@ -3,7 +3,7 @@ ghost use Rattle.std.specs.Prelude.{◌≡◌, ⊤};
 ghost use Rattle.filter_text.specs.Spells.{view};
 ghost use Rattle.commands.specs.Excerpts.{excerpt_text};
 
-use databases::{Database, Scope, Selection, search_tree, write_found};
+use databases::{Database, Scope, Selection, scan, write_found};
 use device::Sink;
 use filter::Prepared;
 use folders::FileText;
@@ -30,7 +30,7 @@ impl<'a> FileText for Excerpt<'a> {
 
     fn write<W: Sink>(&self, alloc: Global, sink: &mut W) -> Result<bool, WriteFault> {
         let Database { conf, tree } = self.database;
-        match search_tree(alloc, tree, self.base, Scope::Sub, self.filter) {
+        match scan(alloc, tree, self.base, Scope::Sub, self.filter) {
             Some(hits) => write_found(alloc, tree, conf, sink, hits, None, &Selection::all()),
             None => Ok(false),
         }

@@ -27,7 +27,7 @@ use crate::finding::{filter_of, path_of, refused};
 use crate::index_file::{IndexFile, read_index, report_index};
 use crate::messages::{CommandFault, Status, Stop, report_fault};
 use command_line::SearchOptions;
-use databases::{Database, Hits, Selection, search_tree, search_with, write_found};
+use databases::{Database, Hits, Selection, scan, search_with, write_found};
 use device::Sink;
 use filter::{Prepared, prepare};
 use filter_text::Filter;
@@ -126,7 +126,7 @@ fn print_by_scan<O: Sink>(
     ensures { PrintsFound asked.now None (basis_of filter.now.filter database.now.tree) (O.written out.old) (O.written out.new) result }
 {
     let Database { conf, tree } = database;
-    match search_tree(alloc, tree, wanted.base, asked.scope, filter) {
+    match scan(alloc, tree, wanted.base, asked.scope, filter) {
         Some(hits) => print_hits(alloc, tree, conf, hits, asked.limit, wanted.selection, out),
         None => Err(CommandFault::Code {
             command: NAME,

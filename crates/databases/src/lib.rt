@@ -38,7 +38,7 @@ pub use paths::Scope;
 pub use refusal::{Outcome, RecordRefusal};
 pub use runs::{RunFault, Tally, run};
 pub use scanning::{scan, search, search_by_ranks};
-pub use searching::{search_tree, search_with};
+pub use searching::search_with;
 pub use selection::Selection;
 pub use stamps::{Stamp, stamp_of, write_stamped_dump};
 pub use target::Target;

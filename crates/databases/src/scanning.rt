@@ -3,6 +3,7 @@
 ghost use Rattle.std.specs.Prelude.{◌≡◌, map, true, is_some, IfSome};
 ghost use Rattle.std.specs.FinMap as finite;
 ghost use Rattle.filter_text.specs.Spells.{view};
+ghost use Rattle.databases.specs.Found.{AreThere};
 ghost use Rattle.databases.specs.Ranks.{rank_in};
 ghost use Rattle.databases.specs.Scanned.{scan, count_in_scope, count_among};
 ghost use Rattle.databases.specs.TreeSearches.{by_number, by_rank, found, counted_found};
@@ -93,8 +94,9 @@ pub fn search_by_ranks<'a, S: IdSet>(
     )
 }
 
-/// The entries in scope of which the filter is True, in dump order (RFC 4511, 4.5.1), with no index. None where the base isn't there. Each
-/// entry in scope is tested once; those at other depths below the base are passed by.
+/// The entries in scope of which the filter is True, in dump order (RFC 4511, 4.5.1), with no index. `None` where the base isn't there. Each
+/// entry in scope is tested once; those at other depths below the base are passed by. The filter was prepared under the configuration that
+/// the tree was made with.
 pub fn scan<'a>(
     alloc: Global,
     tree: &'a Tree,
@@ -107,7 +109,10 @@ pub fn scan<'a>(
     ensures start { IfSome result (λ h. h.tested ≡ 0) }
     ensures found { IfSome result (λ h. map seen h.to_come ≡ scan tree.now.conf tree.now.entries base.now scope (view filter.now.filter)) }
     ensures tested { IfSome result (λ h. h.in_the_end ≡ count_in_scope tree.now.entries base.now scope) }
+    ensures entries { IfSome result (λ h. AreThere tree.now.entries (map seen h.to_come)) }
 {
+    tree.entries_are_a_directory();
+    schema::order_of_paths();
     let none: ListSet = ListSet::new(alloc);
     search(tree, base, scope, filter, Numbers::AllBut(none))
 }

@@ -1,11 +1,11 @@
-//! Searches of a tree: with postings of ranks, and without.
+//! Searches of a tree with postings of ranks.
 
-ghost use Rattle.std.specs.Prelude.{◌≡◌, true, is_some, map, IfOk, IfErr, IfSome};
+ghost use Rattle.std.specs.Prelude.{◌≡◌, true, map, IfOk, IfErr, IfSome};
 ghost use Rattle.std.specs.FinMap as finite;
 ghost use Rattle.schema.specs.Conf.{IsConf};
 ghost use Rattle.filter_text.specs.Spells.{view};
 ghost use Rattle.index_text.specs.Postings.{Shown};
-ghost use Rattle.databases.specs.Scanned.{scan, count_in_scope, count_among};
+ghost use Rattle.databases.specs.Scanned.{scan, count_among};
 ghost use Rattle.databases.specs.TreeSearches.{found, counted_found};
 ghost use Rattle.databases.specs.Walks.{seen, counted};
 ghost use Rattle.databases.specs.Found.{AreThere};
@@ -13,36 +13,15 @@ ghost use Rattle.databases.specs.Searches.{IsRefused, may_by_rank, ShowsTo, Refl
 
 use crate::hits::Hits;
 use crate::laws::candidates_suffice;
-use crate::scanning::{scan, search_by_ranks};
+use crate::scanning::search_by_ranks;
 use candidates::{asked_keys_suffice, brackets_hold, may_match};
 use entries::Refusal;
 use filter::Prepared;
-use id_sets::ListSet;
 use index_text::Postings;
 use paths::Scope;
 use schema::{Code, Path};
 use std::alloc::Global;
 use tree::Tree;
-
-/// The entries of a tree in scope of which the filter is True, in dump order (RFC 4511, 4.5.1), with no index: each entry in scope is
-/// tested. The filter was prepared under the configuration that the tree was made with. `None` where the base isn't there.
-pub fn search_tree<'a>(
-    alloc: Global,
-    tree: &'a Tree,
-    base: &'a Path,
-    scope: Scope,
-    filter: &'a Prepared,
-) -> Option<Hits<'a, ListSet>>
-    requires { filter.now.conf ≡ tree.now.conf }
-    ensures there { is_some result ≡ finite.contains_key tree.now.entries base.now }
-    ensures found { IfSome result (λ h. map seen h.to_come ≡ scan tree.now.conf tree.now.entries base.now scope (view filter.now.filter)) }
-    ensures tested { IfSome result (λ h. h.in_the_end ≡ count_in_scope tree.now.entries base.now scope) }
-    ensures entries { IfSome result (λ h. AreThere tree.now.entries (map seen h.to_come)) }
-{
-    tree.entries_are_a_directory();
-    schema::order_of_paths();
-    scan(alloc, tree, base, scope, filter)
-}
 
 /// The entries of a tree in scope of which the filter is True, as far as it may be True by what postings show of their ranks, in dump order
 /// (RFC 4511, 4.5.1). A rank is an entry's place in the dump. Where each rank stands under exactly the keys of its entry, these are all

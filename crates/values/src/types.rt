@@ -1,9 +1,7 @@
 //! Attribute types.
 
 ghost use Rattle.std.specs.Prelude.{◌≡◌, ◌<◌, length};
-ghost use Rattle.std.specs.List.{list_any};
-ghost use Rattle.std.specs.Str.{str_eq_ignore_ascii_case};
-ghost use Rattle.values.specs.Types.{is_named, plain_family, printed_name, type_at};
+ghost use Rattle.values.specs.Types.{plain_family, printed_name, type_at};
 
 use base::{Bytes, Sequence};
 use matching::{Family, Syntax};
@@ -69,22 +67,7 @@ impl Drop for AttributeType {
     }
 }
 
-fn has_name(names: &[Bytes], text: &[u8]) -> bool
-    ensures { result ≡ list_any (λ n. str_eq_ignore_ascii_case n text.now) names.now }
-{
-    names
-        .iter()
-        .any(|name| name.as_slice().eq_ignore_ascii_case(text))
-}
-
 impl AttributeType {
-    /// Whether this is one of its names or its OID, without ASCII case.
-    pub fn is_named(&self, text: &[u8]) -> bool
-        ensures { result ≡ is_named text.now self.now }
-    {
-        self.oid.as_slice().eq_ignore_ascii_case(text) || has_name(self.names.as_slice(), text)
-    }
-
     /// The family of its equality rule, where that compares values without knowing types.
     pub fn plain_family(&self) -> Option<Family>
         ensures { result ≡ plain_family self.now.equality }
