@@ -1,73 +1,55 @@
 //! The attributes of an entry as they are kept.
 
-ghost use Rattle.std.specs.Prelude.{◌≡◌, [], ℕ, List, None, not, if◌then◌else◌, nat_eq, length, vec_len, vec_capacity, IfOk, OnOk, OnErr};
-ghost use Rattle.std.specs.List.{position, IsDistinct};
+ghost use Rattle.std.specs.Prelude.{◌≡◌, [], List, None, not, if◌then◌else◌, nat_eq, IfOk, OnOk, OnErr};
+ghost use Rattle.std.specs.List.{IsDistinct};
 ghost use Rattle.std.specs.Map.{lookup, remove_entry, keys_of};
 ghost use Rattle.std.specs.Option.{option_copied};
-ghost use Rattle.indexmap.specs.IndexMap.{insert_entry};
 ghost use Rattle.values.specs.Norms.{has_norm};
 ghost use Rattle.values.specs.Values as values;
 ghost use Rattle.entries.specs.Entries.{values_of, push_value};
 ghost use Rattle.entries.specs.Modifies.{set_values};
 
+use crate::type_hashes::TypeHashes;
 use crate::values_draft::push_new;
+use indexmap::IndexMap;
+use indexmap::map::{Entry, Iter};
 use schema::{TypeId, Value};
 use std::alloc::{AllocError, Global};
 use std::marker::Model;
 use std::mem;
-use std::slice::Iter;
 use values::Values;
 
+type Map = IndexMap<TypeId, Values, TypeHashes>;
+
+// A map that is empty, with room for as many attributes: it makes room for a multiple of nine, and gives back what is too much.
+fn map_for(alloc: Global, count: usize) -> Result<Map, AllocError>
+    ensures { IfOk result (λ map. map.entries ≡ []) }
+{
+    let mut map = IndexMap::with_capacity_and_hasher(alloc, count, TypeHashes)?;
+    map.shrink_to(count);
+    Ok(map)
+}
+
 /// Attributes in order, each a type with its values in order, and no two of one type. A contract sees the list of them.
-///
-/// The types lie next to each other: to look one up is to go through a few bytes.
 pub struct Attributes {
-    types: Vec<TypeId>,
-    // those of each type, in the same order
-    values: Vec<Values>,
+    map: Map,
 }
 
 impl Drop for Attributes {
     fn drop(self) {
-        let Attributes {
-            types: _,
-            values: _,
-        } = self;
+        let Attributes { map } = self;
+        drop(map);
     }
 }
 
 impl Model for Attributes {
-    ghost use Rattle.std.specs.Prelude.{◌≡◌, nat_eq, length};
-    ghost use Rattle.std.specs.List.{zip, IsDistinct};
     ghost use Rattle.entries.specs.StoredEntries.{StoredAttributes, attributes_code};
 
     ghost Value = { StoredAttributes };
 
     ghost coded = { attributes_code };
 
-    ghost view = { λ a. record { entries = zip a.types.items a.values.items } };
-
-    ghost invariant = { λ a. (length a.values.items ≡ length a.types.items) × IsDistinct nat_eq a.types.items };
-}
-
-// where a type stands among others
-fn place_of(types: &[TypeId], t: TypeId) -> Option<usize>
-    ensures { result ≡ position (nat_eq t) types.now }
-{
-    types.iter().position(|other| t == *other)
-}
-
-// Puts copies of values into a list that has none yet, and room for all.
-fn copy_each(alloc: Global, values: &[Values], copies: &mut Vec<Values>) -> Result<(), AllocError>
-    requires none { copies.old.items ≡ [] }
-    requires len { vec_len copies.old ≡ 0 }
-    requires room { vec_capacity copies.old ≡ length values.now }
-    ensures { OnOk result (copies.new.items ≡ values.now) }
-{
-    for of_type in values {
-        copies.push_reserved(of_type.copy(alloc)?);
-    }
-    Ok(())
+    ghost view = { λ a. record { entries = a.map.entries } };
 }
 
 impl Attributes {
@@ -76,8 +58,7 @@ impl Attributes {
         ensures { IfOk result (λ a. a.entries ≡ []) }
     {
         Ok(Attributes {
-            types: Vec::with_capacity(alloc, count)?,
-            values: Vec::with_capacity(alloc, count)?,
+            map: map_for(alloc, count)?,
         })
     }
 
@@ -85,17 +66,14 @@ impl Attributes {
     pub(crate) fn types(&self) -> &[TypeId]
         ensures { result.now ≡ keys_of self.now.entries }
     {
-        &self.types
+        self.map.keys().as_slice()
     }
 
     /// The values of a type, where it has any.
     pub(crate) fn get(&self, t: TypeId) -> Option<&Values>
         ensures { option_copied result ≡ lookup (nat_eq t) self.now.entries }
     {
-        match place_of(&self.types, t) {
-            Some(place) => Some(&self.values[place]),
-            None => None,
-        }
+        self.map.get(&t)
     }
 
     /// Each type with its values, in order.
@@ -104,8 +82,7 @@ impl Attributes {
         ensures unique { IsDistinct nat_eq (keys_of self.now.entries) }
     {
         AttributesIter {
-            types: self.types.iter(),
-            values: self.values.iter(),
+            rest: self.map.iter(),
         }
     }
 
@@ -113,22 +90,11 @@ impl Attributes {
     pub(crate) fn copy(&self, alloc: Global) -> Result<Attributes, AllocError>
         ensures { IfOk result (λ a. a ≡ self.now) }
     {
-        let types = Vec::from_slice(alloc, &self.types)?;
-        let mut values = Vec::with_capacity(alloc, self.values.len())?;
-        copy_each(alloc, &self.values, &mut values)?;
-        Ok(Attributes { types, values })
-    }
-
-    // Puts a type that isn't there last; or changes nothing.
-    fn put_last(&mut self, t: TypeId, values: Values) -> Result<(), AllocError>
-        requires { lookup (nat_eq t) self.old.entries ≡ None }
-        ensures ok { OnOk result (self.new.entries ≡ insert_entry nat_eq self.old.entries t values) }
-        ensures err { OnErr result (self.new ≡ self.old) }
-    {
-        self.types.reserve(1)?;
-        self.values.push(values)?;
-        self.types.push_reserved(t);
-        Ok(())
+        let mut map = map_for(alloc, self.map.len())?;
+        for (t, values) in self.map.iter() {
+            map.insert(*t, values.copy(alloc)?)?;
+        }
+        Ok(Attributes { map })
     }
 
     /// Puts a value last among those of a type; or changes nothing where memory runs out.
@@ -136,9 +102,12 @@ impl Attributes {
         ensures ok { OnOk result (self.new.entries ≡ push_value self.old.entries t value) }
         ensures err { OnErr result (self.new ≡ self.old) }
     {
-        match place_of(&self.types, t) {
-            Some(place) => self.values[place].push(alloc, value),
-            None => self.put_last(t, Values::one(value)),
+        match self.map.entry(t)? {
+            Entry::Occupied(mut place) => place.get_mut().push(alloc, value),
+            Entry::Vacant(place) => {
+                place.insert_entry(Values::one(value));
+                Ok(())
+            }
         }
     }
 
@@ -148,10 +117,10 @@ impl Attributes {
         ensures entries { IfOk result (λ put. self.new.entries ≡ (if put then push_value self.old.entries t value else self.old.entries)) }
         ensures err { OnErr result (self.new ≡ self.old) }
     {
-        match place_of(&self.types, t) {
-            Some(place) => push_new(alloc, &mut self.values[place], value),
-            None => {
-                self.put_last(t, Values::one(value))?;
+        match self.map.entry(t)? {
+            Entry::Occupied(mut place) => push_new(alloc, place.get_mut(), value),
+            Entry::Vacant(place) => {
+                place.insert_entry(Values::one(value));
                 Ok(true)
             }
         }
@@ -162,8 +131,8 @@ impl Attributes {
         ensures values { result ≡ values_of self.old.entries t }
         ensures place { (vs : List values.Value) → set_values self.new.entries t vs ≡ set_values self.old.entries t vs }
     {
-        match place_of(&self.types, t) {
-            Some(place) => mem::replace(&mut self.values[place], Values::new()),
+        match self.map.get_mut(&t) {
+            Some(values) => mem::replace(values, Values::new()),
             None => Values::new(),
         }
     }
@@ -173,13 +142,7 @@ impl Attributes {
         ensures entries { self.new.entries ≡ remove_entry (nat_eq t) self.old.entries }
         ensures none { lookup (nat_eq t) self.new.entries ≡ None }
     {
-        match place_of(&self.types, t) {
-            Some(place) => {
-                let _ = self.types.remove(place);
-                let _ = self.values.remove(place);
-            }
-            None => {}
-        }
+        self.map.shift_remove(&t);
     }
 
     /// Puts these values in place of those of a type, or last. An attribute without values goes. Or it changes nothing, where memory runs
@@ -192,34 +155,24 @@ impl Attributes {
             self.remove(t);
             return Ok(());
         }
-        match place_of(&self.types, t) {
-            Some(place) => {
-                self.values[place] = values;
-                Ok(())
-            }
-            None => self.put_last(t, values),
-        }
+        self.map.insert(t, values)?;
+        Ok(())
     }
 }
 
 /// Attributes one after the other, which are lent. A contract sees the list of those that are still to come.
 #[derive(Drop)]
 pub struct AttributesIter<'a> {
-    types: Iter<'a, TypeId>,
-    values: Iter<'a, Values>,
+    rest: Iter<'a, TypeId, Values>,
 }
 
 impl<'a> Model for AttributesIter<'a> {
-    ghost use Rattle.std.specs.Prelude.{◌≡◌, List, length};
-    ghost use Rattle.std.specs.List.{zip};
-    ghost use Rattle.std.specs.Slice.Iter.{iter_rest};
+    ghost use Rattle.std.specs.Prelude.{List};
     ghost use Rattle.entries.specs.StoredEntries.{EntryAttribute};
 
     ghost Value = { List EntryAttribute };
 
-    ghost view = { λ i. zip (iter_rest i.types) (iter_rest i.values) };
-
-    ghost invariant = { λ i. length (iter_rest i.values) ≡ length (iter_rest i.types) };
+    ghost view = { λ i. i.rest };
 }
 
 impl<'a> Iterator for AttributesIter<'a> {
@@ -234,6 +187,6 @@ impl<'a> Iterator for AttributesIter<'a> {
     ghost remaining = { λ i. at_most (length i) };
 
     fn next(&mut self) -> Option<(&'a TypeId, &'a Values)> {
-        self.types.next().zip(self.values.next())
+        self.rest.next()
     }
 }

@@ -15,6 +15,7 @@ mod modifies;
 mod rdn_values;
 mod refusal;
 mod renames;
+mod type_hashes;
 mod values_draft;
 
 pub use attributes::attributes_of_lines;

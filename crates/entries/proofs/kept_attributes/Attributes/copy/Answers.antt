@@ -1,17 +1,21 @@
-use Rattle.std.proofs.Common.{ℕ, List, sym, ap₂, ◌∙◌, ap, subst, nat_eq, length}
-use Rattle.std.specs.List.{zip, IsDistinct}
-use Rattle.values.specs.Values.{Value}
-use Rattle.entries.specs.StoredEntries.{StoredAttributes}
+use Rattle.std.proofs.Common.{◌∙◌, sym, ap, subst, ◌++◌, List, nat_eq}
+use Rattle.std.specs.List.{IsDistinct}
+use Rattle.std.specs.Map.{keys_of}
+use Rattle.indexmap.specs.IndexMap.{insert_entry}
+use Rattle.entries.specs.StoredEntries.{EntryAttribute, StoredAttributes}
+use Rattle.entries.proofs.KeptAttributes.{copied_more}
 use Rattle.entries.proofs.kept_attributes.Attributes.copy.Goals as goal
 
-pub returns : goal.returns
-returns c =
-    let kept : List ℕ → List (List Value) → StoredAttributes = λ ts vs. record { entries = zip ts vs } in
-    ap₂ kept (c.in_ok-types.ensures.items ∙ c.deref.ensures.value) (c.in_ok-copy_each.ensures ∙ c.deref-2.ensures.value)
-    ∙ c.self.view_is
+pub loop-t-preserved-in_ok-insert : goal.loop-t-preserved-in_ok-insert
+loop-t-preserved-in_ok-insert c =
+    let apart = subst (λ (a : StoredAttributes). IsDistinct nat_eq (keys_of a.entries)) c.self.view_is c.iter-t-items.ensures.unique in
+    ap (λ (es : List EntryAttribute). es ++ c.next.new.self) (c.in_ok-insert.ensures.entries ∙ ap (insert_entry nat_eq c.loop-t.map.entries c.in-Some.t.now) c.in_ok-copy.ensures)
+    ∙ copied_more c.args.self.now.entries c.loop-t.map.entries c.next.new.self c.in-Some.t.now c.in-Some.values.now apart
+    (ap (λ (xs : List EntryAttribute). c.loop-t.map.entries ++ xs) (sym c.in-Some.ensures.steps) ∙ c.loop-t.invariant)
 
-pub invariant_of-result : goal.invariant_of-result
-invariant_of-result c =
-    let types = c.in_ok-types.ensures.items ∙ c.deref.ensures.value in
-    let values = c.in_ok-copy_each.ensures ∙ c.deref-2.ensures.value in
-    (ap length values ∙ c.self.invariant.0 ∙ ap length (sym types), subst (IsDistinct nat_eq) (sym types) c.self.invariant.1)
+pub loop-t-preserved : goal.loop-t-preserved
+loop-t-preserved c =
+    let apart = subst (λ (a : StoredAttributes). IsDistinct nat_eq (keys_of a.entries)) c.self.view_is c.iter-t-items.ensures.unique in
+    ap (λ (es : List EntryAttribute). es ++ c.next.new.self) (c.in_ok-insert.ensures.entries ∙ ap (insert_entry nat_eq c.loop-t.map.entries c.in-Some.t.now) c.in_ok-copy.ensures)
+    ∙ copied_more c.args.self.now.entries c.loop-t.map.entries c.next.new.self c.in-Some.t.now c.in-Some.values.now apart
+    (ap (λ (xs : List EntryAttribute). c.loop-t.map.entries ++ xs) (sym c.in-Some.ensures.steps) ∙ c.loop-t.invariant)

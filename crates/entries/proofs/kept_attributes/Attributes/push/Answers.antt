@@ -1,24 +1,36 @@
-use Rattle.std.proofs.Common.{nat_eq, ap, ◌∙◌}
-use Rattle.std.specs.List.{position}
-use Rattle.entries.specs.StoredEntries.{StoredAttributes}
-use Rattle.std.proofs.lemmas.Result.{on_ok_weaker}
-use Rattle.entries.proofs.KeptAttributes.{isnt_there, is_there, is_set}
-use Rattle.entries.proofs.StoredLemmas.{pushed_old, pushed_new}
+use Rattle.std.proofs.Common.{rules, ◌≡◌, Some, None, nat_eq, sym, subst, OnOk, OnErr}
+use Rattle.std.specs.Map.{lookup}
+use Rattle.std.proofs.lemmas.Result.{on_ok_weaker, on_err_weaker}
+use Rattle.indexmap.specs.IndexMap.{insert_entry}
+use Rattle.entries.specs.Entries.{push_value}
+use Rattle.entries.proofs.KeptAttributes.{pushed_last, pushed_behind, stayed}
+use Rattle.entries.proofs.kept_attributes.Attributes.push.Goals.{in-Occupied, in-Vacant}
 use Rattle.entries.proofs.kept_attributes.Attributes.push.Goals as goal
 
-pub put_last-requires : goal.put_last-requires
-put_last-requires c = isnt_there c.args.t c.self.inside.types.items c.self.inside.values.items c.args.self.now.entries c.self.invariant.0 (ap (λ (a : StoredAttributes). a.entries) c.self.view_is) (c.in-None.ensures ∙ ap (position (nat_eq c.args.t)) c.deref.ensures.value)
+pub returns-clause-ok : goal.returns-clause-ok
+returns-clause-ok c = elim c.match-branch-2.branch [
+  | in-Occupied w ↦
+      let there : Some w.get_mut.result.now ≡ lookup (nat_eq c.args.t) c.self.inside.map.entries = search rules in
+      let set : c.match-branch-2.self-inside.map.entries ≡ insert_entry nat_eq c.self.inside.map.entries c.args.t w.push.new.self = search rules in
+      subst (λ r. OnOk r (c.match-branch-2.self-inside.map.entries ≡ push_value c.args.self.now.entries c.args.t c.args.value)) (sym w.result-is)
+      (on_ok_weaker w.push.result
+      (pushed_behind c.args.t c.self.inside.map.entries c.args.self.now c.self.view_is _ w.get_mut.result.now w.push.new.self there set c.args.value)
+      w.push.ensures.ok)
+  | in-Vacant w ↦
+      let none : lookup (nat_eq c.args.t) c.self.inside.map.entries ≡ None = search rules in
+      let set : c.match-branch-2.self-inside.map.entries ≡ insert_entry nat_eq c.self.inside.map.entries c.args.t w.one.result = search rules in
+      subst (λ r. OnOk r (c.match-branch-2.self-inside.map.entries ≡ push_value c.args.self.now.entries c.args.t c.args.value)) (sym w.result-is)
+      (pushed_last c.args.t c.self.inside.map.entries c.args.self.now c.self.view_is _ w.one.result c.args.value none set w.one.ensures)
+]
 
-pub returns-in-Some-clause-ok : goal.returns-in-Some-clause-ok
-returns-in-Some-clause-ok c =
-    on_ok_weaker c.push.result
-    (λ pushed. pushed_old c.args.t c.args.self.now.entries _ c.index_mut.result.now c.push.new.self c.args.value
-    (is_there c.args.t c.self.inside.types.items c.self.inside.values.items c.args.self.now.entries c.self.invariant.0 (ap (λ (a : StoredAttributes). a.entries) c.self.view_is) c.in-Some.place (c.in-Some.ensures ∙ ap (position (nat_eq c.args.t)) c.deref.ensures.value) c.index_mut.result.now c.index_mut.ensures.value)
-    (is_set c.args.t c.self.inside.types.items c.self.inside.values.items c.args.self.now.entries c.self.invariant.0 (ap (λ (a : StoredAttributes). a.entries) c.self.view_is) c.in-Some.place (c.in-Some.ensures ∙ ap (position (nat_eq c.args.t)) c.deref.ensures.value) c.push.new.self) pushed)
-    c.push.ensures.ok
-
-pub returns-in-None-clause-ok : goal.returns-in-None-clause-ok
-returns-in-None-clause-ok c =
-    on_ok_weaker c.put_last.result
-    (λ put. pushed_new c.args.t c.args.self.now.entries _ c.one.result c.args.value (isnt_there c.args.t c.self.inside.types.items c.self.inside.values.items c.args.self.now.entries c.self.invariant.0 (ap (λ (a : StoredAttributes). a.entries) c.self.view_is) (c.in-None.ensures ∙ ap (position (nat_eq c.args.t)) c.deref.ensures.value)) put c.one.ensures)
-    c.put_last.ensures.ok
+pub returns-clause-err : goal.returns-clause-err
+returns-clause-err c = elim c.match-branch-2.branch [
+  | in-Occupied w ↦
+      let there : Some w.get_mut.result.now ≡ lookup (nat_eq c.args.t) c.self.inside.map.entries = search rules in
+      let set : c.match-branch-2.self-inside.map.entries ≡ insert_entry nat_eq c.self.inside.map.entries c.args.t w.push.new.self = search rules in
+      subst (λ r. OnErr r (record { entries = c.match-branch-2.self-inside.map.entries } ≡ c.args.self.now)) (sym w.result-is)
+      (on_err_weaker w.push.result
+      (stayed c.args.t c.self.inside.map.entries c.args.self.now c.self.view_is _ w.get_mut.result.now w.push.new.self there set)
+      w.push.ensures.err)
+  | in-Vacant w ↦ subst (λ r. OnErr r (record { entries = c.match-branch-2.self-inside.map.entries } ≡ c.args.self.now)) (sym w.result-is) tt
+]
