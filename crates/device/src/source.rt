@@ -4,20 +4,12 @@ ghost use Rattle.std.specs.Prelude.{◌≡◌, ◌<◌, ◌≤◌, ◌-◌, ◌^
 ghost use Rattle.std.specs.Io.KnownBytes.{IsAtEnd};
 ghost use Rattle.device.specs.Device.{Seen, Gave, PullFailed};
 
-use std::error::Error;
-use std::fmt;
+use thiserror::Error;
 
 /// A source or a sink failed.
-#[derive(Clone, Copy, Debug, PartialEq, Eq)]
+#[derive(Clone, Copy, Debug, PartialEq, Eq, Error)]
+#[error("the device failed")]
 pub struct Device;
-
-impl fmt::Display for Device {
-    fn fmt<W: fmt::Write>(&self, f: &mut fmt::Formatter<W>) -> fmt::Result {
-        write!(f, "the device failed")
-    }
-}
-
-impl Error for Device {}
 
 /// Bytes that come in pieces, at most 2^64 - 1 of them in all.
 ///

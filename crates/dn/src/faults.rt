@@ -5,11 +5,11 @@ ghost use Rattle.dn.specs.Faults.{fault_number, fault_text};
 ghost use Rattle.dn.specs.declared.faults.NameFault.TheVariants.{OutOfMemory};
 
 use std::alloc::{AllocError, AllocFailed};
-use std::error::Error;
-use std::fmt;
+use thiserror::Error;
 
 /// What is wrong with a text that is no name, printed as `N2 escape`.
-#[derive(Clone, Copy, Debug, PartialEq, Eq)]
+#[derive(Clone, Copy, Debug, PartialEq, Eq, Error)]
+#[error("N{} {}", self.number(), self.text())]
 pub enum NameFaultKind {
     /// No `=` where one is due, behind a type and spaces.
     EqualsMissing,
@@ -52,16 +52,8 @@ impl NameFaultKind {
     }
 }
 
-impl fmt::Display for NameFaultKind {
-    fn fmt<W: fmt::Write>(&self, f: &mut fmt::Formatter<W>) -> fmt::Result {
-        write!(f, "N{} {}", self.number(), self.text())
-    }
-}
-
-impl Error for NameFaultKind {}
-
 /// Why no name was read.
-#[derive(Clone, Copy, Debug, PartialEq, Eq, thiserror::Error)]
+#[derive(Clone, Copy, Debug, PartialEq, Eq, Error)]
 pub enum NameFault {
     #[error("{0}")]
     Fault(NameFaultKind),

@@ -2,8 +2,8 @@
 ghost use Rattle.std.specs.Prelude.{Some};
 ghost use Rattle.filter_text.specs.FaultReports.{fault_report};
 
-use std::error::Error;
 use std::fmt;
+use thiserror::Error;
 
 /// What is wrong with a text that is no filter.
 #[derive(Clone, Copy, Debug, PartialEq, Eq)]
@@ -15,13 +15,14 @@ pub enum FilterFaultKind {
 }
 
 /// Why no filter was read, printed as `fault at 5` or `deeper than 512`.
-#[derive(Clone, Copy, Debug, PartialEq, Eq)]
+#[derive(Clone, Copy, Debug, PartialEq, Eq, Error)]
 pub enum FilterFault {
     /// How many bytes stand before the fault, and what it is.
     At { at: usize, kind: FilterFaultKind },
     OutOfMemory,
 }
 
+// By hand, since a derived `Display` has no `output` that a contract can name.
 impl fmt::Display for FilterFault {
     ghost output = { λ f. Some (fault_report f) };
 
@@ -39,5 +40,3 @@ impl fmt::Display for FilterFault {
         }
     }
 }
-
-impl Error for FilterFault {}

@@ -5,11 +5,11 @@ ghost use Rattle.ldif.specs.Faults.{fault_number, fault_text, fault_report};
 ghost use Rattle.ldif.specs.declared.fault.LdifFault.TheVariants.{OutOfMemory};
 
 use std::alloc::{AllocError, AllocFailed};
-use std::error::Error;
 use std::fmt;
+use thiserror::Error;
 
 /// What is wrong with the lines of a record, printed as `L4 base64`.
-#[derive(Clone, Copy, Debug, PartialEq, Eq)]
+#[derive(Clone, Copy, Debug, PartialEq, Eq, Error)]
 pub enum LdifFaultKind {
     /// The first line, after a version line, is not `dn:`.
     DnMissing,
@@ -83,6 +83,7 @@ impl LdifFaultKind {
     }
 }
 
+// By hand, since a derived `Display` has no `output` that a contract can name.
 impl fmt::Display for LdifFaultKind {
     ghost output = { λ f. Some (fault_report f) };
 
@@ -91,10 +92,8 @@ impl fmt::Display for LdifFaultKind {
     }
 }
 
-impl Error for LdifFaultKind {}
-
 /// Why no record was read.
-#[derive(Clone, Copy, Debug, PartialEq, Eq, thiserror::Error)]
+#[derive(Clone, Copy, Debug, PartialEq, Eq, Error)]
 pub enum LdifFault {
     #[error("{0}")]
     Fault(LdifFaultKind),
