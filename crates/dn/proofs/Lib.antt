@@ -20,3 +20,4 @@ pub mod AvaFaults
 pub mod TextFaults
 pub mod FaultExamples
 pub mod Apart
+pub mod Joining

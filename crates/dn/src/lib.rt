@@ -23,4 +23,4 @@ pub use laws::{
 };
 pub use names::{Name, Rdn};
 pub use read::read_name;
-pub use write::put_value;
+pub use write::{put_value, write_name};

@@ -1,7 +1,6 @@
 //! Names as they are read and written by RFC 4514, and the texts of their faults.
 
-use dn::{NameFault, read_name};
-use name_text::write_name;
+use dn::{NameFault, read_name, write_name};
 use std::alloc::{AllocError, Global};
 use std::test::Fail;
 

@@ -1,6 +1,6 @@
 use Rattle.dn.specs.Writing.{ava_text}
-use Rattle.name_text.proofs.Joining.{one_put, all_put}
-use Rattle.name_text.proofs.write.put_more_avas.Goals as goal
+use Rattle.dn.proofs.Joining.{one_put, all_put}
+use Rattle.dn.proofs.write.put_more_avas.Goals as goal
 
 pub loop-ava-preserved : goal.loop-ava-preserved
 loop-ava-preserved c =

@@ -4,7 +4,7 @@ use Rattle.dn.specs.Writing.{text_of}
 use Rattle.dn.specs.Spelling.{Spells}
 use Rattle.dn.proofs.Ascii.{name_ascii, ascii_utf8}
 use Rattle.dn.proofs.Spelled.{name_spelled}
-use Rattle.name_text.proofs.write.write_name.Goals as goal
+use Rattle.dn.proofs.write.write_name.Goals as goal
 
 pub unwrap-requires : goal.unwrap-requires
 unwrap-requires c =

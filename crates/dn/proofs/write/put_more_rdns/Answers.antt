@@ -1,6 +1,6 @@
 use Rattle.dn.specs.Writing.{rdn_text}
-use Rattle.name_text.proofs.Joining.{one_put, all_put}
-use Rattle.name_text.proofs.write.put_more_rdns.Goals as goal
+use Rattle.dn.proofs.Joining.{one_put, all_put}
+use Rattle.dn.proofs.write.put_more_rdns.Goals as goal
 
 pub loop-rdn-preserved : goal.loop-rdn-preserved
 loop-rdn-preserved c =

@@ -1,6 +1,6 @@
 use Rattle.std.proofs.Common.{arith}
 use Rattle.std.proofs.lemmas.Grind.{common_steps}
-use Rattle.name_text.proofs.write.put_ava.Goals as goal
+use Rattle.dn.proofs.write.put_ava.Goals as goal
 
 pub returns : goal.returns
 returns c = grind (arith, common_steps)

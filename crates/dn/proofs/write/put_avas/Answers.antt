@@ -1,7 +1,7 @@
 use Rattle.std.proofs.Common.{arith}
 use Rattle.dn.specs.Writing.{ava_text}
-use Rattle.name_text.proofs.Joining.{joined_rest}
-use Rattle.name_text.proofs.write.put_avas.Goals as goal
+use Rattle.dn.proofs.Joining.{joined_rest}
+use Rattle.dn.proofs.write.put_avas.Goals as goal
 
 pub returns-in_ok-put_more_avas-in-len1-up : goal.returns-in_ok-put_more_avas-in-len1-up
 returns-in_ok-put_more_avas-in-len1-up c =
