@@ -1,12 +1,14 @@
 //! Entries.
 
-ghost use Rattle.std.specs.Prelude.{◌≡◌, IfOk};
-ghost use Rattle.std.specs.Map.{keys_of};
+ghost use Rattle.std.specs.Prelude.{◌≡◌, nat_eq, IfOk};
+ghost use Rattle.std.specs.Map.{keys_of, lookup};
+ghost use Rattle.std.specs.Option.{option_copied};
 
 use crate::kept_attributes::{Attributes, AttributesIter};
 use schema::{TypeId, TypedRdn};
 use std::alloc::{AllocError, Global};
 use std::marker::Model;
+use values::Values;
 
 /// An entry (RFC 4512, 2.2): its RDN as written, and its attributes in order, each with its values in order. A contract sees
 /// the RDN's AVAs, and the list of the types with their values.
@@ -52,6 +54,13 @@ impl Entry {
         ensures { result ≡ self.now.attrs }
     {
         self.attrs.iter()
+    }
+
+    /// The values of a type, in order, or none where it has no attribute of this type. Those of its subtypes are not among them.
+    pub fn values(&self, t: TypeId) -> Option<&Values>
+        ensures { option_copied result ≡ lookup (nat_eq t) self.now.attrs }
+    {
+        self.attrs.get(t)
     }
 
     /// The types of its attributes, in order.
