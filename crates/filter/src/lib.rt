@@ -14,7 +14,7 @@ mod preparing;
 mod truth;
 
 pub use assertion::Assertion;
-pub use filter_text::{Filter, Item};
+pub use filter_text::{Filter, FilterFault, FilterFaultKind, Item, read_filter};
 pub use laws::{
     negating_twice_changes_nothing, orders_are_told, pieces_are_told, prepared_filters_say_the_same,
 };

@@ -18,6 +18,7 @@ mod plans;
 mod range;
 mod tree;
 
+pub use entries::{Entry, Refusal};
 pub use laws::{
     adding_keeps_a_directory, an_entry_adds_itself, empty_is_a_directory, moving_keeps_a_directory,
     moving_takes_all_along, own_content_is_written, removing_keeps_a_directory,
