@@ -4,3 +4,4 @@ pub mod DraftLemmas
 pub mod StateLemmas
 pub mod MoveLemmas
 pub mod WrittenLemmas
+pub mod ClosedLemmas

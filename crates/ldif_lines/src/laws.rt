@@ -1,12 +1,17 @@
-//! Laws of what is written and read.
+//! Laws of what is written and read, and of texts that go on.
 
-ghost use Rattle.std.specs.Prelude.{◌≡◌, ℕ, List, map, true};
+ghost use Rattle.std.specs.Prelude.{◌≡◌, ℕ, List, ◌++◌, map, true};
 ghost use Rattle.std.specs.List.{AllByRecursion};
-ghost use Rattle.ldif_lines.specs.Records.{records};
+ghost use Rattle.ldif_lines.specs.Records.{RawRecord, records, closed_records};
 ghost use Rattle.ldif_lines.specs.Folding.{AreWritable, written_blocks, raw_lines, raw_block, with_first_flag};
 
 /// Records that are written are read back: as many as there were, with the same lines, the first of them marked as the first.
 pub fn written_blocks_are_read()
     ensures lines { (blocks : List (List (List ℕ))) → AllByRecursion AreWritable blocks → map raw_lines (records (written_blocks blocks)) ≡ blocks }
     ensures first { (blocks : List (List (List ℕ))) → AllByRecursion AreWritable blocks → map raw_block (records (written_blocks blocks)) ≡ with_first_flag true blocks }
+{}
+
+/// The records whose closing empty line stands in a text are the first records of each text that begins with it.
+pub fn closed_records_come_first()
+    ensures { (text more : List ℕ) → (rest : List RawRecord) × (records (text ++ more) ≡ closed_records text ++ rest) }
 {}
