@@ -1,0 +1,15 @@
+pub mod Answering
+pub mod Elements
+pub mod EntryAnswers
+pub mod NameAnswers
+pub mod Lines
+pub mod LineAnswers
+pub mod Places
+pub mod Values
+pub mod ValueAnswers
+pub mod BlockAnswers
+pub mod Operated
+pub mod AddAnswers
+pub mod ModifyAnswers
+pub mod RenameAnswers
+pub mod Told

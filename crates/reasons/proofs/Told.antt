@@ -1,0 +1,71 @@
+-- What comes of a record, by its first flaw.
+use Rattle.std.proofs.Common.{◌≡◌, ◌↔◌, map, ◌++◌, Result, Err, refl, sym, ap, ◌∙◌}
+use Rattle.ldif.specs.declared.record.Mode.{Mode}
+use Rattle.ldif.specs.declared.record.Record.{Record}
+use Rattle.ldif.specs.declared.record.Record.TheVariants as records
+use Rattle.schema.specs.declared.code.Code.{Code}
+use Rattle.schema.specs.Conf.{Conf}
+use Rattle.tree.specs.Directories.{Entries}
+use Rattle.tree.specs.Changes.{Change, Nothing}
+use Rattle.tree.specs.Operations.{change_asked, change_of}
+use Rattle.reasons.specs.NameFlaws.{place_order}
+use Rattle.reasons.specs.Flaws.{Name, HasFlaw, IsRefused, IsFlawless, IsAllowed, flaw_code, checks_of, add_checks, delete_checks, modify_checks, rename_checks}
+use Rattle.reasons.proofs.Answering.{refusal, is_no_answer, answers_first, first_answers, answers_none, none_answers}
+use Rattle.reasons.proofs.Operated.{answers, control_answers}
+use Rattle.reasons.proofs.AddAnswers.{add_answers, delete_answers}
+use Rattle.reasons.proofs.ModifyAnswers.{modify_answers}
+use Rattle.reasons.proofs.RenameAnswers.{rename_answers}
+
+all_answer : (conf : Conf) (mode : Mode) (d : Entries) (r : Record) → answers conf mode d r (change_of conf mode d r) (checks_of r)
+all_answer conf mode d records.Empty = (Nothing, refl)
+all_answer conf mode d (records.Content dn attrs) =
+    let r : Record = records.Content dn attrs in
+    let x : Result Change Code = change_of conf mode d r in
+    control_answers conf mode d r x (change_asked conf mode d r) (map Name place_order ++ add_checks attrs) refl λ said.
+    add_answers conf mode d r x (λ wanted h. h) (λ wanted h. h) said
+all_answer conf mode d (records.Add dn controls attrs) =
+    let r : Record = records.Add dn controls attrs in
+    let x : Result Change Code = change_of conf mode d r in
+    control_answers conf mode d r x (change_asked conf mode d r) (map Name place_order ++ add_checks attrs) refl λ said.
+    add_answers conf mode d r x (λ wanted h. h) (λ wanted h. h) said
+all_answer conf mode d (records.Delete dn controls) =
+    let r : Record = records.Delete dn controls in
+    let x : Result Change Code = change_of conf mode d r in
+    control_answers conf mode d r x (change_asked conf mode d r) (map Name place_order ++ delete_checks) refl λ said.
+    delete_answers conf mode d r x said
+all_answer conf mode d (records.Modify dn controls mods) =
+    let r : Record = records.Modify dn controls mods in
+    let x : Result Change Code = change_of conf mode d r in
+    control_answers conf mode d r x (change_asked conf mode d r) (map Name place_order ++ modify_checks mods) refl λ said.
+    modify_answers conf mode d r x (λ wanted h. h) (λ wanted h. h) said
+all_answer conf mode d (records.ModRdn dn controls newrdn delete_old superior) =
+    let r : Record = records.ModRdn dn controls newrdn delete_old superior in
+    let x : Result Change Code = change_of conf mode d r in
+    control_answers conf mode d r x (change_asked conf mode d r) (map Name place_order ++ rename_checks) refl λ said.
+    rename_answers conf mode d dn controls newrdn delete_old superior x said
+
+-- ---- the laws
+
+module _ (conf : Conf) (mode : Mode) (d : Entries) (r : Record) where
+  abbrev said : Result Change Code
+  said = change_of conf mode d r
+
+  abbrev told : answers conf mode d r said (checks_of r)
+  told = all_answer conf mode d r
+
+  refused_by : (code : Code) → said ≡ Err code → IsRefused conf mode d r code
+  refused_by code e =
+      let k = answers_first (HasFlaw conf mode d r) flaw_code (IsAllowed said) (checks_of r) said code (λ done. is_no_answer said done.0 code done.1) told e in
+      record { flaw = k.0; first = k.1; code_is = k.2 }
+
+  pub refused : (code : Code) → (said ≡ Err code) ↔ IsRefused conf mode d r code
+  refused code = (
+    refused_by code,
+    λ k. first_answers (HasFlaw conf mode d r) flaw_code (IsAllowed said) (checks_of r) said k.flaw told k.first ∙ ap (refusal {A = Change}) (sym k.code_is),
+  )
+
+  pub allowed : IsAllowed said ↔ IsFlawless conf mode d r
+  allowed = (
+    λ done. answers_none (HasFlaw conf mode d r) flaw_code (IsAllowed said) (checks_of r) said done.0 told done.1,
+    none_answers (HasFlaw conf mode d r) flaw_code (IsAllowed said) (checks_of r) said told,
+  )

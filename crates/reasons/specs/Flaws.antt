@@ -1,0 +1,280 @@
+-- What may be wrong with a record, check by check in the order in which they are made (RFC 4511, 4.1.11 and 4.6 to 4.9), and the code of each.
+use Rattle.std.specs.Prelude.{◌≡◌, ◌≢◌, ℕ, suc, ◌≤◌, true, false, List, [], ◌∷◌, ◌++◌, map, take, Option, Some, None, Result, Ok}
+use Rattle.std.specs.List.{AllByRecursion, Any, slice_get}
+use Rattle.std.specs.FinMap as finite
+use Rattle.ldif.specs.Attrs.{Attr}
+use Rattle.ldif.specs.declared.record.Control.{Control}
+use Rattle.ldif.specs.declared.record.Mod.{Mod}
+use Rattle.ldif.specs.declared.record.Mode.{Mode}
+use Rattle.ldif.specs.declared.record.Record.{Record}
+use Rattle.ldif.specs.declared.record.Record.TheVariants as records
+use Rattle.paths.specs.Paths.{Path, parent_of, is_root, begins}
+use Rattle.schema.specs.declared.code.Code.{Code}
+use Rattle.schema.specs.declared.code.Code.TheVariants.{AdminLimitExceeded, UnavailableCriticalExtension, NoSuchObject, UnwillingToPerform, NotAllowedOnNonLeaf, NotAllowedOnRdn, EntryAlreadyExists}
+use Rattle.schema.specs.Conf.{Conf}
+use Rattle.schema.specs.Rdns.{Ava, TypedRdn, rdn_key_of}
+use Rattle.schema.specs.FirstFlaws.{Not, IsFirstFlaw}
+use Rattle.entries.specs.Entries.{Attributes, EntryContent, values_of, has_equal}
+use Rattle.entries.specs.Modifies.{renamed_attrs}
+use Rattle.tree.specs.Directories.{Entries}
+use Rattle.tree.specs.Trees.{has_child}
+use Rattle.tree.specs.Changes.{Change}
+use Rattle.tree.specs.Operations.{controls_of}
+use Rattle.reasons.specs.NameFlaws.{NameFlaw, HasNameFlaw, HasPlace, LeadsTo, SpellsRdn, name_flaw_code, place_order, rdn_order}
+use Rattle.reasons.specs.LineFlaws as lines
+use Rattle.reasons.specs.LineFlaws.{LineFlaw, HasLineFlaw, attrs_of_lines, line_flaw_code}
+use Rattle.reasons.specs.BlockFlaws as blocks
+use Rattle.reasons.specs.BlockFlaws.{BlockFlaw, ValueFlaw, HasBlockFlaw, HasValueFlaw, modified, block_flaw_code, value_flaw_code, block_order}
+use Rattle.reasons.specs.EntryFlaws.{EntryFlaw, HasEntryFlaw, entry_flaw_code, entry_order}
+
+-- ---- what a record says
+
+-- the name of the entry that it is about
+abbrev pub name_of_record : Record → List ℕ
+name_of_record records.Empty = []
+name_of_record (records.Content dn attrs) = dn
+name_of_record (records.Add dn controls attrs) = dn
+name_of_record (records.Delete dn controls) = dn
+name_of_record (records.Modify dn controls mods) = dn
+name_of_record (records.ModRdn dn controls newrdn delete_old new_superior) = dn
+
+-- the lines of an add
+abbrev pub lines_of_record : Record → List Attr
+lines_of_record records.Empty = []
+lines_of_record (records.Content dn attrs) = attrs
+lines_of_record (records.Add dn controls attrs) = attrs
+lines_of_record (records.Delete dn controls) = []
+lines_of_record (records.Modify dn controls mods) = []
+lines_of_record (records.ModRdn dn controls newrdn delete_old new_superior) = []
+
+-- the blocks of a modify
+abbrev pub blocks_of_record : Record → List Mod
+blocks_of_record records.Empty = []
+blocks_of_record (records.Content dn attrs) = []
+blocks_of_record (records.Add dn controls attrs) = []
+blocks_of_record (records.Delete dn controls) = []
+blocks_of_record (records.Modify dn controls mods) = mods
+blocks_of_record (records.ModRdn dn controls newrdn delete_old new_superior) = []
+
+-- the new RDN of a modify DN
+abbrev pub rdn_of_record : Record → List ℕ
+rdn_of_record records.Empty = []
+rdn_of_record (records.Content dn attrs) = []
+rdn_of_record (records.Add dn controls attrs) = []
+rdn_of_record (records.Delete dn controls) = []
+rdn_of_record (records.Modify dn controls mods) = []
+rdn_of_record (records.ModRdn dn controls newrdn delete_old new_superior) = newrdn
+
+-- its new superior, if it names one
+abbrev pub superior_of_record : Record → Option (List ℕ)
+superior_of_record records.Empty = None
+superior_of_record (records.Content dn attrs) = None
+superior_of_record (records.Add dn controls attrs) = None
+superior_of_record (records.Delete dn controls) = None
+superior_of_record (records.Modify dn controls mods) = None
+superior_of_record (records.ModRdn dn controls newrdn delete_old new_superior) = new_superior
+
+-- ---- what it is about
+
+-- the path of its name
+abbrev pub IsAt : Conf → Record → Path → Type 0
+IsAt conf r path = LeadsTo conf (name_of_record r) path
+
+-- the entry with its name
+abbrev pub IsAbout : Conf → Entries → Record → EntryContent → Type 0
+IsAbout conf d r e = (path : Path) × IsAt conf r path × (finite.get d path ≡ Some e)
+
+-- the path of the entry below which one at this path is to come: that of the new superior, or the parent's
+abbrev pub ComesBelow : Conf → Option (List ℕ) → Path → Path → Type 0
+ComesBelow conf None path upper = upper ≡ parent_of path
+ComesBelow conf (Some text) path upper = LeadsTo conf text upper
+
+-- the path that a modify DN is to bring an entry to, by the new RDN
+abbrev pub ComesTo : Conf → Record → Path → Path → Type 0
+ComesTo conf r path to =
+    (rdn : TypedRdn) × SpellsRdn conf (rdn_of_record r) rdn
+    × (upper : Path) × ComesBelow conf (superior_of_record r) path upper × (to ≡ upper ++ rdn_key_of conf.types rdn ∷ [])
+
+-- the attributes that the entry is to have in the end
+abbrev pub IsToHave : Conf → Entries → Record → Attributes → Type 0
+IsToHave conf d records.Empty attrs = ⊥
+IsToHave conf d (records.Content dn lines) attrs = (rdns : List TypedRdn) × HasPlace conf dn rdns × (attrs ≡ attrs_of_lines conf rdns lines)
+IsToHave conf d (records.Add dn controls lines) attrs = (rdns : List TypedRdn) × HasPlace conf dn rdns × (attrs ≡ attrs_of_lines conf rdns lines)
+IsToHave conf d (records.Delete dn controls) attrs = ⊥
+IsToHave conf d (records.Modify dn controls mods) attrs =
+    (e : EntryContent) × IsAbout conf d (records.Modify dn controls mods) e × (attrs ≡ modified conf.types e.attrs mods)
+IsToHave conf d (records.ModRdn dn controls newrdn delete_old new_superior) attrs =
+    (e : EntryContent) × IsAbout conf d (records.ModRdn dn controls newrdn delete_old new_superior) e
+    × (rdn : TypedRdn) × SpellsRdn conf newrdn rdn × (attrs ≡ renamed_attrs conf.types e rdn delete_old)
+
+-- ---- what may be wrong
+
+-- what a check finds
+pub data Flaw : Type 0 where
+  -- a control is critical
+  CriticalControl : Flaw
+  -- its name has a flaw
+  Name : NameFlaw → Flaw
+  -- an entry has the name
+  IsThere : Flaw
+  -- no entry has the name that is left without its first RDN
+  NoParent : Flaw
+  -- no entry has the name
+  NoEntry : Flaw
+  -- entries stand below it
+  HasChildren : Flaw
+  -- the line with this index has a flaw
+  Line : (line : ℕ) → LineFlaw → Flaw
+  -- the block with this index has a flaw
+  Block : (block : ℕ) → BlockFlaw → Flaw
+  -- the value with the second index, of the block with the first, has a flaw
+  Value : (block value : ℕ) → ValueFlaw → Flaw
+  -- a value of the entry's RDN goes
+  NoRdnValue : Flaw
+  -- it is the suffix's own entry
+  IsSuffix : Flaw
+  -- its new RDN has a flaw
+  NewRdn : NameFlaw → Flaw
+  -- the name of its new superior has a flaw
+  Superior : NameFlaw → Flaw
+  -- it is to come below itself, or below an entry that is below it
+  BelowItself : Flaw
+  -- no entry has the name of its new superior, or no other has that of its parent
+  NoSuperior : Flaw
+  -- another entry has the new name
+  IsTaken : Flaw
+  -- the entry as a whole has a flaw
+  Entry : EntryFlaw → Flaw
+  -- the directory has as many entries as it can
+  Full : Flaw
+
+-- the block of a modify with this index, and the attributes that those before it make
+pub record IsBlock (conf : Conf) (d : Entries) (r : Record) (index : ℕ) (m : Mod) (before : Attributes) : Type 0 where
+  pub entry : EntryContent
+  pub about : IsAbout conf d r entry
+  pub block : slice_get (blocks_of_record r) index ≡ Some m
+  pub before_is : before ≡ modified conf.types entry.attrs (take index (blocks_of_record r))
+
+-- no value of its type equals that of this AVA
+abbrev pub IsMissing : Conf → Attributes → Ava → Type 0
+IsMissing conf attrs p = has_equal conf.types p.0 p.1 (values_of attrs p.0) ≡ false
+
+-- whether a record has a flaw
+abbrev pub HasFlaw : Conf → Mode → Entries → Record → Flaw → Type 0
+HasFlaw conf mode d r CriticalControl = Any (λ (c : Control). c.critical ≡ true) (controls_of r)
+HasFlaw conf mode d r (Name f) = HasNameFlaw conf (name_of_record r) f
+HasFlaw conf mode d r IsThere = (path : Path) × IsAt conf r path × (finite.contains_key d path ≡ true)
+HasFlaw conf mode d r NoParent = (path : Path) × IsAt conf r path × (is_root path ≡ false) × (finite.contains_key d (parent_of path) ≡ false)
+HasFlaw conf mode d r NoEntry = (path : Path) × IsAt conf r path × (finite.contains_key d path ≡ false)
+HasFlaw conf mode d r HasChildren = (path : Path) × IsAt conf r path × (has_child d path ≡ true)
+HasFlaw conf mode d r (Line i f) = HasLineFlaw conf mode (lines_of_record r) i f
+HasFlaw conf mode d r (Block b f) = (m : Mod) × (before : Attributes) × IsBlock conf d r b m before × HasBlockFlaw conf.types before m f
+HasFlaw conf mode d r (Value b i f) = (m : Mod) × (before : Attributes) × IsBlock conf d r b m before × HasValueFlaw conf.types before m i f
+HasFlaw conf mode d r NoRdnValue =
+    (e : EntryContent) × IsAbout conf d r e × (attrs : Attributes) × IsToHave conf d r attrs × Any (IsMissing conf attrs) e.rdn
+HasFlaw conf mode d r IsSuffix = (path : Path) × IsAt conf r path × (is_root path ≡ true)
+HasFlaw conf mode d r (NewRdn f) = HasNameFlaw conf (rdn_of_record r) f
+HasFlaw conf mode d r (Superior f) = (text : List ℕ) × (superior_of_record r ≡ Some text) × HasNameFlaw conf text f
+HasFlaw conf mode d r BelowItself =
+    (path : Path) × IsAt conf r path × (upper : Path) × ComesBelow conf (superior_of_record r) path upper × (begins path upper ≡ true)
+HasFlaw conf mode d r NoSuperior =
+    (path : Path) × IsAt conf r path × (upper : Path) × ComesBelow conf (superior_of_record r) path upper
+    × (finite.contains_key d upper ≡ false)
+HasFlaw conf mode d r IsTaken =
+    (path : Path) × IsAt conf r path × (to : Path) × ComesTo conf r path to × (to ≢ path) × (finite.contains_key d to ≡ true)
+HasFlaw conf mode d r (Entry f) = (attrs : Attributes) × IsToHave conf d r attrs × HasEntryFlaw conf attrs f
+HasFlaw conf mode d r Full = 4294967295 ≤ finite.len d
+
+-- the code of each
+abbrev pub flaw_code : Flaw → Code
+flaw_code CriticalControl = UnavailableCriticalExtension
+flaw_code (Name f) = name_flaw_code f
+flaw_code IsThere = EntryAlreadyExists
+flaw_code NoParent = NoSuchObject
+flaw_code NoEntry = NoSuchObject
+flaw_code HasChildren = NotAllowedOnNonLeaf
+flaw_code (Line i f) = line_flaw_code f
+flaw_code (Block b f) = block_flaw_code f
+flaw_code (Value b i f) = value_flaw_code f
+flaw_code NoRdnValue = NotAllowedOnRdn
+flaw_code IsSuffix = UnwillingToPerform
+flaw_code (NewRdn f) = name_flaw_code f
+flaw_code (Superior f) = name_flaw_code f
+flaw_code BelowItself = UnwillingToPerform
+flaw_code NoSuperior = NoSuchObject
+flaw_code IsTaken = EntryAlreadyExists
+flaw_code (Entry f) = entry_flaw_code f
+flaw_code Full = AdminLimitExceeded
+
+-- ---- the checks of each operation, in order
+
+-- of the lines from this one on
+abbrev pub line_checks : ℕ → List Attr → List Flaw
+line_checks i [] = []
+line_checks i (l ∷ ls) =
+    Line i lines.UnknownType ∷ Line i lines.UsersCantChange ∷ Line i lines.BadSyntax ∷ Line i lines.EqualValue ∷ line_checks (suc i) ls
+
+-- of a block's values from this one on
+abbrev pub value_checks : ℕ → ℕ → List (List ℕ) → List Flaw
+value_checks b i [] = []
+value_checks b i (v ∷ vs) =
+    Value b i blocks.BadSyntax ∷ Value b i blocks.EqualValue ∷ Value b i blocks.NoValue ∷ value_checks b (suc i) vs
+
+-- of the blocks from this one on
+abbrev pub block_checks : ℕ → List Mod → List Flaw
+block_checks b [] = []
+block_checks b (m ∷ ms) = map (Block b) block_order ++ (value_checks b 0 m.values ++ block_checks (suc b) ms)
+
+-- of the entry as a whole, in the end
+abbrev pub entry_checks : List Flaw
+entry_checks = map Entry entry_order
+
+-- RFC 4511, 4.7
+abbrev pub add_checks : List Attr → List Flaw
+add_checks ls = IsThere ∷ NoParent ∷ (line_checks 0 ls ++ (entry_checks ++ Full ∷ []))
+
+-- RFC 4511, 4.8
+abbrev pub delete_checks : List Flaw
+delete_checks = NoEntry ∷ HasChildren ∷ []
+
+-- RFC 4511, 4.6
+abbrev pub modify_checks : List Mod → List Flaw
+modify_checks ms = NoEntry ∷ (block_checks 0 ms ++ NoRdnValue ∷ entry_checks)
+
+-- RFC 4511, 4.9
+abbrev pub rename_checks : List Flaw
+rename_checks =
+    NoEntry ∷ IsSuffix ∷ (map NewRdn rdn_order ++ (map Superior place_order ++ BelowItself ∷ NoSuperior ∷ IsTaken ∷ entry_checks))
+
+-- each operation begins with its controls and its name
+abbrev pub checks_behind_name : List Flaw → List Flaw
+checks_behind_name checks = CriticalControl ∷ (map Name place_order ++ checks)
+
+-- of a record
+abbrev pub checks_of : Record → List Flaw
+checks_of records.Empty = []
+checks_of (records.Content dn attrs) = checks_behind_name (add_checks attrs)
+checks_of (records.Add dn controls attrs) = checks_behind_name (add_checks attrs)
+checks_of (records.Delete dn controls) = checks_behind_name delete_checks
+checks_of (records.Modify dn controls mods) = checks_behind_name (modify_checks mods)
+checks_of (records.ModRdn dn controls newrdn delete_old new_superior) = checks_behind_name rename_checks
+
+-- ---- what is answered
+
+-- the first flaw of a record
+abbrev pub IsFirst : Conf → Mode → Entries → Record → Flaw → Type 0
+IsFirst conf mode d r flaw = IsFirstFlaw Flaw (HasFlaw conf mode d r) (checks_of r) flaw
+
+-- a code that its first flaw has
+pub record IsRefused (conf : Conf) (mode : Mode) (d : Entries) (r : Record) (code : Code) : Type 0 where
+  pub flaw : Flaw
+  pub first : IsFirst conf mode d r flaw
+  pub code_is : code ≡ flaw_code flaw
+
+-- it has none
+abbrev pub IsFlawless : Conf → Mode → Entries → Record → Type 0
+IsFlawless conf mode d r = AllByRecursion (λ flaw. Not (HasFlaw conf mode d r flaw)) (checks_of r)
+
+-- a change comes of it
+abbrev pub IsAllowed : Result Change Code → Type 0
+IsAllowed answer = (change : Change) × (answer ≡ Ok change)

@@ -1,0 +1,5 @@
+pub mod NameFlaws
+pub mod EntryFlaws
+pub mod LineFlaws
+pub mod BlockFlaws
+pub mod Flaws

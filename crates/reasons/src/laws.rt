@@ -1,0 +1,17 @@
+//! Laws of flaws and result codes.
+
+ghost use Rattle.std.specs.Prelude.{◌≡◌, ◌↔◌, Err};
+ghost use Rattle.ldif.specs.declared.record.Mode.{Mode};
+ghost use Rattle.ldif.specs.declared.record.Record.{Record};
+ghost use Rattle.schema.specs.declared.code.Code.{Code};
+ghost use Rattle.schema.specs.Conf.{Conf};
+ghost use Rattle.tree.specs.Directories.{Entries};
+ghost use Rattle.tree.specs.Operations.{change_of};
+ghost use Rattle.reasons.specs.Flaws.{IsRefused, IsFlawless, IsAllowed};
+
+/// A record is refused with a code exactly where that is the code of its first flaw, and allowed exactly where it has none
+/// (RFC 4511, 4.6 to 4.9).
+pub fn a_refusal_is_of_the_first_flaw()
+    ensures refused { (conf : Conf) (mode : Mode) (d : Entries) (r : Record) (c : Code) → (change_of conf mode d r ≡ Err c) ↔ IsRefused conf mode d r c }
+    ensures allowed { (conf : Conf) (mode : Mode) (d : Entries) (r : Record) → IsAllowed (change_of conf mode d r) ↔ IsFlawless conf mode d r }
+{}

@@ -1,0 +1,6 @@
+//! Why a record is refused: which check of its operation fails first.
+#![tactic(auto)]
+
+mod laws;
+
+pub use laws::a_refusal_is_of_the_first_flaw;
