@@ -1,5 +1,5 @@
 -- What the first flaw of several answers.
-use Rattle.std.proofs.Common.{◌≡◌, Bool, true, false, cond, ◌⊎◌, inl, inr, List, [], ◌∷◌, ◌++◌, map, Result, Ok, Err, refl, sym, ap, subst, ◌∙◌}
+use Rattle.std.proofs.Common.{◌≡◌, ◌≢◌, Bool, true, false, cond, ◌⊎◌, inl, inr, List, [], ◌∷◌, ◌++◌, map, Result, Ok, Err, refl, sym, ap, subst, ◌∙◌}
 use Rattle.std.specs.List.{AllByRecursion}
 use Rattle.schema.specs.declared.code.Code.{Code}
 use Rattle.schema.specs.FirstFlaws.{Not, IsFirstFlaw}
@@ -54,6 +54,16 @@ module _ {Flaw : Type 0} (Has : Flaw → Type 0) (code : Flaw → Code) (P : Typ
   pub first_answers : (fs : List Flaw) (x : Result A Code) (flaw : Flaw) → Answers fs x → IsFirstFlaw Flaw Has fs flaw → x ≡ Err (code flaw)
   first_answers fs x flaw h first =
       found_behind first.before first.after flaw x first.none_before first.has (subst (λ (gs : List Flaw). Answers gs x) first.order_is h)
+
+  -- the first that is there is the one with the code that is answered
+  pub none_before : (before after : List Flaw) (flaw : Flaw) (x : Result A Code) → Answers (before ++ flaw ∷ after) x → x ≡ Err (code flaw)
+      → AllByRecursion (λ f. (code f ≢ code flaw) ⊎ Not (Has f)) before → AllByRecursion (λ f. Not (Has f)) before
+  none_before [] after flaw x h is others = tt
+  none_before (f ∷ before) after flaw x (inl h) is others = absurd (elim others.0 [
+    | inl other ↦ other (same_refusal {A = A} (code f) (code flaw) (sym h.1 ∙ is))
+    | inr none ↦ none h.0
+  ])
+  none_before (f ∷ before) after flaw x (inr h) is others = (h.0, none_before before after flaw x h.1 is others.1)
 
   pub answers_none : (fs : List Flaw) (x : Result A Code) (a : A) → Answers fs x → x ≡ Ok a → AllByRecursion (λ f. Not (Has f)) fs
   answers_none [] x a h e = tt

@@ -13,3 +13,4 @@ pub mod AddAnswers
 pub mod ModifyAnswers
 pub mod RenameAnswers
 pub mod Told
+pub mod FlawExamples

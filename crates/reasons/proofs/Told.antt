@@ -1,5 +1,6 @@
 -- What comes of a record, by its first flaw.
-use Rattle.std.proofs.Common.{◌≡◌, ◌↔◌, map, ◌++◌, Result, Err, refl, sym, ap, ◌∙◌}
+use Rattle.std.proofs.Common.{List, ◌∷◌, ◌⊎◌, ◌≢◌, ◌≡◌, ◌↔◌, map, ◌++◌, Result, Err, refl, sym, ap, subst, ◌∙◌}
+use Rattle.std.specs.List.{AllByRecursion}
 use Rattle.ldif.specs.declared.record.Mode.{Mode}
 use Rattle.ldif.specs.declared.record.Record.{Record}
 use Rattle.ldif.specs.declared.record.Record.TheVariants as records
@@ -8,9 +9,10 @@ use Rattle.schema.specs.Conf.{Conf}
 use Rattle.tree.specs.Directories.{Entries}
 use Rattle.tree.specs.Changes.{Change, Nothing}
 use Rattle.tree.specs.Operations.{change_asked, change_of}
+use Rattle.schema.specs.FirstFlaws.{Not}
 use Rattle.reasons.specs.NameFlaws.{place_order}
-use Rattle.reasons.specs.Flaws.{Name, HasFlaw, IsRefused, IsFlawless, IsAllowed, flaw_code, checks_of, add_checks, delete_checks, modify_checks, rename_checks}
-use Rattle.reasons.proofs.Answering.{refusal, is_no_answer, answers_first, first_answers, answers_none, none_answers}
+use Rattle.reasons.specs.Flaws.{Flaw, Name, HasFlaw, IsFirst, IsRefused, IsFlawless, IsAllowed, flaw_code, checks_of, add_checks, delete_checks, modify_checks, rename_checks}
+use Rattle.reasons.proofs.Answering.{refusal, is_no_answer, answers_first, first_answers, answers_none, none_answers, none_before}
 use Rattle.reasons.proofs.Operated.{answers, control_answers}
 use Rattle.reasons.proofs.AddAnswers.{add_answers, delete_answers}
 use Rattle.reasons.proofs.ModifyAnswers.{modify_answers}
@@ -69,3 +71,15 @@ module _ (conf : Conf) (mode : Mode) (d : Entries) (r : Record) where
     λ done. answers_none (HasFlaw conf mode d r) flaw_code (IsAllowed said) (checks_of r) said done.0 told done.1,
     none_answers (HasFlaw conf mode d r) flaw_code (IsAllowed said) (checks_of r) said told,
   )
+
+  -- of a code that no flaw before it has
+  pub first_by_code : (before after : List Flaw) (flaw : Flaw) → checks_of r ≡ before ++ flaw ∷ after → said ≡ Err (flaw_code flaw) → HasFlaw conf mode d r flaw
+      → AllByRecursion (λ f. (flaw_code f ≢ flaw_code flaw) ⊎ Not (HasFlaw conf mode d r f)) before → IsFirst conf mode d r flaw
+  first_by_code before after flaw order is has others = record {
+    before = before;
+    after = after;
+    order_is = order;
+    has = has;
+    none_before = none_before (HasFlaw conf mode d r) flaw_code (IsAllowed said) before after flaw said
+        (subst (λ (flaws : List Flaw). answers conf mode d r said flaws) order told) is others;
+  }
