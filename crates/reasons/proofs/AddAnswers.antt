@@ -18,12 +18,12 @@ use Rattle.tree.specs.Trees.{has_child}
 use Rattle.tree.specs.Changes.{Change, Put, Remove}
 use Rattle.tree.specs.Adds.{own_rdn, entry_of, with_entry, add_at, add_there, add}
 use Rattle.tree.specs.Deletes.{delete_at, delete}
-use Rattle.reasons.specs.NameFlaws.{HasPlace, place_order}
+use Rattle.reasons.specs.NameFlaws.{HasPlace, place_checks}
 use Rattle.reasons.specs.LineFlaws.{gathered, attrs_of_lines}
 use Rattle.reasons.specs.Flaws.{Flaw, Name, IsThere, NoParent, NoEntry, HasChildren, Full, HasFlaw, IsToHave, IsAllowed, flaw_code, name_of_record, lines_of_record, line_checks, entry_checks, add_checks, delete_checks}
 use Rattle.reasons.proofs.Elements.{both, joined, off, on}
 use Rattle.reasons.proofs.Answering.{check, behind}
-use Rattle.reasons.proofs.NameAnswers.{only_ok}
+use Rattle.reasons.proofs.AvaAnswers.{only_ok}
 use Rattle.reasons.proofs.LineAnswers.{line_answers}
 use Rattle.reasons.proofs.Places.{its_path, is_at, of_path}
 use Rattle.reasons.proofs.Operated.{answers, name_answers, whole_answers}
@@ -79,7 +79,7 @@ module _ (conf : Conf) (mode : Mode) (d : Entries) (r : Record) (x : Result Chan
           behind (HasFlaw conf mode d r) flaw_code (x ≡ finish (gathered conf.types lines)) (IsAllowed x) (line_checks 0 lines) (entry_checks ++ Full ∷ []) x
           (line_answers conf mode d r x finish said) finished
 
-    pub add_answers : x ≡ add conf mode d (name_of_record r) lines → answers conf mode d r x (map Name place_order ++ add_checks lines)
+    pub add_answers : x ≡ add conf mode d (name_of_record r) lines → answers conf mode d r x (map Name (place_checks (name_of_record r)) ++ add_checks lines)
     unfolding add
     add_answers is = name_answers conf mode d r x (λ rdns. add_there conf mode d (path_of conf rdns) rdns lines) (add_checks lines) is added_at
 
@@ -95,6 +95,6 @@ module _ (conf : Conf) (mode : Mode) (d : Entries) (r : Record) (x : Result Chan
       check (HasFlaw conf mode d r) flaw_code (IsAllowed x) below HasChildren [] x (Ok (Remove path)) said
       (λ h. (path, is_at conf d r rdns here, h)) (λ h. of_path conf d r rdns here (λ p. has_child d p ≡ true) h.0 h.1 h.2) λ leaf done. (Remove path, done)
 
-  pub delete_answers : x ≡ delete conf d (name_of_record r) → answers conf mode d r x (map Name place_order ++ delete_checks)
+  pub delete_answers : x ≡ delete conf d (name_of_record r) → answers conf mode d r x (map Name (place_checks (name_of_record r)) ++ delete_checks)
   unfolding delete
   delete_answers is = name_answers conf mode d r x (λ rdns. delete_at d (path_of conf rdns)) delete_checks is deleted_at

@@ -81,6 +81,13 @@ weaker Has code P Q follows [] x h = follows h
 weaker Has code P Q follows (f ∷ fs) x (inl h) = inl h
 weaker Has code P Q follows (f ∷ fs) x (inr h) = inr (h.0, weaker Has code P Q follows fs x h.1)
 
+-- of a call that fails where another one does
+pub lifted : {Flaw A B : Type 0} (Has : Flaw → Type 0) (code : Flaw → Code) (P : Type 0) (fs : List Flaw) (y : Result B Code) (x : Result A Code) → ((c : Code) → y ≡ Err c → x ≡ Err c)
+    → Answers Has code P fs y → Answers Has code P fs x
+lifted Has code P [] y x fails h = h
+lifted Has code P (f ∷ fs) y x fails (inl h) = inl (h.0, fails (code f) h.1)
+lifted Has code P (f ∷ fs) y x fails (inr h) = inr (h.0, lifted Has code P fs y x fails h.1)
+
 -- some, and behind them others
 pub behind : {Flaw A : Type 0} (Has : Flaw → Type 0) (code : Flaw → Code) (Q P : Type 0) (fs gs : List Flaw) (x : Result A Code)
     → Answers Has code Q fs x → (Q → Answers Has code P gs x) → Answers Has code P (fs ++ gs) x

@@ -26,6 +26,7 @@ use Rattle.values.specs.declared.types.EqualityRule.TheVariants as rules
 use Rattle.values.specs.declared.types.TypeSyntax.{TypeSyntax}
 use Rattle.values.specs.declared.types.TypeSyntax.TheVariants as type_syntaxes
 use Rattle.schema.specs.Conf.{Conf, below, place_of, located}
+use Rattle.schema.specs.FaultyNames.{UnknownType, NameSyntax, NoEquality, BadValue, TypeTwice}
 use Rattle.schema.specs.FirstFlaws.{Not}
 use Rattle.schema.specs.Names.{name_in}
 use Rattle.schema.specs.Rdns.{avas_from, rdns_from, put_pair, key_from, rdn_key_of}
@@ -185,6 +186,23 @@ elsewhere : HasNameFlaw conf (codes "cn=a,cn=other") name_flaws.OutsideSuffix
 unfolding on_names
 elsewhere = (((1, codes "a") ∷ []) ∷ ((1, codes "other") ∷ []) ∷ [], refl, refl)
 
+-- the second AVA of the second RDN has the type of the first
+type_twice : HasNameFlaw conf (codes "cn=a,cn=b+CN=c") (name_flaws.Ava 1 1 TypeTwice)
+unfolding on_names
+type_twice = (
+  (codes "cn", codes "b") ∷ [],
+  (codes "CN", codes "c"),
+  record {
+    name = ((codes "cn", codes "a") ∷ []) ∷ ((codes "cn", codes "b") ∷ (codes "CN", codes "c") ∷ []) ∷ [];
+    spelled = refl;
+    rdn = (codes "cn", codes "b") ∷ (codes "CN", codes "c") ∷ [];
+    rdn_is = refl;
+    ava_is = refl;
+    earlier_are = refl;
+  },
+  (1, refl, refl),
+)
+
 -- ---- a whole record: the second block adds a value that is there, and the third would delete what isn't
 
 abbrev suffix_entry : EntryContent
@@ -235,7 +253,9 @@ not_of_the_first h =
 
 abbrev earlier : List Flaw
 earlier =
-    CriticalControl ∷ Name name_flaws.Unreadable ∷ Name name_flaws.BadAva ∷ Name name_flaws.BadNaming ∷ Name name_flaws.OutsideSuffix ∷ NoEntry
+    CriticalControl ∷ Name name_flaws.Unreadable
+    ∷ Name (name_flaws.Ava 0 0 UnknownType) ∷ Name (name_flaws.Ava 0 0 NameSyntax) ∷ Name (name_flaws.Ava 0 0 NoEquality) ∷ Name (name_flaws.Ava 0 0 BadValue) ∷ Name (name_flaws.Ava 0 0 TypeTwice)
+    ∷ Name name_flaws.OutsideSuffix ∷ NoEntry
     ∷ Block 0 block_flaws.UnknownType ∷ Block 0 block_flaws.UsersCantChange ∷ Block 0 block_flaws.NoValues ∷ Block 0 block_flaws.NoEquality ∷ Block 0 block_flaws.NoAttribute
     ∷ Value 0 0 block_flaws.BadSyntax ∷ Value 0 0 block_flaws.EqualValue ∷ Value 0 0 block_flaws.NoValue
     ∷ Block 1 block_flaws.UnknownType ∷ Block 1 block_flaws.UsersCantChange ∷ Block 1 block_flaws.NoValues ∷ Block 1 block_flaws.NoEquality ∷ Block 1 block_flaws.NoAttribute
@@ -249,6 +269,7 @@ later =
 
 -- it is the first, though the third block has a flaw, too
 the_second_block_first : IsFirst conf changes one modifying (Value 1 0 block_flaws.EqualValue)
+unfolding on_names
 the_second_block_first =
     first_by_code conf changes one modifying earlier later (Value 1 0 block_flaws.EqualValue) refl refused_20 of_the_second_block
-    (inl (λ e. absurd cc), (inl (λ e. absurd cc), (inl (λ e. absurd cc), (inl (λ e. absurd cc), (inl (λ e. absurd cc), (inl (λ e. absurd cc), (inl (λ e. absurd cc), (inl (λ e. absurd cc), (inl (λ e. absurd cc), (inl (λ e. absurd cc), (inl (λ e. absurd cc), (inl (λ e. absurd cc), (inr not_of_the_first, (inl (λ e. absurd cc), (inl (λ e. absurd cc), (inl (λ e. absurd cc), (inl (λ e. absurd cc), (inl (λ e. absurd cc), (inl (λ e. absurd cc), (inl (λ e. absurd cc), tt))))))))))))))))))))
+    (inl (λ e. absurd cc), (inl (λ e. absurd cc), (inl (λ e. absurd cc), (inl (λ e. absurd cc), (inl (λ e. absurd cc), (inl (λ e. absurd cc), (inl (λ e. absurd cc), (inl (λ e. absurd cc), (inl (λ e. absurd cc), (inl (λ e. absurd cc), (inl (λ e. absurd cc), (inl (λ e. absurd cc), (inl (λ e. absurd cc), (inl (λ e. absurd cc), (inl (λ e. absurd cc), (inr not_of_the_first, (inl (λ e. absurd cc), (inl (λ e. absurd cc), (inl (λ e. absurd cc), (inl (λ e. absurd cc), (inl (λ e. absurd cc), (inl (λ e. absurd cc), (inl (λ e. absurd cc), tt)))))))))))))))))))))))

@@ -1,6 +1,7 @@
 pub mod Answering
 pub mod Elements
 pub mod EntryAnswers
+pub mod AvaAnswers
 pub mod NameAnswers
 pub mod Lines
 pub mod LineAnswers

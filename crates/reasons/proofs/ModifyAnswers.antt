@@ -17,7 +17,7 @@ use Rattle.entries.specs.Modifies.{unless, modify_block, entry_fault, has_rdn, m
 use Rattle.tree.specs.Directories.{Entries}
 use Rattle.tree.specs.Changes.{Change, Put}
 use Rattle.tree.specs.Modifies.{modify_there, modify}
-use Rattle.reasons.specs.NameFlaws.{HasPlace, place_order}
+use Rattle.reasons.specs.NameFlaws.{HasPlace, place_checks}
 use Rattle.reasons.specs.BlockFlaws.{modified}
 use Rattle.reasons.specs.Flaws.{Name, NoEntry, NoRdnValue, HasFlaw, IsAbout, IsToHave, IsMissing, IsAllowed, flaw_code, name_of_record, blocks_of_record, block_checks, entry_checks, modify_checks}
 use Rattle.reasons.proofs.Elements.{all_told, is_none, none_there, off, on}
@@ -91,6 +91,6 @@ module _ (conf : Conf) (mode : Mode) (d : Entries) (r : Record) (x : Result Chan
               (λ h. is_none (finite.get d path) e (none_there (finite.get d path) (of_path conf d r rdns here (λ p. finite.contains_key d p ≡ false) h.0 h.1 h.2)) found)
               (modified_entry e found (is ∙ ap (modify_there conf path blocks) found))
 
-    pub modify_answers : x ≡ modify conf d (name_of_record r) blocks → answers conf mode d r x (map Name place_order ++ modify_checks blocks)
+    pub modify_answers : x ≡ modify conf d (name_of_record r) blocks → answers conf mode d r x (map Name (place_checks (name_of_record r)) ++ modify_checks blocks)
     unfolding modify
     modify_answers is = name_answers conf mode d r x (λ rdns. modify_there conf (path_of conf rdns) blocks (finite.get d (path_of conf rdns))) (modify_checks blocks) is modified_at

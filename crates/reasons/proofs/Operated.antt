@@ -14,7 +14,7 @@ use Rattle.entries.specs.Modifies.{unless}
 use Rattle.tree.specs.Directories.{Entries}
 use Rattle.tree.specs.Changes.{Change}
 use Rattle.tree.specs.Operations.{has_critical, controls_of}
-use Rattle.reasons.specs.NameFlaws.{HasNameFlaw, HasPlace, name_flaw_code, place_order}
+use Rattle.reasons.specs.NameFlaws.{HasNameFlaw, HasPlace, name_flaw_code, place_checks}
 use Rattle.reasons.specs.EntryFlaws.{HasEntryFlaw, entry_flaw_code, entry_order}
 use Rattle.reasons.specs.Flaws.{Flaw, CriticalControl, Name, Entry, HasFlaw, IsToHave, IsAllowed, flaw_code, name_of_record, entry_checks}
 use Rattle.reasons.proofs.Answering.{Answers, check, behind, within}
@@ -43,10 +43,10 @@ module _ (conf : Conf) (mode : Mode) (d : Entries) (r : Record) (x : Result Chan
   Placed = (rdns : List TypedRdn) × HasPlace conf text rdns
 
   pub name_answers : (next : List TypedRdn → Result Change Code) (checks : List Flaw) → x ≡ (located conf text >>= next)
-      → ((rdns : List TypedRdn) → HasPlace conf text rdns → x ≡ next rdns → answers checks) → answers (map Name place_order ++ checks)
+      → ((rdns : List TypedRdn) → HasPlace conf text rdns → x ≡ next rdns → answers checks) → answers (map Name (place_checks text) ++ checks)
   name_answers next checks is more =
-      behind (HasFlaw conf mode d r) flaw_code Placed (IsAllowed x) (map Name place_order) checks x
-      (within (HasNameFlaw conf text) name_flaw_code (HasFlaw conf mode d r) flaw_code Name Placed place_order (located conf text) x (λ f h. h) (λ f h. h) (λ f. refl)
+      behind (HasFlaw conf mode d r) flaw_code Placed (IsAllowed x) (map Name (place_checks text)) checks x
+      (within (HasNameFlaw conf text) name_flaw_code (HasFlaw conf mode d r) flaw_code Name Placed (place_checks text) (located conf text) x (λ f h. h) (λ f h. h) (λ f. refl)
       (λ c fails. is ∙ ap (λ (place : Result (List TypedRdn) Code). place >>= next) fails) (place_answers conf text))
       (λ k. more k.0 k.1 (is ∙ ap (λ (place : Result (List TypedRdn) Code). place >>= next) k.1))
 

@@ -13,7 +13,7 @@ use Rattle.reasons.specs.NameFlaws.{HasPlace, LeadsTo}
 use Rattle.reasons.specs.BlockFlaws.{modified}
 use Rattle.reasons.specs.Flaws.{IsAt, IsAbout, IsBlock, name_of_record, blocks_of_record}
 use Rattle.reasons.proofs.Elements.{only_some}
-use Rattle.reasons.proofs.NameAnswers.{only_ok}
+use Rattle.reasons.proofs.AvaAnswers.{only_ok}
 
 pub only_path : (conf : Conf) (text : List ℕ) (rdns : List TypedRdn) (path : Path) → HasPlace conf text rdns → LeadsTo conf text path → path ≡ path_of conf rdns
 only_path conf text rdns path here at = at.2 ∙ ap (path_of conf) (only_ok (located conf text) at.0 rdns at.1 here)

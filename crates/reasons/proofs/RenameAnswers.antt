@@ -23,11 +23,12 @@ use Rattle.tree.specs.Directories.{Entries}
 use Rattle.tree.specs.Changes.{Change}
 use Rattle.tree.specs.Renames.{rdn_in, upper_path, same_path, renamed_to, rename_below, rename_there, rename_at, rename}
 use Rattle.tree.proofs.Order.{path_total, path_exact}
-use Rattle.reasons.specs.NameFlaws.{NameFlaw, HasNameFlaw, HasPlace, SpellsRdn, name_flaw_code, place_order, rdn_order}
-use Rattle.reasons.specs.Flaws.{Flaw, Name, NoEntry, IsSuffix, NewRdn, Superior, BelowItself, NoSuperior, IsTaken, HasFlaw, ComesBelow, ComesTo, IsToHave, IsAllowed, flaw_code, entry_checks, rename_checks}
+use Rattle.reasons.specs.NameFlaws.{HasNameFlaw, HasPlace, SpellsRdn, name_flaw_code, place_checks, new_rdn_checks}
+use Rattle.reasons.specs.Flaws.{Flaw, Name, NoEntry, IsSuffix, NewRdn, Superior, BelowItself, NoSuperior, IsTaken, HasFlaw, ComesBelow, ComesTo, IsToHave, IsAllowed, flaw_code, entry_checks, superior_checks, rename_checks}
 use Rattle.reasons.proofs.Elements.{both, is_none, joined, none_there, off, on}
 use Rattle.reasons.proofs.Answering.{Answers, check, passed, failed, behind, weaker, within}
-use Rattle.reasons.proofs.NameAnswers.{only_ok, place_answers, rdn_answers}
+use Rattle.reasons.proofs.AvaAnswers.{only_ok}
+use Rattle.reasons.proofs.NameAnswers.{place_answers, new_rdn_answers}
 use Rattle.reasons.proofs.EntryAnswers.{fault_is}
 use Rattle.reasons.proofs.Places.{only_path, its_path, is_at, of_path, is_about, only_entry}
 use Rattle.reasons.proofs.Operated.{answers, name_answers, whole_answers, then_change}
@@ -130,17 +131,12 @@ module _ (conf : Conf) (mode : Mode) (d : Entries) (dn : List ℕ) (controls : L
 
   above : (superior : Option (List ℕ)) (x : Result Change Code) (rdns : List TypedRdn) (here : HasPlace conf dn rdns) (e : EntryContent) (found : finite.get d (path_of conf rdns) ≡ Some e)
       (rdn : TypedRdn) (spelled : SpellsRdn conf newrdn rdn) → x ≡ (upper_path conf (path_of conf rdns) superior >>= λ upper. rename_below conf d (path_of conf rdns) e rdn delete_old upper)
-      → parts superior x (IsAllowed x) (map Superior place_order ++ last_checks)
+      → parts superior x (IsAllowed x) (superior_checks superior ++ last_checks)
   above None x rdns here e found rdn spelled is =
-      skipped place_order
-      (renamed_below conf mode d dn controls newrdn delete_old None x rdns here e found rdn spelled (parent_of (path_of conf rdns)) refl (λ other h. h) is)
-    where
-      skipped : (fs : List NameFlaw) → parts None x (IsAllowed x) last_checks → parts None x (IsAllowed x) (map Superior fs ++ last_checks)
-      skipped [] h = h
-      skipped (f ∷ fs) h = passed (HasFlaw conf mode d (renaming None)) flaw_code (IsAllowed x) (Superior f) (map Superior fs ++ last_checks) x (λ k. let none = k.1 in absurd cc) (skipped fs h)
+      renamed_below conf mode d dn controls newrdn delete_old None x rdns here e found rdn spelled (parent_of (path_of conf rdns)) refl (λ other h. h) is
   above (Some text) x rdns here e found rdn spelled is =
-      behind (HasFlaw conf mode d (renaming (Some text))) flaw_code ((rs : List TypedRdn) × HasPlace conf text rs) (IsAllowed x) (map Superior place_order) last_checks x
-      (within (HasNameFlaw conf text) name_flaw_code (HasFlaw conf mode d (renaming (Some text))) flaw_code Superior ((rs : List TypedRdn) × HasPlace conf text rs) place_order (located conf text) x
+      behind (HasFlaw conf mode d (renaming (Some text))) flaw_code ((rs : List TypedRdn) × HasPlace conf text rs) (IsAllowed x) (map Superior (place_checks text)) last_checks x
+      (within (HasNameFlaw conf text) name_flaw_code (HasFlaw conf mode d (renaming (Some text))) flaw_code Superior ((rs : List TypedRdn) × HasPlace conf text rs) (place_checks text) (located conf text) x
       (λ f h. (text, refl, h)) (λ f h. subst (λ (t : List ℕ). HasNameFlaw conf t f) (same_text h.0 h.1) h.2) (λ f. refl) (λ c fails. is ∙ ap from_place fails) (place_answers conf text))
       (λ k. renamed_below conf mode d dn controls newrdn delete_old (Some text) x rdns here e found rdn spelled (path_of conf k.0) (k.0, k.1, refl) (λ other h. only_path conf text k.0 other k.1 h) (is ∙ ap from_place k.1))
     where
@@ -157,7 +153,7 @@ module _ (conf : Conf) (mode : Mode) (d : Entries) (dn : List ℕ) (controls : L
     r_of = renaming superior
 
     abbrev behind_suffix : List Flaw
-    behind_suffix = map NewRdn rdn_order ++ (map Superior place_order ++ last_checks)
+    behind_suffix = map NewRdn (new_rdn_checks newrdn) ++ (superior_checks superior ++ last_checks)
 
     renamed_there : (rdns : List TypedRdn) (here : HasPlace conf dn rdns) (e : EntryContent) → finite.get d (path_of conf rdns) ≡ Some e
         → x ≡ rename_there conf d (path_of conf rdns) newrdn delete_old superior (Some e) → parts superior x (IsAllowed x) (IsSuffix ∷ behind_suffix)
@@ -165,26 +161,26 @@ module _ (conf : Conf) (mode : Mode) (d : Entries) (dn : List ℕ) (controls : L
         let path : Path = path_of conf rdns in
         check (HasFlaw conf mode d r_of) flaw_code (IsAllowed x) (is_root path) IsSuffix behind_suffix x (from_rdn (rdn_in conf newrdn)) is
         (λ h. (path, is_at conf d r_of rdns here, h)) (λ h. of_path conf d r_of rdns here (λ p. is_root p ≡ true) h.0 h.1 h.2) λ below said.
-        behind (HasFlaw conf mode d r_of) flaw_code ((rdn : TypedRdn) × (rdn_in conf newrdn ≡ Ok rdn) × SpellsRdn conf newrdn rdn) (IsAllowed x) (map NewRdn rdn_order) (map Superior place_order ++ last_checks) x
-        (within (HasNameFlaw conf newrdn) name_flaw_code (HasFlaw conf mode d r_of) flaw_code NewRdn ((rdn : TypedRdn) × (rdn_in conf newrdn ≡ Ok rdn) × SpellsRdn conf newrdn rdn) rdn_order (rdn_in conf newrdn) x
-        (λ f h. h) (λ f h. h) (λ f. refl) (λ c fails. said ∙ ap from_rdn fails) (rdn_answers conf newrdn))
+        behind (HasFlaw conf mode d r_of) flaw_code ((rdn : TypedRdn) × (rdn_in conf newrdn ≡ Ok rdn) × SpellsRdn conf newrdn rdn) (IsAllowed x) (map NewRdn (new_rdn_checks newrdn)) (superior_checks superior ++ last_checks) x
+        (within (HasNameFlaw conf newrdn) name_flaw_code (HasFlaw conf mode d r_of) flaw_code NewRdn ((rdn : TypedRdn) × (rdn_in conf newrdn ≡ Ok rdn) × SpellsRdn conf newrdn rdn) (new_rdn_checks newrdn) (rdn_in conf newrdn) x
+        (λ f h. h) (λ f h. h) (λ f. refl) (λ c fails. said ∙ ap from_rdn fails) (new_rdn_answers conf newrdn))
         (λ k. above superior x rdns here e found k.0 k.2 (said ∙ ap from_rdn k.1))
       where
         from_rdn : Result TypedRdn Code → Result Change Code
         from_rdn rdn = rdn >>= λ new. upper_path conf (path_of conf rdns) superior >>= λ upper. rename_below conf d (path_of conf rdns) e new delete_old upper
 
-    renamed_at : (rdns : List TypedRdn) (here : HasPlace conf dn rdns) → x ≡ rename_at conf d (path_of conf rdns) newrdn delete_old superior → parts superior x (IsAllowed x) rename_checks
+    renamed_at : (rdns : List TypedRdn) (here : HasPlace conf dn rdns) → x ≡ rename_at conf d (path_of conf rdns) newrdn delete_old superior → parts superior x (IsAllowed x) (rename_checks newrdn superior)
     renamed_at rdns here is = by (finite.get d (path_of conf rdns)) refl
       where
         there : Option EntryContent → Result Change Code
         there o = rename_there conf d (path_of conf rdns) newrdn delete_old superior o
 
-        by : (o : Option EntryContent) → finite.get d (path_of conf rdns) ≡ o → parts superior x (IsAllowed x) rename_checks
+        by : (o : Option EntryContent) → finite.get d (path_of conf rdns) ≡ o → parts superior x (IsAllowed x) (rename_checks newrdn superior)
         by None none = failed (HasFlaw conf mode d r_of) flaw_code (IsAllowed x) NoEntry (IsSuffix ∷ behind_suffix) x (path_of conf rdns, is_at conf d r_of rdns here, ap is_some none) (is ∙ ap there none)
         by (Some e) found = passed (HasFlaw conf mode d r_of) flaw_code (IsAllowed x) NoEntry (IsSuffix ∷ behind_suffix) x
             (λ h. is_none (finite.get d (path_of conf rdns)) e (none_there (finite.get d (path_of conf rdns)) (of_path conf d r_of rdns here (λ p. finite.contains_key d p ≡ false) h.0 h.1 h.2)) found)
             (renamed_there rdns here e found (is ∙ ap there found))
 
-    pub rename_answers : x ≡ rename conf d dn newrdn delete_old superior → answers conf mode d r_of x (map Name place_order ++ rename_checks)
+    pub rename_answers : x ≡ rename conf d dn newrdn delete_old superior → answers conf mode d r_of x (map Name (place_checks dn) ++ rename_checks newrdn superior)
     unfolding rename
-    rename_answers is = name_answers conf mode d r_of x (λ rdns. rename_at conf d (path_of conf rdns) newrdn delete_old superior) rename_checks is renamed_at
+    rename_answers is = name_answers conf mode d r_of x (λ rdns. rename_at conf d (path_of conf rdns) newrdn delete_old superior) (rename_checks newrdn superior) is renamed_at

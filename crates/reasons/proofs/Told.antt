@@ -10,7 +10,7 @@ use Rattle.tree.specs.Directories.{Entries}
 use Rattle.tree.specs.Changes.{Change, Nothing}
 use Rattle.tree.specs.Operations.{change_asked, change_of}
 use Rattle.schema.specs.FirstFlaws.{Not}
-use Rattle.reasons.specs.NameFlaws.{place_order}
+use Rattle.reasons.specs.NameFlaws.{place_checks}
 use Rattle.reasons.specs.Flaws.{Flaw, Name, HasFlaw, IsFirst, IsRefused, IsFlawless, IsAllowed, flaw_code, checks_of, add_checks, delete_checks, modify_checks, rename_checks}
 use Rattle.reasons.proofs.Answering.{refusal, is_no_answer, answers_first, first_answers, answers_none, none_answers, none_before}
 use Rattle.reasons.proofs.Operated.{answers, control_answers}
@@ -23,27 +23,27 @@ all_answer conf mode d records.Empty = (Nothing, refl)
 all_answer conf mode d (records.Content dn attrs) =
     let r : Record = records.Content dn attrs in
     let x : Result Change Code = change_of conf mode d r in
-    control_answers conf mode d r x (change_asked conf mode d r) (map Name place_order ++ add_checks attrs) refl λ said.
+    control_answers conf mode d r x (change_asked conf mode d r) (map Name (place_checks dn) ++ add_checks attrs) refl λ said.
     add_answers conf mode d r x (λ wanted h. h) (λ wanted h. h) said
 all_answer conf mode d (records.Add dn controls attrs) =
     let r : Record = records.Add dn controls attrs in
     let x : Result Change Code = change_of conf mode d r in
-    control_answers conf mode d r x (change_asked conf mode d r) (map Name place_order ++ add_checks attrs) refl λ said.
+    control_answers conf mode d r x (change_asked conf mode d r) (map Name (place_checks dn) ++ add_checks attrs) refl λ said.
     add_answers conf mode d r x (λ wanted h. h) (λ wanted h. h) said
 all_answer conf mode d (records.Delete dn controls) =
     let r : Record = records.Delete dn controls in
     let x : Result Change Code = change_of conf mode d r in
-    control_answers conf mode d r x (change_asked conf mode d r) (map Name place_order ++ delete_checks) refl λ said.
+    control_answers conf mode d r x (change_asked conf mode d r) (map Name (place_checks dn) ++ delete_checks) refl λ said.
     delete_answers conf mode d r x said
 all_answer conf mode d (records.Modify dn controls mods) =
     let r : Record = records.Modify dn controls mods in
     let x : Result Change Code = change_of conf mode d r in
-    control_answers conf mode d r x (change_asked conf mode d r) (map Name place_order ++ modify_checks mods) refl λ said.
+    control_answers conf mode d r x (change_asked conf mode d r) (map Name (place_checks dn) ++ modify_checks mods) refl λ said.
     modify_answers conf mode d r x (λ wanted h. h) (λ wanted h. h) said
 all_answer conf mode d (records.ModRdn dn controls newrdn delete_old superior) =
     let r : Record = records.ModRdn dn controls newrdn delete_old superior in
     let x : Result Change Code = change_of conf mode d r in
-    control_answers conf mode d r x (change_asked conf mode d r) (map Name place_order ++ rename_checks) refl λ said.
+    control_answers conf mode d r x (change_asked conf mode d r) (map Name (place_checks dn) ++ rename_checks newrdn superior) refl λ said.
     rename_answers conf mode d dn controls newrdn delete_old superior x said
 
 -- ---- the laws

@@ -20,7 +20,7 @@ use Rattle.tree.specs.Directories.{Entries}
 use Rattle.tree.specs.Trees.{has_child}
 use Rattle.tree.specs.Changes.{Change}
 use Rattle.tree.specs.Operations.{controls_of}
-use Rattle.reasons.specs.NameFlaws.{NameFlaw, HasNameFlaw, HasPlace, LeadsTo, SpellsRdn, name_flaw_code, place_order, rdn_order}
+use Rattle.reasons.specs.NameFlaws.{NameFlaw, HasNameFlaw, HasPlace, LeadsTo, SpellsRdn, name_flaw_code, place_checks, new_rdn_checks}
 use Rattle.reasons.specs.LineFlaws as lines
 use Rattle.reasons.specs.LineFlaws.{LineFlaw, HasLineFlaw, attrs_of_lines, line_flaw_code}
 use Rattle.reasons.specs.BlockFlaws as blocks
@@ -241,23 +241,28 @@ delete_checks = NoEntry ∷ HasChildren ∷ []
 abbrev pub modify_checks : List Mod → List Flaw
 modify_checks ms = NoEntry ∷ (block_checks 0 ms ++ NoRdnValue ∷ entry_checks)
 
+-- of the name of a new superior, if there is one
+abbrev pub superior_checks : Option (List ℕ) → List Flaw
+superior_checks None = []
+superior_checks (Some text) = map Superior (place_checks text)
+
 -- RFC 4511, 4.9
-abbrev pub rename_checks : List Flaw
-rename_checks =
-    NoEntry ∷ IsSuffix ∷ (map NewRdn rdn_order ++ (map Superior place_order ++ BelowItself ∷ NoSuperior ∷ IsTaken ∷ entry_checks))
+abbrev pub rename_checks : List ℕ → Option (List ℕ) → List Flaw
+rename_checks newrdn superior =
+    NoEntry ∷ IsSuffix ∷ (map NewRdn (new_rdn_checks newrdn) ++ (superior_checks superior ++ BelowItself ∷ NoSuperior ∷ IsTaken ∷ entry_checks))
 
 -- each operation begins with its controls and its name
-abbrev pub checks_behind_name : List Flaw → List Flaw
-checks_behind_name checks = CriticalControl ∷ (map Name place_order ++ checks)
+abbrev pub with_name_checks : List ℕ → List Flaw → List Flaw
+with_name_checks dn checks = CriticalControl ∷ (map Name (place_checks dn) ++ checks)
 
 -- of a record
 abbrev pub checks_of : Record → List Flaw
 checks_of records.Empty = []
-checks_of (records.Content dn attrs) = checks_behind_name (add_checks attrs)
-checks_of (records.Add dn controls attrs) = checks_behind_name (add_checks attrs)
-checks_of (records.Delete dn controls) = checks_behind_name delete_checks
-checks_of (records.Modify dn controls mods) = checks_behind_name (modify_checks mods)
-checks_of (records.ModRdn dn controls newrdn delete_old new_superior) = checks_behind_name rename_checks
+checks_of (records.Content dn attrs) = with_name_checks dn (add_checks attrs)
+checks_of (records.Add dn controls attrs) = with_name_checks dn (add_checks attrs)
+checks_of (records.Delete dn controls) = with_name_checks dn delete_checks
+checks_of (records.Modify dn controls mods) = with_name_checks dn (modify_checks mods)
+checks_of (records.ModRdn dn controls newrdn delete_old new_superior) = with_name_checks dn (rename_checks newrdn new_superior)
 
 -- ---- what is answered
 
