@@ -23,7 +23,8 @@ use Rattle.entries.specs.Modifies.{unless, has_values, block_values, changed_val
 use Rattle.tree.specs.Directories.{Entries}
 use Rattle.reasons.specs.NameFlaws.{HasPlace}
 use Rattle.reasons.specs.BlockFlaws.{BlockFlaw, UnknownType, UsersCantChange, NoValues, NoEquality, NoAttribute, HasBlockFlaw, Compares, IsOfType, values_with, values_after, with_block, after_block, modified, block_order}
-use Rattle.reasons.specs.Flaws.{Flaw, Block, HasFlaw, flaw_code, name_of_record, blocks_of_record, value_checks, block_checks}
+use Rattle.reasons.specs.Asked.{name_of_record, blocks_of_record}
+use Rattle.reasons.specs.Flaws.{Flaw, Block, HasFlaw, flaw_code, value_checks, block_checks}
 use Rattle.reasons.proofs.Elements.{both, is_none, joined, off, on, only_some}
 use Rattle.reasons.proofs.Answering.{Answers, check, passed, failed, behind, weaker}
 use Rattle.reasons.proofs.Lines.{get_seam, take_seam}

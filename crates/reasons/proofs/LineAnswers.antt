@@ -14,7 +14,8 @@ use Rattle.schema.specs.Values.{is_valid_at}
 use Rattle.entries.specs.Entries.{Attributes, values_of, has_equal, push_value, is_barred, typed_value, put_value, add_lines}
 use Rattle.tree.specs.Directories.{Entries}
 use Rattle.reasons.specs.LineFlaws.{UnknownType, UsersCantChange, BadSyntax, EqualValue, IsLine, SaysEqual, put_typed, gathered}
-use Rattle.reasons.specs.Flaws.{Flaw, Line, HasFlaw, flaw_code, lines_of_record, line_checks}
+use Rattle.reasons.specs.Asked.{lines_of_record}
+use Rattle.reasons.specs.Flaws.{Flaw, Line, HasFlaw, flaw_code, line_checks}
 use Rattle.reasons.proofs.Elements.{is_none, off, on, only_some}
 use Rattle.reasons.proofs.Answering.{Answers, check, passed, failed}
 use Rattle.reasons.proofs.Lines.{get_seam, take_seam, says, earlier_told, gathered_more, equal_there}

@@ -11,7 +11,8 @@ use Rattle.entries.specs.Entries.{Attributes, EntryContent}
 use Rattle.tree.specs.Directories.{Entries}
 use Rattle.reasons.specs.NameFlaws.{HasPlace, LeadsTo}
 use Rattle.reasons.specs.BlockFlaws.{modified}
-use Rattle.reasons.specs.Flaws.{IsAt, IsAbout, IsBlock, name_of_record, blocks_of_record}
+use Rattle.reasons.specs.Asked.{IsAt, IsAbout, name_of_record, blocks_of_record}
+use Rattle.reasons.specs.Flaws.{IsBlock}
 use Rattle.reasons.proofs.Elements.{only_some}
 use Rattle.reasons.proofs.AvaAnswers.{only_ok}
 

@@ -17,21 +17,22 @@ use Rattle.schema.specs.declared.code.Code.TheVariants.{NoSuchObject, EntryAlrea
 use Rattle.schema.specs.Conf.{Conf, located, path_of}
 use Rattle.schema.specs.Rdns.{TypedRdn, rdn_key_of}
 use Rattle.schema.specs.Values.{rdns_in}
-use Rattle.entries.specs.Entries.{Attributes, EntryContent}
+use Rattle.entries.specs.Entries.{EntryContent}
 use Rattle.entries.specs.Modifies.{entry_fault, renamed_attrs, rename_entry}
 use Rattle.tree.specs.Directories.{Entries}
 use Rattle.tree.specs.Changes.{Change}
 use Rattle.tree.specs.Renames.{rdn_in, upper_path, same_path, renamed_to, rename_below, rename_there, rename_at, rename}
 use Rattle.tree.proofs.Order.{path_total, path_exact}
 use Rattle.reasons.specs.NameFlaws.{HasNameFlaw, HasPlace, SpellsRdn, name_flaw_code, place_checks, new_rdn_checks}
-use Rattle.reasons.specs.Flaws.{Flaw, Name, NoEntry, IsSuffix, NewRdn, Superior, BelowItself, NoSuperior, IsTaken, HasFlaw, ComesBelow, ComesTo, IsToHave, IsAllowed, flaw_code, entry_checks, superior_checks, rename_checks}
+use Rattle.reasons.specs.Asked.{ComesBelow, ComesTo, IsToBe}
+use Rattle.reasons.specs.Flaws.{Flaw, Name, NoEntry, IsSuffix, NewRdn, Superior, BelowItself, NoSuperior, IsTaken, HasFlaw, flaw_code, entry_checks, superior_checks, rename_checks}
 use Rattle.reasons.proofs.Elements.{both, is_none, joined, none_there, off, on}
 use Rattle.reasons.proofs.Answering.{Answers, check, passed, failed, behind, weaker, within}
 use Rattle.reasons.proofs.AvaAnswers.{only_ok}
 use Rattle.reasons.proofs.NameAnswers.{place_answers, new_rdn_answers}
 use Rattle.reasons.proofs.EntryAnswers.{fault_is}
 use Rattle.reasons.proofs.Places.{only_path, its_path, is_at, of_path, is_about, only_entry}
-use Rattle.reasons.proofs.Operated.{answers, name_answers, whole_answers, then_change}
+use Rattle.reasons.proofs.Operated.{Comes, answers, name_answers, whole_answers, then_change}
 
 -- ---- the same path
 
@@ -65,17 +66,23 @@ module _ (conf : Conf) (mode : Mode) (d : Entries) (dn : List ℕ) (controls : L
     path = its_path conf d r rdns here
 
     module _ (e : EntryContent) (found : finite.get d path ≡ Some e) (rdn : TypedRdn) (spelled : SpellsRdn conf newrdn rdn) where
-      abbrev wanted : Attributes
-      wanted = renamed_attrs conf.types e rdn delete_old
+      abbrev made : EntryContent → TypedRdn → EntryContent
+      made old new = record { rdn = new; attrs = renamed_attrs conf.types old new delete_old }
+
+      abbrev wanted : EntryContent
+      wanted = made e rdn
+
+      is_wanted : IsToBe conf d r wanted
+      is_wanted = (e, is_about conf d r rdns here e found, rdn, spelled, refl)
 
       only_rdn_is : (other : TypedRdn) → SpellsRdn conf newrdn other → other ≡ rdn
       only_rdn_is other h = same_rdn other rdn (only_ok (rdns_in conf.types newrdn) (other ∷ []) (rdn ∷ []) h spelled)
 
-      only_wanted : (attrs : Attributes) → IsToHave conf d r attrs → attrs ≡ wanted
-      only_wanted attrs h =
+      only_wanted : (other : EntryContent) → IsToBe conf d r other → other ≡ wanted
+      only_wanted other h =
           h.4
-          ∙ ap (λ (a : EntryContent). renamed_attrs conf.types a h.2 delete_old) (only_entry conf d r rdns here e found h.0 h.1)
-          ∙ ap (λ (q : TypedRdn). renamed_attrs conf.types e q delete_old) (only_rdn_is h.2 h.3)
+          ∙ ap (λ (a : EntryContent). made a h.2) (only_entry conf d r rdns here e found h.0 h.1)
+          ∙ ap (made e) (only_rdn_is h.2 h.3)
 
       module _ (upper : Path) (below : ComesBelow conf superior path upper) (only_upper : (other : Path) → ComesBelow conf superior path other → other ≡ upper) where
         abbrev to : Path
@@ -92,27 +99,35 @@ module _ (conf : Conf) (mode : Mode) (d : Entries) (dn : List ℕ) (controls : L
             of_upper (λ q u. Q q (u ++ rdn_key_of conf.types rdn ∷ [])) p at h.2 h.3
             (subst (λ (s : TypedRdn). Q p (h.2 ++ rdn_key_of conf.types s ∷ [])) (only_rdn_is h.0 h.1) (subst (Q p) h.4 is))
 
-        finished : x ≡ rename_entry conf e rdn delete_old >>= (λ out. Ok (renamed_to path to out)) → part (IsAllowed x) entry_checks
+        finished : x ≡ rename_entry conf e rdn delete_old >>= (λ out. Ok (renamed_to path to out)) → part (Comes conf d r x) entry_checks
         unfolding rename_entry
         finished is =
-            let out : EntryContent = record { rdn = rdn; attrs = wanted } in
-            let moved : Result Change Code = Ok (renamed_to path to out) in
-            weaker (HasFlaw conf mode d r) flaw_code (x ≡ moved) (IsAllowed x) (λ done. (renamed_to path to out, done)) entry_checks x
-            (whole_answers conf mode d r x wanted moved (e, is_about conf d r rdns here e found, rdn, spelled, refl) only_wanted
-            (is ∙ then_change (entry_fault conf wanted) out (renamed_to path to) ∙ fault_is conf wanted moved))
+            let moved : Result Change Code = Ok (renamed_to path to wanted) in
+            weaker (HasFlaw conf mode d r) flaw_code (x ≡ moved) (Comes conf d r x) comes entry_checks x
+            (whole_answers conf mode d r x wanted moved is_wanted only_wanted
+            (is ∙ then_change (entry_fault conf wanted.attrs) wanted (renamed_to path to) ∙ fault_is conf wanted.attrs moved))
+          where
+            comes : x ≡ Ok (renamed_to path to wanted) → Comes conf d r x
+            comes done = record {
+              change = renamed_to path to wanted;
+              is = done;
+              asked = (path, is_at conf d r rdns here, to, (rdn, spelled, upper, below, refl), wanted, is_wanted, refl);
+              only = λ other h.
+                  of_to (λ p t. other ≡ renamed_to p t h.4) h.0 h.1 h.2 h.3 h.6 ∙ ap (λ (a : EntryContent). renamed_to path to a) (only_wanted h.4 h.5);
+            }
 
-        renamed_below : x ≡ rename_below conf d path e rdn delete_old upper → part (IsAllowed x) (BelowItself ∷ NoSuperior ∷ IsTaken ∷ entry_checks)
+        renamed_below : x ≡ rename_below conf d path e rdn delete_old upper → part (Comes conf d r x) (BelowItself ∷ NoSuperior ∷ IsTaken ∷ entry_checks)
         renamed_below is =
             let inside : Bool = begins path upper in
             let there : Bool = finite.contains_key d upper in
             let same : Bool = same_path path to in
             let held : Bool = finite.contains_key d to in
             let last : Result Change Code = rename_entry conf e rdn delete_old >>= λ out. Ok (renamed_to path to out) in
-            check (HasFlaw conf mode d r) flaw_code (IsAllowed x) inside BelowItself (NoSuperior ∷ IsTaken ∷ entry_checks) x (cond (not there) (Err NoSuchObject) (cond (not same && held) (Err EntryAlreadyExists) last)) is
+            check (HasFlaw conf mode d r) flaw_code (Comes conf d r x) inside BelowItself (NoSuperior ∷ IsTaken ∷ entry_checks) x (cond (not there) (Err NoSuchObject) (cond (not same && held) (Err EntryAlreadyExists) last)) is
             (λ h. (path, is_at conf d r rdns here, upper, below, h)) (λ h. of_upper (λ p u. begins p u ≡ true) h.0 h.1 h.2 h.3 h.4) λ apart_from said.
-            check (HasFlaw conf mode d r) flaw_code (IsAllowed x) (not there) NoSuperior (IsTaken ∷ entry_checks) x (cond (not same && held) (Err EntryAlreadyExists) last) said
+            check (HasFlaw conf mode d r) flaw_code (Comes conf d r x) (not there) NoSuperior (IsTaken ∷ entry_checks) x (cond (not same && held) (Err EntryAlreadyExists) last) said
             (λ h. (path, is_at conf d r rdns here, upper, below, off there h)) (λ h. on there (of_upper (λ p u. finite.contains_key d u ≡ false) h.0 h.1 h.2 h.3 h.4)) λ known said.
-            check (HasFlaw conf mode d r) flaw_code (IsAllowed x) (not same && held) IsTaken entry_checks x last said
+            check (HasFlaw conf mode d r) flaw_code (Comes conf d r x) (not same && held) IsTaken entry_checks x last said
             (λ h. let k = both (not same) held h in (path, is_at conf d r rdns here, to, (rdn, spelled, upper, below, refl), others path to (off same k.0), k.1))
             (λ h. let k = of_to (λ p t. (t ≢ p) × (finite.contains_key d t ≡ true)) h.0 h.1 h.2 h.3 (h.4, h.5) in joined (not same) held (on same (apart path to k.0)) k.1) λ free.
             finished
@@ -131,11 +146,11 @@ module _ (conf : Conf) (mode : Mode) (d : Entries) (dn : List ℕ) (controls : L
 
   above : (superior : Option (List ℕ)) (x : Result Change Code) (rdns : List TypedRdn) (here : HasPlace conf dn rdns) (e : EntryContent) (found : finite.get d (path_of conf rdns) ≡ Some e)
       (rdn : TypedRdn) (spelled : SpellsRdn conf newrdn rdn) → x ≡ (upper_path conf (path_of conf rdns) superior >>= λ upper. rename_below conf d (path_of conf rdns) e rdn delete_old upper)
-      → parts superior x (IsAllowed x) (superior_checks superior ++ last_checks)
+      → parts superior x (Comes conf d (renaming superior) x) (superior_checks superior ++ last_checks)
   above None x rdns here e found rdn spelled is =
       renamed_below conf mode d dn controls newrdn delete_old None x rdns here e found rdn spelled (parent_of (path_of conf rdns)) refl (λ other h. h) is
   above (Some text) x rdns here e found rdn spelled is =
-      behind (HasFlaw conf mode d (renaming (Some text))) flaw_code ((rs : List TypedRdn) × HasPlace conf text rs) (IsAllowed x) (map Superior (place_checks text)) last_checks x
+      behind (HasFlaw conf mode d (renaming (Some text))) flaw_code ((rs : List TypedRdn) × HasPlace conf text rs) (Comes conf d (renaming (Some text)) x) (map Superior (place_checks text)) last_checks x
       (within (HasNameFlaw conf text) name_flaw_code (HasFlaw conf mode d (renaming (Some text))) flaw_code Superior ((rs : List TypedRdn) × HasPlace conf text rs) (place_checks text) (located conf text) x
       (λ f h. (text, refl, h)) (λ f h. subst (λ (t : List ℕ). HasNameFlaw conf t f) (same_text h.0 h.1) h.2) (λ f. refl) (λ c fails. is ∙ ap from_place fails) (place_answers conf text))
       (λ k. renamed_below conf mode d dn controls newrdn delete_old (Some text) x rdns here e found rdn spelled (path_of conf k.0) (k.0, k.1, refl) (λ other h. only_path conf text k.0 other k.1 h) (is ∙ ap from_place k.1))
@@ -156,12 +171,12 @@ module _ (conf : Conf) (mode : Mode) (d : Entries) (dn : List ℕ) (controls : L
     behind_suffix = map NewRdn (new_rdn_checks newrdn) ++ (superior_checks superior ++ last_checks)
 
     renamed_there : (rdns : List TypedRdn) (here : HasPlace conf dn rdns) (e : EntryContent) → finite.get d (path_of conf rdns) ≡ Some e
-        → x ≡ rename_there conf d (path_of conf rdns) newrdn delete_old superior (Some e) → parts superior x (IsAllowed x) (IsSuffix ∷ behind_suffix)
+        → x ≡ rename_there conf d (path_of conf rdns) newrdn delete_old superior (Some e) → parts superior x (Comes conf d r_of x) (IsSuffix ∷ behind_suffix)
     renamed_there rdns here e found is =
         let path : Path = path_of conf rdns in
-        check (HasFlaw conf mode d r_of) flaw_code (IsAllowed x) (is_root path) IsSuffix behind_suffix x (from_rdn (rdn_in conf newrdn)) is
+        check (HasFlaw conf mode d r_of) flaw_code (Comes conf d r_of x) (is_root path) IsSuffix behind_suffix x (from_rdn (rdn_in conf newrdn)) is
         (λ h. (path, is_at conf d r_of rdns here, h)) (λ h. of_path conf d r_of rdns here (λ p. is_root p ≡ true) h.0 h.1 h.2) λ below said.
-        behind (HasFlaw conf mode d r_of) flaw_code ((rdn : TypedRdn) × (rdn_in conf newrdn ≡ Ok rdn) × SpellsRdn conf newrdn rdn) (IsAllowed x) (map NewRdn (new_rdn_checks newrdn)) (superior_checks superior ++ last_checks) x
+        behind (HasFlaw conf mode d r_of) flaw_code ((rdn : TypedRdn) × (rdn_in conf newrdn ≡ Ok rdn) × SpellsRdn conf newrdn rdn) (Comes conf d r_of x) (map NewRdn (new_rdn_checks newrdn)) (superior_checks superior ++ last_checks) x
         (within (HasNameFlaw conf newrdn) name_flaw_code (HasFlaw conf mode d r_of) flaw_code NewRdn ((rdn : TypedRdn) × (rdn_in conf newrdn ≡ Ok rdn) × SpellsRdn conf newrdn rdn) (new_rdn_checks newrdn) (rdn_in conf newrdn) x
         (λ f h. h) (λ f h. h) (λ f. refl) (λ c fails. said ∙ ap from_rdn fails) (new_rdn_answers conf newrdn))
         (λ k. above superior x rdns here e found k.0 k.2 (said ∙ ap from_rdn k.1))
@@ -169,15 +184,15 @@ module _ (conf : Conf) (mode : Mode) (d : Entries) (dn : List ℕ) (controls : L
         from_rdn : Result TypedRdn Code → Result Change Code
         from_rdn rdn = rdn >>= λ new. upper_path conf (path_of conf rdns) superior >>= λ upper. rename_below conf d (path_of conf rdns) e new delete_old upper
 
-    renamed_at : (rdns : List TypedRdn) (here : HasPlace conf dn rdns) → x ≡ rename_at conf d (path_of conf rdns) newrdn delete_old superior → parts superior x (IsAllowed x) (rename_checks newrdn superior)
+    renamed_at : (rdns : List TypedRdn) (here : HasPlace conf dn rdns) → x ≡ rename_at conf d (path_of conf rdns) newrdn delete_old superior → parts superior x (Comes conf d r_of x) (rename_checks newrdn superior)
     renamed_at rdns here is = by (finite.get d (path_of conf rdns)) refl
       where
         there : Option EntryContent → Result Change Code
         there o = rename_there conf d (path_of conf rdns) newrdn delete_old superior o
 
-        by : (o : Option EntryContent) → finite.get d (path_of conf rdns) ≡ o → parts superior x (IsAllowed x) (rename_checks newrdn superior)
-        by None none = failed (HasFlaw conf mode d r_of) flaw_code (IsAllowed x) NoEntry (IsSuffix ∷ behind_suffix) x (path_of conf rdns, is_at conf d r_of rdns here, ap is_some none) (is ∙ ap there none)
-        by (Some e) found = passed (HasFlaw conf mode d r_of) flaw_code (IsAllowed x) NoEntry (IsSuffix ∷ behind_suffix) x
+        by : (o : Option EntryContent) → finite.get d (path_of conf rdns) ≡ o → parts superior x (Comes conf d r_of x) (rename_checks newrdn superior)
+        by None none = failed (HasFlaw conf mode d r_of) flaw_code (Comes conf d r_of x) NoEntry (IsSuffix ∷ behind_suffix) x (path_of conf rdns, is_at conf d r_of rdns here, ap is_some none) (is ∙ ap there none)
+        by (Some e) found = passed (HasFlaw conf mode d r_of) flaw_code (Comes conf d r_of x) NoEntry (IsSuffix ∷ behind_suffix) x
             (λ h. is_none (finite.get d (path_of conf rdns)) e (none_there (finite.get d (path_of conf rdns)) (of_path conf d r_of rdns here (λ p. finite.contains_key d p ≡ false) h.0 h.1 h.2)) found)
             (renamed_there rdns here e found (is ∙ ap there found))
 

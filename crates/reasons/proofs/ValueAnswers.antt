@@ -21,7 +21,8 @@ use Rattle.entries.specs.Modifies.{append_value, remove_value, without_value}
 use Rattle.tree.specs.Directories.{Entries}
 use Rattle.reasons.specs.NameFlaws.{HasPlace}
 use Rattle.reasons.specs.BlockFlaws.{ValueFlaw, BadSyntax, EqualValue, NoValue, IsValue, HasValueFlaw, values_with}
-use Rattle.reasons.specs.Flaws.{Flaw, Value, HasFlaw, flaw_code, name_of_record, blocks_of_record, value_checks}
+use Rattle.reasons.specs.Asked.{name_of_record, blocks_of_record}
+use Rattle.reasons.specs.Flaws.{Flaw, Value, HasFlaw, flaw_code, value_checks}
 use Rattle.reasons.proofs.Elements.{off, on, only_some}
 use Rattle.reasons.proofs.Answering.{Answers, check, passed, weaker}
 use Rattle.reasons.proofs.Lines.{get_seam, take_seam}

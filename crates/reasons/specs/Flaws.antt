@@ -12,100 +12,20 @@ use Rattle.paths.specs.Paths.{Path, parent_of, is_root, begins}
 use Rattle.schema.specs.declared.code.Code.{Code}
 use Rattle.schema.specs.declared.code.Code.TheVariants.{AdminLimitExceeded, UnavailableCriticalExtension, NoSuchObject, UnwillingToPerform, NotAllowedOnNonLeaf, NotAllowedOnRdn, EntryAlreadyExists}
 use Rattle.schema.specs.Conf.{Conf}
-use Rattle.schema.specs.Rdns.{Ava, TypedRdn, rdn_key_of}
+use Rattle.schema.specs.Rdns.{Ava}
 use Rattle.schema.specs.FirstFlaws.{Not, IsFirstFlaw}
 use Rattle.entries.specs.Entries.{Attributes, EntryContent, values_of, has_equal}
-use Rattle.entries.specs.Modifies.{renamed_attrs}
 use Rattle.tree.specs.Directories.{Entries}
 use Rattle.tree.specs.Trees.{has_child}
 use Rattle.tree.specs.Changes.{Change}
 use Rattle.tree.specs.Operations.{controls_of}
-use Rattle.reasons.specs.NameFlaws.{NameFlaw, HasNameFlaw, HasPlace, LeadsTo, SpellsRdn, name_flaw_code, place_checks, new_rdn_checks}
+use Rattle.reasons.specs.Asked.{name_of_record, lines_of_record, blocks_of_record, rdn_of_record, superior_of_record, IsAt, IsAbout, ComesBelow, ComesTo, IsToBe, AsksFor}
+use Rattle.reasons.specs.NameFlaws.{NameFlaw, HasNameFlaw, name_flaw_code, place_checks, new_rdn_checks}
 use Rattle.reasons.specs.LineFlaws as lines
-use Rattle.reasons.specs.LineFlaws.{LineFlaw, HasLineFlaw, attrs_of_lines, line_flaw_code}
+use Rattle.reasons.specs.LineFlaws.{LineFlaw, HasLineFlaw, line_flaw_code}
 use Rattle.reasons.specs.BlockFlaws as blocks
 use Rattle.reasons.specs.BlockFlaws.{BlockFlaw, ValueFlaw, HasBlockFlaw, HasValueFlaw, modified, block_flaw_code, value_flaw_code, block_order}
 use Rattle.reasons.specs.EntryFlaws.{EntryFlaw, HasEntryFlaw, entry_flaw_code, entry_order}
-
--- ---- what a record says
-
--- the name of the entry that it is about
-abbrev pub name_of_record : Record → List ℕ
-name_of_record records.Empty = []
-name_of_record (records.Content dn attrs) = dn
-name_of_record (records.Add dn controls attrs) = dn
-name_of_record (records.Delete dn controls) = dn
-name_of_record (records.Modify dn controls mods) = dn
-name_of_record (records.ModRdn dn controls newrdn delete_old new_superior) = dn
-
--- the lines of an add
-abbrev pub lines_of_record : Record → List Attr
-lines_of_record records.Empty = []
-lines_of_record (records.Content dn attrs) = attrs
-lines_of_record (records.Add dn controls attrs) = attrs
-lines_of_record (records.Delete dn controls) = []
-lines_of_record (records.Modify dn controls mods) = []
-lines_of_record (records.ModRdn dn controls newrdn delete_old new_superior) = []
-
--- the blocks of a modify
-abbrev pub blocks_of_record : Record → List Mod
-blocks_of_record records.Empty = []
-blocks_of_record (records.Content dn attrs) = []
-blocks_of_record (records.Add dn controls attrs) = []
-blocks_of_record (records.Delete dn controls) = []
-blocks_of_record (records.Modify dn controls mods) = mods
-blocks_of_record (records.ModRdn dn controls newrdn delete_old new_superior) = []
-
--- the new RDN of a modify DN
-abbrev pub rdn_of_record : Record → List ℕ
-rdn_of_record records.Empty = []
-rdn_of_record (records.Content dn attrs) = []
-rdn_of_record (records.Add dn controls attrs) = []
-rdn_of_record (records.Delete dn controls) = []
-rdn_of_record (records.Modify dn controls mods) = []
-rdn_of_record (records.ModRdn dn controls newrdn delete_old new_superior) = newrdn
-
--- its new superior, if it names one
-abbrev pub superior_of_record : Record → Option (List ℕ)
-superior_of_record records.Empty = None
-superior_of_record (records.Content dn attrs) = None
-superior_of_record (records.Add dn controls attrs) = None
-superior_of_record (records.Delete dn controls) = None
-superior_of_record (records.Modify dn controls mods) = None
-superior_of_record (records.ModRdn dn controls newrdn delete_old new_superior) = new_superior
-
--- ---- what it is about
-
--- the path of its name
-abbrev pub IsAt : Conf → Record → Path → Type 0
-IsAt conf r path = LeadsTo conf (name_of_record r) path
-
--- the entry with its name
-abbrev pub IsAbout : Conf → Entries → Record → EntryContent → Type 0
-IsAbout conf d r e = (path : Path) × IsAt conf r path × (finite.get d path ≡ Some e)
-
--- the path of the entry below which one at this path is to come: that of the new superior, or the parent's
-abbrev pub ComesBelow : Conf → Option (List ℕ) → Path → Path → Type 0
-ComesBelow conf None path upper = upper ≡ parent_of path
-ComesBelow conf (Some text) path upper = LeadsTo conf text upper
-
--- the path that a modify DN is to bring an entry to, by the new RDN
-abbrev pub ComesTo : Conf → Record → Path → Path → Type 0
-ComesTo conf r path to =
-    (rdn : TypedRdn) × SpellsRdn conf (rdn_of_record r) rdn
-    × (upper : Path) × ComesBelow conf (superior_of_record r) path upper × (to ≡ upper ++ rdn_key_of conf.types rdn ∷ [])
-
--- the attributes that the entry is to have in the end
-abbrev pub IsToHave : Conf → Entries → Record → Attributes → Type 0
-IsToHave conf d records.Empty attrs = ⊥
-IsToHave conf d (records.Content dn lines) attrs = (rdns : List TypedRdn) × HasPlace conf dn rdns × (attrs ≡ attrs_of_lines conf rdns lines)
-IsToHave conf d (records.Add dn controls lines) attrs = (rdns : List TypedRdn) × HasPlace conf dn rdns × (attrs ≡ attrs_of_lines conf rdns lines)
-IsToHave conf d (records.Delete dn controls) attrs = ⊥
-IsToHave conf d (records.Modify dn controls mods) attrs =
-    (e : EntryContent) × IsAbout conf d (records.Modify dn controls mods) e × (attrs ≡ modified conf.types e.attrs mods)
-IsToHave conf d (records.ModRdn dn controls newrdn delete_old new_superior) attrs =
-    (e : EntryContent) × IsAbout conf d (records.ModRdn dn controls newrdn delete_old new_superior) e
-    × (rdn : TypedRdn) × SpellsRdn conf newrdn rdn × (attrs ≡ renamed_attrs conf.types e rdn delete_old)
 
 -- ---- what may be wrong
 
@@ -129,7 +49,7 @@ pub data Flaw : Type 0 where
   Block : (block : ℕ) → BlockFlaw → Flaw
   -- the value with the second index, of the block with the first, has a flaw
   Value : (block value : ℕ) → ValueFlaw → Flaw
-  -- a value of the entry's RDN goes
+  -- a value of the entry's RDN is to go
   NoRdnValue : Flaw
   -- it is the suffix's own entry
   IsSuffix : Flaw
@@ -170,8 +90,7 @@ HasFlaw conf mode d r HasChildren = (path : Path) × IsAt conf r path × (has_ch
 HasFlaw conf mode d r (Line i f) = HasLineFlaw conf mode (lines_of_record r) i f
 HasFlaw conf mode d r (Block b f) = (m : Mod) × (before : Attributes) × IsBlock conf d r b m before × HasBlockFlaw conf.types before m f
 HasFlaw conf mode d r (Value b i f) = (m : Mod) × (before : Attributes) × IsBlock conf d r b m before × HasValueFlaw conf.types before m i f
-HasFlaw conf mode d r NoRdnValue =
-    (e : EntryContent) × IsAbout conf d r e × (attrs : Attributes) × IsToHave conf d r attrs × Any (IsMissing conf attrs) e.rdn
+HasFlaw conf mode d r NoRdnValue = (e : EntryContent) × IsToBe conf d r e × Any (IsMissing conf e.attrs) e.rdn
 HasFlaw conf mode d r IsSuffix = (path : Path) × IsAt conf r path × (is_root path ≡ true)
 HasFlaw conf mode d r (NewRdn f) = HasNameFlaw conf (rdn_of_record r) f
 HasFlaw conf mode d r (Superior f) = (text : List ℕ) × (superior_of_record r ≡ Some text) × HasNameFlaw conf text f
@@ -182,7 +101,7 @@ HasFlaw conf mode d r NoSuperior =
     × (finite.contains_key d upper ≡ false)
 HasFlaw conf mode d r IsTaken =
     (path : Path) × IsAt conf r path × (to : Path) × ComesTo conf r path to × (to ≢ path) × (finite.contains_key d to ≡ true)
-HasFlaw conf mode d r (Entry f) = (attrs : Attributes) × IsToHave conf d r attrs × HasEntryFlaw conf attrs f
+HasFlaw conf mode d r (Entry f) = (e : EntryContent) × IsToBe conf d r e × HasEntryFlaw conf e.attrs f
 HasFlaw conf mode d r Full = 4294967295 ≤ finite.len d
 
 -- the code of each
@@ -279,6 +198,11 @@ pub record IsRefused (conf : Conf) (mode : Mode) (d : Entries) (r : Record) (cod
 -- it has none
 abbrev pub IsFlawless : Conf → Mode → Entries → Record → Type 0
 IsFlawless conf mode d r = AllByRecursion (λ flaw. Not (HasFlaw conf mode d r flaw)) (checks_of r)
+
+-- it has none, and asks for this change
+pub record IsGranted (conf : Conf) (mode : Mode) (d : Entries) (r : Record) (change : Change) : Type 0 where
+  pub flawless : IsFlawless conf mode d r
+  pub asked : AsksFor conf d r change
 
 -- a change comes of it
 abbrev pub IsAllowed : Result Change Code → Type 0

@@ -2,4 +2,5 @@ pub mod NameFlaws
 pub mod EntryFlaws
 pub mod LineFlaws
 pub mod BlockFlaws
+pub mod Asked
 pub mod Flaws

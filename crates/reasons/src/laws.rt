@@ -6,12 +6,18 @@ ghost use Rattle.ldif.specs.declared.record.Record.{Record};
 ghost use Rattle.schema.specs.declared.code.Code.{Code};
 ghost use Rattle.schema.specs.Conf.{Conf};
 ghost use Rattle.tree.specs.Directories.{Entries};
+ghost use Rattle.tree.specs.Changes.{Change, allowed};
 ghost use Rattle.tree.specs.Operations.{change_of};
-ghost use Rattle.reasons.specs.Flaws.{IsRefused, IsFlawless, IsAllowed};
+ghost use Rattle.reasons.specs.Flaws.{IsRefused, IsFlawless, IsAllowed, IsGranted};
 
 /// A record is refused with a code exactly where that is the code of its first flaw, and allowed exactly where it has none
 /// (RFC 4511, 4.6 to 4.9).
 pub fn a_refusal_is_of_the_first_flaw()
     ensures refused { (conf : Conf) (mode : Mode) (d : Entries) (r : Record) (c : Code) → (change_of conf mode d r ≡ Err c) ↔ IsRefused conf mode d r c }
     ensures allowed { (conf : Conf) (mode : Mode) (d : Entries) (r : Record) → IsAllowed (change_of conf mode d r) ↔ IsFlawless conf mode d r }
+{}
+
+/// A record comes to a change exactly where it has no flaw and asks for that change.
+pub fn a_change_has_no_flaw()
+    ensures { (conf : Conf) (mode : Mode) (d : Entries) (r : Record) (c : Change) → (change_of conf mode d r ≡ allowed c) ↔ IsGranted conf mode d r c }
 {}

@@ -3,4 +3,4 @@
 
 mod laws;
 
-pub use laws::a_refusal_is_of_the_first_flaw;
+pub use laws::{a_change_has_no_flaw, a_refusal_is_of_the_first_flaw};
