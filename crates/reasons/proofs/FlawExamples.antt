@@ -1,10 +1,10 @@
 -- Worked examples of flaws, by computation (RFC 4511, 4.6 to 4.9 and appendix A.2).
-use Rattle.std.proofs.Common.{◌≡◌, ℕ, Bool, true, false, inl, inr, List, [], ◌∷◌, ◌++◌, Option, Some, None, Err, refl, sym, ap, ◌∙◌, arith}
-use Rattle.std.specs.Prelude.{codes, ⊤}
+use Rattle.std.proofs.Common.{◌≡◌, ℕ, Bool, true, false, inr, List, [], ◌∷◌, ◌++◌, Option, Some, None, Err, refl, sym, ap, ◌∙◌, arith, cond, Result}
+use Rattle.std.specs.Prelude.{codes, ⊤, is_some}
 use Rattle.std.specs.FinMap as finite
 use Rattle.std.specs.Str.{is_utf8, chars}
 use lib.Utf8.{encode}
-use Rattle.base.specs.Answers.{each, through}
+use Rattle.base.specs.Answers.{each, through, ◌>>=◌}
 use Rattle.dn.specs.Reading.{octets_from, trimmed, value_of, ava_at, ava_of, cut_raw, rdn_of, name_of}
 use Rattle.ldif.specs.Attrs.{Attr}
 use Rattle.ldif.specs.declared.record.Mod.{Mod}
@@ -32,13 +32,16 @@ use Rattle.schema.specs.Names.{name_in}
 use Rattle.schema.specs.Rdns.{avas_from, rdns_from, put_pair, key_from, rdn_key_of}
 use Rattle.schema.specs.TypeRules.{object_class}
 use Rattle.schema.specs.Values.{is_valid_at, norm_at, rdns_in}
+use Rattle.schema.specs.declared.code.Code.{Code}
 use Rattle.schema.specs.declared.code.Code.TheVariants as result
-use Rattle.entries.specs.Entries.{Attributes, EntryContent, values_of, has_equal}
+use Rattle.entries.specs.Entries.{Attributes, EntryContent, values_of, has_equal, add_lines}
 use Rattle.entries.specs.Modifies.{set_values, modify_at, modify_entry}
 use Rattle.tree.specs.Directories.{Entries}
+use Rattle.tree.specs.Adds.{add, add_at, entry_of, with_entry}
+use Rattle.tree.specs.Changes.{Change}
 use Rattle.tree.specs.Modifies.{modify_there, modify}
 use Rattle.tree.specs.Operations.{change_of}
-use Rattle.tree.specs.Renames.{rdn_in}
+use Rattle.tree.specs.Renames.{rdn_in, rename_there, rename}
 use Rattle.reasons.specs.NameFlaws as name_flaws
 use Rattle.reasons.specs.NameFlaws.{HasNameFlaw}
 use Rattle.reasons.specs.LineFlaws as line_flaws
@@ -47,9 +50,9 @@ use Rattle.reasons.specs.BlockFlaws as block_flaws
 use Rattle.reasons.specs.BlockFlaws.{HasBlockFlaw, HasValueFlaw}
 use Rattle.reasons.specs.EntryFlaws as entry_flaws
 use Rattle.reasons.specs.EntryFlaws.{HasEntryFlaw}
-use Rattle.reasons.specs.Flaws.{Flaw, CriticalControl, Name, NoEntry, Block, Value, NoRdnValue, Entry, HasFlaw, IsFirst}
+use Rattle.reasons.specs.Flaws.{Flaw, CriticalControl, Name, NoEntry, Block, Value, NoRdnValue, Entry, HasFlaw, IsFirst, IsSuffix, NewRdn, BelowItself, NoSuperior, IsTaken, IsThere, NoParent, Line, Full}
 use Rattle.reasons.proofs.Places.{of_block}
-use Rattle.reasons.proofs.Told.{first_by_code}
+use Rattle.reasons.proofs.Told.{by_numbers, first_by_code}
 
 -- what values are compared by
 unfoldable on_values : ⊤
@@ -251,25 +254,91 @@ not_of_the_first h =
     same : (t : ℕ) → ◌≡◌ {A = Option ℕ} (Some 2) (Some t) → t ≡ 2
     same t e = cc
 
-abbrev earlier : List Flaw
-earlier =
+-- the checks of an operation's name, and those of an entry as a whole
+abbrev name_first : List Flaw
+name_first =
     CriticalControl ∷ Name name_flaws.Unreadable
     ∷ Name (name_flaws.Ava 0 0 UnknownType) ∷ Name (name_flaws.Ava 0 0 NameSyntax) ∷ Name (name_flaws.Ava 0 0 NoEquality) ∷ Name (name_flaws.Ava 0 0 BadValue) ∷ Name (name_flaws.Ava 0 0 TypeTwice)
-    ∷ Name name_flaws.OutsideSuffix ∷ NoEntry
-    ∷ Block 0 block_flaws.UnknownType ∷ Block 0 block_flaws.UsersCantChange ∷ Block 0 block_flaws.NoValues ∷ Block 0 block_flaws.NoEquality ∷ Block 0 block_flaws.NoAttribute
-    ∷ Value 0 0 block_flaws.BadSyntax ∷ Value 0 0 block_flaws.EqualValue ∷ Value 0 0 block_flaws.NoValue
-    ∷ Block 1 block_flaws.UnknownType ∷ Block 1 block_flaws.UsersCantChange ∷ Block 1 block_flaws.NoValues ∷ Block 1 block_flaws.NoEquality ∷ Block 1 block_flaws.NoAttribute
-    ∷ Value 1 0 block_flaws.BadSyntax ∷ []
+    ∷ Name name_flaws.OutsideSuffix ∷ []
 
-abbrev later : List Flaw
-later =
-    Value 1 0 block_flaws.NoValue
-    ∷ Block 2 block_flaws.UnknownType ∷ Block 2 block_flaws.UsersCantChange ∷ Block 2 block_flaws.NoValues ∷ Block 2 block_flaws.NoEquality ∷ Block 2 block_flaws.NoAttribute
-    ∷ NoRdnValue ∷ Entry entry_flaws.NoObjectClass ∷ Entry entry_flaws.UnknownClass ∷ Entry entry_flaws.LacksType ∷ Entry entry_flaws.TypeNotAllowed ∷ Entry entry_flaws.ManyValues ∷ []
+abbrev entry_last : List Flaw
+entry_last = Entry entry_flaws.NoObjectClass ∷ Entry entry_flaws.UnknownClass ∷ Entry entry_flaws.LacksType ∷ Entry entry_flaws.TypeNotAllowed ∷ Entry entry_flaws.ManyValues ∷ []
+
+abbrev of_block_alone : ℕ → List Flaw
+of_block_alone b = Block b block_flaws.UnknownType ∷ Block b block_flaws.UsersCantChange ∷ Block b block_flaws.NoValues ∷ Block b block_flaws.NoEquality ∷ Block b block_flaws.NoAttribute ∷ []
+
+abbrev before_first_value : List Flaw
+before_first_value = name_first ++ NoEntry ∷ (of_block_alone 0 ++ Value 0 0 block_flaws.BadSyntax ∷ [])
+
+abbrev before_second_value : List Flaw
+before_second_value = Value 0 0 block_flaws.NoValue ∷ (of_block_alone 1 ++ Value 1 0 block_flaws.BadSyntax ∷ [])
+
+abbrev behind_second_value : List Flaw
+behind_second_value = Value 1 0 block_flaws.NoValue ∷ (of_block_alone 2 ++ NoRdnValue ∷ entry_last)
 
 -- it is the first, though the third block has a flaw, too
 the_second_block_first : IsFirst conf changes one modifying (Value 1 0 block_flaws.EqualValue)
 unfolding on_names
 the_second_block_first =
-    first_by_code conf changes one modifying earlier later (Value 1 0 block_flaws.EqualValue) refl refused_20 of_the_second_block
-    (inl (λ e. absurd cc), (inl (λ e. absurd cc), (inl (λ e. absurd cc), (inl (λ e. absurd cc), (inl (λ e. absurd cc), (inl (λ e. absurd cc), (inl (λ e. absurd cc), (inl (λ e. absurd cc), (inl (λ e. absurd cc), (inl (λ e. absurd cc), (inl (λ e. absurd cc), (inl (λ e. absurd cc), (inl (λ e. absurd cc), (inl (λ e. absurd cc), (inl (λ e. absurd cc), (inr not_of_the_first, (inl (λ e. absurd cc), (inl (λ e. absurd cc), (inl (λ e. absurd cc), (inl (λ e. absurd cc), (inl (λ e. absurd cc), (inl (λ e. absurd cc), (inl (λ e. absurd cc), tt)))))))))))))))))))))))
+    first_by_code conf changes one modifying (before_first_value ++ Value 0 0 block_flaws.EqualValue ∷ (before_second_value ++ [])) behind_second_value (Value 1 0 block_flaws.EqualValue) refl refused_20
+    of_the_second_block
+    (by_numbers conf changes one modifying (Value 1 0 block_flaws.EqualValue) before_first_value (Value 0 0 block_flaws.EqualValue ∷ (before_second_value ++ [])) refl
+    (inr not_of_the_first, by_numbers conf changes one modifying (Value 1 0 block_flaws.EqualValue) before_second_value [] refl tt))
+
+-- ---- the suffix's entry isn't renamed, whatever else is wrong
+
+abbrev renaming : Record
+renaming = records.ModRdn (codes "CN = ex") [] (codes "cn=b,cn=c") true None
+
+refused_53 : change_of conf changes one renaming ≡ Err result.UnwillingToPerform
+unfolding on_names rename
+refused_53 = ap (rename_there conf one [] (codes "cn=b,cn=c") true None) stands
+
+of_the_suffix : HasFlaw conf changes one renaming IsSuffix
+unfolding on_names
+of_the_suffix = ([], ([], refl, refl), refl)
+
+-- it has more flaws
+of_the_new_rdn : HasFlaw conf changes one renaming (NewRdn name_flaws.NotOneRdn)
+unfolding on_names
+of_the_new_rdn = (((codes "cn", codes "b") ∷ []) ∷ ((codes "cn", codes "c") ∷ []) ∷ [], refl, λ r h. absurd cc)
+
+abbrev ava_of_new : ℕ → List Flaw
+ava_of_new i =
+    NewRdn (name_flaws.Ava i 0 UnknownType) ∷ NewRdn (name_flaws.Ava i 0 NameSyntax) ∷ NewRdn (name_flaws.Ava i 0 NoEquality) ∷ NewRdn (name_flaws.Ava i 0 BadValue)
+    ∷ NewRdn (name_flaws.Ava i 0 TypeTwice) ∷ []
+
+the_suffix_first : IsFirst conf changes one renaming IsSuffix
+unfolding on_names
+the_suffix_first =
+    first_by_code conf changes one renaming (name_first ++ NoEntry ∷ [])
+    (NewRdn name_flaws.Unreadable ∷ NewRdn name_flaws.NotOneRdn ∷ (ava_of_new 0 ++ (ava_of_new 1 ++ BelowItself ∷ NoSuperior ∷ IsTaken ∷ entry_last))) IsSuffix refl refused_53 of_the_suffix
+    (by_numbers conf changes one renaming IsSuffix (name_first ++ NoEntry ∷ []) [] refl tt)
+
+-- ---- a load of an entry that is there
+
+abbrev loading : Record
+loading = records.Content (codes "cn=ex") (line (codes "mail") (codes "x") ∷ [])
+
+refused_68 : change_of conf modes.Content one loading ≡ Err result.EntryAlreadyExists
+unfolding on_names add add_at
+refused_68 = ap (λ (o : Option EntryContent). load_where (is_some o)) stands
+  where
+    load_where : Bool → Result Change Code
+    load_where there = cond there (Err result.EntryAlreadyExists) (add_lines modes.Content types [] (line (codes "mail") (codes "x") ∷ []) >>= λ attrs. with_entry conf one [] (entry_of conf ((1, codes "ex") ∷ []) attrs))
+
+of_the_name : HasFlaw conf modes.Content one loading IsThere
+unfolding on_names
+of_the_name = ([], ([], refl, refl), ap is_some stands)
+
+-- its line has a flaw, too
+of_the_line : HasFlaw conf modes.Content one loading (Line 0 line_flaws.UnknownType)
+unfolding on_values
+of_the_line = (line (codes "mail") (codes "x"), refl, refl)
+
+the_name_first : IsFirst conf modes.Content one loading IsThere
+unfolding on_names
+the_name_first =
+    first_by_code conf modes.Content one loading name_first
+    (NoParent ∷ Line 0 line_flaws.UnknownType ∷ Line 0 line_flaws.UsersCantChange ∷ Line 0 line_flaws.BadSyntax ∷ Line 0 line_flaws.EqualValue ∷ (entry_last ++ Full ∷ [])) IsThere refl refused_68 of_the_name
+    (by_numbers conf modes.Content one loading IsThere name_first [] refl tt)

@@ -1,6 +1,8 @@
 -- What comes of a record, by its first flaw.
-use Rattle.std.proofs.Common.{List, ◌∷◌, ◌⊎◌, ◌≢◌, ◌≡◌, ◌↔◌, map, ◌++◌, Result, Ok, Err, refl, sym, ap, subst, ◌∙◌}
-use Rattle.std.specs.List.{AllByRecursion}
+use Rattle.std.proofs.Common.{List, ◌∷◌, ◌⊎◌, ◌≢◌, ◌≡◌, ◌↔◌, map, ◌++◌, Result, Ok, Err, refl, sym, ap, subst, ◌∙◌, inl, Bool, true, not, []}
+use Rattle.std.specs.Prelude.{nat_eq}
+use Rattle.std.specs.List.{AllByRecursion, list_all}
+use Rattle.std.proofs.lemmas.Bool.{eq-eqb}
 use Rattle.ldif.specs.declared.record.Mode.{Mode}
 use Rattle.ldif.specs.declared.record.Record.{Record}
 use Rattle.ldif.specs.declared.record.Record.TheVariants as records
@@ -9,11 +11,13 @@ use Rattle.schema.specs.Conf.{Conf}
 use Rattle.tree.specs.Directories.{Entries}
 use Rattle.tree.specs.Changes.{Change, Nothing}
 use Rattle.tree.specs.Operations.{change_asked, change_of}
+use Rattle.schema.specs.Codes.{code_number}
 use Rattle.schema.specs.FirstFlaws.{Not}
 use Rattle.reasons.specs.Asked.{AsksFor}
 use Rattle.reasons.specs.NameFlaws.{place_checks}
 use Rattle.reasons.specs.Flaws.{Flaw, Name, HasFlaw, IsFirst, IsRefused, IsFlawless, IsAllowed, IsGranted, flaw_code, checks_of, add_checks, delete_checks, modify_checks, rename_checks}
 use Rattle.reasons.proofs.Answering.{refusal, is_no_answer, answers_first, first_answers, answers_none, none_answers, none_before}
+use Rattle.reasons.proofs.Elements.{off, both}
 use Rattle.reasons.proofs.AvaAnswers.{same_ok}
 use Rattle.reasons.proofs.Operated.{Comes, answers, control_answers}
 use Rattle.reasons.proofs.AddAnswers.{add_answers, delete_answers}
@@ -91,14 +95,34 @@ module _ (conf : Conf) (mode : Mode) (d : Entries) (r : Record) where
   pub changed : (change : Change) → (said ≡ Ok change) ↔ IsGranted conf mode d r change
   changed change = (asked_for change, λ h. (comes h.flawless).is ∙ ap allowed_change (sym ((comes h.flawless).only change h.asked)))
 
-  -- of a code that no flaw before it has
-  pub first_by_code : (before after : List Flaw) (flaw : Flaw) → checks_of r ≡ before ++ flaw ∷ after → said ≡ Err (flaw_code flaw) → HasFlaw conf mode d r flaw
-      → AllByRecursion (λ f. (flaw_code f ≢ flaw_code flaw) ⊎ Not (HasFlaw conf mode d r f)) before → IsFirst conf mode d r flaw
+  -- ---- which flaw is first, by the code that is answered
+
+  -- of another code, or not there
+  abbrev pub IsOther : Flaw → Flaw → Type 0
+  IsOther flaw f = (flaw_code f ≢ flaw_code flaw) ⊎ Not (HasFlaw conf mode d r f)
+
+  abbrev pub has_other_number : Flaw → Flaw → Bool
+  has_other_number flaw f = not (nat_eq (code_number (flaw_code f)) (code_number (flaw_code flaw)))
+
+  other_code : (flaw f : Flaw) → has_other_number flaw f ≡ true → flaw_code f ≢ flaw_code flaw
+  other_code flaw f h e =
+      let apart = off (nat_eq (code_number (flaw_code f)) (code_number (flaw_code flaw))) h in
+      let same = eq-eqb (code_number (flaw_code f)) (code_number (flaw_code flaw)) (ap code_number e) in
+      let both = sym same ∙ apart in
+      absurd cc
+
+  pub by_numbers : (flaw : Flaw) (fs gs : List Flaw) → list_all (has_other_number flaw) fs ≡ true → AllByRecursion (IsOther flaw) gs → AllByRecursion (IsOther flaw) (fs ++ gs)
+  by_numbers flaw [] gs h rest = rest
+  by_numbers flaw (f ∷ fs) gs h rest =
+      let k = both (has_other_number flaw f) (list_all (has_other_number flaw) fs) h in
+      (inl (other_code flaw f k.0), by_numbers flaw fs gs k.1 rest)
+
+  pub first_by_code : (before after : List Flaw) (flaw : Flaw) → checks_of r ≡ before ++ flaw ∷ after → said ≡ Err (flaw_code flaw) → HasFlaw conf mode d r flaw → AllByRecursion (IsOther flaw) before
+      → IsFirst conf mode d r flaw
   first_by_code before after flaw order is has others = record {
     before = before;
     after = after;
     order_is = order;
     has = has;
-    none_before = none_before (HasFlaw conf mode d r) flaw_code (Comes conf d r said) before after flaw said
-        (subst (λ (flaws : List Flaw). answers conf mode d r said flaws) order told) is others;
+    none_before = none_before (HasFlaw conf mode d r) flaw_code (Comes conf d r said) before after flaw said (subst (λ (flaws : List Flaw). answers conf mode d r said flaws) order told) is others;
   }
