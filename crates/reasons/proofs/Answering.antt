@@ -75,6 +75,26 @@ module _ {Flaw : Type 0} (Has : Flaw → Type 0) (code : Flaw → Code) (P : Typ
   none_answers (f ∷ fs) x (inl h) none = absurd (none.0 h.0)
   none_answers (f ∷ fs) x (inr h) none = none_answers fs x h.1 none.1
 
+-- ---- one flaw is first
+
+same_head : {X : Type 0} (x y : X) (xs ys : List X) → x ∷ xs ≡ y ∷ ys → x ≡ y
+same_head x y xs ys h = cc
+
+same_tail : {X : Type 0} (x y : X) (xs ys : List X) → x ∷ xs ≡ y ∷ ys → xs ≡ ys
+same_tail x y xs ys h = cc
+
+module _ {Flaw : Type 0} (Has : Flaw → Type 0) where
+  same_place : (before after others behind : List Flaw) (f g : Flaw) → before ++ f ∷ after ≡ others ++ g ∷ behind → AllByRecursion (λ h. Not (Has h)) before → AllByRecursion (λ h. Not (Has h)) others → Has f → Has g → f ≡ g
+  same_place [] after [] behind f g e none nor has too = same_head f g after behind e
+  same_place [] after (x ∷ others) behind f g e none nor has too = absurd (nor.0 (subst Has (same_head f x after (others ++ g ∷ behind) e) has))
+  same_place (x ∷ before) after [] behind f g e none nor has too = absurd (none.0 (subst Has (sym (same_head x g (before ++ f ∷ after) behind e)) too))
+  same_place (x ∷ before) after (y ∷ others) behind f g e none nor has too =
+      same_place before after others behind f g (same_tail x y (before ++ f ∷ after) (others ++ g ∷ behind) e) none.1 nor.1 has too
+
+  pub one_first : (order : List Flaw) (f g : Flaw) → IsFirstFlaw Flaw Has order f → IsFirstFlaw Flaw Has order g → f ≡ g
+  one_first order f g first other =
+      same_place first.before first.after other.before other.after f g (sym first.order_is ∙ other.order_is) first.none_before other.none_before first.has other.has
+
 -- where none is, what follows from P holds
 pub weaker : {Flaw A : Type 0} (Has : Flaw → Type 0) (code : Flaw → Code) (P Q : Type 0) → (P → Q) → (fs : List Flaw) (x : Result A Code) → Answers Has code P fs x → Answers Has code Q fs x
 weaker Has code P Q follows [] x h = follows h

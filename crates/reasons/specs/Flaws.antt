@@ -59,7 +59,7 @@ pub data Flaw : Type 0 where
   Superior : NameFlaw → Flaw
   -- it is to come below itself, or below an entry that is below it
   BelowItself : Flaw
-  -- no entry has the name of its new superior, or no other has that of its parent
+  -- no entry is where its new superior is to be, or its parent where it names none
   NoSuperior : Flaw
   -- another entry has the new name
   IsTaken : Flaw
@@ -148,15 +148,15 @@ block_checks b (m ∷ ms) = map (Block b) block_order ++ (value_checks b 0 m.val
 abbrev pub entry_checks : List Flaw
 entry_checks = map Entry entry_order
 
--- RFC 4511, 4.7
+-- of an add (RFC 4511, 4.7)
 abbrev pub add_checks : List Attr → List Flaw
 add_checks ls = IsThere ∷ NoParent ∷ (line_checks 0 ls ++ (entry_checks ++ Full ∷ []))
 
--- RFC 4511, 4.8
+-- of a delete (RFC 4511, 4.8)
 abbrev pub delete_checks : List Flaw
 delete_checks = NoEntry ∷ HasChildren ∷ []
 
--- RFC 4511, 4.6
+-- of a modify (RFC 4511, 4.6)
 abbrev pub modify_checks : List Mod → List Flaw
 modify_checks ms = NoEntry ∷ (block_checks 0 ms ++ NoRdnValue ∷ entry_checks)
 
@@ -165,7 +165,7 @@ abbrev pub superior_checks : Option (List ℕ) → List Flaw
 superior_checks None = []
 superior_checks (Some text) = map Superior (place_checks text)
 
--- RFC 4511, 4.9
+-- of a modify DN (RFC 4511, 4.9)
 abbrev pub rename_checks : List ℕ → Option (List ℕ) → List Flaw
 rename_checks newrdn superior =
     NoEntry ∷ IsSuffix ∷ (map NewRdn (new_rdn_checks newrdn) ++ (superior_checks superior ++ BelowItself ∷ NoSuperior ∷ IsTaken ∷ entry_checks))
