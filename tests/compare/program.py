@@ -2,6 +2,7 @@
 """The second reading as a program with the words of slaptools: program.py WORD .. So the case files can be run through it, too."""
 import argparse
 import fcntl
+import os
 import sys
 
 import model
@@ -105,11 +106,19 @@ def encoded(text):
     return None if text is None else text.encode()
 
 
+def is_own_file(folder, path):
+    """Whether a file at this path would stand in the place of one of the directory in the folder."""
+    beside, name = os.path.split(path)
+    return name in ("dir.conf", "data.ldif", "index.txt") and os.path.realpath(beside) == os.path.realpath(folder)
+
+
 def slapcat(words):
     files = read(f"{words.db}/dir.conf"), read(f"{words.db}/data.ldif")
     status, output, messages = model.slapcat(*files, words.db, encoded(words.a), encoded(words.s))
     if words.file is None or status != 0:
         return status, output, messages
+    if is_own_file(words.db, words.file):
+        return 3, b"", f"{words.file}: cannot write\n".encode()
     write(words.file, output)
     return status, b"", messages
 

@@ -52,8 +52,8 @@ module _ (q : Query) (files : Option Files) (basis : Basis) (spelled : IsFilter 
 
 -- what is said of a text holds of one of which more is known
 module _ (IsText IsText' : List ℕ → Type 0) (goes : (text : List ℕ) → IsText text → IsText' text) where
-  pub put_more : (file : Option (List ℕ)) (w w' : World) → HasPut IsText file w w' → HasPut IsText' file w w'
-  put_more file w w' put = record { text = put.text; is = goes put.text put.is; put = put.put }
+  pub put_more : (db : List ℕ) (file : Option (List ℕ)) (w w' : World) → HasPut IsText db file w w' → HasPut IsText' db file w w'
+  put_more db file w w' put = record { text = put.text; is = goes put.text put.is; put = put.put }
 
   pub printed_more : (a b : Written) → HasPrinted IsText a b → HasPrinted IsText' a b
   printed_more a b printed = record { text = printed.text; is = goes printed.text printed.is; took = printed.took }

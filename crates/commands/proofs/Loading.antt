@@ -1,5 +1,6 @@
 -- The directory in a folder, by what was found there.
-use Rattle.std.proofs.Common.{◌≡◌, ℕ, List, Option, Some, None, Result, Ok, Err, IfOk, IfErr, subst}
+use Rattle.std.proofs.Common.{◌≡◌, ℕ, List, Option, Some, None, Result, Ok, Err, IfOk, IfErr, true, refl, subst}
+use Rattle.std.specs.Prelude.{IsOk, IfSome, is_none}
 use Rattle.std.specs.Option.{option_map}
 use Rattle.schema.specs.Conf.{Conf}
 use Rattle.tree.specs.Directories.{Entries}
@@ -35,3 +36,10 @@ module _ (files : Option Files) (db : List ℕ) (conf : Conf) (configured : IsCo
       → IfErr r (EntriesFail conf text said) → IfErr r (LoadFails files db)
   unloaded_so name said named is text finds (Ok t) fails = tt
   unloaded_so name said named is text finds (Err f) fails = load_told files db conf said name text fails.0 f fails.1 is configured named finds fails.2
+
+  -- or a fault of what was found, and none where nothing was
+  pub unloaded_found : (name said : List ℕ) → name ≡ data_name db → said ≡ data_name db → {A : Type 0} (left_of : A → Option (List ℕ)) (found : Option A) → Finds files name (option_map left_of found) → {X : Type 0} (r : Result X CommandFault)
+      → IfErr r (λ f. IfSome found (λ s. EntriesFail conf (left_of s) said f)) → (is_none found ≡ true → IsOk r) → IfErr r (LoadFails files db)
+  unloaded_found name said named is left_of found finds (Ok t) fails missing = tt
+  unloaded_found name said named is {A} left_of (Some s) finds {X} (Err f) fails missing = unloaded_so name said named is (left_of s) finds {X = X} (Err f) fails
+  unloaded_found name said named is {A} left_of None finds {X} (Err f) fails missing = absurd (let m = missing refl in cc)

@@ -10,7 +10,7 @@ use Rattle.tree.specs.Trees.{Tree}
 use Rattle.folders.specs.Folders.{Files}
 use Rattle.commands.specs.IndexFiles.{Said, SaysOf, ReportsFault, IsFaultReported}
 use Rattle.commands.specs.Messages.{IsReported, code_text}
-use Rattle.commands.specs.Prints.{search_query, IsFoundText, SearchText, SearchGoesThrough, IsSaid, ComesFirst, SearchStops}
+use Rattle.commands.specs.Prints.{search_query, IsFoundText, SearchText, SearchGoesThrough, IsSaid, ComesFirst, ComesLater, SearchStops}
 use Rattle.commands.specs.Queries.{Basis, StopsWith, HasBegun, PrintsPartly}
 use Rattle.commands.specs.Worlds.{World}
 use Rattle.commands.specs.inner.IndexFiles.{FailsToReport, HasLoaded}
@@ -61,14 +61,15 @@ module _ (asked : SearchOptions) (w : World) where
     index_reported : IsFaultReported s w (record w { messages = m })
     index_reported = record { reports = reports; stays = refl }
 
-    pub stops_reported : (output : Written) (f : CommandFault) → IsSaid asked w.files s → StopsWith (search_query asked) w.files f → PrintsPartly (HasBegun (λ text. (past : Bool) × SearchText asked w.files s past text) None) w.output output f
+    pub stops_reported : (output : Written) (f : CommandFault) → IsSaid asked w.files s → ComesLater f → StopsWith (search_query asked) w.files f → PrintsPartly (HasBegun (λ text. (past : Bool) × SearchText asked w.files s past text) None) w.output output f
         → SearchStops asked w (record { why = stops.Fault f; stored = []; world = record w { output = output; messages = m } })
-    stops_reported output f is why printed = inr (inl (record {
+    stops_reported output f is later why printed = inr (inl (record {
       said = s;
       is = is;
       index_reported = record w { messages = m };
       reports = index_reported;
       stops = query_stops (search_query asked) (λ text. (past : Bool) × SearchText asked w.files s past text) (record w { messages = m }) (record w { output = output; messages = m }) f why printed refl;
+      later = later;
     }))
 
     -- ---- where it goes through

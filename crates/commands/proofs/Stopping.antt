@@ -26,7 +26,7 @@ use Rattle.commands.specs.Endings.{StoppedAt, ReportsStop, Stops}
 use Rattle.commands.specs.Loaded.{IsConfigured, IsLoaded, LoadFails}
 use Rattle.commands.specs.Failures.{IsMemory, FailsToRead, FailsToWrite}
 use Rattle.commands.specs.Changes.{Breaks}
-use Rattle.commands.specs.Prints.{ComesFirst}
+use Rattle.commands.specs.Prints.{ComesFirst, ComesLater}
 use Rattle.commands.specs.Queries.{Query, LacksBase, target_of, StopsWith, IsBegun, HasBegun, PrintsPartly, QueryStops}
 use Rattle.commands.specs.inner.Refusals.{FilterFails, Refuses, RefusesOrBreaks}
 use Rattle.commands.specs.inner.LoadFaults.{TellsLoadFault}
@@ -253,6 +253,24 @@ unread_first name = first_of (FailsToRead name) (λ by code h. h) (λ n h. h)
 
 pub memory_first : (f : CommandFault) → IsMemory f → ComesFirst f
 memory_first = of_memory ComesFirst tt
+
+-- a base that isn't there, and what is printed to, come later
+pub refused_later : (q : Query) (conf : Conf) (d : Entries) (f : CommandFault) → RefusesOrBreaks q conf d f → ComesLater f
+refused_later q conf d faults.Words (inl h) = h
+refused_later q conf d faults.Words (inr h) = h
+refused_later q conf d (faults.Filter fault) (inl h) = h
+refused_later q conf d (faults.Filter fault) (inr h) = h
+refused_later q conf d (faults.Code by code) h = tt
+refused_later q conf d (faults.Configuration line kind) (inl h) = h
+refused_later q conf d (faults.Configuration line kind) (inr h) = h
+refused_later q conf d (faults.Data line why) (inl h) = h
+refused_later q conf d (faults.Data line why) (inr h) = h
+refused_later q conf d (faults.CannotRead n) (inl h) = h
+refused_later q conf d (faults.CannotRead n) (inr h) = h
+refused_later q conf d (faults.CannotWrite n) h = tt
+refused_later q conf d (faults.InUse n) (inl h) = h
+refused_later q conf d (faults.InUse n) (inr h) = h
+refused_later q conf d faults.OutOfMemory h = tt
 
 pub first_prints : (Partly : CommandFault → Written → Written → Type 0) (a b : Written) → b ≡ a → (f : CommandFault) → ComesFirst f → PrintsPartly Partly a b f
 first_prints Partly a b same = nothing_prints Partly a b same ComesFirst (λ n h. h)

@@ -22,3 +22,8 @@ FailsToWrite name fault = IsMemory fault
 abbrev pub TellsInUse : List ℕ → CommandFault → Type 0
 TellsInUse name (faults.InUse n) = string_bytes n ≡ name
 TellsInUse name fault = IsMemory fault
+
+-- what has this name can't be written
+abbrev pub NamesUnwritten : List ℕ → CommandFault → Type 0
+NamesUnwritten name (faults.CannotWrite n) = string_bytes n ≡ name
+NamesUnwritten name fault = ⊥

@@ -17,6 +17,7 @@ use Rattle.command_line.specs.declared.request.CatOptions.{CatOptions}
 use Rattle.command_line.specs.declared.request.SearchOptions.{SearchOptions}
 use Rattle.commands.specs.Asked.{IsBase, IsSelection}
 use Rattle.folders.specs.Folders.{Files, with_file}
+use Rattle.commands.specs.DirectoryFiles.{IsForeign}
 use Rattle.commands.specs.Worlds.{World, IsPrinted, Reports}
 use Rattle.commands.specs.Endings.{StoppedAt, IsFault}
 use Rattle.commands.specs.Messages.{code_text, line_of}
@@ -64,20 +65,20 @@ IsCatText false asked basis text = IsExcerpt asked basis text
 abbrev pub CatText : CatOptions → Option Files → List ℕ → Type 0
 CatText asked files text = HasBasis (cat_query asked) files (λ basis. IsCatText (is_whole asked) asked basis text)
 
--- a text is printed, or is stored as the file of this name; nothing else changes
-abbrev pub Puts : Option (List ℕ) → List ℕ → World → World → Type 0
-Puts None text w w' = IsPrinted text w w'
-Puts (Some name) text w w' = w' ≡ record w { files = with_file w.files name text }
+-- a text is printed, or is stored as the file of this name, which is none of the directory's own; nothing else changes
+abbrev pub Puts : List ℕ → Option (List ℕ) → List ℕ → World → World → Type 0
+Puts db None text w w' = IsPrinted text w w'
+Puts db (Some name) text w w' = IsForeign db name × (w' ≡ record w { files = with_file w.files name text })
 
 -- so it is with a text of which this holds
-pub record HasPut (IsText : List ℕ → Type 0) (file : Option (List ℕ)) (w w' : World) : Type 0 where
+pub record HasPut (IsText : List ℕ → Type 0) (db : List ℕ) (file : Option (List ℕ)) (w w' : World) : Type 0 where
   pub text : List ℕ
   pub is : IsText text
-  pub put : Puts file text w w'
+  pub put : Puts db file text w w'
 
 -- where it goes through, it reports nothing
 abbrev pub CatGoesThrough : CatOptions → World → World → Status → Type 0
-CatGoesThrough asked w w' s = (s ≡ Done) × HasPut (CatText asked w.files) (option_copied asked.file) w w'
+CatGoesThrough asked w w' s = (s ≡ Done) × HasPut (CatText asked w.files) asked.db.now (option_copied asked.file) w w'
 
 abbrev pub CatStops : CatOptions → World → StoppedAt → Type 0
 CatStops asked w at = QueryStops (cat_query asked) (CatText asked w.files) w at
@@ -146,18 +147,26 @@ ComesFirst (faults.Code by code) = ⊥
 ComesFirst (faults.CannotWrite name) = ⊥
 ComesFirst fault = ⊤
 
+-- one that is met afterwards
+abbrev pub ComesLater : CommandFault → Type 0
+ComesLater (faults.Code by code) = ⊤
+ComesLater (faults.CannotWrite name) = ⊤
+ComesLater faults.OutOfMemory = ⊤
+ComesLater fault = ⊥
+
 -- it stops with such a fault, before it reports anything of index.txt
 pub record StopsUnreported (asked : SearchOptions) (w : World) (at : StoppedAt) : Type 0 where
   pub stops : QueryStops (search_query asked) (λ text. ⊥) w at
   pub first : IsFault ComesFirst at.why
 
--- or afterwards, having printed so much
+-- or with one of the others afterwards, having printed so much
 pub record StopsReported (asked : SearchOptions) (w : World) (at : StoppedAt) : Type 0 where
   pub said : Said
   pub is : IsSaid asked w.files said
   pub index_reported : World
   pub reports : IsFaultReported said w index_reported
   pub stops : QueryStops (search_query asked) (λ text. (past : Bool) × SearchText asked w.files said past text) index_reported at
+  pub later : IsFault ComesLater at.why
 
 -- or while it reports a fault of it
 pub record BreaksInReport (asked : SearchOptions) (w : World) (at : StoppedAt) : Type 0 where

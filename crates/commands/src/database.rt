@@ -1,5 +1,5 @@
 //! The files of a directory: its configuration and its entries.
-ghost use Rattle.std.specs.Prelude.{◌≡◌, ℕ, ◌<◌, ◌-◌, ◌^◌, ⊤, List, Option, Ok, IfOk, IfErr, IfSome, OnOk, OnErr, Some, string_bytes};
+ghost use Rattle.std.specs.Prelude.{◌≡◌, ℕ, ◌<◌, ◌-◌, ◌^◌, ⊤, true, is_none, List, Option, Ok, IsOk, IfOk, IfErr, IfSome, OnOk, OnErr, Some, string_bytes};
 ghost use Rattle.std.specs.Option.{option_map};
 ghost use Rattle.databases.specs.Runs.{dump};
 ghost use Rattle.dir_conf.specs.Configurations.{conf_of};
@@ -23,24 +23,6 @@ use tree::Tree;
 
 /// How many bytes are asked of a file at a time.
 const PIECE: usize = 65536;
-
-/// The dump of a database.
-#[derive(Clone, Copy, Drop)]
-pub struct Dump<'a> {
-    pub database: &'a Database,
-}
-
-impl FileText for Dump<'_> {
-    type Answer = ();
-
-    ghost text = { λ d. dump d.database.now.tree.conf d.database.now.tree.entries };
-
-    ghost answers = { λ _ _. ⊤ };
-
-    fn write<W: Sink>(&self, alloc: Global, sink: &mut W) -> Result<(), WriteFault> {
-        write_dump(alloc, &self.database.tree, &self.database.conf, sink)
-    }
-}
 
 /// The path of a file in the folder `db`.
 pub fn path(alloc: Global, db: &str, name: &str) -> Result<String, AllocError>
@@ -108,26 +90,6 @@ pub fn lock<F: Folder>(alloc: Global, folder: &mut F, db: &str) -> Result<(), Co
     match path(alloc, db, "dir.conf") {
         Ok(name) => lock_file(alloc, folder, db, name.as_str()),
         Err(_) => Err(CommandFault::OutOfMemory),
-    }
-}
-
-/// Puts a text in place of the file of this name.
-pub fn store<F: Folder, T: FileText>(
-    alloc: Global,
-    folder: &mut F,
-    name: &str,
-    text: &T,
-) -> Result<T::Answer, CommandFault>
-    ensures ok { OnOk result (F.files folder.new ≡ with_file (F.files folder.old) name.now (T.text text.now)) }
-    ensures answer { IfOk result (T.answers text.now) }
-    ensures same { OnErr result (F.files folder.new ≡ F.files folder.old) }
-    ensures locking { F.locking folder.new ≡ F.locking folder.old }
-    ensures err { IfErr result (FailsToWrite name.now) }
-{
-    match folder.store(name, text) {
-        Ok(answer) => Ok(answer),
-        Err(FolderFault::Device) => Err(CommandFault::cannot_write(alloc, name)),
-        Err(FolderFault::OutOfMemory) => Err(CommandFault::OutOfMemory),
     }
 }
 
@@ -225,6 +187,25 @@ fn tree_of<S: Source>(
     }
 }
 
+/// The tree of the entries of what was found under this name: those of a source, and none where there is no such file.
+fn tree_found<S: Source + Drop>(
+    alloc: Global,
+    conf: &Conf,
+    found: Option<S>,
+    name: &str,
+) -> Result<Tree, CommandFault>
+    requires { IfSome found (λ s. (S.seen s).failed < 2 ^ 64 - 1) }
+    ensures same_conf { IfOk result (λ t. t.conf ≡ conf.now) }
+    ensures loads { IfOk result (λ t. LoadsFound conf.now (option_map (λ s. (S.seen s).left) found) t.entries) }
+    ensures err { IfErr result (λ f. IfSome found (λ s. EntriesFail conf.now (S.seen s).left name.now f)) }
+    ensures missing { is_none found ≡ true → IsOk result }
+{
+    match found {
+        Some(mut source) => tree_of(alloc, conf, &mut source, name),
+        None => Ok(Tree::new(alloc, conf)),
+    }
+}
+
 /// The tree of the entries in the file of this name, under a configuration. Where there is no such file, there is none.
 fn read_entries<F: Folder>(
     alloc: Global,
@@ -239,8 +220,7 @@ fn read_entries<F: Folder>(
         → IfErr result (LoadFails (F.files folder.now) db) }
 {
     match open(alloc, folder, name) {
-        Ok(Some(mut source)) => tree_of(alloc, conf, &mut source, name),
-        Ok(None) => Ok(Tree::new(alloc, conf)),
+        Ok(found) => tree_found(alloc, conf, found, name),
         Err(fault) => Err(fault),
     }
 }

@@ -1,9 +1,11 @@
 //! slapcat: a directory, or an excerpt of it, is printed as LDIF.
-ghost use Rattle.std.specs.Prelude.{◌≡◌, ◌<◌, ◌-◌, ◌^◌, true, false, is_some, IfOk, IfErr, OnOk, OnErr, codes};
+ghost use Rattle.std.specs.Prelude.{◌≡◌, ◌≢◌, ◌<◌, ◌-◌, ◌^◌, true, false, is_some, IfOk, IfErr, OnOk, OnErr, codes};
 ghost use Rattle.std.specs.FinMap as finite;
 ghost use Rattle.std.specs.Option.{option_copied};
 ghost use Rattle.device.specs.Device.{Took};
 ghost use Rattle.filter_text.specs.Spells.{view};
+ghost use Rattle.folders.specs.Folders.{with_file};
+ghost use Rattle.commands.specs.DirectoryFiles.{file_in, IsForeign};
 ghost use Rattle.commands.specs.Worlds.{World};
 ghost use Rattle.commands.specs.Asked.{IsFilter, IsBase};
 ghost use Rattle.commands.specs.Failures.{FailsToWrite};
@@ -13,10 +15,11 @@ ghost use Rattle.commands.specs.inner.Refusals.{Refuses, RefusesOrBreaks};
 ghost use Rattle.commands.specs.inner.Views.{basis_of};
 ghost use Rattle.commands.specs.inner.Stopped.{HasEnded};
 
-use crate::database::{Dump, load_database, store};
+use crate::database::{load_database, path};
 use crate::excerpt::Excerpt;
 use crate::finding::{filter_of, path_of};
 use crate::messages::{CommandFault, Status, Stop};
+use crate::storing::{Dump, store};
 use command_line::CatOptions;
 use databases::Database;
 use device::Sink;
@@ -24,7 +27,7 @@ use filter::prepare;
 use filter_text::Filter;
 use folders::{FileText, Folder};
 use schema::{Code, Path};
-use std::alloc::Global;
+use std::alloc::{AllocError, Global};
 use std::mem;
 
 /// The name that its result codes are printed with.
@@ -46,28 +49,77 @@ fn print_text<T: FileText, O: Sink>(
     }
 }
 
-/// Writes a text to the file, or prints it.
+/// Whether a file of this name would take the place of the directory's file `own`.
+fn replaces<F: Folder>(
+    alloc: Global,
+    folder: &F,
+    db: &str,
+    own: &str,
+    name: &str,
+) -> Result<bool, AllocError>
+    ensures { IfOk result (λ replaces. replaces ≡ false → name.now ≢ file_in db.now own.now) }
+{
+    match path(alloc, db, own) {
+        Ok(path) => Ok(folder.is_one_place(name, path.as_str())),
+        Err(_) => Err(AllocError),
+    }
+}
+
+/// Whether a file of this name would take the place of none of the directory's files.
+fn is_foreign<F: Folder>(
+    alloc: Global,
+    folder: &F,
+    db: &str,
+    name: &str,
+) -> Result<bool, AllocError>
+    ensures { IfOk result (λ foreign. foreign ≡ true → IsForeign db.now name.now) }
+{
+    let conf = replaces(alloc, folder, db, "dir.conf", name)?;
+    let data = replaces(alloc, folder, db, "data.ldif", name)?;
+    let index = replaces(alloc, folder, db, "index.txt", name)?;
+    Ok(!conf && !data && !index)
+}
+
+/// Writes a text to the file of this name, which may be none of the directory's own.
+fn store_apart<T: FileText, F: Folder>(
+    alloc: Global,
+    text: &T,
+    db: &str,
+    name: &str,
+    folder: &mut F,
+) -> Result<(), CommandFault>
+    ensures same { OnErr result (F.files folder.new ≡ F.files folder.old) }
+    ensures locking { F.locking folder.new ≡ F.locking folder.old }
+    ensures foreign { OnOk result (IsForeign db.now name.now) }
+    ensures ok { OnOk result (F.files folder.new ≡ with_file (F.files folder.old) name.now (T.text text.now)) }
+    ensures err { IfErr result (FailsToWrite name.now) }
+{
+    match is_foreign(alloc, folder, db, name) {
+        Ok(true) => store(alloc, folder, name, text),
+        Ok(false) => Err(CommandFault::cannot_write(alloc, name)),
+        Err(_) => Err(CommandFault::OutOfMemory),
+    }
+}
+
+/// Writes a text to the file that is asked for, or prints it.
 fn put<T: FileText, F: Folder, O: Sink>(
     alloc: Global,
     text: &T,
-    file: Option<&str>,
+    asked: &CatOptions<'_>,
     folder: &mut F,
     out: &mut O,
 ) -> Result<(), CommandFault>
     requires { (O.written out.old).failed < 2 ^ 64 - 1 }
     ensures same { OnErr result (F.files folder.new ≡ F.files folder.old) }
     ensures locking { F.locking folder.new ≡ F.locking folder.old }
-    ensures put { (w : World) → OnOk result (Puts (option_copied file.entry) (T.text text.now)
+    ensures put { (w : World) → OnOk result (Puts asked.now.db.now (option_copied asked.now.file) (T.text text.now)
         (record w { files = F.files folder.old; output = O.written out.old })
         (record w { files = F.files folder.new; output = O.written out.new })) }
-    ensures err { IfErr result (FailsToWrite (target_of (option_copied file.entry))) }
-    ensures begins { IfErr result (λ f. Begins (option_copied file.entry) f (O.written out.old) (O.written out.new) (T.text text.now)) }
+    ensures err { IfErr result (FailsToWrite (target_of (option_copied asked.now.file))) }
+    ensures begins { IfErr result (λ f. Begins (option_copied asked.now.file) f (O.written out.old) (O.written out.new) (T.text text.now)) }
 {
-    match file {
-        Some(name) => match store(alloc, folder, name, text) {
-            Ok(_) => Ok(()),
-            Err(fault) => Err(fault),
-        },
+    match asked.file {
+        Some(name) => store_apart(alloc, text, asked.db, name, folder),
         None => print_text(alloc, text, out),
     }
 }
@@ -104,7 +156,7 @@ fn put_from<F: Folder, O: Sink>(
     ensures same { OnErr result (F.files folder.new ≡ F.files folder.old) }
     ensures locking { F.locking folder.new ≡ F.locking folder.old }
     ensures put { (w : World) → OnOk result (HasPut (IsCatText false asked.now
-        (basis_of filter.now database.now.tree)) (option_copied asked.now.file)
+        (basis_of filter.now database.now.tree)) asked.now.db.now (option_copied asked.now.file)
         (record w { files = F.files folder.old; output = O.written out.old })
         (record w { files = F.files folder.new; output = O.written out.new })) }
     ensures fault { IfErr result (RefusesOrBreaks (cat_query asked.now) database.now.tree.conf database.now.tree.entries) }
@@ -119,7 +171,7 @@ fn put_from<F: Folder, O: Sink>(
                 base,
                 filter: &prepared,
             };
-            put(alloc, &excerpt, asked.file, folder, out)
+            put(alloc, &excerpt, asked, folder, out)
         }
         Err(_) => Err(CommandFault::OutOfMemory),
     }
@@ -137,7 +189,7 @@ fn put_excerpt<F: Folder, O: Sink>(
     ensures same { OnErr result (F.files folder.new ≡ F.files folder.old) }
     ensures locking { F.locking folder.new ≡ F.locking folder.old }
     ensures put { (w : World) → OnOk result (HasPut (IsCatText false asked.now
-        (basis_of filter.now database.now.tree)) (option_copied asked.now.file)
+        (basis_of filter.now database.now.tree)) asked.now.db.now (option_copied asked.now.file)
         (record w { files = F.files folder.old; output = O.written out.old })
         (record w { files = F.files folder.new; output = O.written out.new })) }
     ensures fault { IfErr result (RefusesOrBreaks (cat_query asked.now) database.now.tree.conf database.now.tree.entries) }
@@ -163,7 +215,7 @@ fn put_entries<F: Folder, O: Sink>(
     ensures same { OnErr result (F.files folder.new ≡ F.files folder.old) }
     ensures locking { F.locking folder.new ≡ F.locking folder.old }
     ensures put { (w : World) → OnOk result (HasPut (IsCatText (is_whole asked.now) asked.now
-        (basis_of filter.now database.now.tree)) (option_copied asked.now.file)
+        (basis_of filter.now database.now.tree)) asked.now.db.now (option_copied asked.now.file)
         (record w { files = F.files folder.old; output = O.written out.old })
         (record w { files = F.files folder.new; output = O.written out.new })) }
     ensures fault { IfErr result (RefusesOrBreaks (cat_query asked.now) database.now.tree.conf database.now.tree.entries) }
@@ -172,7 +224,7 @@ fn put_entries<F: Folder, O: Sink>(
         (O.written out.old) (O.written out.new)) }
 {
     if asked.filter.is_none() && asked.base.is_none() {
-        return put(alloc, &Dump { database }, asked.file, folder, out);
+        return put(alloc, &Dump { database }, asked, folder, out);
     }
     put_excerpt(alloc, asked, filter, database, folder, out)
 }
@@ -189,7 +241,7 @@ fn load_and_put<F: Folder, O: Sink>(
     requires filter { IsFilter (option_copied asked.now.filter) (view filter.now) }
     ensures same { OnErr result (F.files folder.new ≡ F.files folder.old) }
     ensures locking { F.locking folder.new ≡ F.locking folder.old }
-    ensures put { (w : World) → OnOk result (HasPut (CatText asked.now (F.files folder.old)) (option_copied asked.now.file)
+    ensures put { (w : World) → OnOk result (HasPut (CatText asked.now (F.files folder.old)) asked.now.db.now (option_copied asked.now.file)
         (record w { files = F.files folder.old; output = O.written out.old })
         (record w { files = F.files folder.new; output = O.written out.new })) }
     ensures stops { IfErr result (StopsWith (cat_query asked.now) (F.files folder.old)) }
@@ -208,8 +260,8 @@ fn load_and_put<F: Folder, O: Sink>(
 }
 
 /// Writes the directory in a folder to the file, or to `out`: all entries, or those at the base and below it that the filter is True of. It
-/// stops where the text is no filter, the directory can't be loaded, the base isn't there (its code is 32 noSuchObject then), or what it
-/// writes to or memory fails.
+/// stops where the text is no filter, the directory can't be loaded, the base isn't there (its code is 32 noSuchObject then), the file is one
+/// of the directory's own, or what it writes to or memory fails.
 pub fn slapcat<F: Folder, O: Sink>(
     alloc: Global,
     asked: &CatOptions<'_>,

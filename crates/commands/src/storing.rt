@@ -1,20 +1,40 @@
-//! The files that a directory is kept in, as they are stored.
-ghost use Rattle.std.specs.Prelude.{◌≡◌, [], ◌∷◌, ⊤, IfOk, IfErr, OnOk, OnErr};
+//! Files as they are stored: first a draft of each, and then all drafts take their places.
+ghost use Rattle.std.specs.Prelude.{◌≡◌, ℕ, ◌⊎◌, List, [], ◌∷◌, ⊤, IfOk, IfErr, OnOk, OnErr};
 ghost use Rattle.databases.specs.Runs.{dump};
 ghost use Rattle.databases.specs.IndexTexts.{stamp as stamp_by, index_text};
-ghost use Rattle.folders.specs.Folders.{with_file, with_files};
+ghost use Rattle.folders.specs.Folders.{File, with_file, with_files};
 ghost use Rattle.commands.specs.DirectoryFiles.{file_in};
-ghost use Rattle.commands.specs.Failures.{FailsToWrite};
+ghost use Rattle.commands.specs.Failures.{FailsToWrite, NamesUnwritten};
 ghost use Rattle.commands.specs.Stored.{index_file, kept_files};
 ghost use Rattle.commands.specs.inner.Stores.{StoresPartly};
 
-use crate::database::{path, store};
+use crate::database::path;
 use crate::messages::CommandFault;
-use databases::{Database, Stamp, stamp_of, write_index_of_entries, write_stamped_dump};
+use databases::{
+    Database, Stamp, stamp_of, write_dump, write_index_of_entries, write_stamped_dump,
+};
 use device::Sink;
-use folders::{FileText, Folder};
+use folders::{Drafted, FileText, Folder, FolderFault, Unpublished};
 use ldif::WriteFault;
 use std::alloc::Global;
+
+/// The dump of a database.
+#[derive(Clone, Copy, Drop)]
+pub struct Dump<'a> {
+    pub database: &'a Database,
+}
+
+impl FileText for Dump<'_> {
+    type Answer = ();
+
+    ghost text = { λ d. dump d.database.now.tree.conf d.database.now.tree.entries };
+
+    ghost answers = { λ _ _. ⊤ };
+
+    fn write<W: Sink>(&self, alloc: Global, sink: &mut W) -> Result<(), WriteFault> {
+        write_dump(alloc, &self.database.tree, &self.database.conf, sink)
+    }
+}
 
 /// The dump of a database, of which the stamp is answered.
 #[derive(Clone, Copy, Drop)]
@@ -56,24 +76,53 @@ impl FileText for IndexText<'_> {
     }
 }
 
-/// Puts a text in place of the file of this name in the folder `db`.
-pub fn store_in<F: Folder, T: FileText>(
+/// Writes the next contents of the file of this name, which takes its place once it is published.
+fn draft<F: Folder, T: FileText>(
     alloc: Global,
-    folder: &mut F,
-    db: &str,
+    folder: &F,
     name: &str,
     text: &T,
-) -> Result<T::Answer, CommandFault>
-    ensures ok { OnOk result (F.files folder.new ≡ with_file (F.files folder.old) (file_in db.now name.now) (T.text text.now)) }
-    ensures answer { IfOk result (T.answers text.now) }
+) -> Result<Drafted<F::Draft, T::Answer>, CommandFault>
+    ensures ok { IfOk result (λ d. F.is_draft d.draft name.now (T.text text.now)) }
+    ensures answer { IfOk result (λ d. T.answers text.now d.answer) }
+    ensures err { IfErr result (FailsToWrite name.now) }
+{
+    match folder.draft(name, text) {
+        Ok(drafted) => Ok(drafted),
+        Err(FolderFault::Device) => Err(CommandFault::cannot_write(alloc, name)),
+        Err(FolderFault::OutOfMemory) => Err(CommandFault::OutOfMemory),
+    }
+}
+
+/// Puts a draft in the place of its file. It asks for no memory.
+fn publish<F: Folder>(folder: &mut F, draft: F::Draft) -> Result<(), CommandFault>
+    ensures ok { (name text : List ℕ) → F.is_draft draft name text → OnOk result (F.files folder.new ≡ with_file (F.files folder.old) name text) }
+    ensures same { OnErr result (F.files folder.new ≡ F.files folder.old) }
+    ensures err { (name text : List ℕ) → F.is_draft draft name text → IfErr result (NamesUnwritten name) }
+    ensures locking { F.locking folder.new ≡ F.locking folder.old }
+{
+    match folder.publish(draft) {
+        Ok(()) => Ok(()),
+        Err(Unpublished { name }) => Err(CommandFault::CannotWrite(name)),
+    }
+}
+
+/// Puts a text in place of the file of this name.
+pub fn store<F: Folder, T: FileText>(
+    alloc: Global,
+    folder: &mut F,
+    name: &str,
+    text: &T,
+) -> Result<(), CommandFault>
+    ensures ok { OnOk result (F.files folder.new ≡ with_file (F.files folder.old) name.now (T.text text.now)) }
     ensures same { OnErr result (F.files folder.new ≡ F.files folder.old) }
     ensures locking { F.locking folder.new ≡ F.locking folder.old }
-    ensures err { IfErr result (FailsToWrite (file_in db.now name.now)) }
+    ensures err { IfErr result (FailsToWrite name.now) }
 {
-    match path(alloc, db, name) {
-        Ok(path) => store(alloc, folder, path.as_str(), text),
-        Err(_) => Err(CommandFault::OutOfMemory),
-    }
+    let drafted = draft(alloc, folder, name, text)?;
+    publish(folder, drafted.draft)?;
+    folder.settle(name);
+    Ok(())
 }
 
 /// Puts the text of the index of these entries in place of the folder's index.txt, where the stamp of their dump is at hand.
@@ -89,13 +138,10 @@ fn store_index_with<F: Folder>(
     ensures err { IfErr result (StoresPartly (index_file db.now database.now.tree.conf database.now.tree.entries ∷ []) (F.files folder.old) (F.files folder.new)) }
     ensures locking { F.locking folder.new ≡ F.locking folder.old }
 {
-    store_in(
-        alloc,
-        folder,
-        db,
-        "index.txt",
-        &IndexText { database, stamp },
-    )
+    match path(alloc, db, "index.txt") {
+        Ok(name) => store(alloc, folder, name.as_str(), &IndexText { database, stamp }),
+        Err(_) => Err(CommandFault::OutOfMemory),
+    }
 }
 
 /// Puts the text of the index of these entries in place of the folder's index.txt.
@@ -115,7 +161,51 @@ pub fn store_index<F: Folder>(
     }
 }
 
-/// Puts the dump of these entries in place of the folder's data.ldif, and then the text of their index in place of index.txt.
+/// The next contents of the two files of a directory.
+#[derive(Drop)]
+struct DirectoryDrafts<D> {
+    dump: D,
+    index: D,
+}
+
+/// Writes the dump of these entries as the next data.ldif, and the text of their index as the next index.txt.
+fn draft_database<F: Folder>(
+    alloc: Global,
+    folder: &F,
+    data_name: &str,
+    index_name: &str,
+    database: &Database,
+) -> Result<DirectoryDrafts<F::Draft>, CommandFault>
+    ensures dump { IfOk result (λ d. F.is_draft d.dump data_name.now (dump database.now.tree.conf database.now.tree.entries)) }
+    ensures index { IfOk result (λ d. F.is_draft d.index index_name.now (index_text database.now.tree.conf database.now.tree.entries)) }
+    ensures err { IfErr result (λ f. FailsToWrite data_name.now f ⊎ FailsToWrite index_name.now f) }
+{
+    let dumped = draft(alloc, folder, data_name, &StampedDump { database })?;
+    let stamp = &dumped.answer;
+    let indexed = draft(alloc, folder, index_name, &IndexText { database, stamp })?;
+    Ok(DirectoryDrafts {
+        dump: dumped.draft,
+        index: indexed.draft,
+    })
+}
+
+/// Puts both drafts in the places of their files, that of data.ldif first. It asks for no memory.
+fn publish_database<F: Folder>(
+    folder: &mut F,
+    drafts: DirectoryDrafts<F::Draft>,
+) -> Result<(), CommandFault>
+    ensures ok { (file index : File) → F.is_draft drafts.dump file.name file.text → F.is_draft drafts.index index.name index.text
+        → OnOk result (F.files folder.new ≡ with_files (F.files folder.old) (file ∷ index ∷ [])) }
+    ensures err { (file index : File) → F.is_draft drafts.dump file.name file.text → F.is_draft drafts.index index.name index.text
+        → IfErr result (StoresPartly (file ∷ index ∷ []) (F.files folder.old) (F.files folder.new)) }
+    ensures locking { F.locking folder.new ≡ F.locking folder.old }
+{
+    publish(folder, drafts.dump)?;
+    publish(folder, drafts.index)
+}
+
+/// Puts the dump of these entries in place of the folder's data.ldif, and the text of their index in place of index.txt. Both are written
+/// whole before either is stored.
 pub fn store_database<F: Folder>(
     alloc: Global,
     folder: &mut F,
@@ -126,8 +216,11 @@ pub fn store_database<F: Folder>(
     ensures err { IfErr result (StoresPartly (kept_files db.now database.now.tree.conf database.now.tree.entries) (F.files folder.old) (F.files folder.new)) }
     ensures locking { F.locking folder.new ≡ F.locking folder.old }
 {
-    match store_in(alloc, folder, db, "data.ldif", &StampedDump { database }) {
-        Ok(stamp) => store_index_with(alloc, folder, db, database, &stamp),
-        Err(fault) => Err(fault),
-    }
+    let data_path = path(alloc, db, "data.ldif")?;
+    let index_path = path(alloc, db, "index.txt")?;
+    let (data_name, index_name) = (data_path.as_str(), index_path.as_str());
+    let drafts = draft_database(alloc, folder, data_name, index_name, database)?;
+    publish_database(folder, drafts)?;
+    folder.settle(data_name);
+    Ok(())
 }

@@ -64,6 +64,7 @@ impl Troubles {
             ["read", name, count] => self.set_file(name, FileTrouble::Read(count_of(count)?))?,
             ["store", name, "memory"] => self.set_file(name, FileTrouble::StoreMemory)?,
             ["store", name, count] => self.set_file(name, FileTrouble::Store(count_of(count)?))?,
+            ["publish", name] => self.set_file(name, FileTrouble::Publish)?,
             _ => return Err(CaseFault::Code),
         }
         Ok(())

@@ -1,5 +1,5 @@
 //! Files by their paths.
-ghost use Rattle.std.specs.Prelude.{◌≡◌, ◌<◌, ◌-◌, ◌^◌, ℕ, List, Option, IfOk, IfErr, IfSome, OnOk, OnErr};
+ghost use Rattle.std.specs.Prelude.{◌≡◌, ◌<◌, ◌-◌, ◌^◌, ℕ, true, List, Option, IfOk, IfErr, IfSome, OnOk, OnErr, string_bytes};
 ghost use Rattle.std.specs.Option.{option_map};
 ghost use Rattle.ldif.specs.Written.{Writes, end_of};
 ghost use Rattle.folders.specs.Folders.{Files, Finds, with_file};
@@ -10,11 +10,14 @@ use device::{Sink, Source};
 use ldif::WriteFault;
 use std::alloc::{AllocError, AllocFailed, Global};
 use std::io::{self, ErrorKind};
+use thiserror::Error;
 
-/// Why a file was not opened or not stored.
-#[derive(Clone, Copy)]
+/// Why a file was not opened, or no draft of it was written.
+#[derive(Clone, Copy, Debug, Error)]
 pub enum FolderFault {
+    #[error("device")]
     Device,
+    #[error("out of memory")]
     OutOfMemory,
 }
 
@@ -58,13 +61,22 @@ impl From<WriteFault> for FolderFault {
 }
 
 /// Why a lock was not taken.
-#[derive(Clone, Copy)]
+#[derive(Clone, Copy, Debug, Error)]
 pub enum LockFault {
     /// Another process holds it.
+    #[error("in use")]
     InUse,
     /// The file can't be opened, or can't be locked.
+    #[error("device")]
     Device,
+    #[error("out of memory")]
     OutOfMemory,
+}
+
+impl From<AllocError> for LockFault {
+    fn from(_: AllocError) -> LockFault {
+        LockFault::OutOfMemory
+    }
 }
 
 impl From<io::Error> for LockFault {
@@ -74,6 +86,20 @@ impl From<io::Error> for LockFault {
             _ => LockFault::Device,
         }
     }
+}
+
+/// No draft could take the place of the file of this name.
+#[derive(Drop, Debug, Error)]
+#[error("{name}: cannot write")]
+pub struct Unpublished {
+    pub name: String,
+}
+
+/// A draft, and what is answered of the text that was written.
+#[derive(Drop)]
+pub struct Drafted<D, A> {
+    pub draft: D,
+    pub answer: A,
 }
 
 /// What can be written to a sink in pieces, so that it need not be in memory whole.
@@ -98,6 +124,12 @@ pub trait FileText {
 pub trait Folder {
     type In: Source + Drop;
 
+    /// The next contents of a file, whole, which nobody reads until they are published. They go where it is dropped.
+    type Draft: Drop;
+
+    /// Whether it is a draft of the file of this name, and has these bytes.
+    ghost is_draft: { Self.Draft → List ℕ → List ℕ → Type 0 };
+
     /// The files and their bytes, where the folder tells them: those in memory can, the system's can't.
     ghost files: { Self → Option Files };
 
@@ -118,10 +150,27 @@ pub trait Folder {
         ensures finds { IfOk result (λ o. Finds (files self.now) name.now (option_map (λ s. (Self.In.seen s).left) o)) }
         ensures failed { IfOk result (λ o. IfSome o (λ s. (Self.In.seen s).failed ≡ 0)) };
 
-    /// Puts a file there whole, in place of the one before, and changes no other. On a fault all files stay as they were.
-    fn store<T: FileText>(&mut self, name: &str, text: &T) -> Result<T::Answer, FolderFault>
-        ensures ok { OnOk result (files self.new ≡ with_file (files self.old) name.now (T.text text.now)) }
-        ensures answer { IfOk result (T.answers text.now) }
+    /// Writes the next contents of a file, and has them safe before it answers. No file changes, whatever comes of it.
+    fn draft<T: FileText>(
+        &self,
+        name: &str,
+        text: &T,
+    ) -> Result<Drafted<Self::Draft, T::Answer>, FolderFault>
+        ensures ok { IfOk result (λ d. is_draft d.draft name.now (T.text text.now)) }
+        ensures answer { IfOk result (λ d. T.answers text.now d.answer) };
+
+    /// Puts a draft in the place of its file, whole, and changes no other file. It asks for no memory. On a fault all files stay as they were.
+    fn publish(&mut self, draft: Self::Draft) -> Result<(), Unpublished>
+        ensures ok { (name text : List ℕ) → is_draft draft name text → OnOk result (files self.new ≡ with_file (files self.old) name text) }
+        ensures named { (name text : List ℕ) → is_draft draft name text → IfErr result (λ u. string_bytes u.name ≡ name) }
         ensures err { OnErr result (files self.new ≡ files self.old) }
         ensures locking { locking self.new ≡ locking self.old };
+
+    /// Sees to it that files that were published beside the one of this name are found there after a crash. Where it can't, they stand all
+    /// the same.
+    fn settle(&self, name: &str);
+
+    /// Whether a draft that is published under one name takes the place of what has the other.
+    fn is_one_place(&self, name: &str, other: &str) -> bool
+        ensures { name.now ≡ other.now → result ≡ true };
 }

@@ -1,10 +1,14 @@
 //! Files by their paths, whatever keeps them: a folder, the lock of a file, texts that are stored, and the system's files as a folder.
 #![tactic(auto)]
 
+mod drafts;
 mod folder;
+mod paths;
 mod placeholders;
 mod system_files;
+mod uninterrupted;
 
-pub use folder::{FileText, Folder, FolderFault, LockFault};
+pub use folder::{Drafted, FileText, Folder, FolderFault, LockFault, Unpublished};
 pub use placeholders::Placeholders;
-pub use system_files::SystemFiles;
+pub use system_files::{SystemDraft, SystemFiles};
+pub use uninterrupted::Uninterrupted;

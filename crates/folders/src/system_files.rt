@@ -1,34 +1,37 @@
 //! The files of the system as a folder.
-ghost use Rattle.std.specs.Prelude.{◌≡◌, false, None, IfOk, is_some};
+ghost use Rattle.std.specs.Prelude.{◌≡◌, ⊤, false, None, IfOk, is_some, string_bytes};
 
-use crate::folder::{FileText, Folder, FolderFault, LockFault};
+use crate::drafts::{Draft, clear_left, is_same, make_draft, open_to_lock};
+use crate::folder::{Drafted, FileText, Folder, FolderFault, LockFault, Unpublished};
+use crate::paths::parted;
+use crate::uninterrupted::Uninterrupted;
 use device::{OfRead, OfWrite};
-use std::alloc::{AllocError, Global};
-use std::fs::{self, File, Metadata, OpenFile, OpenOptions, TryLockError};
-use std::io::{self, ErrorKind};
-use std::os::unix::fs::{MetadataExt, OpenOptionsExt, lchown};
+use std::alloc::Global;
+use std::fs::{self, File, OpenFile, TryLockError};
+use std::io::{ErrorKind, Seek};
 use std::rt::Files;
+
+/// A file whose lock is held for as long as it is open.
+#[derive(Drop)]
+struct Locked {
+    name: String,
+    file: File,
+}
 
 /// The files of the system.
 #[derive(Drop)]
 pub struct SystemFiles<'r, R> {
     rt: &'r R,
-    /// An open file whose lock is held for as long as it is open.
-    locked: Option<File>,
+    locked: Option<Locked>,
 }
 
-/// Permission to read and write for the owner: what the next contents of a file have until they have those of the old one.
-const OWNER_ALONE: u32 = 0o600;
-
-/// Permission to read and write for everyone, less what the process may not give (umask).
-const EVERYONE: u32 = 0o666;
-
-/// The name that is reserved beside a file, for its next contents until they are whole.
-fn reserved(alloc: Global, name: &str) -> Result<String, AllocError> {
-    match name.rsplit_once('/') {
-        Some((folder, file)) => format!(in alloc; "{folder}/.{file}.slaptools"),
-        None => format!(in alloc; ".{name}.slaptools"),
-    }
+/// The next contents of a file.
+#[derive(Drop)]
+pub struct SystemDraft<'r, R: Files> {
+    /// The file's path.
+    name: String,
+    /// Where they stand; `None` where they went into what has that name, as into a pipe.
+    draft: Option<Draft<'r, R>>,
 }
 
 /// Whether this is a name that the system gives to an open file, whatever that is.
@@ -36,7 +39,7 @@ fn names_open_file(name: &str) -> bool {
     name == "/dev/stdout" || name == "/dev/stderr" || name.starts_with("/dev/fd/")
 }
 
-impl<'r, R: Files<File = File> + AllocGlobal> SystemFiles<'r, R> {
+impl<'r, R: Files<File = File> + AllocGlobal + Clone + Drop> SystemFiles<'r, R> {
     /// No lock is held.
     pub fn new(rt: &'r R) -> SystemFiles<'r, R>
         ensures { is_some result.locked ≡ false }
@@ -57,87 +60,51 @@ impl<'r, R: Files<File = File> + AllocGlobal> SystemFiles<'r, R> {
         }
     }
 
-    /// Opens a file to lock it: also for writing where that is allowed, since a network's file system may lock no other.
-    fn open_to_lock(&self, name: &str) -> io::Result<File> {
-        let mut how = OpenOptions::new();
-        how.read(true).write(true);
-        match how.open(self.rt, name) {
-            Ok(file) => Ok(file),
-            Err(_) => fs::open(self.rt, name),
+    /// The locked file, where it has this name, from its beginning: another handle might not be allowed to read what this one has locked.
+    fn open_locked(&self, name: &str) -> Result<Option<File>, FolderFault> {
+        match &self.locked {
+            Some(locked) if locked.name.as_str() == name => {
+                let mut file = OpenFile::try_clone(&locked.file)?;
+                file.rewind()?;
+                Ok(Some(file))
+            }
+            _ => Ok(None),
         }
     }
 
     fn write_in_place<T: FileText>(&self, name: &str, text: &T) -> Result<T::Answer, FolderFault>
         ensures { IfOk result (T.answers text.now) }
     {
-        let mut file = fs::create(self.rt, name)?;
-        let answer = text.write(self.rt.alloc(), &mut OfWrite::new(&mut file))?;
+        let file = fs::create(self.rt, name)?;
+        let answer = text.write(self.rt.alloc(), &mut OfWrite::new(Uninterrupted::new(file)))?;
         Ok(answer)
     }
 
-    /// Makes a file that is in nobody else's hands, with these permissions as far as the process may give them: what stands under this name
-    /// goes, and a link is not followed.
-    fn make_anew(&self, name: &str, mode: u32) -> Result<File, FolderFault> {
-        let _ = fs::remove_file(self.rt, name);
-        let mut how = OpenOptions::new();
-        how.write(true).create_new(true).mode(mode);
-        Ok(how.open(self.rt, name)?)
-    }
-
-    /// Writes the next contents of a file, with the old one's permissions and for its owner, and renames them over it. Whoever may not give
-    /// a file away keeps it.
-    fn fill<T: FileText>(
+    /// Writes a text into a new draft of the file of this name.
+    fn write_beside<T: FileText>(
         &self,
-        mut file: File,
-        new: &str,
         name: &str,
-        old: Option<Metadata>,
         text: &T,
-    ) -> Result<T::Answer, FolderFault>
-        ensures { IfOk result (T.answers text.now) }
+    ) -> Result<Drafted<Draft<'r, R>, T::Answer>, FolderFault>
+        ensures { IfOk result (λ d. T.answers text.now d.answer) }
     {
-        if let Some(old) = old {
-            let _ = lchown(self.rt, new, Some(old.uid()), Some(old.gid()));
-            OpenFile::set_permissions(&file, old.permissions())?;
-        }
-        let answer = text.write(self.rt.alloc(), &mut OfWrite::new(&mut file))?;
-        file.sync_all()?;
-        fs::rename(self.rt, new, name)?;
-        Ok(answer)
-    }
-
-    /// Puts the new name of a file on the disk. The file stands there by then, so a folder that can't be synced is no fault of the store.
-    fn sync_folder(&self, name: &str) {
-        let folder = match name.rsplit_once('/') {
-            Some(("", _)) => "/",
-            Some((folder, _)) => folder,
-            None => ".",
-        };
-        if let Ok(folder) = fs::open(self.rt, folder) {
-            let _ = folder.sync_all();
-        }
-    }
-
-    fn replace<T: FileText>(&self, name: &str, text: &T) -> Result<T::Answer, FolderFault>
-        ensures { IfOk result (T.answers text.now) }
-    {
-        let new = reserved(self.rt.alloc(), name)?;
+        let alloc = self.rt.alloc();
+        let _ = clear_left(self.rt, alloc, name);
         let old = fs::metadata(self.rt, name).ok();
-        let mode = if old.is_some() { OWNER_ALONE } else { EVERYONE };
-        let file = self.make_anew(new.as_str(), mode)?;
-        let replaced = self.fill(file, new.as_str(), name, old, text);
-        match &replaced {
-            Ok(_) => self.sync_folder(name),
-            Err(_) => {
-                let _ = fs::remove_file(self.rt, new.as_str());
-            }
+        let mut draft = make_draft(self.rt, alloc, name, old.is_none())?;
+        if let Some(old) = old {
+            draft.follow(&old);
         }
-        replaced
+        let answer = text.write(alloc, &mut OfWrite::new(Uninterrupted::new(draft.file())))?;
+        draft.sync()?;
+        Ok(Drafted { draft, answer })
     }
 }
 
-impl<'r, R: Files<File = File> + AllocGlobal> Folder for SystemFiles<'r, R> {
-    type In = OfRead<File>;
+impl<'r, R: Files<File = File> + AllocGlobal + Clone + Drop> Folder for SystemFiles<'r, R> {
+    type In = OfRead<Uninterrupted<File>>;
+
+    type Draft = SystemDraft<'r, R>;
 
     // Contracts know no bytes of the system's files.
     ghost files = { λ _. None };
@@ -145,16 +112,19 @@ impl<'r, R: Files<File = File> + AllocGlobal> Folder for SystemFiles<'r, R> {
     // Nor what other processes do.
     ghost locking = { λ f. record { held = is_some f.locked; others = None } };
 
+    ghost is_draft = { λ d name _. string_bytes d.name ≡ name };
+
     /// The lock is the system's (flock) on the file as it stands under the name now. The end of the process gives it back, however it ends.
     /// It is not taken of a pipe, which would never end while it is open here.
     fn lock(&mut self, name: &str) -> Result<(), LockFault> {
         if self.is_special(name) {
             return Err(LockFault::Device);
         }
-        let file = self.open_to_lock(name)?;
+        let path = String::from_str(self.rt.alloc(), name)?;
+        let file = open_to_lock(self.rt, name)?;
         match file.try_lock() {
             Ok(()) => {
-                self.locked = Some(file);
+                self.locked = Some(Locked { name: path, file });
                 Ok(())
             }
             Err(TryLockError::WouldBlock) => Err(LockFault::InUse),
@@ -162,20 +132,73 @@ impl<'r, R: Files<File = File> + AllocGlobal> Folder for SystemFiles<'r, R> {
         }
     }
 
-    fn open(&self, name: &str) -> Result<Option<OfRead<File>>, FolderFault> {
+    /// A locked file is read by the handle that has its lock.
+    fn open(&self, name: &str) -> Result<Option<OfRead<Uninterrupted<File>>>, FolderFault> {
+        if let Some(file) = self.open_locked(name)? {
+            return Ok(Some(OfRead::new(Uninterrupted::new(file))));
+        }
         match fs::open(self.rt, name) {
-            Ok(file) => Ok(Some(OfRead::new(file))),
+            Ok(file) => Ok(Some(OfRead::new(Uninterrupted::new(file)))),
             Err(error) if error.kind() == ErrorKind::NotFound && !self.is_there(name) => Ok(None),
             Err(error) => Err(FolderFault::from(error)),
         }
     }
 
-    /// Writes a file beside it and renames that, so that at each moment the old file or the new one is there whole.
-    fn store<T: FileText>(&mut self, name: &str, text: &T) -> Result<T::Answer, FolderFault> {
+    /// They are written to a file beside it, and are on the disk then. What is no plain file is written in place, and needs no publishing.
+    fn draft<T: FileText>(
+        &self,
+        name: &str,
+        text: &T,
+    ) -> Result<Drafted<SystemDraft<'r, R>, T::Answer>, FolderFault> {
+        let path = String::from_str(self.rt.alloc(), name)?;
         if self.is_special(name) {
-            self.write_in_place(name, text)
-        } else {
-            self.replace(name, text)
+            let answer = self.write_in_place(name, text)?;
+            let draft = SystemDraft {
+                name: path,
+                draft: None,
+            };
+            return Ok(Drafted { draft, answer });
         }
+        let Drafted { draft, answer } = self.write_beside(name, text)?;
+        let draft = SystemDraft {
+            name: path,
+            draft: Some(draft),
+        };
+        Ok(Drafted { draft, answer })
+    }
+
+    /// At each moment the old file or the new one is there whole.
+    fn publish(&mut self, draft: SystemDraft<'r, R>) -> Result<(), Unpublished> {
+        let SystemDraft { name, draft } = draft;
+        match draft {
+            Some(mut draft) => match draft.publish(name.as_str()) {
+                Ok(()) => Ok(()),
+                Err(_) => Err(Unpublished { name }),
+            },
+            None => Ok(()),
+        }
+    }
+
+    /// Puts the names in its folder on the disk.
+    fn settle(&self, name: &str) {
+        let (folder, _) = parted(name);
+        if let Ok(folder) = fs::open(self.rt, folder) {
+            let _ = folder.sync_all();
+        }
+    }
+
+    fn is_one_place(&self, name: &str, other: &str) -> bool {
+        if name == other {
+            return true;
+        }
+        let ((folder, name), (other_folder, other)) = (parted(name), parted(other));
+        name == other
+            && match (
+                fs::metadata(self.rt, folder),
+                fs::metadata(self.rt, other_folder),
+            ) {
+                (Ok(folder), Ok(other)) => is_same(&folder, &other),
+                _ => false,
+            }
     }
 }

@@ -1,5 +1,5 @@
 -- What is seen of files in memory.
-use Rattle.std.specs.Prelude.{ℕ, Bool, true, false, List, ◌++◌, Option, None, Some, Result, Ok, Err, map, string_bytes, if◌then◌else◌}
+use Rattle.std.specs.Prelude.{◌≡◌, ℕ, Bool, true, false, List, ◌++◌, Option, None, Some, Result, Ok, Err, map, string_bytes, if◌then◌else◌}
 use Rattle.std.specs.Str.{bytes_eq}
 use Rattle.std.specs.Option.{option_map_or}
 use Rattle.std.specs.BTreeMap.{BTreeMap}
@@ -23,7 +23,8 @@ use Rattle.memory_folder.specs.declared.files.Change.{Change}
 use Rattle.memory_folder.specs.declared.files.Change.TheVariants.{Put, Append, Remove}
 use Rattle.memory_folder.specs.declared.files.MemoryFiles.{MemoryFiles}
 use Rattle.memory_folder.specs.declared.folder.FileTrouble.{FileTrouble}
-use Rattle.memory_folder.specs.declared.folder.FileTrouble.TheVariants.{Open, OpenMemory, InUse, Lock, LockMemory, Read, Store, StoreMemory}
+use Rattle.memory_folder.specs.declared.folder.FileTrouble.TheVariants.{Open, OpenMemory, InUse, Lock, LockMemory, Read, Store, StoreMemory, Publish}
+use Rattle.memory_folder.specs.declared.folder.MemoryDraft.{MemoryDraft}
 use Rattle.memory_folder.specs.declared.folder.MemoryFolder.{MemoryFolder}
 
 -- a file's name and bytes
@@ -57,6 +58,10 @@ changed (Put bytes) name m = finite.insert m name bytes.now
 changed (Append bytes) name m = appended name bytes.now m
 changed Remove name m = finite.remove m name
 
+-- it is a draft of the file of this name, and has these bytes
+abbrev pub is_draft : MemoryDraft → List ℕ → List ℕ → Type 0
+is_draft d name text = (string_bytes d.name ≡ name) × (d.bytes.items ≡ text)
+
 -- ---- what fails
 
 -- how the file of this name fails, where the one that fails is this
@@ -79,8 +84,9 @@ reading_limit (Some LockMemory) = Ok None
 reading_limit (Some (Read limit)) = Ok (Some limit)
 reading_limit (Some (Store limit)) = Ok None
 reading_limit (Some StoreMemory) = Ok None
+reading_limit (Some Publish) = Ok None
 
--- how many bytes of it are stored before storing fails, where it does; or why it isn't stored
+-- how many bytes of its next contents are written before writing fails, where it does; or why they aren't written
 abbrev pub storing_limit : Option FileTrouble → Result (Option ℕ) FolderFault
 storing_limit None = Ok None
 storing_limit (Some Open) = Ok None
@@ -91,6 +97,20 @@ storing_limit (Some LockMemory) = Ok None
 storing_limit (Some (Read limit)) = Ok None
 storing_limit (Some (Store limit)) = Ok (Some limit)
 storing_limit (Some StoreMemory) = Err folder_faults.OutOfMemory
+storing_limit (Some Publish) = Ok None
+
+-- whether its next contents can't take its place
+abbrev pub bars_publishing : Option FileTrouble → Bool
+bars_publishing None = false
+bars_publishing (Some Open) = false
+bars_publishing (Some OpenMemory) = false
+bars_publishing (Some InUse) = false
+bars_publishing (Some Lock) = false
+bars_publishing (Some LockMemory) = false
+bars_publishing (Some (Read limit)) = false
+bars_publishing (Some (Store limit)) = false
+bars_publishing (Some StoreMemory) = false
+bars_publishing (Some Publish) = true
 
 -- why it isn't locked, where it isn't
 abbrev pub lock_fault : Option FileTrouble → Option LockFault
@@ -103,6 +123,7 @@ lock_fault (Some LockMemory) = Some lock_faults.OutOfMemory
 lock_fault (Some (Read limit)) = None
 lock_fault (Some (Store limit)) = None
 lock_fault (Some StoreMemory) = None
+lock_fault (Some Publish) = None
 
 -- ---- the world of a command
 

@@ -1,5 +1,5 @@
 //! A folder of files in memory, of which one can fail.
-ghost use Rattle.std.specs.Prelude.{◌≡◌, ℕ, true, false, List, Option, None, Some, Err, IsOk, IfOk, IfErr, IfSome, OnOk, OnErr};
+ghost use Rattle.std.specs.Prelude.{◌≡◌, ℕ, true, false, List, Option, None, Some, Ok, Err, IsOk, IsErr, IfOk, IfErr, IfSome, OnOk, OnErr, string_bytes};
 ghost use Rattle.std.specs.Option.{option_map};
 ghost use Rattle.std.specs.FinMap as finite;
 ghost use Rattle.device.specs.Adapters.{read_seen};
@@ -7,12 +7,12 @@ ghost use Rattle.folders.specs.Folders.{Finds, with_file};
 ghost use Rattle.folders.specs.Locks.{IsNotTaken, Takes};
 ghost use Rattle.folders.specs.declared.folder.FolderFault.{FolderFault};
 ghost use Rattle.folders.specs.declared.folder.LockFault.{LockFault};
-ghost use Rattle.memory_folder.specs.Memory.{files_of, folder_files, folder_locking, folder_trouble, trouble_at, left_of, reading_limit, storing_limit, lock_fault};
+ghost use Rattle.memory_folder.specs.Memory.{files_of, folder_files, folder_locking, folder_trouble, trouble_at, left_of, reading_limit, storing_limit, bars_publishing, lock_fault, is_draft};
 
 use crate::contents::Contents;
 use crate::files::MemoryFiles;
 use device::OfRead;
-use folders::{FileText, Folder, FolderFault, LockFault};
+use folders::{Drafted, FileText, Folder, FolderFault, LockFault, Unpublished};
 use std::alloc::Global;
 use try_device::TrySink;
 
@@ -34,10 +34,12 @@ pub enum FileTrouble {
     LockMemory,
     /// Reading it fails behind so many bytes.
     Read(usize),
-    /// Storing it fails behind so many bytes.
+    /// Writing its next contents fails behind so many bytes.
     Store(usize),
-    /// There is no memory to store it.
+    /// There is no memory for its next contents.
     StoreMemory,
+    /// Its next contents can't take its place.
+    Publish,
 }
 
 /// How many bytes of a file are read before reading fails, where it does; or why it isn't opened.
@@ -52,7 +54,7 @@ fn reading_limit(trouble: Option<FileTrouble>) -> Result<Option<usize>, FolderFa
     }
 }
 
-/// How many bytes of a file are stored before storing fails, where it does; or why it isn't stored.
+/// How many bytes of a file's next contents are written before writing fails, where it does; or why they aren't written.
 fn storing_limit(trouble: Option<FileTrouble>) -> Result<Option<usize>, FolderFault>
     ensures { result ≡ storing_limit trouble }
 {
@@ -75,6 +77,20 @@ fn lock_fault(trouble: Option<FileTrouble>) -> Option<LockFault>
         }
         _ => None,
     }
+}
+
+/// Whether a file's next contents can't take its place.
+fn bars_publishing(trouble: Option<FileTrouble>) -> bool
+    ensures { result ≡ bars_publishing trouble }
+{
+    matches!(trouble, Some(FileTrouble::Publish))
+}
+
+/// The next contents of a file.
+#[derive(Drop)]
+pub struct MemoryDraft {
+    name: String,
+    bytes: Vec<u8>,
 }
 
 /// A folder of files in memory, of which one can fail.
@@ -138,7 +154,11 @@ impl<'t> MemoryFolder<'t> {
 impl<'t> Folder for MemoryFolder<'t> {
     type In = OfRead<Contents>;
 
-    ghost use Rattle.memory_folder.specs.Memory.{folder_files, folder_locking};
+    type Draft = MemoryDraft;
+
+    ghost use Rattle.memory_folder.specs.Memory.{folder_files, folder_locking, is_draft};
+
+    ghost is_draft = { is_draft };
 
     ghost files = { λ f. Some (folder_files f) };
 
@@ -171,8 +191,9 @@ impl<'t> Folder for MemoryFolder<'t> {
         ensures finds { IfOk result (λ o. Finds (Some (folder_files self.now)) name.now (option_map (λ s. (read_seen left_of s).left) o)) }
         ensures failed { IfOk result (λ o. IfSome o (λ s. (read_seen left_of s).failed ≡ 0)) }
 
-        // Beside what the trait says: how a file can't be opened.
+        // Beside what the trait says: how a file can't be opened, and that it is else, where there is memory.
         ensures fault { (fault : FolderFault) → reading_limit (folder_trouble self.now name.now) ≡ Err fault → result ≡ Err fault }
+        ensures free { (limit : Option ℕ) → reading_limit (folder_trouble self.now name.now) ≡ Ok limit → IfErr result (λ f. f ≡ FolderFault.OutOfMemory) }
     {
         let limit = reading_limit(self.trouble_of(name))?;
         match self.files.get(name) {
@@ -184,20 +205,52 @@ impl<'t> Folder for MemoryFolder<'t> {
         }
     }
 
-    fn store<T: FileText>(&mut self, name: &str, text: &T) -> Result<T::Answer, FolderFault>
-        ensures ok { OnOk result (Some (folder_files self.new) ≡ with_file (Some (folder_files self.old)) name.now (T.text text.now)) }
-        ensures answer { IfOk result (T.answers text.now) }
-        ensures err { OnErr result (Some (folder_files self.new) ≡ Some (folder_files self.old)) }
-        ensures locking { folder_locking self.new ≡ folder_locking self.old }
+    fn draft<T: FileText>(
+        &self,
+        name: &str,
+        text: &T,
+    ) -> Result<Drafted<MemoryDraft, T::Answer>, FolderFault>
+        ensures ok { IfOk result (λ d. is_draft d.draft name.now (T.text text.now)) }
+        ensures answer { IfOk result (λ d. T.answers text.now d.answer) }
 
-        // Beside what the trait says: how a file can't be stored, and that it still can't.
-        ensures trouble { (q : List ℕ) → folder_trouble self.new q ≡ folder_trouble self.old q }
-        ensures fault { (fault : FolderFault) → storing_limit (folder_trouble self.old name.now) ≡ Err fault → result ≡ Err fault }
+        // Beside what the trait says: how the next contents of a file can't be written.
+        ensures fault { (fault : FolderFault) → storing_limit (folder_trouble self.now name.now) ≡ Err fault → result ≡ Err fault }
     {
         let limit = storing_limit(self.trouble_of(name))?;
         let mut sink = TrySink::new(self.alloc, PIECE, limit);
         let answer = text.write(self.alloc, &mut sink)?;
-        self.files.put(name, sink.bytes())?;
-        Ok(answer)
+        let draft = MemoryDraft {
+            name: String::from_str(self.alloc, name)?,
+            bytes: Vec::from_slice(self.alloc, sink.bytes())?,
+        };
+        Ok(Drafted { draft, answer })
+    }
+
+    /// Where memory runs out, it can't take its place either.
+    fn publish(&mut self, draft: MemoryDraft) -> Result<(), Unpublished>
+        ensures ok { (name text : List ℕ) → is_draft draft name text
+            → OnOk result (Some (folder_files self.new) ≡ with_file (Some (folder_files self.old)) name text) }
+        ensures named { (name text : List ℕ) → is_draft draft name text → IfErr result (λ u. string_bytes u.name ≡ name) }
+        ensures err { OnErr result (Some (folder_files self.new) ≡ Some (folder_files self.old)) }
+        ensures locking { folder_locking self.new ≡ folder_locking self.old }
+
+        // Beside what the trait says: how a draft can't take its place, and that other files still fail so.
+        ensures trouble { (q : List ℕ) → folder_trouble self.new q ≡ folder_trouble self.old q }
+        ensures barred { (name text : List ℕ) → is_draft draft name text → bars_publishing (folder_trouble self.old name) ≡ true → IsErr result }
+    {
+        let MemoryDraft { name, bytes } = draft;
+        if bars_publishing(self.trouble_of(name.as_str())) {
+            return Err(Unpublished { name });
+        }
+        match self.files.put(name.as_str(), bytes.as_slice()) {
+            Ok(()) => Ok(()),
+            Err(_) => Err(Unpublished { name }),
+        }
+    }
+
+    fn settle(&self, _name: &str) {}
+
+    fn is_one_place(&self, name: &str, other: &str) -> bool {
+        name == other
     }
 }

@@ -8,5 +8,5 @@ mod run;
 
 pub use contents::Contents;
 pub use files::{Change, MemoryFiles};
-pub use folder::{FileTrouble, MemoryFolder};
+pub use folder::{FileTrouble, MemoryDraft, MemoryFolder};
 pub use run::run_command;

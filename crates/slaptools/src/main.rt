@@ -3,7 +3,7 @@
 
 use commands::{CommandFault, command, report_fault};
 use device::{OfRead, OfWrite};
-use folders::{Placeholders, SystemFiles};
+use folders::{Placeholders, SystemFiles, Uninterrupted};
 use std::env;
 use std::io::{self, ErrorKind};
 use std::process::ExitCode;
@@ -45,14 +45,14 @@ fn start_of(rt: &HostRuntime) -> Result<Start, CommandFault> {
 }
 
 fn main(rt: HostRuntime) -> ExitCode {
-    let mut err = OfWrite::new(rt.stderr());
+    let mut err = OfWrite::new(Uninterrupted::new(rt.stderr()));
     let start = match start_of(&rt) {
         Ok(start) => start,
         Err(fault) => return ExitCode::from(report_fault(rt.alloc(), &mut err, &fault).number()),
     };
     let mut folder = SystemFiles::new(&rt);
-    let mut input = OfRead::new(rt.stdin());
-    let mut out = OfWrite::new(rt.stdout());
+    let mut input = OfRead::new(Uninterrupted::new(rt.stdin()));
+    let mut out = OfWrite::new(Uninterrupted::new(rt.stdout()));
     ExitCode::from(command(
         rt.alloc(),
         start.words.as_slice(),

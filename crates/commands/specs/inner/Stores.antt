@@ -1,14 +1,11 @@
 -- How far storing came.
-use Rattle.std.specs.Prelude.{◌≡◌, List, ◌∷◌, ◌++◌, Option}
+use Rattle.std.specs.Prelude.{◌≡◌, List, Option}
 use Rattle.folders.specs.Folders.{File, Files, with_files}
-use Rattle.commands.specs.Failures.{FailsToWrite}
+use Rattle.commands.specs.Stored.{StoreFails}
 use Rattle.commands.specs.declared.messages.CommandFault.{CommandFault}
 
--- of these files, which are stored one after the other, one can't be written: those before it were stored
+-- these files were to be stored: some of them were, perhaps none, and then that failed
 pub record StoresPartly (files : List File) (before after : Option Files) (fault : CommandFault) : Type 0 where
   pub stored : List File
-  pub file : File
-  pub rest : List File
-  pub files_are : files ≡ stored ++ file ∷ rest
-  pub why : FailsToWrite file.name fault
+  pub why : StoreFails files stored fault
   pub after_is : after ≡ with_files before stored

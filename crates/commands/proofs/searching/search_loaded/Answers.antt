@@ -7,7 +7,7 @@ use Rattle.commands.specs.inner.Printed.{HasPrinted}
 use Rattle.commands.specs.inner.Views.{basis_of}
 use Rattle.commands.proofs.Ends.{printed_more}
 use Rattle.commands.proofs.Searched.{is_said, text_so, unreported, stops_reported, searched, searched_past}
-use Rattle.commands.proofs.Stopping.{stopped, refused_stops, prints_more}
+use Rattle.commands.proofs.Stopping.{stopped, refused_stops, refused_later, prints_more}
 use Rattle.commands.proofs.searching.search_loaded.Goals as goal
 
 pub returns-in-Err-clause-ends : goal.returns-in-Err-clause-ends
@@ -52,6 +52,7 @@ returns-in-Err-print_found-clause-ends g c = λ w h.
     stopped (SearchStops asked) _ _ _
     (stops_reported asked (record w { output = g.O.Sink.written c.args.out.now; messages = g.E.Sink.written c.args.err.now }) said _ (c.in-Ok.ensures.reports f said h.index.kept.says) _ c.in-Err-print_found.fault
     (is_said asked files f t c.args.file.now h)
+    (refused_later (search_query asked) t.conf t.entries c.in-Err-print_found.fault (c.in-Err-print_found.ensures said h.index.kept).0)
     (refused_stops (search_query asked) files (view f.filter) h.filter_is t.conf t.entries h.directory c.in-Err-print_found.fault (c.in-Err-print_found.ensures said h.index.kept).0)
     (prints_more (HasBegun (λ text. (past : Bool) × IsFoundText asked said (basis_of f.filter t) past text) None) (HasBegun (λ text. (past : Bool) × SearchText asked files said past text) None) _ _
     (λ fault begun. record { text = begun.text; is = (begun.is.0, text_so asked files f t c.args.file.now h begun.is.0 begun.text begun.is.1); begins = begun.begins }) c.in-Err-print_found.fault (c.in-Err-print_found.ensures said h.index.kept).1))

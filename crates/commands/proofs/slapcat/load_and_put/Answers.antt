@@ -15,7 +15,7 @@ returns-in-Ok-clause-put g c = λ w.
     let files = g.F.Folder.files c.args.folder.now in
     let basis = basis_of c.args.filter.now c.in-Ok.database.tree in
     let holds : (text : List ℕ) → IsCatText (is_whole asked) asked basis text → CatText asked files text = λ text. has_basis (cat_query asked) files basis c.requires.filter c.in-Ok.ensures.loaded (λ basis. IsCatText (is_whole asked) asked basis text) in
-    on_ok_weaker c.put_entries-done.result (put_more (IsCatText (is_whole asked) asked basis) (CatText asked files) holds (option_copied asked.file) _ _) (c.put_entries-done.ensures.put w)
+    on_ok_weaker c.put_entries-done.result (put_more (IsCatText (is_whole asked) asked basis) (CatText asked files) holds asked.db.now (option_copied asked.file) _ _) (c.put_entries-done.ensures.put w)
 
 pub returns-in-Ok-clause-stops : goal.returns-in-Ok-clause-stops
 returns-in-Ok-clause-stops g c = of_faults c.put_entries-done.result

@@ -18,7 +18,7 @@ returns-then-is_none-2-clause-put g c = λ w.
     let w₂ : World = record w { files = g.F.Folder.files c.put.new.folder; output = g.O.Sink.written c.put.new.out } in
     let no_filter : is_none asked.filter ≡ true = ap not c.is_none.ensures ∙ ap (λ b. not (not b)) c.if-is_none.true in
     let no_base : is_none asked.base ≡ true = ap not c.is_none-then-is_none.ensures ∙ ap (λ b. not (not b)) c.if-is_none-2.true in
-    subst (λ (whole : Bool). OnOk c.put.result (HasPut (IsCatText whole asked (basis_of c.args.filter.now c.args.database.now.tree)) (option_copied asked.file) w₁ w₂)) (sym (and_from _ _ no_filter no_base))
+    subst (λ (whole : Bool). OnOk c.put.result (HasPut (IsCatText whole asked (basis_of c.args.filter.now c.args.database.now.tree)) asked.db.now (option_copied asked.file) w₁ w₂)) (sym (and_from _ _ no_filter no_base))
     (on_ok_weaker c.put.result (λ put. record { text = _; is = refl; put = put }) (c.put.ensures.put w))
 
 pub returns-then-is_none-2-clause-fault : goal.returns-then-is_none-2-clause-fault
