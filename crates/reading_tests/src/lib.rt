@@ -15,3 +15,5 @@ mod readers;
 mod sets;
 #[cfg(test)]
 mod texts;
+#[cfg(test)]
+mod written_lines;
