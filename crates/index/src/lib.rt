@@ -18,5 +18,8 @@ mod stored_key;
 mod whole_entries;
 
 pub use changes::{KeyChanges, key_changes, keys_of};
+pub use dense_sets::{KeySet, WordSet};
+pub use id_sets::{IdSet, ListSet};
 pub use index::Index;
+pub use index_text::{Postings, SlotKey, SlotNumber};
 pub use key_sets::Keys;
