@@ -4,8 +4,8 @@ ghost use Rattle.std.specs.Prelude.{◌≡◌, ◌<◌, ◌++◌, ◌∷◌, [],
 ghost use Rattle.std.specs.List.{flat_map};
 ghost use Rattle.std.specs.Fmt.{decimal};
 ghost use Rattle.base.specs.Ascii.{space, line_feed};
-ghost use Rattle.base.specs.Extends.{Extends};
 ghost use Rattle.hex.specs.Hex.{encode_lower};
+ghost use Rattle.index_text.specs.Begun.{HasBegun};
 ghost use Rattle.index_text.specs.IndexTexts.{ended, header_line, slot_line, kind_name, key_text, key_line, rank_text, end_line};
 
 use itoa::Buffer;
@@ -24,7 +24,7 @@ fn put_hex(alloc: Global, out: &mut Vec<u8>, bytes: &[u8]) -> Result<(), AllocEr
 // the number of the format, and how many entries there are
 fn put_count(out: &mut Vec<u8>, entries: usize) -> Result<(), AllocError>
     ensures put { OnOk result (out.new.items ≡ out.old.items ++ codes "slapindex 1 " ++ decimal entries) }
-    ensures kept { OnErr result (Extends out.old.items out.new.items) }
+    ensures kept { OnErr result (HasBegun (codes "slapindex 1 " ++ decimal entries) out.old.items out.new.items) }
 {
     let mut digits = Buffer::new();
     out.extend_from_slice(b"slapindex 1 ")?;
@@ -34,7 +34,7 @@ fn put_count(out: &mut Vec<u8>, entries: usize) -> Result<(), AllocError>
 // the stamp, which ends the line
 fn put_stamp(alloc: Global, out: &mut Vec<u8>, stamp: &[u8]) -> Result<(), AllocError>
     ensures put { OnOk result (out.new.items ≡ out.old.items ++ space ∷ encode_lower stamp.now ++ line_feed ∷ []) }
-    ensures kept { OnErr result (Extends out.old.items out.new.items) }
+    ensures kept { OnErr result (HasBegun (space ∷ encode_lower stamp.now ++ line_feed ∷ []) out.old.items out.new.items) }
 {
     out.push(b' ')?;
     put_hex(alloc, out, stamp)?;
@@ -50,7 +50,7 @@ pub fn put_header(
     stamp: &[u8],
 ) -> Result<(), AllocError>
     ensures put { OnOk result (out.new.items ≡ out.old.items ++ ended (header_line entries stamp.now)) }
-    ensures kept { OnErr result (Extends out.old.items out.new.items) }
+    ensures kept { OnErr result (HasBegun (ended (header_line entries stamp.now)) out.old.items out.new.items) }
 {
     put_count(out, entries)?;
     put_stamp(alloc, out, stamp)
@@ -70,7 +70,7 @@ fn kind_name(kind: IndexKind) -> &'static str
 pub fn put_slot(out: &mut Vec<u8>, conf: &Conf, slot: &Slot) -> Result<(), AllocError>
     requires { slot.now.type_id < length conf.now.types }
     ensures put { OnOk result (out.new.items ≡ out.old.items ++ ended (slot_line conf.now.types slot.now)) }
-    ensures kept { OnErr result (Extends out.old.items out.new.items) }
+    ensures kept { OnErr result (HasBegun (ended (slot_line conf.now.types slot.now)) out.old.items out.new.items) }
 {
     out.extend_from_slice(b"slot ")?;
     out.extend_from_slice(conf.name(slot.type_id))?;
@@ -93,7 +93,7 @@ fn put_key_text(alloc: Global, out: &mut Vec<u8>, key: &[u8]) -> Result<(), Allo
 
 fn put_rank(out: &mut Vec<u8>, rank: u32) -> Result<(), AllocError>
     ensures put { OnOk result (out.new.items ≡ out.old.items ++ rank_text rank) }
-    ensures kept { OnErr result (Extends out.old.items out.new.items) }
+    ensures kept { OnErr result (HasBegun (rank_text rank) out.old.items out.new.items) }
 {
     let mut digits = Buffer::new();
     out.push(b' ')?;
@@ -102,7 +102,7 @@ fn put_rank(out: &mut Vec<u8>, rank: u32) -> Result<(), AllocError>
 
 fn put_ranks(out: &mut Vec<u8>, ranks: &[u32]) -> Result<(), AllocError>
     ensures put { OnOk result (out.new.items ≡ out.old.items ++ flat_map rank_text ranks.now) }
-    ensures kept { OnErr result (Extends out.old.items out.new.items) }
+    ensures kept { OnErr result (HasBegun (flat_map rank_text ranks.now) out.old.items out.new.items) }
 {
     for rank in ranks {
         put_rank(out, *rank)?;
@@ -118,7 +118,7 @@ pub fn put_key(
     ranks: &[u32],
 ) -> Result<(), AllocError>
     ensures put { OnOk result (out.new.items ≡ out.old.items ++ ended (key_line (key.now, ranks.now))) }
-    ensures kept { OnErr result (Extends out.old.items out.new.items) }
+    ensures kept { OnErr result (HasBegun (ended (key_line (key.now, ranks.now))) out.old.items out.new.items) }
 {
     put_key_text(alloc, out, key)?;
     put_ranks(out, ranks)?;
