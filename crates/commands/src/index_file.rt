@@ -66,7 +66,7 @@ fn read_keys<S: Source>(
     kept_index_texts_are_read();
     are_bytes(&stamp);
     let entries = database.tree.len();
-    match StoredIndex::read(alloc, source, &database.conf, &stamp, entries, asked) {
+    match StoredIndex::read_asked(alloc, source, &database.conf, &stamp, entries, asked) {
         Ok(stored) => Ok(IndexFile::Read(stored)),
         Err(IndexFault::Fault(kind)) => Ok(IndexFile::Faulty(kind)),
         Err(IndexFault::Device) => Err(CommandFault::cannot_read(alloc, name)),

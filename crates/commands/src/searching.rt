@@ -105,7 +105,7 @@ fn print_by_text<O: Sink>(
 {
     let Database { conf, tree } = database;
     conf.rules_are_kept();
-    match search_with(alloc, tree, stored, wanted.base, asked.scope, filter) {
+    match search_with(alloc, tree, conf, stored, wanted.base, asked.scope, filter) {
         Ok(hits) => print_hits(alloc, tree, conf, hits, asked.limit, wanted.selection, out),
         Err(refusal) => Err(refused(refusal, NAME)),
     }

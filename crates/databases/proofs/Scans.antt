@@ -21,7 +21,7 @@ use Rattle.paths.specs.declared.scope.Scope.{Scope}
 use Rattle.databases.specs.Ranks.{rank_in}
 use Rattle.paths.specs.Scopes.{depth_fits, is_in_scope}
 use Rattle.databases.specs.Scanned.{scan, count_in_scope, is_tested, scan_among, count_among, counted_by}
-use Rattle.databases.specs.Walks.{Lent, seen, counted, lent, tested_in_all}
+use Rattle.databases.specs.Walks.{Lent, AreMade, seen, counted, lent, tested_in_all}
 use Rattle.databases.specs.inner.Marks.{MarkedEntry, number_by, first_rank, marked}
 use Rattle.databases.proofs.Places.{AreRanked, before, base_ranked, before_and_below}
 
@@ -227,3 +227,16 @@ module _ (is_candidate : Path → Bool) (all : (p : Path) → is_candidate p ≡
       and_true : (b : Bool) → b && true ≡ b
       and_true true = refl
       and_true false = refl
+
+-- ---- what is lent was made
+
+pub lent_made : (all : List AttributeType) (types : List AttributeType) (scope : Scope) (base : ℕ) (f : texts.FilterContent) (n : ℕ) (es : List MarkedEntry) → AllByRecursion (λ e. IsMade all e.entry.attrs) es → AreMade all (lent types scope base f n es)
+lent_made all types scope base f n [] made = tt
+lent_made all types scope base f n (e ∷ es) made =
+    by (e.is_candidate && depth_fits scope base (length e.path)) (is_true (truth types (attributes_of e.entry.attrs) f)) (λ k. lent_made all types scope base f k es made.1)
+  where
+    by : (a b : Bool) → ((k : ℕ) → AreMade all (lent types scope base f k es))
+        → AreMade all (cond a (cond b (record { tested = n + 1; path = e.path; entry = e.entry } ∷ lent types scope base f (n + 1) es) (lent types scope base f (n + 1) es)) (lent types scope base f n es))
+    by true true more = (made.0, more (n + 1))
+    by true false more = more (n + 1)
+    by false b more = more n

@@ -2,10 +2,11 @@
 use Rattle.std.specs.Prelude.{◌≡◌, ℕ, ◌+◌, ◌&&◌, List, [], ◌∷◌, length, if◌then◌else◌, Option, MatchOption, refl}
 use Rattle.std.specs.Coded.{Coded, code_by, coded×, coded_ℕ, coded_list}
 use Rattle.std.specs.Borrow.{Bor}
+use Rattle.std.specs.List.{AllByRecursion}
 use Rattle.paths.specs.Paths.{Path}
 use Rattle.values.specs.declared.types.AttributeType.{AttributeType}
 use Rattle.entries.specs.Entries.{EntryContent}
-use Rattle.entries.specs.StoredEntries.{Entry, content_of, attributes_of, entry_code}
+use Rattle.entries.specs.StoredEntries.{Entry, content_of, attributes_of, entry_code, IsMade}
 use Rattle.tree.specs.Trees.{path_code}
 use Rattle.filter_text.specs.Spells.{FilterContent, view}
 use Rattle.filter.specs.Made.{Made}
@@ -38,6 +39,10 @@ seen l = (l.path, content_of l.entry)
 
 abbrev pub counted : Lent → ℕ × (Path × EntryContent)
 counted l = (l.tested, seen l)
+
+-- each value of these entries is one that is made for its type
+abbrev pub AreMade : List AttributeType → List Lent → Type 0
+AreMade types ls = AllByRecursion (λ l. IsMade types l.entry.attrs) ls
 
 -- one step: the next entry is lent, with the number of those tested by then; none comes at the end of the walk, and again after it
 pub record Steps (old : Walk) (item : Option (Bor Path × Bor Entry)) (new : Walk) : Type 0 where

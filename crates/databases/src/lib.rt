@@ -16,6 +16,7 @@ mod marked;
 mod numbering;
 mod placed_entries;
 mod ranks;
+mod reading_index;
 mod refusal;
 mod runs;
 mod scanning;
@@ -35,6 +36,7 @@ pub use laws::{
 };
 pub use loading::{LoadFault, load_tree};
 pub use paths::Scope;
+pub use reading_index::read_index;
 pub use refusal::{Outcome, RecordRefusal};
 pub use runs::{RunFault, Tally, run};
 pub use scanning::{scan, search, search_by_ranks};

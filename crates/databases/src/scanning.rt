@@ -7,7 +7,7 @@ ghost use Rattle.databases.specs.Found.{AreThere};
 ghost use Rattle.databases.specs.Ranks.{rank_in};
 ghost use Rattle.databases.specs.Scanned.{scan, count_in_scope, count_among};
 ghost use Rattle.databases.specs.TreeSearches.{by_number, by_rank, found, counted_found};
-ghost use Rattle.databases.specs.Walks.{seen, counted};
+ghost use Rattle.databases.specs.Walks.{seen, counted, AreMade};
 ghost use Rattle.databases.specs.inner.Marks.{first_rank};
 ghost use Rattle.databases.specs.inner.Numberings.{by_numbering};
 
@@ -40,6 +40,7 @@ fn search_from<'a, S: IdSet>(
     ensures steps { IfSome result (λ h. map counted h.to_come ≡ counted_found tree.now (by_numbering S.members numbering candidates tree.now) base.now scope filter.now) }
     ensures found { IfSome result (λ h. map seen h.to_come ≡ found tree.now (by_numbering S.members numbering candidates tree.now) base.now scope filter.now) }
     ensures tested { IfSome result (λ h. h.in_the_end ≡ count_among tree.now.entries (by_numbering S.members numbering candidates tree.now) base.now scope) }
+    ensures made { IfSome result (λ h. AreMade tree.now.conf.types h.to_come) }
 {
     tree.entries_are_a_directory();
     tree.get(base)?;
@@ -62,6 +63,7 @@ pub fn search<'a, S: IdSet>(
     ensures steps { IfSome result (λ h. map counted h.to_come ≡ counted_found tree.now (by_number S.members candidates tree.now) base.now scope filter.now) }
     ensures found { IfSome result (λ h. map seen h.to_come ≡ found tree.now (by_number S.members candidates tree.now) base.now scope filter.now) }
     ensures tested { IfSome result (λ h. h.in_the_end ≡ count_among tree.now.entries (by_number S.members candidates tree.now) base.now scope) }
+    ensures made { IfSome result (λ h. AreMade tree.now.conf.types h.to_come) }
 {
     search_from(tree, base, 0, scope, filter, Numbering::InTree, candidates)
 }
@@ -81,6 +83,7 @@ pub fn search_by_ranks<'a, S: IdSet>(
     ensures steps { IfSome result (λ h. map counted h.to_come ≡ counted_found tree.now (by_rank S.members candidates tree.now) base.now scope filter.now) }
     ensures found { IfSome result (λ h. map seen h.to_come ≡ found tree.now (by_rank S.members candidates tree.now) base.now scope filter.now) }
     ensures tested { IfSome result (λ h. h.in_the_end ≡ count_among tree.now.entries (by_rank S.members candidates tree.now) base.now scope) }
+    ensures made { IfSome result (λ h. AreMade tree.now.conf.types h.to_come) }
 {
     let rank = rank_of(alloc, tree, base);
     search_from(
@@ -109,6 +112,7 @@ pub fn scan<'a>(
     ensures start { IfSome result (λ h. h.tested ≡ 0) }
     ensures found { IfSome result (λ h. map seen h.to_come ≡ scan tree.now.conf tree.now.entries base.now scope (view filter.now.filter)) }
     ensures tested { IfSome result (λ h. h.in_the_end ≡ count_in_scope tree.now.entries base.now scope) }
+    ensures made { IfSome result (λ h. AreMade tree.now.conf.types h.to_come) }
     ensures entries { IfSome result (λ h. AreThere tree.now.entries (map seen h.to_come)) }
 {
     tree.entries_are_a_directory();

@@ -1,10 +1,11 @@
 //! Searches of a tree with the index that is kept with it.
 
-ghost use Rattle.std.specs.Prelude.{◌≡◌, true, map, IfOk, IfErr};
+ghost use Rattle.std.specs.Prelude.{◌≡◌, true, false, map, Err, IfOk, IfErr};
 ghost use Rattle.std.specs.FinMap as finite;
+ghost use Rattle.schema.specs.declared.code.Code.TheVariants.{NoSuchObject};
 ghost use Rattle.filter_text.specs.Spells.{view};
 ghost use Rattle.databases.specs.Scanned.{scan};
-ghost use Rattle.databases.specs.Walks.{seen, counted};
+ghost use Rattle.databases.specs.Walks.{seen, counted, AreMade};
 ghost use Rattle.databases.specs.Found.{AreThere};
 ghost use Rattle.directory.specs.Indexes.{IsIndexOf};
 ghost use Rattle.databases.specs.Searches.{IsRefused};
@@ -36,10 +37,12 @@ pub(crate) fn search_with_index<'a>(
     requires indexed { IsIndexOf conf.now tree.now.entries tree.now.numbers index.now }
     ensures there { IfOk result (λ h. finite.contains_key tree.now.entries base.now ≡ true) }
     ensures refused { IfErr result (IsRefused tree.now.entries base.now) }
+    ensures missing { finite.contains_key tree.now.entries base.now ≡ false → result ≡ Err (Refusal.Code NoSuchObject) }
     ensures start { IfOk result (λ h. h.tested ≡ 0) }
     ensures steps { IfOk result (λ h. AreSteps conf.now tree.now filter.now base.now scope (map counted h.to_come)) }
     ensures found { IfOk result (λ h. map seen h.to_come ≡ scan tree.now.conf tree.now.entries base.now scope (view filter.now.filter)) }
     ensures tested { IfOk result (λ h. IsTestCount conf.now tree.now filter.now base.now scope h.in_the_end) }
+    ensures made { IfOk result (λ h. AreMade tree.now.conf.types h.to_come) }
     ensures entries { IfOk result (λ h. AreThere tree.now.entries (map seen h.to_come)) }
 {
     brackets_hold();
@@ -49,6 +52,9 @@ pub(crate) fn search_with_index<'a>(
     conf.rules_are_kept();
     tree.entries_are_a_directory();
     tree.entries_are_numbered();
+    if tree.get(base).is_none() {
+        return Err(Refusal::Code(Code::NoSuchObject));
+    }
     let may = may_match(alloc, filter, index)?;
     match search(tree, base, scope, filter, may) {
         Some(hits) => Ok(hits),

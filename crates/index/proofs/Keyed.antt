@@ -1,6 +1,6 @@
 -- Sets under keys, one of which changes.
 use Rattle.std.proofs.Common.{◌≡◌, ◌≢◌, ℕ, zero, suc, get_or, Bool, true, false, cond, not, ◌&&◌, ◌||◌, nat_lt, List, [], ◌∷◌, map, Result, Ok, Err, Option, Some, None, refl, sym, ap, subst, ◌∙◌, arith}
-use Rattle.std.specs.Prelude.{unwrap_or, IsErr, IfOk, OnOk, OnErr, MatchOption}
+use Rattle.std.specs.Prelude.{unwrap_or, IsErr, IfSome, IfOk, OnOk, OnErr, MatchOption}
 use Rattle.std.specs.declared.cmp.Ordering.{Ordering}
 use Rattle.std.specs.declared.cmp.Ordering.TheVariants.{Less}
 use Rattle.std.specs.Option.{option_map}
@@ -357,6 +357,11 @@ module _ {K : Type 0} (bytes : K → List ℕ) where
   got m s key None set_in is value = seen m s is key ∙ ap (λ o. unwrap_or o set.empty) (at_found m key None value)
   got m s key (Some x) set_in is value = sym (seen m s is key ∙ members_found m key (set_in x) value)
 
+  pub got_some : (m : BTreeMap K KeySet) (s : SetsByKey) (key : List ℕ) {R : Type 0} (r : Option R) (set_in : R → KeySet) → sets_by bytes m ≡ s → option_map set_in r ≡ found m key
+      → HaveMembers (rows_by bytes m.entries) → IfSome r (λ x. members_in s key ≢ set.empty)
+  got_some m s key None set_in is value full = tt
+  got_some m s key (Some x) set_in is value full = λ none. full key (at_found m key (Some (set_in x)) value ∙ ap (λ (ms : Members). Some ms) (got m s key (Some x) set_in is value ∙ none))
+
   pub moved : (f : Members → Members) (old new : BTreeMap K KeySet) (s : SetsByKey) (key : List ℕ) → sets_by bytes old ≡ s
       → ((q : List ℕ) → members_at (rows_by bytes new.entries) q ≡ cond (bytes_eq key q) (f (members_at (rows_by bytes old.entries) q)) (members_at (rows_by bytes old.entries) q))
       → (q : List ℕ) → members_in (sets_by bytes new) q ≡ cond (bytes_eq key q) (f (members_in s q)) (members_in s q)
@@ -413,3 +418,10 @@ all_empty slots all i key = ap (λ (s : SetsByKey). members_in s key) (by slots 
     by [] all i = refl
     by (s ∷ ss) all zero = all.0
     by (s ∷ ss) all (suc i) = by ss all.1 i
+
+-- ---- a look-up that lends a set
+
+-- as it is told of one map, it is of another one that shows the same
+pub still_some : {X : Type 0} (P Q : Type 0) (r : Option X) (f : X → Members) (m m' : Members) → MatchOption r P (λ s. f s ≡ m) → IfSome r (λ s. m ≢ set.empty) → MatchOption r Q (λ s. f s ≡ m') → IfSome r (λ s. m' ≢ set.empty)
+still_some P Q None f m m' inner some outer = tt
+still_some P Q (Some s) f m m' inner some outer = λ none. some (sym inner ∙ outer ∙ none)

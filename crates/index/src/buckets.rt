@@ -1,6 +1,6 @@
 //! Keys of few bytes in buckets.
 
-ghost use Rattle.std.specs.Prelude.{◌≡◌, ◌∷◌, [], ◌++◌, ◌≤◌, ◌<◌, ℕ, List, length, slice_index_or, MatchOption, OnOk};
+ghost use Rattle.std.specs.Prelude.{◌≡◌, ◌≢◌, ◌∷◌, [], ◌++◌, ◌≤◌, ◌<◌, ℕ, List, length, slice_index_or, IfSome, MatchOption, OnOk};
 ghost use Rattle.std.specs.FinMap as finite;
 ghost use Rattle.std.specs.FinSet as set;
 ghost use Rattle.std.specs.Map.Iter.{TakesFirst};
@@ -135,7 +135,8 @@ impl Buckets {
 
     /// The members of a key, or none where it has no member.
     pub(crate) fn get(&self, key: &ShortKey<4>) -> Option<&KeySet>
-        ensures { MatchOption result (members_in self.now (key_in 4 key.now.bytes) ≡ set.empty) (λ s. s.now.members ≡ members_in self.now (key_in 4 key.now.bytes)) }
+        ensures members { MatchOption result (members_in self.now (key_in 4 key.now.bytes) ≡ set.empty) (λ s. s.now.members ≡ members_in self.now (key_in 4 key.now.bytes)) }
+        ensures some { IfSome result (λ s. members_in self.now (key_in 4 key.now.bytes) ≢ set.empty) }
     {
         let place = bucket_of(key.as_slice());
         if place >= self.sets.len() {

@@ -1,6 +1,6 @@
 //! The keys of one slot, each with a set of numbers.
 
-ghost use Rattle.std.specs.Prelude.{◌≡◌, ℕ, List, MatchOption};
+ghost use Rattle.std.specs.Prelude.{◌≡◌, ◌≢◌, ℕ, List, IfSome, MatchOption};
 ghost use Rattle.std.specs.FinMap as finite;
 ghost use Rattle.std.specs.FinSet as set;
 ghost use Rattle.index_text.specs.KeySets.{members_in};
@@ -53,7 +53,8 @@ impl KeySets {
 
     /// The members of a key, or none where it has no member.
     pub(crate) fn get(&self, key: &[u8]) -> Option<&KeySet>
-        ensures { MatchOption result (members_in self.now key.now ≡ set.empty) (λ s. s.now.members ≡ members_in self.now key.now) }
+        ensures members { MatchOption result (members_in self.now key.now ≡ set.empty) (λ s. s.now.members ≡ members_in self.now key.now) }
+        ensures some { IfSome result (λ s. members_in self.now key.now ≢ set.empty) }
     {
         match ShortKey::tiny(key) {
             Some(tiny) => self.tiny.get(&tiny),

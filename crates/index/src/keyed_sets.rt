@@ -1,6 +1,6 @@
 //! Keys of one slot, each with a set of numbers.
 
-ghost use Rattle.std.specs.Prelude.{◌≡◌, ℕ, nat_lt, List, MatchOption};
+ghost use Rattle.std.specs.Prelude.{◌≡◌, ◌≢◌, ℕ, nat_lt, List, IfSome, MatchOption};
 ghost use Rattle.std.specs.FinMap as finite;
 ghost use Rattle.std.specs.FinSet as set;
 ghost use Rattle.index_text.specs.KeySets.{members_in, members_at};
@@ -106,7 +106,8 @@ impl<K: StoredKey> KeyedSets<K> {
 
     /// The members of a key, or none where it has no member.
     pub(crate) fn get<Q: Wanted<K>>(&self, key: Q) -> Option<&KeySet>
-        ensures { MatchOption result (members_in self.now (Q.wanted key) ≡ set.empty) (λ s. s.now.members ≡ members_in self.now (Q.wanted key)) }
+        ensures members { MatchOption result (members_in self.now (Q.wanted key) ≡ set.empty) (λ s. s.now.members ≡ members_in self.now (Q.wanted key)) }
+        ensures some { IfSome result (λ s. members_in self.now (Q.wanted key) ≢ set.empty) }
     {
         self.sets.get(key)
     }

@@ -1,6 +1,6 @@
 //! What an index shows.
 
-ghost use Rattle.std.specs.Prelude.{◌≡◌, MatchOption};
+ghost use Rattle.std.specs.Prelude.{◌≡◌, ◌≢◌, IfSome, MatchOption};
 ghost use Rattle.std.specs.Option.{option_map};
 ghost use Rattle.std.specs.FinSet as set;
 ghost use Rattle.index_text.specs.Postings.{Shown, slot_in};
@@ -33,5 +33,6 @@ pub trait Postings {
 
     /// The numbers under a key of a slot, or none where there is no number.
     fn lookup(&self, slot: SlotNumber, key: &[u8]) -> Option<&Self::Set>
-        ensures { MatchOption result ((shown self.now).members slot.0 key.now ≡ set.empty) (λ s. Self.Set.members s.now ≡ (shown self.now).members slot.0 key.now) };
+        ensures members { MatchOption result ((shown self.now).members slot.0 key.now ≡ set.empty) (λ s. Self.Set.members s.now ≡ (shown self.now).members slot.0 key.now) }
+        ensures some { IfSome result (λ s. (shown self.now).members slot.0 key.now ≢ set.empty) };
 }

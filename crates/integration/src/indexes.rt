@@ -31,7 +31,9 @@ const PEOPLE: &str =
 pub const TURNED: &str =
     "dn: dc=ex\nobjectClass: domain\n\ndn: cn=Bob,dc=ex\nobjectClass: person\nuidNumber: 7\n\ndn: cn=abc bcd,dc=ex\nobjectClass: person\n\ndn: cn=abba,dc=ex\nobjectClass: person\n\ndn: cn=aba,dc=ex\nobjectClass: person\n\n";
 
-const INDEX: &str = "slapindex 1 5 8693d50c14ee25d36384190df2bf9729b1b64588da8486e24a3292b94e5bbb2b
+/// The text of their index.
+pub const INDEX: &str =
+    "slapindex 1 5 8693d50c14ee25d36384190df2bf9729b1b64588da8486e24a3292b94e5bbb2b
 slot cn eq
 616261 1
 61626261 2

@@ -2,16 +2,18 @@
 
 ghost use Rattle.std.specs.Prelude.{◌≡◌, IfOk};
 
-use crate::indexes::{TURNED, empty, indexed};
-use directory::{Directory, Hits, Scope, search_with};
+use crate::indexes::{INDEX, TURNED, empty, indexed};
+use directory::{Directory, Hits, Scope, read_index, search_with, stamp_of};
 use entries::{Entry, Refusal};
 use filter::{Prepared, prepare};
 use filter_text::read_filter;
 use id_sets::IdSet;
 use index::Index;
+use index_text::Postings;
 use schema::{Code, Path};
 use std::alloc::Global;
 use std::test::Fail;
+use try_device::TrySource;
 
 // a filter, the values of the RDNs that it finds, in dump order, and how many entries are tested
 type Row = (&'static str, &'static [&'static str], u64);
@@ -123,10 +125,10 @@ fn candidates_alone_are_tested(rt: HostRuntime) -> Result<(), Fail> {
 }
 
 // the same of its tree, by postings of ranks
-fn finds_by_postings(
+fn finds_by_postings<P: Postings>(
     alloc: Global,
     dir: &Directory,
-    postings: &Index,
+    postings: &P,
     filter: &Prepared,
     row: &Row,
 ) -> bool
@@ -134,20 +136,38 @@ fn finds_by_postings(
 {
     let (_, values, tested) = row;
     let base = Path::root(alloc);
-    match search_with(alloc, dir.tree(), postings, &base, Scope::Sub, filter) {
+    match search_with(
+        alloc,
+        dir.tree(),
+        dir.conf(),
+        postings,
+        &base,
+        Scope::Sub,
+        filter,
+    ) {
         Ok(hits) => are_found(hits, values, *tested),
         Err(_) => false,
     }
 }
 
-fn finds_with(alloc: Global, dir: &Directory, postings: &Index, row: &Row) -> Result<bool, Fail> {
+fn finds_with<P: Postings>(
+    alloc: Global,
+    dir: &Directory,
+    postings: &P,
+    row: &Row,
+) -> Result<bool, Fail> {
     let (text, ..) = row;
     let filter = prepared(alloc, dir, text)?;
     Ok(finds_by_postings(alloc, dir, postings, &filter, row))
 }
 
-fn finds_each_with(alloc: Global, dir: &Directory, postings: &Index) -> Result<bool, Fail> {
-    for row in &SHOWN_NOTHING {
+fn finds_each_with<P: Postings>(
+    alloc: Global,
+    dir: &Directory,
+    postings: &P,
+    rows: &[Row],
+) -> Result<bool, Fail> {
+    for row in rows {
         if !finds_with(alloc, dir, postings, row)? {
             return Ok(false);
         }
@@ -157,7 +177,28 @@ fn finds_each_with(alloc: Global, dir: &Directory, postings: &Index) -> Result<b
 
 fn finds_each_with_nothing(alloc: Global, dir: &Directory) -> Result<bool, Fail> {
     let nothing = Index::new(alloc, dir.conf())?;
-    finds_each_with(alloc, dir, &nothing)
+    finds_each_with(alloc, dir, &nothing, &SHOWN_NOTHING)
+}
+
+// the same by all that the text of the index says
+fn finds_each_by_text(alloc: Global, dir: &Directory) -> Result<bool, Fail> {
+    let stamp = stamp_of(alloc, dir.tree(), dir.conf())?;
+    let mut source = TrySource::new(INDEX.as_bytes(), 100, None);
+    match read_index(alloc, &mut source, dir.tree(), dir.conf(), &stamp) {
+        Ok(stored) => finds_each_with(alloc, dir, &stored, &ROWS),
+        Err(_) => Ok(false),
+    }
+}
+
+fn loaded_finds_each_by_text(alloc: Global) -> Result<bool, Fail> {
+    let dir = indexed(alloc, TURNED)?;
+    finds_each_by_text(alloc, &dir)
+}
+
+#[test]
+fn an_index_text_finds_as_the_index_does(rt: HostRuntime) -> Result<(), Fail> {
+    assert!(rt; loaded_finds_each_by_text(rt.alloc())?);
+    Ok(())
 }
 
 fn loaded_finds_each_with_nothing(alloc: Global) -> Result<bool, Fail> {

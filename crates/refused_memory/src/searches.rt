@@ -88,7 +88,7 @@ fn stored_for(
         return Ok(None);
     };
     let mut source = TrySource::new(text, 100, None);
-    match StoredIndex::read(
+    match StoredIndex::read_asked(
         alloc,
         &mut source,
         dir.conf(),
@@ -116,7 +116,15 @@ fn print_by_text(
         return Ok(false);
     };
     let base = Path::root(alloc);
-    match search_with(alloc, dir.tree(), &stored, &base, Scope::Sub, filter) {
+    match search_with(
+        alloc,
+        dir.tree(),
+        dir.conf(),
+        &stored,
+        &base,
+        Scope::Sub,
+        filter,
+    ) {
         Ok(hits) => print_hits(rt, hits)?,
         Err(Refusal::OutOfMemory) => return Ok(false),
         Err(Refusal::Code(_)) => return Err(Error::msg("no base")),

@@ -1,5 +1,5 @@
 -- A search among keys in order.
-use Rattle.std.proofs.Common.{◌≡◌, ℕ, zero, suc, ◌<◌, ◌≤◌, Bool, true, false, cond, List, [], ◌∷◌, length, get_or, Option, Some, None, unwrap_or, inl, inr, refl, sym, ap, ◌∙◌, arith}
+use Rattle.std.proofs.Common.{◌≡◌, ◌≢◌, ℕ, zero, suc, ◌<◌, ◌≤◌, Bool, true, false, cond, List, [], ◌∷◌, length, get_or, Option, Some, None, unwrap_or, inl, inr, refl, sym, ap, ◌∙◌, arith}
 use Rattle.std.proofs.lemmas.Bool.{cases_lt, false_from_ne_true}
 use Rattle.std.proofs.lemmas.Cmp.{nat_list_cmp_total}
 use Rattle.std.proofs.lemmas.Map.Keys.{Less-from_sorted}
@@ -15,6 +15,7 @@ use Rattle.std.specs.Map.{keys_of, lookup}
 use Rattle.std.specs.Ordering.{nat_cmp, is_eq, ordering_reverse, ordering_index}
 use Rattle.std.specs.Str.{bytes_eq}
 use Rattle.index_text.specs.KeySets.{Row, members_at}
+use Rattle.stored_index.specs.inner.Sorted.{AreFull}
 
 abbrev key_cmp : List ℕ → List ℕ → Ordering
 key_cmp = slice_cmp nat_cmp
@@ -65,7 +66,7 @@ module _ (rows : List Row) (d : Row) (order : AreInOrder rows) where
               ap (λ (n : ℕ). key_cmp (key_at rows n d) key) e ∙ greater
         ]
 
-same_from_tie : (x y : List ℕ) → key_cmp x y ≡ Equal → x ≡ y
+pub same_from_tie : (x y : List ℕ) → key_cmp x y ≡ Equal → x ≡ y
 same_from_tie x y e = (bytes_eq-Decides x y).0 (sym (is_eq-slice_cmp x y) ∙ ap is_eq e)
 
 itself : (x : List ℕ) → bytes_eq x x ≡ true
@@ -83,6 +84,12 @@ members_of o = unwrap_or o set.empty
 
 pub no_members : (rows : List Row) (d : Row) (key : List ℕ) → ((k : ℕ) → k < length rows → key_cmp (key_at rows k d) key ≡ Equal → ⊥) → members_at rows key ≡ set.empty
 no_members rows d key none = ap members_of (not_found rows d key none)
+
+-- the ranks of a key
+pub full_at : (rows : List Row) (d : Row) (m : ℕ) → AreFull rows → m < length rows → (get_or rows m d).1 ≢ set.empty
+full_at [] d m full lt = absurd (omega arith)
+full_at (row ∷ rows) d zero full lt = full.0
+full_at (row ∷ rows) d (suc m) full lt = full_at rows d m full.1 (omega arith)
 
 tail_order : (row : Row) (rows : List Row) → AreInOrder (row ∷ rows) → AreInOrder rows
 unfolding IsStrictlySortedBy

@@ -1,8 +1,9 @@
 -- What an index that was read from its text shows.
-use Rattle.std.specs.Prelude.{◌≡◌, ℕ, List, [], Option, IfSome, map, refl, slice_index_or, Result, Ok}
+use Rattle.std.specs.Prelude.{◌≡◌, ℕ, Bool, false, List, [], Option, IfSome, map, refl, slice_index_or, Result, Ok}
 use Rattle.std.specs.Coded.{Coded, code_by, coded×, coded_list}
 use Rattle.std.specs.FinSet as set
-use Rattle.std.specs.List.{AllByRecursion}
+use Rattle.std.specs.List.{AllByRecursion, list_any}
+use Rattle.std.specs.Str.{bytes_eq}
 use Rattle.base.specs.Answers.{◌>>=◌}
 use Rattle.schema.specs.contracts.conf.Conf as conf_contract
 use Rattle.schema.specs.Conf.{Conf}
@@ -50,10 +51,15 @@ shown_by x = record { slot_of = slot_in x.conf.slots; members = ranks_at x }
 
 -- ---- where some keys are asked for
 
--- a part of an index shows these keys as the whole does
+-- whether an index text writes one of these keys as this word
+abbrev pub is_written_as : List SlotKey → List ℕ → Bool
+is_written_as keys word = list_any (λ k. bytes_eq word (texts.key_text k.key)) keys
+
+-- a part of an index shows these keys as the whole does, and no key that is written otherwise than each of them
 pub record ShowsKeys (asked : List SlotKey) (whole part : Stored) : Type 0 where
   pub conf : part.conf ≡ whole.conf
   pub keys : AllByRecursion (λ k. ranks_at part k.slot.0 k.key ≡ ranks_at whole k.slot.0 k.key) asked
+  pub alone : (slot : ℕ) (key : List ℕ) → is_written_as asked (texts.key_text key) ≡ false → ranks_at part slot key ≡ set.empty
 
 -- so it is of what was read
 abbrev pub ReadsKeys : List SlotKey → Result Stored IndexFaultKind → Stored → Type 0

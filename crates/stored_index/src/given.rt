@@ -4,7 +4,7 @@ use crate::asked::AskedTexts;
 use schema::Conf;
 use std::alloc::Global;
 
-/// The configuration, how many entries there are, the stamp of their dump, and the keys that are asked for.
+/// The configuration, how many entries there are, the stamp of their dump, and the keys that are kept.
 #[derive(Clone, Copy, Drop)]
 pub(crate) struct Given<'a> {
     pub(crate) alloc: Global,

@@ -1,7 +1,9 @@
 //! The whole text, piece by piece.
 
 ghost use Rattle.std.specs.Prelude.{◌≡◌, ◌<◌, ◌-◌, ◌+◌, ◌^◌, ◌++◌, ◌∷◌, [], ℕ, List, Err, OnOk, IfErr, IfOk};
+ghost use Rattle.std.specs.Io.KnownBytes.{IsAtEnd};
 ghost use Rattle.base.specs.Answers.{Fails};
+ghost use Rattle.device.specs.Device.{GaveSome};
 ghost use Rattle.stored_index.specs.Gives.{failures_by, fault_of, kind_of};
 ghost use Rattle.stored_index.specs.Stored.{HasText};
 ghost use Rattle.stored_index.specs.inner.Drafts.{GoesOn, FailsBehind, Comes, TakesOn, FailsIn, read_by};
@@ -55,6 +57,8 @@ pub(crate) fn read_rows<S: Source>(
     ensures ok { IfOk result (λ slots. HasText (S.seen source.old).left (λ text. Comes given.entry.asked.now slots (read_by given.entry text))) }
     ensures err { IfErr result (λ e. HasText (S.seen source.old).left (λ text. Fails (fault_of e) (read_by given.entry text))) }
     ensures failures { (S.seen source.new).failed ≡ failures_by result (S.seen source.old).failed }
+    ensures gave { GaveSome (S.seen source.old) (S.seen source.new) }
+    ensures end { OnOk result (IsAtEnd (S.seen source.new).left) }
 {
     let mut draft = Draft::new(given);
     let mut held = Vec::new(given.alloc);

@@ -1,21 +1,23 @@
--- The keys that are asked for, by their texts.
+-- The keys that are kept, by their texts.
 use Rattle.std.specs.Prelude.{◌≡◌, ℕ, Bool, true, List}
-use Rattle.std.specs.List.{AllByRecursion}
-use Rattle.std.specs.BTreeSet.{contains_by}
+use Rattle.std.specs.BTreeSet.{BTreeSet, contains_by}
 use Rattle.std.specs.Cmp.Lexicographic.{slice_cmp}
 use Rattle.std.specs.Ordering.{nat_cmp}
+use Rattle.std.specs.declared.vec.Vec.{Vec}
 use Rattle.index_text.specs.declared.slot_key.SlotKey.{SlotKey}
-use Rattle.index_text.specs.IndexTexts.{key_text}
+use Rattle.stored_index.specs.Stored.{is_written_as}
 use Rattle.stored_index.specs.declared.asked.AskedTexts.{AskedTexts}
+use Rattle.stored_index.specs.declared.asked.AskedTexts.TheVariants.{Every, These}
 
--- whether a text is that of such a key
+-- whether a text is among these
+abbrev pub are_written : {A : Type 0} → BTreeSet (Vec ℕ A) → List ℕ → Bool
+are_written texts word = contains_by (λ text. slice_cmp nat_cmp word text.items) texts
+
+-- whether a text is that of a key that is kept
 abbrev pub has_text : AskedTexts → List ℕ → Bool
-has_text asked word = contains_by (λ text. slice_cmp nat_cmp word text.items) asked.texts
+has_text Every word = true
+has_text (These texts) word = are_written texts word
 
--- each of these keys is asked for
-abbrev pub HasAll : AskedTexts → List SlotKey → Type 0
-HasAll asked keys = AllByRecursion (λ k. has_text asked (key_text k.key) ≡ true) keys
-
--- what was asked for still is
-abbrev pub Keeps : AskedTexts → AskedTexts → Type 0
-Keeps old new = (word : List ℕ) → has_text old word ≡ true → has_text new word ≡ true
+-- the texts of these keys are asked for, and no other
+abbrev pub HasExactly : AskedTexts → List SlotKey → Type 0
+HasExactly asked keys = (word : List ℕ) → has_text asked word ≡ is_written_as keys word

@@ -1,4 +1,4 @@
-use Rattle.std.proofs.Common.{ℕ, ◌≡◌, ◌∙◌, sym, subst, ap, map, length, arith}
+use Rattle.std.proofs.Common.{ℕ, List, ◌≡◌, ◌∙◌, sym, subst, ap, map, length, arith}
 use Rattle.std.specs.Prelude.{filter}
 use Rattle.std.specs.List.{AllByRecursion}
 use Rattle.std.specs.FinMap as finite
@@ -10,9 +10,9 @@ use Rattle.filter_text.specs.Spells.{view}
 use Rattle.candidates.specs.Numbers.{numbers_contain}
 use Rattle.databases.specs.Ranks.{rank_in}
 use Rattle.databases.specs.Scanned.{counted_scan}
-use Rattle.databases.specs.Walks.{Walk, counted, walk}
+use Rattle.databases.specs.Walks.{Walk, AreMade, counted, walk}
 use Rattle.databases.specs.inner.Marks.{MarkedEntry, number_by}
-use Rattle.databases.proofs.Scans.{seen_marked, AreMarked, marked_seen, marked_made, marked_length, are_marked, room_for_ranks, steps_are, found_are, tested_are}
+use Rattle.databases.proofs.Scans.{seen_marked, AreMarked, marked_seen, marked_made, marked_length, are_marked, room_for_ranks, steps_are, found_are, tested_are, lent_made}
 use Rattle.databases.proofs.scanning.search_from.Given.{Over}
 use Rattle.databases.proofs.scanning.search_from.Goals as goal
 
@@ -65,3 +65,10 @@ returns-clause-tested g c =
     ap (λ (w : Walk). w.in_the_end) c.new.ensures
     ∙ ap (λ (n : ℕ). (walk c.args.filter.now.conf.types c.args.scope n (view c.args.filter.now.filter) 0 c.new-rest.result).in_the_end) c.len.ensures
     ∙ tested_are c.args.scope c.args.base.now is_candidate c.new-rest.result (finite.entries c.args.tree.now.entries) (all_marked g c) (all_seen g c)
+
+pub returns-clause-made : goal.returns-clause-made
+returns-clause-made g c =
+    subst (λ (w : Walk). AreMade c.args.tree.now.conf.types w.to_come) (sym c.new.ensures)
+    (lent_made c.args.tree.now.conf.types c.args.filter.now.conf.types c.args.scope c.len.result (view c.args.filter.now.filter) 0 c.new-rest.result
+    (subst (λ (es : List MarkedEntry). AllByRecursion (λ (e : MarkedEntry). IsMade c.args.tree.now.conf.types e.entry.attrs) es) (sym c.new-rest.ensures)
+    (marked_made (numbers_contain g.S.IdSet.members c.args.candidates) c.args.numbering c.args.tree.now.conf.types c.args.rank c.numbered.result c.numbered.ensures.made)))

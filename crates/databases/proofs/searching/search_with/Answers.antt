@@ -4,8 +4,7 @@ use Rattle.filter_text.specs.Spells.{view}
 use Rattle.databases.specs.Ranks.{rank_in}
 use Rattle.databases.specs.Scanned.{scan_among, counted_scan, count_among}
 use Rattle.databases.specs.Found.{AreThere}
-use Rattle.databases.specs.Searches.{may_by_rank}
-use Rattle.databases.proofs.ByPostings.{by_whole, is_candidate}
+use Rattle.databases.proofs.ByPostings.{by_whole, all_found}
 use Rattle.databases.proofs.FoundText.{found_are_there}
 use Rattle.databases.proofs.searching.search_with.Goals as goal
 
@@ -29,14 +28,21 @@ returns-in-Some-clause-part g c = λ whole shows.
     by_whole c.asked_keys_suffice.ensures c.args.filter.now c.args.tree.now (g.P.Postings.shown c.args.postings.now) whole shows
 
 pub returns-in-Some-clause-whole : goal.returns-in-Some-clause-whole
-returns-in-Some-clause-whole g c = λ whole shows is_conf reflects.
+returns-in-Some-clause-whole g c = λ whole shows reflects.
     let d : Tree = c.args.tree.now in
     let f = c.args.filter.now in
     c.in-Some.ensures.found
     ∙ (λ i. scan_among d.conf d.entries (λ p. c.in_ok-may.ensures (rank_in d.entries p) i) c.args.base.now c.args.scope (view f.filter))
     ∙ (λ i. scan_among d.conf d.entries (by_whole c.asked_keys_suffice.ensures f d (g.P.Postings.shown c.args.postings.now) whole shows i) c.args.base.now c.args.scope (view f.filter))
-    ∙ c.candidates_suffice.ensures d.conf d.entries (may_by_rank whole f d) c.args.base.now c.args.scope (view f.filter)
-    (λ p e at is. is_candidate d whole f c.requires is_conf c.entries_are_a_directory.ensures c.brackets_hold.ensures (rank_in d.entries p) p e at (reflects.each p e at) is)
+    ∙ all_found d c.args.conf.now whole c.args.filter.now c.args.base.now c.args.scope c.requires.made c.requires.prepared c.rules_are_kept.ensures c.entries_are_a_directory.ensures c.brackets_hold.ensures c.candidates_suffice.ensures reflects
+
+pub returns-in-Some-clause-index : goal.returns-in-Some-clause-index
+returns-in-Some-clause-index g c = λ shows.
+    let d : Tree = c.args.tree.now in
+    c.in-Some.ensures.found
+    ∙ (λ i. scan_among d.conf d.entries (λ p. c.in_ok-may.ensures (rank_in d.entries p) i) c.args.base.now c.args.scope (view c.args.filter.now.filter))
+    ∙ all_found d c.args.conf.now (g.P.Postings.shown c.args.postings.now) c.args.filter.now c.args.base.now c.args.scope c.requires.made c.requires.prepared c.rules_are_kept.ensures c.entries_are_a_directory.ensures c.brackets_hold.ensures c.candidates_suffice.ensures
+    (c.index_texts_reflect_dumps.ensures c.args.conf.now d.entries (g.P.Postings.shown c.args.postings.now) shows)
 
 pub returns-in-Some-clause-entries : goal.returns-in-Some-clause-entries
 returns-in-Some-clause-entries g c =

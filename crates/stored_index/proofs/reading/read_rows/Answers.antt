@@ -1,6 +1,7 @@
 use Rattle.std.proofs.Common.{ℕ, List, [], ◌++◌, take, refl, sym, ◌∙◌, subst, arith}
 use Rattle.std.proofs.lemmas.Result.{err_from_is_err_and}
 use Rattle.device.specs.Device.{Gave}
+use Rattle.device.proofs.Pulls.{pulled_more, pulled_by}
 use Rattle.base.specs.Answers.{Fails}
 use Rattle.stored_index.specs.Gives.{fault_of}
 use Rattle.stored_index.specs.Reading.{rows_in}
@@ -67,3 +68,12 @@ returns-in_err-take_piece-clause-err g c =
     (as_each given (g.S.Source.seen c.args.source.now) (g.S.Source.seen c.pulls.source) (g.S.Source.seen c.pull.new.self) c.pulls.draft c.pulls.held.items i piece
     (λ (said : Reading). Fails (fault_of (index_fault e)) said) c.in_ok-n.ensures.gave
     (λ text. handed_on e (W (piece ++ text)) (c.in_err-take_piece.ensures.err W i.awaits text)))
+
+pub returns-in_err-take_piece-clause-gave : goal.returns-in_err-take_piece-clause-gave
+returns-in_err-take_piece-clause-gave g c =
+    let i = c.pulls.invariant.pulled in
+    let piece = take c.in_ok-n.n c.pull.new.buffer in
+    let before = g.S.Source.seen c.args.source.now in
+    let now = g.S.Source.seen c.pulls.source in
+    let later = g.S.Source.seen c.pull.new.self in
+    record { bytes = i.gone ++ piece; are = pulled_more before now later i.gone piece i.taken (pulled_by now later piece c.in_ok-n.ensures.gave) }

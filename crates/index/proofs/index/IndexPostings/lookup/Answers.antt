@@ -6,8 +6,8 @@ use Rattle.index_text.specs.Indexes.{Index, members}
 use Rattle.index.proofs.Keyed.{none_in}
 use Rattle.index.proofs.index.IndexPostings.lookup.Goals as goal
 
-pub returns-in-None : goal.returns-in-None
-returns-in-None c =
+pub returns-in-None-clause-members : goal.returns-in-None-clause-members
+returns-in-None-clause-members c =
     let slot = c.args.slot.0 in
     let key = c.args.key.now in
     ap (λ (x : Index). members x (slot_key slot key)) (sym c.self.view_is)

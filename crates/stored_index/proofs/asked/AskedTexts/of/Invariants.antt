@@ -1,8 +1,7 @@
-use Rattle.std.proofs.Common.{◌≡◌, ℕ, ◌<◌, true, get_or}
-use Rattle.index_text.specs.declared.slot_key.SlotKey.{SlotKey}
-use Rattle.index_text.specs.IndexTexts.{key_text}
-use Rattle.stored_index.specs.inner.Asked.{has_text}
+use Rattle.std.proofs.Common.{◌≡◌, ℕ, List, take}
+use Rattle.stored_index.specs.Stored.{is_written_as}
+use Rattle.stored_index.specs.inner.Asked.{are_written}
 use Rattle.stored_index.proofs.asked.AskedTexts.of.Given as goal
 
 abbrev pub invariant-loop-key : goal.invariant-loop-key
-invariant-loop-key l = (k : ℕ) (d : SlotKey) → k < l.key-index → has_text l.asked (key_text (get_or l.keys k d).key) ≡ true
+invariant-loop-key l = (word : List ℕ) → are_written l.texts word ≡ is_written_as (take l.key-index l.keys) word
