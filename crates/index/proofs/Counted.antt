@@ -1,6 +1,5 @@
 -- How many keys have a number, while it comes under one after the other.
-use Rattle.std.proofs.Common.{◌≡◌, ℕ, ◌+◌, Bool, true, false, cond, not, ◌&&◌, ◌||◌, List, nat_eq, Result, Ok, Err, Some, None, refl, sym, ap, ◌∙◌, arith}
-use Rattle.std.specs.Prelude.{OnErr}
+use Rattle.std.proofs.Common.{◌≡◌, ℕ, ◌+◌, Bool, true, false, cond, not, ◌&&◌, ◌||◌, List, ◌∷◌, ◌*◌, ◌⊎◌, inl, inr, nat_eq, Some, None, refl, sym, ap, ◌∙◌, arith}
 use Rattle.std.specs.List.{list_any}
 use Rattle.std.specs.Str.{bytes_eq}
 use Rattle.std.specs.FinSet as set
@@ -10,13 +9,16 @@ use Rattle.schema.specs.Conf.{Conf}
 use Rattle.entries.specs.Entries.{EntryContent}
 use Rattle.index_text.specs.declared.slot_key.SlotKey.{SlotKey}
 use Rattle.index_text.specs.KeySets.{Members}
-use Rattle.index_text.specs.SlotKeys.{SlotKeys, same_slot_key, slot_key_cmp}
+use Rattle.index_text.specs.SlotKeys.{SlotKeys, slot_key, same_slot_key, slot_key_cmp}
 use Rattle.index_text.specs.Indexes.{Index, members}
-use Rattle.index.specs.Indexes.{Inserts, KeepsMembers, IsNowhere}
+use Rattle.index.specs.Indexes.{Inserts, KeepsMembers, Forgets, IsNowhere}
 use Rattle.index_keys.specs.EntryKeys.{slot_keys, edits}
-use Rattle.index.specs.inner.Counts.{HaveNumber, KeepsOthers}
-use Rattle.index.proofs.OneByOne.{with_keys}
-use Rattle.index_text.proofs.SlotKeyOrder.{slot_key_total, slot_key_exact, tied_is, turned}
+use Rattle.index.specs.Edits.{differ, has_changed, CountsEdits, RisesUpTo}
+use Rattle.index.specs.inner.Counts.{HaveNumber, InsertsSome}
+use Rattle.std.proofs.lemmas.Bool.{eqb-true, or_left, or_right, and_parts, both_ways}
+use Rattle.index.proofs.Edits.{Grows, grows_by, came_counted, inserted, differ_itself, put_has, left_has, few_counted}
+use Rattle.index.proofs.OneByOne.{put_again}
+use Rattle.index_text.proofs.SlotKeyOrder.{slot_key_total, slot_key_exact, slot_key_is, itself, tied_is, turned}
 
 has_own : (s : Members) (n : ℕ) → set.contains (set.insert s n) n ≡ true
 has_own s n = set.contains-insert nat_cmp_total s n n ∙ ap (λ b. b || set.contains s n) ((eq_by_cmp_equiv nat_cmp_total).refl n)
@@ -93,22 +95,126 @@ left_if : (b : Bool) (s : Members) (n : ℕ) → set.remove (cond b (set.insert 
 left_if true s n = left_same s n
 left_if false s n = refl
 
-pub others_kept : (test : SlotKey → Bool) (n : ℕ) (old new : Index) → Inserts test n old new → KeepsOthers n old new
-others_kept test n old new puts p = ap (λ (s : Members). set.remove s n) (puts p) ∙ left_if (test p) (members old p) n
+-- ---- which keys got the number
 
--- while it comes under keys of one slot
-pub others_under : (old mid : Index) (slot n : ℕ) (rest whole : List (List ℕ)) → ((p : SlotKey) → with_keys (members mid) slot n rest p ≡ with_keys (members old) slot n whole p) → KeepsOthers n old mid
-others_under old mid slot n rest whole so_far p =
-    sym (left_if (nat_eq slot p.slot.0 && list_any (λ k. bytes_eq k p.key) rest) (members mid p) n)
-    ∙ ap (λ (s : Members). set.remove s n) (so_far p)
-    ∙ left_if (nat_eq slot p.slot.0 && list_any (λ k. bytes_eq k p.key) whole) (members old p) n
+-- none did
+pub none_came : (test : SlotKey → Bool) (n : ℕ) (old new : Index) → KeepsMembers old new → InsertsSome test n old new
+none_came test n old new same p = inl (same p)
 
-pub then_kept : (n : ℕ) (old mid new : Index) → KeepsOthers n old mid → KeepsOthers n mid new → KeepsOthers n old new
-then_kept n old mid new first second p = second p ∙ first p
+-- all that pass a narrower test did
+pub those_came : (test here : SlotKey → Bool) (n : ℕ) (old new : Index) → ((p : SlotKey) → here p ≡ true → test p ≡ true) → Inserts here n old new → InsertsSome test n old new
+those_came test here n old new within puts p = by (here p) refl (puts p)
+  where
+    by : (b : Bool) → here p ≡ b → members new p ≡ cond b (set.insert (members old p) n) (members old p) → (members new p ≡ members old p) ⊎ ((test p ≡ true) × (members new p ≡ set.insert (members old p) n))
+    by true is put = inr (within p is, put)
+    by false is put = inl put
 
-pub then_same : (n : ℕ) (old mid new : Index) → KeepsOthers n old mid → KeepsMembers mid new → KeepsOthers n old new
-then_same n old mid new first same p = ap (λ (s : Members). set.remove s n) (same p) ∙ first p
+-- one after the other
+pub then_some : (test here : SlotKey → Bool) (n : ℕ) (old mid new : Index) → ((p : SlotKey) → here p ≡ true → test p ≡ true) → InsertsSome test n old mid → InsertsSome here n mid new → InsertsSome test n old new
+then_some test here n old mid new within first second p =
+    elim (second p) [
+      | inl same ↦ elim (first p) [ inl was ↦ inl (same ∙ was) | inr came ↦ inr (came.0, same ∙ came.1) ]
+      | inr put ↦ elim (first p) [
+        | inl was ↦ inr (within p put.0, put.1 ∙ ap (λ (s : Members). set.insert s n) was)
+        | inr came ↦ inr (came.0, put.1 ∙ ap (λ (s : Members). set.insert s n) came.1 ∙ put_again (members old p) n)
+      ]
+    ]
 
-pub at_err : {X E : Type 0} (r : Result X E) (P : Type 0) → P → OnErr r P
-at_err (Ok x) P p = tt
-at_err (Err e) P p = p
+pub some_grow : (test : SlotKey → Bool) (n : ℕ) (old new : Index) → InsertsSome test n old new → Grows (members old) (members new)
+some_grow test n old new some p m h =
+    elim (some p) [
+      | inl same ↦ ap (λ (s : Members). set.contains s m) same ∙ h
+      | inr came ↦ ap (λ (s : Members). set.contains s m) came.1 ∙ set.contains-insert nat_cmp_total (members old p) n m ∙ or_right (eq_by_cmp nat_cmp m n) (set.contains (members old p) m) h
+    ]
+
+-- each key has the other members that it had
+pub others_left : (test : SlotKey → Bool) (n : ℕ) (old new : Index) → InsertsSome test n old new → (p : SlotKey) → set.remove (members new p) n ≡ set.remove (members old p) n
+others_left test n old new some p =
+    elim (some p) [
+      | inl same ↦ ap (λ (s : Members). set.remove s n) same
+      | inr came ↦ ap (λ (s : Members). set.remove s n) came.1 ∙ left_same (members old p) n
+    ]
+
+-- ---- how many edits these are at most, where no key had the number
+
+-- what is new is of one of these keys
+came_of : (test : SlotKey → Bool) (n : ℕ) (old new : Index) → InsertsSome test n old new → (a : SlotKey × ℕ) → has_changed (members old) (members new) a ≡ true → (test a.0 ≡ true) × (a.1 ≡ n)
+came_of test n old new some a h =
+    elim (some a.0) [
+      | inl same ↦ absurd (both_ways (differ was (set.contains (members new a.0) a.1)) (ap (λ (s : Members). differ was (set.contains s a.1)) same ∙ differ_itself was) h)
+      | inr came ↦ (came.0, of_number (nat_eq a.1 n) refl (sym (ap (λ (s : Members). differ was (set.contains s a.1)) came.1 ∙ ap (differ was) (put_has (members old a.0) n a.1)) ∙ h))
+    ]
+  where
+    was : Bool
+    was = set.contains (members old a.0) a.1
+
+    of_number : (b : Bool) → nat_eq a.1 n ≡ b → differ was (b || was) ≡ true → a.1 ≡ n
+    of_number true is e = eqb-true a.1 n is
+    of_number false is e = absurd (both_ways (differ was was) (differ_itself was) e)
+
+-- and so is what goes again
+went_of : (test : SlotKey → Bool) (n : ℕ) (old mid new : Index) → IsNowhere n old → InsertsSome test n old mid → Forgets n mid new → (a : SlotKey × ℕ) → has_changed (members mid) (members new) a ≡ true → (test a.0 ≡ true) × (a.1 ≡ n)
+went_of test n old mid new nowhere some went a h = by (nat_eq a.1 n) refl (sym (ap (λ (s : Members). differ was (set.contains s a.1)) (went a.0) ∙ ap (differ was) (left_has (members mid a.0) n a.1)) ∙ h)
+  where
+    was : Bool
+    was = set.contains (members mid a.0) a.1
+
+    there : (b : Bool) → differ b false ≡ true → b ≡ true
+    there true e = refl
+    there false e = e
+
+    by : (b : Bool) → nat_eq a.1 n ≡ b → differ was (not b && was) ≡ true → (test a.0 ≡ true) × (a.1 ≡ n)
+    by true is e =
+        let here : set.contains (members mid a.0) n ≡ true = ap (set.contains (members mid a.0)) (sym (eqb-true a.1 n is)) ∙ there was e in (
+          elim (some a.0) [
+            | inl same ↦ absurd (both_ways (set.contains (members mid a.0) n) (ap (λ (s : Members). set.contains s n) same ∙ nowhere a.0) here)
+            | inr came ↦ came.0
+          ],
+          eqb-true a.1 n is,
+        )
+    by false is e = absurd (both_ways (differ was was) (differ_itself was) e)
+
+-- how many keys an entry has that is new
+pub keys_of_new : (conf : Conf) (e : EntryContent) → edits conf None (Some e) ≡ set.len (slot_keys conf e.attrs)
+keys_of_new conf e =
+    let none = set.len-empty slot_key_cmp in
+    let gone = ap set.len (none_less (slot_keys conf e.attrs)) in
+    let all = ap set.len (less_none (slot_keys conf e.attrs)) in
+    omega (arith, none, gone, all)
+
+-- what came for an entry, and went again
+pub taken_back : (conf : Conf) (e : EntryContent) (n : ℕ) (old mid new : Index) → IsNowhere n old → InsertsSome (set.contains (slot_keys conf e.attrs)) n old mid → CountsEdits old mid → Forgets n mid new → CountsEdits mid new
+    → RisesUpTo (2 * edits conf None (Some e)) old new
+taken_back conf e n old mid new nowhere some first went next =
+    let keys = slot_keys conf e.attrs in
+    let all = keys_of_new conf e in
+    let up = few_counted (members old) (members mid) old.edits mid.edits n keys first (came_of (set.contains keys) n old mid some) in
+    let on = few_counted (members mid) (members new) mid.edits new.edits n keys next (went_of (set.contains keys) n old mid new nowhere some went) in
+    let one = first.rise in
+    let two = next.rise in
+    record { rises = omega (arith, one, two); few = omega (arith, up, on, all) }
+
+-- a key of those that are still to come under a slot
+pub under_key : (slot : ℕ) (key : List ℕ) (all left rest : List (List ℕ)) → left ≡ key ∷ rest → ((q : List ℕ) → list_any (λ k. bytes_eq k q) left ≡ true → list_any (λ k. bytes_eq k q) all ≡ true)
+    → (p : SlotKey) → same_slot_key (slot_key slot key) p ≡ true → (nat_eq slot p.slot.0 && list_any (λ k. bytes_eq k p.key) all) ≡ true
+under_key slot key all left rest is more p h =
+    let parts = and_parts (nat_eq slot p.slot.0) (bytes_eq key p.key) h in
+    (λ i. parts.0 i && more p.key (ap (list_any (λ k. bytes_eq k p.key)) is ∙ or_left (bytes_eq key p.key) (list_any (λ k. bytes_eq k p.key) rest) parts.1) i)
+
+-- one more key of a slot, while the number comes under several
+module _ (slot n : ℕ) (key : List ℕ) (all left rest : List (List ℕ)) (old mid new : Index) where
+  abbrev test : SlotKey → Bool
+  test p = nat_eq slot p.slot.0 && list_any (λ k. bytes_eq k p.key) all
+
+  pub key_came : left ≡ key ∷ rest → ((q : List ℕ) → list_any (λ k. bytes_eq k q) left ≡ true → list_any (λ k. bytes_eq k q) all ≡ true)
+      → InsertsSome test n old mid → Inserts (same_slot_key (slot_key slot key)) n mid new → InsertsSome test n old new
+  key_came is more so_far puts =
+      then_some test (same_slot_key (slot_key slot key)) n old mid new (under_key slot key all left rest is more) so_far
+      (those_came (same_slot_key (slot_key slot key)) (same_slot_key (slot_key slot key)) n mid new (λ p h. h) puts)
+
+  pub key_counted : InsertsSome test n old mid → CountsEdits old mid → Inserts (same_slot_key (slot_key slot key)) n mid new → (told : Bool) → told ≡ not (set.contains (members mid (slot_key slot key)) n) → new.edits ≡ mid.edits + cond told 1 0 → CountsEdits old new
+  key_counted so_far counts puts told is_new rise =
+      came_counted same_slot_key itself slot_key_is (members old) (members mid) (members new) old.edits mid.edits new.edits counts
+      (inserted same_slot_key itself slot_key_is (members mid) (members new) (slot_key slot key) n puts mid.edits new.edits told is_new rise)
+      (some_grow test n old mid so_far)
+      (grows_by (members mid) (members new) (same_slot_key (slot_key slot key)) n puts)

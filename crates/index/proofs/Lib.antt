@@ -1,6 +1,8 @@
 pub mod Changed
 pub mod Counted
 pub mod Distinct
+pub mod Edits
+pub mod Forgotten
 pub mod Fronts
 pub mod Gathered
 pub mod KeyTests

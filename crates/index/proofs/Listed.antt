@@ -57,7 +57,10 @@ behind n ks (p ∷ ps) a = (each ks, behind n ks ps a.1)
 
 -- ---- which ones
 
-one_slot_more : (n m : ℕ) → (nat_lt m n || nat_eq n m) ≡ nat_lt m (n + 1)
+pub none_below : (m : ℕ) → nat_lt m 0 ≡ false
+none_below m = grind (arith, nat_tests)
+
+pub one_slot_more : (n m : ℕ) → (nat_lt m n || nat_eq n m) ≡ nat_lt m (n + 1)
 one_slot_more n m = grind (arith, nat_tests)
 
 -- those under the slots before one, and those under that one

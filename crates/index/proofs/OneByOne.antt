@@ -1,16 +1,17 @@
 -- One number under several keys.
 use Rattle.std.proofs.Common.{◌≡◌, ℕ, zero, suc, ◌+◌, ◌<◌, Bool, true, false, not, cond, ◌&&◌, ◌||◌, List, [], ◌∷◌, length, nat_eq, get_or, take, refl, sym, ap, subst, ◌∙◌, arith}
+use Rattle.std.proofs.lemmas.Bool.{or_left, or_right}
 use Rattle.std.proofs.lemmas.List.{take_more}
 use Rattle.std.proofs.lemmas.List.Folds.{list_any-append}
 use Rattle.std.specs.List.{list_any, AllByRecursion, IsDistinct}
-use Rattle.std.specs.Cmp.{nat_cmp_total, Equal-is}
+use Rattle.std.specs.Cmp.{nat_cmp_total, Equal-is, eq_by_cmp_equiv}
 use Rattle.std.specs.Ordering.{nat_cmp, eq_by_cmp}
 use Rattle.std.specs.FinSet as set
 use Rattle.std.specs.Str.{bytes_eq}
 use Rattle.index_text.specs.declared.slot_key.SlotKey.{SlotKey}
 use Rattle.index_text.specs.KeySets.{Members}
 use Rattle.index_text.specs.SlotKeys.{slot_key, same_slot_key}
-use Rattle.index_text.proofs.SlotKeyOrder.{slot_key_is}
+use Rattle.index_text.proofs.SlotKeyOrder.{slot_key_is, itself}
 
 -- ---- one set
 
@@ -116,6 +117,30 @@ undone old mid new ps i n lacking step so_far p =
 pub next_is : (f : Members → Members) (old mid : SlotKey → Members) (ps : List SlotKey) (i : ℕ) (d : SlotKey) → IsDistinct same_slot_key ps → i < length ps
     → ((p : SlotKey) → mid p ≡ cond (among (take i ps) p) (f (old p)) (old p)) → mid (get_or ps i d) ≡ old (get_or ps i d)
 next_is f old mid ps i d apart lt so_far = so_far (get_or ps i d) ∙ ap (λ b. cond b (f (old (get_or ps i d))) (old (get_or ps i d))) (not_before ps i d apart lt)
+
+-- ---- the first ones
+
+front_other : (x : SlotKey) (xs : List SlotKey) (i : ℕ) → AllByRecursion (λ y. same_slot_key x y ≡ false) xs → AllByRecursion (λ y. same_slot_key x y ≡ false) (take i xs)
+front_other x xs i all = all_front (λ y. same_slot_key x y ≡ false) xs i all
+
+pub front_distinct : (ps : List SlotKey) (i : ℕ) → IsDistinct same_slot_key ps → IsDistinct same_slot_key (take i ps)
+unfolding IsDistinct
+front_distinct [] zero apart = tt
+front_distinct [] (suc i) apart = tt
+front_distinct (x ∷ xs) zero apart = tt
+front_distinct (x ∷ xs) (suc i) apart = (front_other x xs i apart.0, front_distinct xs i apart.1)
+
+-- each of them got the number
+pub all_have : (old new : SlotKey → Members) (n : ℕ) (ps all : List SlotKey) → ((p : SlotKey) → among ps p ≡ true → among all p ≡ true) → ((p : SlotKey) → new p ≡ cond (among all p) (set.insert (old p) n) (old p))
+    → AllByRecursion (λ p. set.contains (new p) n ≡ true) ps
+all_have old new n [] all more came = tt
+all_have old new n (x ∷ xs) all more came = (
+  ap (λ s. set.contains s n) (came x)
+      ∙ ap (λ b. set.contains (cond b (set.insert (old x) n) (old x)) n) (more x (or_left (same_slot_key x x) (among xs x) (itself x)))
+      ∙ set.contains-insert nat_cmp_total (old x) n n
+      ∙ ap (λ b. b || set.contains (old x) n) ((eq_by_cmp_equiv nat_cmp_total).refl n),
+  all_have old new n xs all (λ p h. more p (or_right (same_slot_key x p) (among xs p) h)) came,
+)
 
 -- ---- the same of an element that was read
 

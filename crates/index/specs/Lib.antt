@@ -1,3 +1,4 @@
+pub mod Edits
 pub mod Indexes
 pub mod KeyChanges
 pub mod KeySets

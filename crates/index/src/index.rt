@@ -1,19 +1,20 @@
 //! Indexes.
 
-ghost use Rattle.std.specs.Prelude.{◌≡◌, ◌<◌, ◌+◌, ℕ, List, not, length, if◌then◌else◌, IfOk, OnOk, OnErr};
+ghost use Rattle.std.specs.Prelude.{◌≡◌, ◌<◌, ◌+◌, nat_eq, not, length, filter, if◌then◌else◌, IfOk, OnOk, OnErr};
 ghost use Rattle.std.specs.List.{AllByRecursion};
 ghost use Rattle.std.specs.FinMap as finite;
 ghost use Rattle.std.specs.FinSet as set;
 ghost use Rattle.index_text.specs.declared.slot_key.SlotKey as seen;
-ghost use Rattle.index_text.specs.KeySets.{members_in};
 ghost use Rattle.index.specs.KeySets.{AreRowsOf};
 ghost use Rattle.index_text.specs.SlotKeys.{slot_key, same_slot_key};
-ghost use Rattle.index_text.specs.Indexes.{members, sets_in, sets_at};
+ghost use Rattle.index_text.specs.Indexes.{members, sets_at};
+ghost use Rattle.index.specs.Edits.{CountsEdits};
 ghost use Rattle.index.specs.Indexes.{Inserts, Removes, KeepsMembers, Forgets};
 
 use crate::edit_count::EditCount;
 use crate::key_sets::{KeySets, Keys};
 use dense_sets::KeySet;
+use id_sets::IdSet;
 use index_text::{Postings, SlotNumber, slot_number};
 use schema::{Conf, IndexKind, Slot, TypeId};
 use std::alloc::{AllocError, Global};
@@ -21,7 +22,7 @@ use std::marker::Model;
 use std::snapshot::Snapshot;
 
 /// Which entries have which keys, by the numbers of the entries. A contract sees the configuration that it was made with, the
-/// members of each key, and how many edits were made: times that a member came or went, but for what `forget` takes.
+/// members of each key, and how many edits were made: times that a member came or went. The number of edits takes no bytes.
 #[derive(Drop)]
 pub struct Index {
     alloc: Global,
@@ -59,12 +60,14 @@ fn no_keys(alloc: Global, count: usize) -> Result<Vec<KeySets>, AllocError>
     Ok(sets)
 }
 
-// takes a number from every key of each slot
-fn forget_in(sets: &mut [KeySets], number: u32)
-    ensures { (slot : ℕ) (key : List ℕ) → members_in (sets_in sets.new slot) key ≡ set.remove (members_in (sets_in sets.old slot) key) number }
+// counts an edit for each key that has a number
+fn count_holders(edits: &mut EditCount, rows: Keys<'_>, number: u32)
+    ensures { edits.new ≡ edits.old + length (filter (λ row. set.contains row.1 number) rows.entry) }
 {
-    for keys in sets.iter_mut() {
-        keys.forget(number);
+    for row in rows {
+        if row.1.contains(number) {
+            edits.count_one();
+        }
     }
 }
 
@@ -76,7 +79,7 @@ impl Index {
         ensures edits { IfOk result (λ x. x.edits ≡ 0) }
     {
         let sets = no_keys(alloc, conf.slots().len())?;
-        Index::of_sets(alloc, conf, sets)
+        Index::of_sets(alloc, conf, sets, EditCount::new())
     }
 
     // the index with these keys of the slots of a configuration
@@ -84,18 +87,19 @@ impl Index {
         alloc: Global,
         conf: &Conf,
         sets: Vec<KeySets>,
+        edits: EditCount,
     ) -> Result<Index, AllocError>
         requires { length sets.items ≡ length conf.now.slots }
         ensures same_conf { IfOk result (λ x. x.conf ≡ conf.now) }
         ensures slots { IfOk result (λ x. x.slots ≡ sets.items) }
-        ensures edits { IfOk result (λ x. x.edits ≡ 0) }
+        ensures edits { IfOk result (λ x. x.edits ≡ edits) }
     {
         Ok(Index {
             alloc,
             made: Snapshot::of(conf),
             slots: Vec::from_slice(alloc, conf.slots())?,
             sets,
-            edits: EditCount::new(),
+            edits,
         })
     }
 
@@ -139,13 +143,36 @@ impl Index {
         was
     }
 
-    /// Takes a number from every key. It takes no memory, and what goes this way is no edit.
+    // takes a number from every key of a slot, and counts nothing
+    fn take_under(&mut self, slot: SlotNumber, number: u32)
+        requires { slot.0 < length self.old.conf.slots }
+        ensures same_conf { self.new.conf ≡ self.old.conf }
+        ensures members { Removes (λ p. nat_eq slot.0 p.slot.0) number self.old self.new }
+        ensures edits { self.new.edits ≡ self.old.edits }
+    {
+        self.sets[slot.0].forget(number);
+    }
+
+    // takes a number from every key of a slot
+    fn forget_under(&mut self, slot: SlotNumber, number: u32)
+        requires { slot.0 < length self.old.conf.slots }
+        ensures same_conf { self.new.conf ≡ self.old.conf }
+        ensures members { Removes (λ p. nat_eq slot.0 p.slot.0) number self.old self.new }
+        ensures edits { CountsEdits self.old self.new }
+    {
+        count_holders(&mut self.edits, self.sets[slot.0].rows(), number);
+        self.take_under(slot, number);
+    }
+
+    /// Takes a number from every key, which is an edit for each key that had it. It takes no memory.
     pub fn forget(&mut self, number: u32)
         ensures same_conf { self.new.conf ≡ self.old.conf }
         ensures members { Forgets number self.old self.new }
-        ensures edits { self.new.edits ≡ self.old.edits }
+        ensures edits { CountsEdits self.old self.new }
     {
-        forget_in(self.sets.as_mut_slice(), number);
+        for place in 0..self.sets.as_slice().len() {
+            self.forget_under(SlotNumber(place), number);
+        }
     }
 }
 

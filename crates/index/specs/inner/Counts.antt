@@ -1,5 +1,5 @@
--- How many keys have a number.
-use Rattle.std.specs.Prelude.{◌≡◌, ℕ}
+-- How many keys have a number, and which ones got it.
+use Rattle.std.specs.Prelude.{◌≡◌, ◌⊎◌, ℕ, Bool, true}
 use Rattle.std.specs.FinSet as set
 use Rattle.index_text.specs.declared.slot_key.SlotKey.{SlotKey}
 use Rattle.index_text.specs.SlotKeys.{SlotKeys}
@@ -11,6 +11,6 @@ pub record HaveNumber (index : Index) (number count : ℕ) : Type 0 where
   pub are : (p : SlotKey) → set.contains keys p ≡ set.contains (members index p) number
   pub many : set.len keys ≡ count
 
--- each key has the other members that it had
-abbrev pub KeepsOthers : ℕ → Index → Index → Type 0
-KeepsOthers number old new = (p : SlotKey) → set.remove (members new p) number ≡ set.remove (members old p) number
+-- no key but those that pass the test got it, and none got or lost another
+abbrev pub InsertsSome : (SlotKey → Bool) → ℕ → Index → Index → Type 0
+InsertsSome test number old new = (p : SlotKey) → (members new p ≡ members old p) ⊎ ((test p ≡ true) × (members new p ≡ set.insert (members old p) number))

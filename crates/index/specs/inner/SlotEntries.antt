@@ -7,7 +7,9 @@ use Rattle.schema.specs.declared.slots.Slot.{Slot}
 use Rattle.index_keys.specs.declared.type_norms.Numbered.{Numbered}
 use Rattle.index_keys.specs.declared.type_norms.NumberedNorm.{NumberedNorm}
 use Rattle.index_keys.specs.TypeNorms.{has_for, has_by}
-use Rattle.index_text.specs.KeySets.{SetsByKey, members_in}
+use Rattle.index_text.specs.KeySets.{Members, SetsByKey, members_in}
+use Rattle.index_text.specs.Indexes.{sets_in}
+use Rattle.index_text.specs.declared.slot_key.SlotKey.{SlotKey}
 
 -- the number came under each key that passes the test, and each other key has the members that it had
 abbrev pub PutsEach : (List ℕ → Bool) → ℕ → SetsByKey → SetsByKey → Type 0
@@ -23,3 +25,7 @@ AreSetsOf types es [] [] = ⊤
 AreSetsOf types es (s ∷ ss) (x ∷ xs) = ((q : List ℕ) (n : ℕ) → set.contains (members_in x q) n ≡ has_for types es s.type_id s.kind q n) × AreSetsOf types es ss xs
 AreSetsOf types es [] (x ∷ xs) = ⊥
 AreSetsOf types es (s ∷ ss) [] = ⊥
+
+-- the members of a key, in its slot
+abbrev pub members_of : List SetsByKey → SlotKey → Members
+members_of xs p = members_in (sets_in xs p.slot.0) p.key

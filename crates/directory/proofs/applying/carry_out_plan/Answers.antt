@@ -30,8 +30,8 @@ returns-clause-indexed c = done _ _ _ _ _ _ (ready c.args.conf.now c.args.tree.n
 
 pub returns-clause-edits : goal.returns-clause-edits
 returns-clause-edits c =
-    let gone = c.remove_all-2.ensures.edits (apart_gone _ _ _ _ _ _ (ready c.args.conf.now c.args.tree.now c.args.plan c.args.index.now c.in-Some.number _ _ _ _ c.requires.of c.requires.indexed c.keeps_entries.ensures (sym c.in-Some.is ∙ c.number.ensures) c.before-3.ensures.entry c.after.ensures.entry c.in_ok-came.ensures) _ c.deref-2.ensures.value) (there _ _ _ _ _ _ (ready c.args.conf.now c.args.tree.now c.args.plan c.args.index.now c.in-Some.number _ _ _ _ c.requires.of c.requires.indexed c.keeps_entries.ensures (sym c.in-Some.is ∙ c.number.ensures) c.before-3.ensures.entry c.after.ensures.entry c.in_ok-came.ensures) c.insert_all.new.self _ _ c.deref.ensures.value c.deref-2.ensures.value c.in_ok-insert_all.ensures.ok) in
-    let came = c.in_ok-insert_all.ensures.edits in
+    let gone = c.remove_all-2.ensures.all (apart_gone _ _ _ _ _ _ (ready c.args.conf.now c.args.tree.now c.args.plan c.args.index.now c.in-Some.number _ _ _ _ c.requires.of c.requires.indexed c.keeps_entries.ensures (sym c.in-Some.is ∙ c.number.ensures) c.before-3.ensures.entry c.after.ensures.entry c.in_ok-came.ensures) _ c.deref-2.ensures.value) (there _ _ _ _ _ _ (ready c.args.conf.now c.args.tree.now c.args.plan c.args.index.now c.in-Some.number _ _ _ _ c.requires.of c.requires.indexed c.keeps_entries.ensures (sym c.in-Some.is ∙ c.number.ensures) c.before-3.ensures.entry c.after.ensures.entry c.in_ok-came.ensures) c.insert_all.new.self _ _ c.deref.ensures.value c.deref-2.ensures.value c.in_ok-insert_all.ensures.ok) in
+    let came = c.in_ok-insert_all.ensures.all in
     let a = ap length c.deref.ensures.value in
     let b = ap length c.deref-2.ensures.value in
     omega (arith, gone, came, a, b, c.len.ensures, c.len-2.ensures)
