@@ -17,15 +17,19 @@ use device::Source;
 use ldif::{Mode, ReadFault, Reader};
 use schema::Conf;
 use std::alloc::{AllocError, Global};
+use thiserror::Error;
 use tree::Tree;
 
 /// Why nothing was loaded.
-#[derive(Clone, Copy)]
+#[derive(Clone, Copy, Debug, Error)]
 pub enum LoadFault {
     /// The source failed.
+    #[error("cannot read")]
     Read,
+    #[error("out of memory")]
     OutOfMemory,
     /// The record that begins on this line is refused.
+    #[error("line {line}: {refusal}")]
     Refused { line: u64, refusal: RecordRefusal },
 }
 

@@ -10,7 +10,7 @@ use std::alloc::{AllocError, Global};
 use std::fmt;
 
 /// The refusal of a record: why it isn't carried out, printed as `32 noSuchObject` or `L4 base64`.
-#[derive(Clone, Copy)]
+#[derive(Clone, Copy, Debug)]
 pub enum RecordRefusal {
     /// Its lines are no record.
     Fault(LdifFaultKind),

@@ -17,21 +17,25 @@ use crate::target::Target;
 use device::{Sink, Source, push_all};
 use ldif::{Mode, ReadFault, Reader, WriteFault};
 use std::alloc::Global;
+use thiserror::Error;
 
 /// How many records of a run were accepted, and how many were refused.
-#[derive(Clone, Copy, PartialEq, Eq)]
+#[derive(Clone, Copy, Debug, PartialEq, Eq)]
 pub struct Tally {
     pub accepted: u64,
     pub refused: u64,
 }
 
 /// Why a run was broken off, with the records that were carried out by then.
-#[derive(Clone, Copy, PartialEq, Eq)]
+#[derive(Clone, Copy, Debug, PartialEq, Eq, Error)]
 pub enum RunFault {
     /// The source failed.
+    #[error("cannot read")]
     Read(Tally),
     /// The sink failed in the line of the last refused record.
+    #[error("cannot write")]
     Write(Tally),
+    #[error("out of memory")]
     OutOfMemory(Tally),
 }
 

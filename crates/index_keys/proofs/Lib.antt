@@ -5,4 +5,5 @@ pub mod NormLists
 pub mod NormOrder
 pub mod RowsInOrder
 pub mod StoredNorms
+pub mod WindowLaws
 pub mod WindowSteps

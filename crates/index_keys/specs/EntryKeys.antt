@@ -1,5 +1,5 @@
 -- The keys of an entry: what it is found by.
-use Rattle.std.specs.Prelude.{ℕ, ◌+◌, Bool, List, [], ◌∷◌, ◌++◌, map, Option, Some, None, if◌then◌else◌}
+use Rattle.std.specs.Prelude.{◌≡◌, ℕ, ◌+◌, Bool, List, [], ◌∷◌, ◌++◌, length, map, Option, Some, None, if◌then◌else◌}
 use Rattle.std.specs.List.{list_any, flat_map}
 use Rattle.std.specs.Str.{bytes_eq}
 use Rattle.std.specs.FinSet as set
@@ -30,6 +30,13 @@ windows (a ∷ b ∷ c ∷ rest) = (a ∷ b ∷ c ∷ []) ∷ windows (b ∷ c �
 -- whether a key is a window of a text
 abbrev pub is_window : List ℕ → List ℕ → Bool
 is_window text key = list_any (λ k. bytes_eq k key) (windows text)
+
+-- a key of three bytes stands in a text: behind some bytes, and before others
+pub record IsCutOut (text key : List ℕ) : Type 0 where
+  pub front : List ℕ
+  pub back : List ℕ
+  pub text_is : text ≡ front ++ key ++ back
+  pub size : length key ≡ 3
 
 -- one empty key where there is a value
 abbrev pub empty_key : List (List ℕ) → List (List ℕ)

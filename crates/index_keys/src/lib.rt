@@ -1,7 +1,7 @@
 //! Which keys an entry has under the slots of a configuration, and those of all entries with their ranks, in order: the rows of an index text,
 //! made without an index.
 //!
-//! The function of `laws` does nothing: a call of it is made for what it states alone.
+//! The functions of `laws` do nothing: a call of one is made for what it states alone.
 #![tactic(auto)]
 
 mod gathering;
@@ -16,7 +16,7 @@ mod type_norms;
 mod windows;
 
 pub use gathering::{bytes_of, ranked_norms, ranked_presence, ranked_windows};
-pub use laws::keys_are_told;
+pub use laws::{keys_are_told, windows_stand_in_texts};
 pub use norms::Norms;
 pub use ranked_key::RankedKey;
 pub use ranked_norm::RankedNorm;
