@@ -1,6 +1,7 @@
 //! Runs and dumps over sources and sinks that fail behind each number of bytes.
 
 use crate::directories::{Devices, ROOT, has_dump, loaded, run_over};
+use crate::indexes::{INDEX, TURNED, indexed};
 use directory::{Directory, RunFault, Tally};
 use ldif::{Mode, WriteFault};
 use std::alloc::Global;
@@ -141,5 +142,32 @@ fn each_dump_breaks_off(alloc: Global) -> Result<bool, Fail> {
 #[test]
 fn a_dump_breaks_off_where_its_sink_fails(rt: HostRuntime) -> Result<(), Fail> {
     assert!(rt; each_dump_breaks_off(rt.alloc())?);
+    Ok(())
+}
+
+// the same of the text of its index
+fn index_breaks_off(alloc: Global, dir: &Directory, limit: usize) -> bool {
+    let mut sink = TrySink::new(alloc, 4, Some(limit));
+    dir.index_text(alloc, &mut sink) == Err(WriteFault::Device)
+        && Some(sink.bytes()) == INDEX.as_bytes().get(..limit)
+}
+
+fn each_length_breaks_off(alloc: Global, dir: &Directory) -> bool {
+    for limit in 0..INDEX.len() {
+        if !index_breaks_off(alloc, dir, limit) {
+            return false;
+        }
+    }
+    true
+}
+
+fn each_index_breaks_off(alloc: Global) -> Result<bool, Fail> {
+    let dir = indexed(alloc, TURNED)?;
+    Ok(each_length_breaks_off(alloc, &dir))
+}
+
+#[test]
+fn an_index_text_breaks_off_where_its_sink_fails(rt: HostRuntime) -> Result<(), Fail> {
+    assert!(rt; each_index_breaks_off(rt.alloc())?);
     Ok(())
 }

@@ -24,6 +24,7 @@ index sn,uidNumber eq
 index description eq,sub
 ";
 
+// the suffix's entry and four people, as they are dumped
 const PEOPLE: &str =
     "dn: dc=ex\nobjectClass: domain\ndc: ex\n\ndn: cn=aba,dc=ex\nobjectClass: person\ncn: aba\n\ndn: cn=abba,dc=ex\nobjectClass: person\ncn: abba\n\ndn: cn=abc bcd,dc=ex\nobjectClass: person\ncn: abc bcd\n\ndn: cn=Bob,dc=ex\nobjectClass: person\nuidNumber: 7\ncn: Bob\n\n";
 

@@ -6,6 +6,8 @@
 #[cfg(test)]
 mod directories;
 #[cfg(test)]
+mod entry_values;
+#[cfg(test)]
 mod failing_devices;
 #[cfg(test)]
 mod indexes;

@@ -1,8 +1,10 @@
 //! The texts of faults that no command prints as they are.
 
 use definitions::DefinitionFault;
+use device::Device;
 use dir_conf::{ConfFault, ConfFaultKind};
 use entries::Refusal;
+use filter::{FilterFault, FilterFaultKind};
 use ldif::{LdifFault, LdifFaultKind, WriteFault};
 use schema::{Code, PathFault, ValueFault};
 use std::alloc::{AllocError, Global};
@@ -36,6 +38,15 @@ fn put_faults_of_names_and_values(alloc: Global, out: &mut String) -> Result<(),
     put(alloc, ValueFault::OutOfMemory, out)
 }
 
+fn put_faults_of_filters_and_devices(alloc: Global, out: &mut String) -> Result<(), AllocError> {
+    let kind = FilterFaultKind::Syntax;
+    put(alloc, FilterFault::At { at: 5, kind }, out)?;
+    let kind = FilterFaultKind::Deep;
+    put(alloc, FilterFault::At { at: 1024, kind }, out)?;
+    put(alloc, FilterFault::OutOfMemory, out)?;
+    put(alloc, Device, out)
+}
+
 fn put_refusals(alloc: Global, out: &mut String) -> Result<(), AllocError> {
     put(alloc, Refusal::Code(Code::NoSuchObject), out)?;
     put(alloc, Refusal::OutOfMemory, out)
@@ -60,6 +71,12 @@ fn faults_have_their_texts(rt: HostRuntime) -> Result<(), Fail> {
     assert_eq!(rt;
         out.as_str(),
         "32 noSuchObject\nout of memory\nthe value is not valid for the type's syntax\nout of memory\n"
+    );
+    out.clear();
+    put_faults_of_filters_and_devices(rt.alloc(), &mut out)?;
+    assert_eq!(rt;
+        out.as_str(),
+        "fault at 5\ndeeper than 512\nout of memory\nthe device failed\n"
     );
     out.clear();
     put_refusals(rt.alloc(), &mut out)?;

@@ -17,9 +17,11 @@ use try_device::TrySource;
 
 const MODE: Mode = Mode::Changes { add: false };
 
-/// Each kind of record: one that comes, one that shares a window with another value and goes, moves with and without entries below, renames
-/// with and without the old RDN, refused ones, and one that goes.
-const RECORDS: [&str; 16] = [
+/// Each kind of record: an entry that goes and comes again, one that comes, a value that shares a window with another one and goes, moves with
+/// and without entries below, renames with and without the old RDN, refused ones, and an entry that goes.
+const RECORDS: [&str; 18] = [
+    "dn: cn=Bob,dc=ex\nchangetype: delete\n",
+    "dn: cn=Bob,dc=ex\nchangetype: add\nobjectClass: person\nuidNumber: 7\n",
     "dn: cn=new,dc=ex\nchangetype: add\nobjectClass: person\n",
     "dn: cn=new,dc=ex\nchangetype: modify\nadd: description\ndescription: abcd\ndescription: bcde\n-\nadd: sn\nsn: a name of more than a few bytes, which is longer than thirty\n-\n",
     "dn: cn=new,dc=ex\nchangetype: modify\ndelete: description\ndescription: abcd\n-\n",
