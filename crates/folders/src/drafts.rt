@@ -129,8 +129,8 @@ fn make_locked<R: Files<File = File>>(rt: &R, path: &str, mode: u32) -> io::Resu
     Ok(if is_free { Some(file) } else { None })
 }
 
-/// Makes a draft of the file of this name, with the first number that is free. No draft of a file that isn't there has its permissions to
-/// follow: it has those of a new file at once.
+/// Makes a draft of the file of this name, with the first number that is free. It is for its owner alone, or, where no such file is there, has
+/// the permissions of a new file at once.
 pub fn make_draft<'r, R: Files<File = File>>(
     rt: &'r R,
     alloc: Global,
