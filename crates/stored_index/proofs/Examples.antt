@@ -1,5 +1,5 @@
 -- Worked examples, by computation: a directory without entries, one of five, and texts of it that were changed.
-use Rattle.std.proofs.Common.{◌≡◌, ℕ, false, List, [], ◌∷◌, ◌++◌, None, Result, Ok, Err, codes, refl}
+use Rattle.std.proofs.Common.{◌≡◌, ℕ, inl, inr, false, List, [], ◌∷◌, ◌++◌, Some, None, Result, Ok, Err, codes, refl, arith}
 use Rattle.std.specs.Prelude.{⊤}
 use Rattle.std.specs.List.{flat_map}
 use Rattle.base.specs.Ascii.{line_feed}
@@ -15,9 +15,11 @@ use Rattle.index_text.specs.IndexTexts.{Rows, ended, index_text}
 use Rattle.stored_index.specs.KeyLines.{are_rising, ranks_in, row_in}
 use Rattle.stored_index.specs.Reading.{header_in, rows_of, slots_of, rows_in}
 use Rattle.stored_index.specs.SlotLines.{slot_in}
+use Rattle.stored_index.specs.FaultyLines.{KeyComesAfter, SlotComesAfter, EndsKeys}
 use Rattle.stored_index.specs.Words.{number_after, number_in, bytes_in, key_in}
 use Rattle.stored_index.specs.declared.fault.IndexFaultKind.{IndexFaultKind}
 use Rattle.stored_index.specs.declared.fault.IndexFaultKind.TheVariants as faults
+use Rattle.stored_index.proofs.FaultWords.{slot_not_after, no_keys_end}
 
 -- what a text is read by
 unfoldable on_texts : ⊤
@@ -185,3 +187,47 @@ a_key_without_ranks = refl
 the_end_too_early : read_as (first_line ∷ codes "slot cn eq" ∷ codes "616261 1" ∷ codes "61626261 2" ∷ codes "61626320626364 3" ∷ codes "626f62 4" ∷ codes "end" ∷ []) ≡ refused faults.Form
 unfolding on_texts
 the_end_too_early = refl
+
+-- ---- what is in order, and what ends keys
+
+a_beginning_comes_first : KeyComesAfter (Some (codes "ab")) (codes "abc")
+a_beginning_comes_first = refl
+
+it_does_not_come_last : KeyComesAfter (Some (codes "abc")) (codes "ab") → ⊥
+it_does_not_come_last e = cc
+
+the_first_other_byte_decides : KeyComesAfter (Some (codes "abz")) (codes "b")
+the_first_other_byte_decides = refl
+
+no_key_after_itself : KeyComesAfter (Some (codes "ab")) (codes "ab") → ⊥
+no_key_after_itself e = cc
+
+the_first_key : KeyComesAfter None []
+the_first_key = tt
+
+presence_after_equality : SlotComesAfter (Some (slot 2 Equality)) (slot 2 Presence)
+presence_after_equality = inr (refl, omega arith)
+
+a_later_type : SlotComesAfter (Some (slot 1 Substrings)) (slot 2 Equality)
+a_later_type = inl (omega arith)
+
+an_earlier_kind : SlotComesAfter (Some (slot 2 Substrings)) (slot 2 Presence) → ⊥
+an_earlier_kind after = slot_not_after (Some (slot 2 Substrings)) (slot 2 Presence) refl after
+
+no_slot_after_itself : SlotComesAfter (Some (slot 2 Presence)) (slot 2 Presence) → ⊥
+no_slot_after_itself after = slot_not_after (Some (slot 2 Presence)) (slot 2 Presence) refl after
+
+a_slot_that_cannot_be_read : EndsKeys (codes "slot nothing of that kind")
+a_slot_that_cannot_be_read = inl (codes "nothing of that kind", refl)
+
+another_first_word : EndsKeys (codes "slots cn eq") → ⊥
+another_first_word = no_keys_end (codes "slots cn eq") refl
+
+no_space_behind : EndsKeys (codes "slot") → ⊥
+no_space_behind = no_keys_end (codes "slot") refl
+
+more_behind_the_end : EndsKeys (codes "end ") → ⊥
+more_behind_the_end = no_keys_end (codes "end ") refl
+
+a_key : EndsKeys (codes "616261 1") → ⊥
+a_key = no_keys_end (codes "616261 1") refl

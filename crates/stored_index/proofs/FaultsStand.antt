@@ -26,6 +26,7 @@ use Rattle.stored_index.proofs.EndLemmas.{end_opened}
 use Rattle.stored_index.proofs.SlotLemmas.{Found}
 use Rattle.stored_index.proofs.LineLaws.{found, key_cmp, row_lines, lines_of, rows_opened, lines_before, rows_go_on}
 use Rattle.stored_index.proofs.OrderLaws.{AreAbove, sorted_parts}
+use Rattle.stored_index.proofs.FaultWords.{not_passed, passed, rows_end, no_rows_end}
 use Rattle.stored_index.proofs.RowFaults.{row_stands}
 use Rattle.stored_index.proofs.RowLaws.{parts_at, parts_word, row_read}
 use Rattle.stored_index.proofs.SlotLaws.{slot_writes, is_by}
@@ -82,12 +83,12 @@ module _ (types : List AttributeType) (named : AreNamed types) where
   fault_is before due line more Stale f = absurd f
   fault_is before due line more Rank f = absurd f
   fault_is before due line more Order f =
-      ap (fault_by before) (ap (slot_in types) f.2 ∙ slot_read types named f.0 f.1) ∙ ap (λ (b : Bool). cond b Order Form) f.3
+      ap (fault_by before) (ap (slot_in types) f.2 ∙ slot_read types named f.0 f.1) ∙ ap (λ (b : Bool). cond b Order Form) (passed before f.0 f.3)
   fault_is before due line more Form f = by (slot_in types line) refl
     where
       by : (o : Option Slot) → slot_in types line ≡ o → fault_by before o ≡ Form
       by None is = refl
-      by (Some s) is = ap (λ (b : Bool). cond b Order Form) (f.slots s (slot_known types named line s is) (slot_writes types line s is)).0
+      by (Some s) is = ap (λ (b : Bool). cond b Order Form) (not_passed before s (f.slots s (slot_known types named line s is) (slot_writes types line s is)).0)
 
   no_end : (before : Option Slot) (line more : List ℕ) (k : IndexFaultKind) → IsSlotFault types before [] line more k → (bytes_eq line end_line && is_empty more) ≡ false
   no_end before line more Header f = absurd f
@@ -114,7 +115,7 @@ module _ (types : List AttributeType) (named : AreNamed types) where
   no_slot before d due line more Order next f = false_from_ne_true (is_slot d (slot_in types line)) (λ e.
       let here = is_by types d (slot_in types line) e in
       let same : f.0 ≡ d = some_is f.0 d (sym (ap (slot_in types) f.2 ∙ slot_read types named f.0 f.1) ∙ here) in
-      let bad : true ≡ false = sym f.3 ∙ ap (is_passed before) same ∙ next in
+      let bad : true ≡ false = sym (passed before f.0 f.3) ∙ ap (is_passed before) same ∙ next in
       cc)
     where
       some_is : (x y : Slot) → ◌≡◌ {A = Option Slot} (Some x) (Some y) → x ≡ y
@@ -189,9 +190,9 @@ module _ (types : List AttributeType) (named : AreNamed types) where
             | inr at ↦
                 ap (λ (ls : List (List ℕ)). next_slots s.0 [] due (rows_of (key_behind None s.1) entries ls >>= λ f. found (s.1 ++ f.0) f.1)) (ap (parts line_feed) at.2 ∙ parts_at line_feed at.0 at.1 refl at.3)
                 ∙ elim at.4 [
-                  | inl f ↦ ap (λ (r : Found). next_slots s.0 [] due (r >>= λ f. found (s.1 ++ f.0) f.1)) (line_stands (key_behind None s.1) entries at.0 (parts line_feed at.1) k (split_cons (is_byte line_feed) at.1) f.0 f.1)
+                  | inl f ↦ ap (λ (r : Found). next_slots s.0 [] due (r >>= λ f. found (s.1 ++ f.0) f.1)) (line_stands (key_behind None s.1) entries at.0 (parts line_feed at.1) k (split_cons (is_byte line_feed) at.1) (no_rows_end at.0 f.0) f.1)
                   | inr f ↦
-                      ap (λ (r : Found). next_slots s.0 [] due (r >>= λ f. found (s.1 ++ f.0) f.1)) (line_ends (key_behind None s.1) entries at.0 (parts line_feed at.1) (split_cons (is_byte line_feed) at.1) f.0)
+                      ap (λ (r : Found). next_slots s.0 [] due (r >>= λ f. found (s.1 ++ f.0) f.1)) (line_ends (key_behind None s.1) entries at.0 (parts line_feed at.1) (split_cons (is_byte line_feed) at.1) (rows_end at.0 f.0))
                       ∙ ap (λ (r : AllRows). r >>= λ rest. all_rows ((s.0, s.1 ++ []) ∷ rest)) (slot_stands (Some s.0) due at.0 at.1 k opens.1 f.1)
                 ]
           ]

@@ -23,6 +23,7 @@ mod SearchLemmas
 mod KeptLaws
 mod TextLemmas
 mod WrittenLaws
+mod FaultWords
 mod Examples
 mod RowFaults
 mod KeyLineLemmas

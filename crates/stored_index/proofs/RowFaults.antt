@@ -12,6 +12,7 @@ use Rattle.stored_index.specs.KeyLines.{are_rising, are_within, checked, ranks_i
 use Rattle.stored_index.specs.FaultyLines.{IsSpelled, IsInOrder, IsRowFault}
 use Rattle.stored_index.specs.declared.fault.IndexFaultKind.{IndexFaultKind}
 use Rattle.stored_index.specs.declared.fault.IndexFaultKind.TheVariants.{Header, Stale, Form, Order, Rank}
+use Rattle.stored_index.proofs.FaultWords.{key_after, key_above}
 use Rattle.stored_index.proofs.KeyLaws.{key_writes, key_read, key_lacks}
 use Rattle.stored_index.proofs.OrderLaws.{both_true, rising_sorted, sorted_rising, all_from_zero, all_within, within_all}
 use Rattle.stored_index.proofs.RowLaws.{Numbers, numbers, the_row, numbers_write, joined, row_parts, numbers_read, some_of, numbers_short, row_writes}
@@ -172,7 +173,7 @@ module _ (before : Option (List ℕ)) (entries : ℕ) where
         (sym (ap (row_in before entries) is ∙ line_told row good) ∙ e)
 
     in_order : IsInOrder before row → cond (is_above before row.0) (are_rising 0 row.1) false ≡ true
-    in_order o = ap (λ (t : Bool). cond t (are_rising 0 row.1) false) o.above ∙ sorted_rising 0 row.1 (all_from_zero row.1) o.rising
+    in_order o = ap (λ (t : Bool). cond t (are_rising 0 row.1) false) (key_above before row.0 o.above) ∙ sorted_rising 0 row.1 (all_from_zero row.1) o.rising
 
     is_out : k ≡ Order → IsInOrder before row → ⊥
     is_out same o = elim why [
@@ -191,7 +192,7 @@ module _ (before : Option (List ℕ)) (entries : ℕ) where
           absurd cc
       | inr w ↦
           let parts = both_true (is_above before row.0) (are_rising 0 row.1) w.1 in
-          (record { above = parts.0; rising = rising_sorted 0 row.1 parts.1 }, λ all. let bad : true ≡ false = sym (all_within entries row.1 all) ∙ w.2 in cc)
+          (record { above = key_after before row.0 parts.0; rising = rising_sorted 0 row.1 parts.1 }, λ all. let bad : true ≡ false = sym (all_within entries row.1 all) ∙ w.2 in cc)
     ]
 
     is_neither : (k ≡ Order → ⊥) → (k ≡ Rank → ⊥) → ⊥
@@ -229,12 +230,12 @@ module _ (before : Option (List ℕ)) (entries : ℕ) where
     line_is = ap (row_in before entries) is ∙ line_told row good
 
     out_stands : (IsInOrder before row → ⊥) → row_in before entries line ≡ Err Order
-    out_stands out = line_is ∙ order_stands its_order (are_within entries row.1) row.0 row.1 (λ e. let parts = both_true (is_above before row.0) (are_rising 0 row.1) e in out (record { above = parts.0; rising = rising_sorted 0 row.1 parts.1 }))
+    out_stands out = line_is ∙ order_stands its_order (are_within entries row.1) row.0 row.1 (λ e. let parts = both_true (is_above before row.0) (are_rising 0 row.1) e in out (record { above = key_after before row.0 parts.0; rising = rising_sorted 0 row.1 parts.1 }))
 
     none_stands : IsInOrder before row → (AllByRecursion (λ n. n < entries) row.1 → ⊥) → row_in before entries line ≡ Err Rank
     none_stands o out =
         line_is
-        ∙ rank_stands its_order (are_within entries row.1) row.0 row.1 (ap (λ (t : Bool). cond t (are_rising 0 row.1) false) o.above ∙ sorted_rising 0 row.1 (all_from_zero row.1) o.rising)
+        ∙ rank_stands its_order (are_within entries row.1) row.0 row.1 (ap (λ (t : Bool). cond t (are_rising 0 row.1) false) (key_above before row.0 o.above) ∙ sorted_rising 0 row.1 (all_from_zero row.1) o.rising)
         (λ e. out (within_all entries row.1 e))
 
   pub row_stands : (line : List ℕ) (k : IndexFaultKind) → IsRowFault before entries line k → row_in before entries line ≡ Err k

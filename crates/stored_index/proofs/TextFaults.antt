@@ -18,13 +18,14 @@ use Rattle.stored_index.specs.KeyLines.{row_in}
 use Rattle.stored_index.specs.SlotLines.{slot_in, is_slot, is_passed, fault_by, fault_at}
 use Rattle.stored_index.specs.Reading.{ends_rows, rows_of, is_nothing, end_of, slot_rows, slots_of}
 use Rattle.stored_index.specs.Rows.{AreSlotRows, key_of}
-use Rattle.stored_index.specs.FaultyLines.{IsRowFault, IsKnown, IsNext, IsSlotFault, Last, key_behind, last_slot, IsLineFault, IsFaultAt, IsLaterFault}
+use Rattle.stored_index.specs.FaultyLines.{SlotComesAfter, IsRowFault, IsKnown, IsNext, IsSlotFault, Last, key_behind, last_slot, EndsKeys, IsLineFault, IsFaultAt, IsLaterFault}
 use Rattle.stored_index.specs.declared.fault.IndexFaultKind.{IndexFaultKind}
 use Rattle.stored_index.specs.declared.fault.IndexFaultKind.TheVariants.{Form, Order}
 use Rattle.stored_index.proofs.NumberLaws.{Lacks, test_ok}
 use Rattle.stored_index.proofs.OrderLaws.{AreAbove, above_more, sorted_more}
 use Rattle.stored_index.proofs.RowLaws.{row_writes}
 use Rattle.stored_index.proofs.LineLaws.{found, row_lines}
+use Rattle.stored_index.proofs.FaultWords.{slot_after, slot_not_after, keys_end, no_keys_end}
 use Rattle.stored_index.proofs.RowFaults.{bind_err, is_err, row_fault}
 use Rattle.stored_index.proofs.SlotLaws.{some_of, slot_writes, due_writes, words_known}
 use Rattle.stored_index.proofs.SlotLemmas.{all_rows}
@@ -55,7 +56,7 @@ record IsRowsFault (before : Option (List ℕ)) (entries : ℕ) (text : List ℕ
   pub good : AreSlotRows entries rows
   pub above : AreAbove before (map key_of rows)
   pub lacks : Lacks line_feed line
-  pub other : ends_rows line ≡ false
+  pub other : EndsKeys line → ⊥
   pub fault : IsRowFault (key_behind before rows) entries line kind
 
 rows_fault : (before : Option (List ℕ)) (entries : ℕ) (lines : List (List ℕ)) (kind : IndexFaultKind) → AllLack line_feed lines → rows_of before entries lines ≡ Err kind
@@ -78,7 +79,7 @@ rows_fault before entries (line ∷ next ∷ more) kind lack e =
               good = record { each = tt; rising = tt };
               above = tt;
               lacks = lack.0;
-              other = is;
+              other = no_keys_end line is;
               fault = row_fault before entries line kind f;
             }
             | inr row ↦
@@ -156,11 +157,11 @@ module _ (types : List AttributeType) (named : AreNamed types) where
       none_found = None
   not_due before due line more (Some s) kind is same next end =
       elim (is_passed before s) as (λ b. is_passed before s ≡ b → kind ≡ cond b Order Form → IsSlotFault types before due line more kind) [
-        | true ↦ λ passed same. subst (IsSlotFault types before due line more) (sym same) (s, slot_known line s is, slot_writes types line s is, passed)
+        | true ↦ λ passed same. subst (IsSlotFault types before due line more) (sym same) (s, slot_known line s is, slot_writes types line s is, slot_not_after before s passed)
         | false ↦ λ passed same. subst (IsSlotFault types before due line more) (sym same) (record {
           slots = λ u known spelled.
               let it : s ≡ u = some_of s u (sym is ∙ ap (slot_in types) spelled ∙ slot_read types named u known) in
-              subst (λ (u : Slot). (is_passed before u ≡ false) × (IsNext due u → ⊥)) it (passed, next s refl);
+              subst (λ (u : Slot). SlotComesAfter before u × (IsNext due u → ⊥)) it (slot_after before s passed, next s refl);
           end = end;
         })
       ] refl same
@@ -169,7 +170,7 @@ module _ (types : List AttributeType) (named : AreNamed types) where
     line_fault : (last : Last) (due : List Slot) (line next : List ℕ) (more : List (List ℕ)) (kind : IndexFaultKind) → AreReady last (line ∷ next ∷ more)
         → IsSlotFault types (last_slot last) due line (text_of (next ∷ more)) kind → IsLineFault types entries last due line (text_of (next ∷ more)) kind
     line_fault None due line next more kind ready fault = fault
-    line_fault (Some last) due line next more kind ready fault = inr (ready, fault)
+    line_fault (Some last) due line next more kind ready fault = inr (keys_end line ready, fault)
 
     end_fault : (last : Last) (lines : List (List ℕ)) (kind : IndexFaultKind) → AreReady last lines → AllLack line_feed lines → end_of types (last_slot last) lines ≡ Err kind
         → IsFaultAt types entries last [] (text_of lines) kind

@@ -1,21 +1,33 @@
 -- Which fault a text has, apart from any reader: what is wrong with the first line that is at fault, behind lines that aren't.
-use Rattle.std.specs.Prelude.{◌≡◌, ℕ, ◌<◌, ◌^◌, ◌⊎◌, true, false, List, [], ◌∷◌, ◌++◌, length, map, Option, Some, None}
+use Rattle.std.specs.Prelude.{◌≡◌, ℕ, ◌<◌, ◌^◌, ◌⊎◌, true, false, List, [], ◌∷◌, ◌++◌, length, map, Option, Some, None, codes}
 use Rattle.std.specs.List.{flat_map, AllByRecursion, All}
 use Rattle.std.specs.List.Sorted.{IsStrictlySortedBy}
+use Rattle.std.specs.Cmp.Lexicographic.{slice_cmp}
 use Rattle.std.specs.Ordering.{nat_cmp}
-use Rattle.base.specs.Ascii.{line_feed}
+use Rattle.std.specs.declared.cmp.Ordering.TheVariants.{Less}
+use Rattle.base.specs.Ascii.{space, line_feed}
 use Rattle.memchr.specs.Find.{is_byte}
 use Rattle.values.specs.declared.types.AttributeType.{AttributeType}
 use Rattle.values.specs.Types.{is_known}
 use Rattle.schema.specs.Conf.{Conf}
+use Rattle.schema.specs.Slots.{kind_rank}
 use Rattle.schema.specs.declared.slots.Slot.{Slot}
 use Rattle.index_text.specs.IndexTexts.{Row, Rows, header_line, slot_line, slot_text, key_line, end_line}
-use Rattle.stored_index.specs.KeyLines.{is_above}
-use Rattle.stored_index.specs.SlotLines.{is_passed}
-use Rattle.stored_index.specs.Reading.{ends_rows}
 use Rattle.stored_index.specs.Rows.{IsByte, AreSlotRows, slot_of}
 use Rattle.stored_index.specs.declared.fault.IndexFaultKind.{IndexFaultKind}
 use Rattle.stored_index.specs.declared.fault.IndexFaultKind.TheVariants.{Header, Stale, Form, Order, Rank}
+
+-- ---- what stands in order
+
+-- a key comes after the one before it: the first byte in which two keys differ decides, and a beginning of a key comes before that key
+abbrev pub KeyComesAfter : Option (List ℕ) → List ℕ → Type 0
+KeyComesAfter None key = Unit {0}
+KeyComesAfter (Some before) key = slice_cmp nat_cmp before key ≡ Less
+
+-- a slot comes after the one before it: by the number of its type, and of one type equality comes first, then presence, then substrings
+abbrev pub SlotComesAfter : Option Slot → Slot → Type 0
+SlotComesAfter None s = Unit {0}
+SlotComesAfter (Some before) s = (before.type_id < s.type_id) ⊎ ((before.type_id ≡ s.type_id) × (kind_rank before.kind < kind_rank s.kind))
 
 -- ---- the line of a key
 
@@ -27,7 +39,7 @@ pub record IsSpelled (row : Row) : Type 0 where
 
 -- the key comes after the one before it, and the ranks rise
 pub record IsInOrder (before : Option (List ℕ)) (row : Row) : Type 0 where
-  pub above : is_above before row.0 ≡ true
+  pub above : KeyComesAfter before row.0
   pub rising : IsStrictlySortedBy nat_cmp row.1
 
 -- what is wrong with a line that stands where a key may stand, and isn't that of a slot nor the last one
@@ -50,7 +62,7 @@ IsNext (d ∷ due) s = s ≡ d
 
 -- what a line spells isn't due: no slot that comes after the one before it is the next one, and the last line comes behind all slots and before nothing
 pub record IsNotDue (types : List AttributeType) (before : Option Slot) (due : List Slot) (line more : List ℕ) : Type 0 where
-  pub slots : (s : Slot) → IsKnown types s → line ≡ slot_line types s → (is_passed before s ≡ false) × (IsNext due s → ⊥)
+  pub slots : (s : Slot) → IsKnown types s → line ≡ slot_line types s → SlotComesAfter before s × (IsNext due s → ⊥)
   pub end : line ≡ end_line → due ≡ [] → more ≡ [] → ⊥
 
 -- what is wrong with a line that stands where no key may stand, or with one that isn't that of a key
@@ -58,7 +70,7 @@ abbrev pub IsSlotFault : List AttributeType → Option Slot → List Slot → Li
 IsSlotFault types before due line more Header = ⊥
 IsSlotFault types before due line more Stale = ⊥
 IsSlotFault types before due line more Form = IsNotDue types before due line more
-IsSlotFault types before due line more Order = (s : Slot) × IsKnown types s × (line ≡ slot_line types s) × (is_passed before s ≡ true)
+IsSlotFault types before due line more Order = (s : Slot) × IsKnown types s × (line ≡ slot_line types s) × (SlotComesAfter before s → ⊥)
 IsSlotFault types before due line more Rank = ⊥
 
 -- ---- where it stands
@@ -79,11 +91,15 @@ abbrev pub last_slot : Last → Option Slot
 last_slot None = None
 last_slot (Some last) = Some last.0
 
--- a key may stand behind the line of a slot
+-- the line ends the keys of the slot before it: `slot` is its first word, whatever stands behind that, or it is the last line
+abbrev pub EndsKeys : List ℕ → Type 0
+EndsKeys line = ((rest : List ℕ) × (line ≡ codes "slot" ++ space ∷ rest)) ⊎ (line ≡ end_line)
+
+-- a key may stand behind the line of a slot, up to the line that ends its keys
 abbrev pub IsLineFault : List AttributeType → ℕ → Last → List Slot → List ℕ → List ℕ → IndexFaultKind → Type 0
 IsLineFault types entries None due line more kind = IsSlotFault types None due line more kind
 IsLineFault types entries (Some last) due line more kind =
-    ((ends_rows line ≡ false) × IsRowFault last.1 entries line kind) ⊎ ((ends_rows line ≡ true) × IsSlotFault types (Some last.0) due line more kind)
+    ((EndsKeys line → ⊥) × IsRowFault last.1 entries line kind) ⊎ (EndsKeys line × IsSlotFault types (Some last.0) due line more kind)
 
 abbrev pub HasNoLineFeed : List ℕ → Type 0
 HasNoLineFeed text = All (λ b. is_byte line_feed b ≡ false) text
