@@ -13,7 +13,7 @@ use Rattle.std.proofs.lemmas.Map.Text.{is_eq-slice_cmp}
 use Rattle.id_sets.specs.Ascending.{AllAbove, IsAscending}
 use Rattle.id_sets.specs.Lists.{holds}
 use Rattle.index_text.specs.IndexTexts.{Row, ended, key_line}
-use Rattle.index_keys.specs.RankedKeys.{Ranked, ranked_cmp, is_among, put_front, rows_of, rows_text}
+use Rattle.index_keys.specs.RankedKeys.{Ranked, ranked_cmp, is_among, put_front, rows_of, rows_text, line_of_first, first_row_text}
 use Rattle.index_keys.specs.inner.Fronts.{under, BeginsOtherwise}
 
 same_bytes : (a b : List ℕ) → bytes_eq a b ≡ true → a ≡ b
@@ -131,6 +131,10 @@ one_taken pair first next left rest old new rank cut same rank_is pushed =
 pub row_is : (first : Ranked) (ps rest : List Ranked) (ranks : List ℕ) → under first.0 ranks ++ rest ≡ first ∷ ps → BeginsOtherwise first.0 rest → rows_text (first ∷ ps) ≡ ended (key_line (first.0, ranks)) ++ rows_text rest
 row_is first ps rest [] parts other = absurd (let bad : true ≡ false = sym (nat_list_eq_equiv.refl first.0) ∙ subst (BeginsOtherwise first.0) parts other in cc)
 row_is first ps rest (r ∷ rs) parts other = ap rows_text (sym parts) ∙ ap (flat_map (λ row. ended (key_line row))) (front_is first.0 r rs rest other)
+
+pub first_row_is : (first : Ranked) (ps rest : List Ranked) (ranks : List ℕ) → under first.0 ranks ++ rest ≡ first ∷ ps → BeginsOtherwise first.0 rest → ended (key_line (first.0, ranks)) ≡ first_row_text (first ∷ ps)
+first_row_is first ps rest [] parts other = absurd (let bad : true ≡ false = sym (nat_list_eq_equiv.refl first.0) ∙ subst (BeginsOtherwise first.0) parts other in cc)
+first_row_is first ps rest (r ∷ rs) parts other = sym (ap line_of_first (front_is first.0 r rs rest other)) ∙ ap first_row_text parts
 
 -- ---- keys that stand behind another
 

@@ -46,6 +46,14 @@ rows_of (p ∷ ps) = put_front p (rows_of ps)
 abbrev pub rows_text : List Ranked → List ℕ
 rows_text ps = flat_map (λ row. ended (key_line row)) (rows_of ps)
 
+abbrev pub line_of_first : List Row → List ℕ
+line_of_first [] = []
+line_of_first (row ∷ rows) = ended (key_line row)
+
+-- the line of the first row: the first key with all its ranks
+abbrev pub first_row_text : List Ranked → List ℕ
+first_row_text ps = line_of_first (rows_of ps)
+
 -- a text got one line: this line and those of the other keys' rows are the lines of all rows
 abbrev pub WritesRow : List Ranked → List Ranked → List ℕ → List ℕ → Type 0
 WritesRow all others old new = (line : List ℕ) × (new ≡ old ++ line) × (rows_text all ≡ line ++ rows_text others)

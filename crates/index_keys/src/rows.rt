@@ -1,8 +1,8 @@
 //! Rows of an index text.
 
 ghost use Rattle.std.specs.Prelude.{◌≤◌, ◌∷◌, map, length, IfOk, OnErr};
-ghost use Rattle.base.specs.Extends.{Extends};
-ghost use Rattle.index_keys.specs.RankedKeys.{WritesRow};
+ghost use Rattle.index_text.specs.Begun.{HasBegun};
+ghost use Rattle.index_keys.specs.RankedKeys.{first_row_text, WritesRow};
 ghost use Rattle.index_keys.specs.inner.Fronts.{MovesRanks, BeginsOtherwise};
 
 use crate::ranked_key::RankedKey;
@@ -31,7 +31,7 @@ fn take_ranks<'k, K: RankedKey>(
 }
 
 /// Puts the row of the first key at the end of a text: the line of that key with all its ranks. It hands out the keys of the other rows.
-/// The ranks are the caller's room, and what they were is forgotten. Where memory runs out, a beginning of the line may stand in the text.
+/// The ranks are the caller's room, and what they were is forgotten. Where memory runs out, a beginning of the line is put, perhaps nothing.
 pub fn put_row<'k, K: RankedKey>(
     alloc: Global,
     first: &K,
@@ -41,7 +41,7 @@ pub fn put_row<'k, K: RankedKey>(
 ) -> Result<&'k [K], AllocError>
     ensures text { IfOk result (λ rest. WritesRow (K.pair first.now ∷ map K.pair others.now) (map K.pair rest.now) out.old.items out.new.items) }
     ensures fewer { IfOk result (λ rest. length rest.now ≤ length others.now) }
-    ensures kept { OnErr result (Extends out.old.items out.new.items) }
+    ensures kept { OnErr result (HasBegun (first_row_text (K.pair first.now ∷ map K.pair others.now)) out.old.items out.new.items) }
 {
     ranks.clear();
     ranks.push(first.rank())?;
