@@ -44,8 +44,8 @@ pub fn path_of(
     let Some(name) = name else {
         return Ok(Path::root(alloc));
     };
-    match conf.locate(alloc, name.as_bytes()) {
-        Ok(located) => Ok(located.path),
+    match conf.path_of_text(alloc, name.as_bytes()) {
+        Ok(path) => Ok(path),
         Err(PathFault::Code(code)) => Err(CommandFault::Code { command, code }),
         Err(PathFault::OutOfMemory) => Err(CommandFault::OutOfMemory),
     }

@@ -10,13 +10,13 @@ use Rattle.ldif.specs.declared.record.Record.{Record}
 use Rattle.paths.specs.Paths.{Path, parent_of, is_root}
 use Rattle.schema.specs.declared.code.Code.{Code}
 use Rattle.schema.specs.declared.code.Code.TheVariants.{NoSuchObject, NotAllowedOnNonLeaf}
-use Rattle.schema.specs.Conf.{Conf, located, path_of}
+use Rattle.schema.specs.Conf.{Conf, located, path_of, own_rdn}
 use Rattle.schema.specs.Rdns.{TypedRdn}
 use Rattle.entries.specs.Entries.{Attributes, EntryContent, add_lines}
 use Rattle.tree.specs.Directories.{Entries}
 use Rattle.tree.specs.Trees.{has_child}
 use Rattle.tree.specs.Changes.{Change, Put, Remove}
-use Rattle.tree.specs.Adds.{own_rdn, entry_of, with_entry, add_at, add_there, add}
+use Rattle.tree.specs.Adds.{entry_of, with_entry, add_at, add_there, add}
 use Rattle.tree.specs.Deletes.{delete_at, delete}
 use Rattle.reasons.specs.NameFlaws.{HasPlace, LeadsTo, place_checks}
 use Rattle.reasons.specs.LineFlaws.{gathered, attrs_of_lines}

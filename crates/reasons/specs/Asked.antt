@@ -6,13 +6,12 @@ use Rattle.ldif.specs.declared.record.Mod.{Mod}
 use Rattle.ldif.specs.declared.record.Record.{Record}
 use Rattle.ldif.specs.declared.record.Record.TheVariants as records
 use Rattle.paths.specs.Paths.{Path, parent_of}
-use Rattle.schema.specs.Conf.{Conf}
+use Rattle.schema.specs.Conf.{Conf, own_rdn}
 use Rattle.schema.specs.Rdns.{TypedRdn, rdn_key_of}
 use Rattle.entries.specs.Entries.{EntryContent}
 use Rattle.entries.specs.Modifies.{renamed_attrs}
 use Rattle.tree.specs.Directories.{Entries}
 use Rattle.tree.specs.Changes.{Change, Nothing, Put, Remove}
-use Rattle.tree.specs.Adds.{own_rdn}
 use Rattle.tree.specs.Renames.{renamed_to}
 use Rattle.reasons.specs.NameFlaws.{HasPlace, LeadsTo, SpellsRdn}
 use Rattle.reasons.specs.LineFlaws.{attrs_of_lines}

@@ -7,11 +7,10 @@ use Rattle.values.specs.declared.types.AttributeType.{AttributeType}
 use Rattle.values.specs.Types.{type_of}
 use Rattle.schema.specs.declared.code.Code.{Code}
 use Rattle.schema.specs.declared.code.Code.TheVariants.{UndefinedAttributeType, ConstraintViolation, AttributeOrValueExists, InvalidAttributeSyntax}
-use Rattle.schema.specs.Conf.{Conf}
+use Rattle.schema.specs.Conf.{Conf, own_rdn}
 use Rattle.schema.specs.Rdns.{TypedRdn}
 use Rattle.schema.specs.Values.{is_valid_at, are_equal}
 use Rattle.entries.specs.Entries.{Attributes, push_value, is_barred, with_rdn}
-use Rattle.tree.specs.Adds.{own_rdn}
 
 -- ---- the entry that lines make
 

@@ -55,13 +55,6 @@ not_true : (b : Bool) → not b ≡ true → b ≡ false
 not_true true h = sym h
 not_true false h = refl
 
--- a name has them
-pub rdns_have_avas : (n : names.Name) → names.is_name n ≡ true → AllByRecursion HasAvas n
-rdns_have_avas [] h = tt
-rdns_have_avas (r ∷ rs) h =
-    let k = and_parts (names.is_rdn r) (list_all names.is_rdn rs) h in
-    (not_true (length r == 0) (and_parts (not (length r == 0)) (list_all names.is_ava r) k.0).0, rdns_have_avas rs k.1)
-
 pub name_has_avas : SpellsRead → (text : List ℕ) (n : names.Name) → name_in text ≡ Ok n → AllByRecursion HasAvas n
 unfolding name_in
 name_has_avas read text n e =

@@ -18,3 +18,4 @@ pub mod AvaFaults
 pub mod Joined
 pub mod Fronts
 pub mod WaysOut
+pub mod OwnRdns

@@ -96,3 +96,19 @@ pub record IsConf (conf : Conf) : Type 0 where
 -- the RDN of the suffix's own entry
 abbrev pub root_rdn : Conf → TypedRdn
 root_rdn conf = first_rdn conf.suffix
+
+-- ---- the entry with a name
+
+-- the RDN of the entry at these RDNs, from the suffix down; the suffix's entry has the suffix's, as the configuration spells it
+abbrev pub own_rdn : Conf → List TypedRdn → TypedRdn
+own_rdn conf [] = root_rdn conf
+own_rdn conf (r ∷ []) = r
+own_rdn conf (r ∷ s ∷ rs) = own_rdn conf (s ∷ rs)
+
+-- the path of the entry with the name that a text spells
+abbrev pub path_of_text : Conf → List ℕ → Result Path Code
+path_of_text conf text = located conf text >>= λ rs. Ok (path_of conf rs)
+
+-- its path and its own RDN
+abbrev pub place_of_text : Conf → List ℕ → Result (Path × TypedRdn) Code
+place_of_text conf text = located conf text >>= λ rs. Ok (path_of conf rs, own_rdn conf rs)

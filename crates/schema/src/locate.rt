@@ -6,29 +6,29 @@ ghost use Rattle.schema.specs.Rdns.{rdn_key_of, typed, typed_rdn};
 ghost use Rattle.schema.specs.GoodRdns.{IsRdn};
 ghost use Rattle.schema.specs.inner.Fronts.{front_located};
 ghost use Rattle.schema.specs.inner.Keys.{AreKnown, KeysFit};
-ghost use Rattle.schema.specs.Conf.{below, place_of, located, path_of, path_of_name};
+ghost use Rattle.schema.specs.Conf.{below, place_of, located, path_of_name, path_of_text, place_of_text, own_rdn};
 ghost use Rattle.schema.specs.Gives.{Gives};
 
 use crate::code::Code;
 use crate::conf::Conf;
 use crate::fault::PathFault;
+use crate::laws::located_rdns_are_good;
 use crate::names::read_dn;
 use crate::rdns::{rdn_key_of, step_down, typed_rdn, typed_rdns};
-use base::Sequence;
 use dn::{Name, split_end, written_names_are_read};
 use matching::valid_values_are_bytes;
 use paths::{Path, PathDraft, TypedRdn};
 use std::alloc::{AllocError, Global};
 use values::TypeTable;
 
-/// Where a name stands: its path, and its RDNs below the suffix, from the suffix down.
+/// Where a name stands: its path, and the RDN of the entry there.
 #[derive(Drop)]
 pub struct Located {
     pub path: Path,
-    pub rdns: Sequence<TypedRdn>,
+    pub rdn: TypedRdn,
 }
 
-// RDNs, and what they come to from the last on
+// RDNs, the entry's own first, and what they come to, from the last on
 #[derive(Drop)]
 struct TypedName {
     rdns: Vec<TypedRdn>,
@@ -55,7 +55,6 @@ pub(crate) fn path_of(
 fn typed(alloc: Global, types: &TypeTable, name: &Name) -> Result<TypedName, PathFault>
     ensures rdns { Gives (λ x. x.rdns.items) result (typed types.now name.now) }
     ensures keys { IfOk result (KeysFit types.now) }
-    ensures good { IfOk result (λ x. AllByRecursion (IsRdn types.now) x.rdns.items) }
 {
     let rdns = typed_rdns(alloc, types, name)?;
     let path = path_of(alloc, types, &rdns)?;
@@ -63,92 +62,111 @@ fn typed(alloc: Global, types: &TypeTable, name: &Name) -> Result<TypedName, Pat
 }
 
 impl Conf {
-    ghost use Rattle.schema.specs.inner.Keys.{KeysFit};
+    ghost use Rattle.schema.specs.inner.Keys.{KeysFit, rdns_down};
 
-    // the RDNs below the suffix, from the suffix down
-    fn below_suffix(&self, alloc: Global, typed: TypedName) -> Result<Located, PathFault>
-        requires keys { KeysFit self.now.types typed }
-        requires good { AllByRecursion (IsRdn self.now.types) typed.rdns.items }
-        ensures rdns { Gives (λ l. l.rdns) result (below self.now.types (reverse self.now.suffix) (reverse typed.rdns.items)) }
-        ensures path { IfOk result (λ l. l.path ≡ path_of self.now l.rdns) }
-        ensures good { IfOk result (λ l. AllByRecursion (IsRdn self.now.types) l.rdns) }
+    // the RDNs below the suffix
+    fn below_suffix(&self, alloc: Global, typed: TypedName) -> Result<TypedName, PathFault>
+        requires { KeysFit self.now.types typed }
+        ensures rdns { Gives rdns_down result (below self.now.types (reverse self.now.suffix) (reverse typed.rdns.items)) }
+        ensures keys { IfOk result (KeysFit self.now.types) }
     {
         let TypedName { mut rdns, path } = typed;
         if !self.root().begins(&path) {
             return Err(PathFault::Code(Code::NoSuchObject));
         }
         rdns.truncate(rdns.len() - self.suffix().len());
-        rdns.reverse();
-        Ok(Located {
-            path: path.behind(alloc, self.root())?,
-            rdns: Sequence::from_vec(rdns),
-        })
+        let path = path.behind(alloc, self.root())?;
+        Ok(TypedName { rdns, path })
     }
 
-    /// Where a name stands below the suffix. Each AVA is checked in turn, the entry's own RDN first: `InvalidDnSyntax` where its type isn't
-    /// known or has DN syntax, `NamingViolation` where that has no equality rule, `InvalidDnSyntax` where the value isn't valid,
-    /// `NamingViolation` where its RDN has an AVA of that type before it. Then `NoSuchObject` where the name doesn't end with the suffix.
+    // the RDNs of a name below the suffix
     #[tactic(auto, unfolding(crate::specs::Conf::place_of))]
-    pub fn place_of(&self, alloc: Global, name: &Name) -> Result<Located, PathFault>
-        ensures rdns { Gives (λ l. l.rdns) result (place_of self.now name.now) }
-        ensures path { IfOk result (λ l. l.path ≡ path_of self.now l.rdns) }
-        ensures good { IfOk result (λ l. AllByRecursion (IsRdn self.now.types) l.rdns) }
+    fn place_of(&self, alloc: Global, name: &Name) -> Result<TypedName, PathFault>
+        ensures rdns { Gives rdns_down result (place_of self.now name.now) }
+        ensures keys { IfOk result (KeysFit self.now.types) }
     {
         let typed = typed(alloc, self.table(), name)?;
         self.below_suffix(alloc, typed)
     }
 
-    // where a name stands, of which the RDNs of the suffix are left out
+    // those of a name of which the RDNs of the suffix are left out
     #[tactic(auto, unfolding(crate::specs::inner::Fronts::front_located))]
-    fn locate_front(&self, alloc: Global, front: &[u8]) -> Result<Located, PathFault>
-        ensures rdns { Gives (λ l. l.rdns) result (front_located self.now.types front.now) }
-        ensures path { IfOk result (λ l. l.path ≡ path_of self.now l.rdns) }
-        ensures good { IfOk result (λ l. AllByRecursion (IsRdn self.now.types) l.rdns) }
+    fn front_place(&self, alloc: Global, front: &[u8]) -> Result<TypedName, PathFault>
+        ensures rdns { Gives rdns_down result (front_located self.now.types front.now) }
+        ensures keys { IfOk result (KeysFit self.now.types) }
     {
         let name = read_dn(alloc, front)?;
-        let TypedName { mut rdns, path } = typed(alloc, self.table(), &name)?;
-        rdns.reverse();
-        Ok(Located {
-            // one that takes the room of its own bytes alone
-            path: path.copy(alloc)?,
-            rdns: Sequence::from_vec(rdns),
-        })
+        typed(alloc, self.table(), &name)
     }
 
+    // those of a name as text
     #[tactic(auto, unfolding(crate::specs::Conf::located))]
-    fn locate_whole(&self, alloc: Global, text: &[u8]) -> Result<Located, PathFault>
-        ensures rdns { Gives (λ l. l.rdns) result (located self.now text.now) }
-        ensures path { IfOk result (λ l. l.path ≡ path_of self.now l.rdns) }
-        ensures good { IfOk result (λ l. AllByRecursion (IsRdn self.now.types) l.rdns) }
+    fn whole_place(&self, alloc: Global, text: &[u8]) -> Result<TypedName, PathFault>
+        ensures rdns { Gives rdns_down result (located self.now text.now) }
+        ensures keys { IfOk result (KeysFit self.now.types) }
     {
         let name = read_dn(alloc, text)?;
         self.place_of(alloc, &name)
     }
 
-    /// Where the name that bytes spell stands; `InvalidDnSyntax` where they spell none, else what `place_of` answers.
-    pub fn locate(&self, alloc: Global, text: &[u8]) -> Result<Located, PathFault>
-        ensures rdns { Gives (λ l. l.rdns) result (located self.now text.now) }
-        ensures path { IfOk result (λ l. l.path ≡ path_of self.now l.rdns) }
-        ensures good { IfOk result (λ l. AllByRecursion (IsRdn self.now.types) l.rdns) }
+    // the same
+    fn place_in(&self, alloc: Global, text: &[u8]) -> Result<TypedName, PathFault>
+        ensures rdns { Gives rdns_down result (located self.now text.now) }
+        ensures keys { IfOk result (KeysFit self.now.types) }
     {
         self.rules_are_kept();
         written_names_are_read();
         valid_values_are_bytes();
         // most names end as the suffix is written, which need not be read each time
         match split_end(text, self.suffix_text()) {
-            Some(front) => self.locate_front(alloc, front),
-            None => self.locate_whole(alloc, text),
+            Some(front) => self.front_place(alloc, front),
+            None => self.whole_place(alloc, text),
         }
     }
 
-    /// The path of the entry with this name, or the code that `place_of` answers.
+    // the RDN of the entry that has these RDNs below the suffix, its own first
+    fn own_rdn(&self, alloc: Global, mut rdns: Vec<TypedRdn>) -> Result<TypedRdn, AllocError>
+        ensures { IfOk result (λ r. r ≡ own_rdn self.now (reverse rdns.items)) }
+    {
+        if rdns.is_empty() {
+            return self.suffix_rdn().copy(alloc);
+        }
+        Ok(rdns.swap_remove(0))
+    }
+
+    /// Where the name that bytes spell stands below the suffix: `InvalidDnSyntax` where they spell none. Then each AVA is checked in turn, the
+    /// entry's own RDN first: `InvalidDnSyntax` where its type isn't known or has DN syntax, `NamingViolation` where that has no equality rule,
+    /// `InvalidDnSyntax` where the value isn't valid, `NamingViolation` where its RDN has an AVA of that type before it. Then `NoSuchObject`
+    /// where the name doesn't end with the suffix.
+    pub fn locate(&self, alloc: Global, text: &[u8]) -> Result<Located, PathFault>
+        ensures place { Gives (λ l. (l.path, l.rdn)) result (place_of_text self.now text.now) }
+        ensures good { IfOk result (λ l. IsRdn self.now.types l.rdn) }
+    {
+        self.rules_are_kept();
+        located_rdns_are_good();
+        let place = self.place_in(alloc, text)?;
+        let TypedName { rdns, path } = place;
+        let rdn = self.own_rdn(alloc, rdns)?;
+        // a path that takes the room of its own bytes alone
+        let path = path.copy(alloc)?;
+        Ok(Located { path, rdn })
+    }
+
+    /// The path of the entry with the name that bytes spell, or the code that `locate` answers.
+    pub fn path_of_text(&self, alloc: Global, text: &[u8]) -> Result<Path, PathFault>
+        ensures { Gives (λ p. p) result (path_of_text self.now text.now) }
+    {
+        Ok(self.place_in(alloc, text)?.path)
+    }
+
+    /// The path of the entry with this name, or the code that `locate` answers.
     pub fn path_of(&self, alloc: Global, name: &Name) -> Result<Path, PathFault>
         ensures { Gives (λ p. p) result (path_of_name self.now name.now) }
     {
         Ok(self.place_of(alloc, name)?.path)
     }
 
-    /// An RDN with its types, or the code of the first AVA that has a fault, as `place_of` answers it.
+    /// An RDN with its types, or the code of the first AVA that has a fault, as `locate` answers it.
     pub fn typed_rdn(&self, alloc: Global, rdn: &dn::Rdn) -> Result<TypedRdn, PathFault>
         ensures gives { Gives (λ r. r) result (typed_rdn self.now.types rdn.now) }
         ensures good { IfOk result (IsRdn self.now.types) }

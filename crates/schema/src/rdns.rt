@@ -1,7 +1,6 @@
 //! RDNs whose types are known, and what they come to in a path.
 
-ghost use Rattle.std.specs.Prelude.{◌≡◌, ◌<◌, ◌≤◌, ◌∷◌, ◌++◌, [], true, IfOk, OnOk, length};
-ghost use Rattle.dn.specs.Names.{is_name};
+ghost use Rattle.std.specs.Prelude.{◌≡◌, ◌<◌, ◌≤◌, ◌∷◌, ◌++◌, [], IfOk, OnOk, length};
 ghost use Rattle.std.specs.List.{AllByRecursion, prefix_len};
 ghost use Rattle.schema.specs.Rdns.{is_plain, has_type, ava_type, typed_rdn, typed, is_lower, put_pair, rdn_key_of};
 ghost use Rattle.schema.specs.inner.Keys.{AreKnown};
@@ -89,7 +88,6 @@ pub(crate) fn typed_rdns(
 ) -> Result<Vec<TypedRdn>, PathFault>
     ensures gives { Gives (λ v. v.items) result (typed types.now name.now) }
     ensures known { IfOk result (λ v. AllByRecursion (AreKnown types.now) v.items) }
-    ensures named { OnOk result (is_name name.now ≡ true) }
 {
     let mut rdns = Vec::with_capacity(alloc, name.rdns().len())?;
     for rdn in name.rdns() {

@@ -66,7 +66,7 @@ commuted m from to n apart = finite.same_map path_total path_exact _ _ (λ q.
 pub number_is : (d : Tree) (p : Path) (n : ℕ) → finite.get d.numbers p ≡ Some n → number_at d p ≡ n
 number_is d p n is = ap (λ o. unwrap_or o d.next_number) is
 
-is_none : {A : Type 0} (o : Option A) → is_some o ≡ false → o ≡ None
+pub is_none : {A : Type 0} (o : Option A) → is_some o ≡ false → o ≡ None
 is_none None h = refl
 is_none (Some a) h = cc
 

@@ -171,7 +171,7 @@ module _ (d : Tree) (numbered : IsNumbered d.entries d.numbers) (free : (q : Pat
 -- numbers lead to the entries that they led to, but for that of the entry that changes
 pub followed : (d : Tree) (c : stored.Change) → IsNumbered d.entries d.numbers → ((q : Path) → finite.get d.numbers q ≢ Some d.next_number) → IsSpare d c → KeepsEntries (planned d c)
 followed d changes.Nothing numbered free spare = record { had = λ n e is. absurd cc; has = λ n e is. absurd cc; others = λ n e other. (λ h. h, λ h. h) }
-followed d (changes.Add path entry) numbered free spare = put_followed d numbered free path (content_of entry)
-followed d (changes.Replace path entry) numbered free spare = put_followed d numbered free path (content_of entry)
-followed d (changes.Remove path) numbered free spare = removed_followed d numbered free path
-followed d (changes.Move from to entry) numbered free spare = moved_followed d numbered free from to (content_of entry) spare
+followed d (changes.Add path number entry) numbered free spare = put_followed d numbered free path (content_of entry)
+followed d (changes.Replace path number entry) numbered free spare = put_followed d numbered free path (content_of entry)
+followed d (changes.Remove path number) numbered free spare = removed_followed d numbered free path
+followed d (changes.Move from to number entry) numbered free spare = moved_followed d numbered free from to (content_of entry) spare

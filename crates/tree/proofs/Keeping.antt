@@ -50,15 +50,15 @@ put_keeps d path entry = record {
 
 pub keeps_numbers : (d : Tree) (c : stored.Change) → IsSpare d c → KeepsNumbers (planned d c)
 keeps_numbers d changes.Nothing spare = record { before = λ q n is at. cc; after = λ q is. cc; others = λ q n a at. at; only = λ q n b at. (q, at, refl) }
-keeps_numbers d (changes.Add path entry) spare = put_keeps d path (content_of entry)
-keeps_numbers d (changes.Replace path entry) spare = put_keeps d path (content_of entry)
-keeps_numbers d (changes.Remove path) spare = record {
+keeps_numbers d (changes.Add path number entry) spare = put_keeps d path (content_of entry)
+keeps_numbers d (changes.Replace path number entry) spare = put_keeps d path (content_of entry)
+keeps_numbers d (changes.Remove path number) spare = record {
   before = λ q n is at. had d path q n is at;
   after = λ q is. cc;
   others = λ q n a at. remove_other d.numbers path q a ∙ at;
   only = λ q n b at. (q, (removed d.numbers path q n at).1, refl);
 }
-keeps_numbers d (changes.Move from to entry) spare = record {
+keeps_numbers d (changes.Move from to number entry) spare = record {
   before = λ q n is at. had d from q n is at;
   after = λ q is. put_own (moved from to d.numbers) to q (number_at d from) is;
   others = λ q n a at.

@@ -1,6 +1,6 @@
 -- A directory stays one when an entry is added.
-use Rattle.std.proofs.Common.{◌≡◌, ℕ, suc, ◌+◌, ◌-◌, ◌≤◌, Bool, true, false, cond, not, ◌&&◌, List, [], ◌∷◌, ◌++◌, Some, Result, Ok, Err, ◌⊎◌, inl, inr, refl, sym, ap, subst, ◌∙◌, arith}
-use Rattle.std.specs.Prelude.{is_some, nat_le, nat_lt, length, slice_index_or}
+use Rattle.std.proofs.Common.{◌≡◌, ℕ, ◌+◌, ◌≤◌, Bool, true, false, cond, not, ◌&&◌, List, [], ◌∷◌, ◌++◌, Some, Result, Ok, Err, ◌⊎◌, inl, inr, refl, sym, ap, subst, ◌∙◌, arith}
+use Rattle.std.specs.Prelude.{is_some, nat_le}
 use Rattle.std.specs.declared.cmp.Ordering.{Ordering}
 use Rattle.std.specs.declared.cmp.Ordering.TheVariants.{Less, Equal, Greater}
 use Rattle.std.specs.Ordering.{eq_by_cmp, is_eq}
@@ -15,13 +15,14 @@ use Rattle.schema.specs.declared.code.Code.TheVariants.{EntryAlreadyExists, NoSu
 use Rattle.paths.specs.Paths.{RdnKey, Path, path_cmp, parent_of, is_root}
 use Rattle.schema.specs.Rdns.{TypedRdn, rdn_key_of}
 use Rattle.schema.specs.GoodRdns.{IsRdn}
-use Rattle.schema.specs.Conf.{Conf, IsConf, root_rdn, first_rdn, located, located_at, path_of}
+use Rattle.schema.specs.Conf.{Conf, IsConf, root_rdn, located, located_at, path_of, own_rdn}
+use Rattle.schema.proofs.OwnRdns.{own_good}
 use Rattle.base.specs.Answers.{◌>>=◌}
 use Rattle.entries.specs.Entries.{EntryContent, Attributes, IsGood, add_lines, has_its_classes, are_single}
 use Rattle.tree.specs.Directories.{Entries, IsDirectory}
 use Rattle.tree.specs.Changes.{Change, Put, changed, MayStand}
 use Rattle.ldif.specs.declared.record.Mode.{Mode}
-use Rattle.tree.specs.Adds.{own_rdn, with_entry, entry_of, add_at, add}
+use Rattle.tree.specs.Adds.{with_entry, entry_of, add_at, add}
 use Rattle.tree.proofs.Order.{path_total, path_exact}
 use Rattle.base.proofs.Bound.{bind_ok, same_ok}
 use Rattle.entries.proofs.Pushed.{AreGood, lines_good, rdn_good, all_come}
@@ -97,18 +98,6 @@ root_is : (conf : Conf) (rs : List TypedRdn) → path_of conf rs ≡ [] → own_
 root_is conf [] e = refl
 root_is conf (r ∷ rs) e = absurd cc
 
-first_good : (P : TypedRdn → Type 0) (rs : List TypedRdn) → AllByRecursion P rs → nat_lt 0 (length rs) ≡ true → P (first_rdn rs)
-first_good P [] h some = absurd cc
-first_good P (r ∷ rs) h some = h.0
-
-pub root_good : (conf : Conf) → IsConf conf → IsRdn conf.types (root_rdn conf)
-root_good conf ok = first_good (IsRdn conf.types) conf.suffix ok.suffix ok.suffix_some
-
-pub own_good : (conf : Conf) → IsConf conf → (rs : List TypedRdn) → AllByRecursion (IsRdn conf.types) rs → IsRdn conf.types (own_rdn conf rs)
-own_good conf ok [] h = root_good conf ok
-own_good conf ok (r ∷ []) h = h.0
-own_good conf ok (r ∷ s ∷ rs) h = own_good conf ok (s ∷ rs) h.1
-
 none_good : (conf : Conf) → AreGood conf.types []
 unfolding IsDistinct
 none_good conf = record { all = tt; types_apart = tt }
@@ -150,11 +139,3 @@ keeps reads conf mode d dn lines out ok h said =
 -- an entry that was put is there
 pub get_inserted : (d : Entries) (p : Path) (e : EntryContent) → finite.get (finite.insert d p e) p ≡ Some e
 get_inserted d p e = finite.get-insert path_total d p e p ∙ ap (λ o. cond (is_eq o) (Some e) (finite.get d p)) (tied_itself path_total p)
-
--- the last RDN, where there is one
-pub own_rdn_last : (conf : Conf) (rs : List TypedRdn) (d : TypedRdn) → 1 ≤ length rs → own_rdn conf rs ≡ slice_index_or rs (length rs - 1) d
-own_rdn_last conf [] d some = absurd (omega arith)
-own_rdn_last conf (r ∷ []) d some = refl
-own_rdn_last conf (r ∷ s ∷ rs) d some =
-    let n : length (r ∷ s ∷ rs) - 1 ≡ suc (length (s ∷ rs) - 1) = omega arith in
-    own_rdn_last conf (s ∷ rs) d (omega arith) ∙ ap (λ k. slice_index_or (r ∷ s ∷ rs) k d) (sym n)

@@ -19,6 +19,7 @@ pub mod NameLemmas
 pub mod Above
 pub mod Writable
 pub mod Planned
+pub mod Places
 pub mod ChangeExamples
 pub mod Followed
 mod LastUpTo

@@ -1,5 +1,5 @@
 -- What plans of a modify and of a rename lead to.
-use Rattle.std.proofs.Common.{◌≡◌, ◌≢◌, Bool, true, false, cond, not, List, [], ◌∷◌, ◌++◌, Some, refl, sym, ap, subst, ◌∙◌}
+use Rattle.std.proofs.Common.{◌≡◌, ◌≢◌, ℕ, Bool, true, false, cond, not, List, [], ◌∷◌, ◌++◌, Some, refl, sym, ap, subst, ◌∙◌}
 use Rattle.std.specs.Prelude.{is_some, ◌&&◌}
 use Rattle.std.specs.FinMap as finite
 use Rattle.ldif.specs.declared.record.Mod.{Mod}
@@ -40,12 +40,12 @@ stays made d p old out h at good same = record {
   root = λ is. same ∙ h.root old (ap (λ (y : Path). finite.get d y) (sym is) ∙ at);
 }
 
-pub modified_change : (t : Tree) (conf : Conf) (p : Path) (old : EntryContent) (mods : List Mod) (out : Entry) → t.conf ≡ conf → IsDirectory t.conf t.entries → finite.get t.entries p ≡ Some old
-    → IsMade conf.types out.attrs → modify_entry conf old mods ≡ changed_to (content_of out) → IsChange t (changes.Replace p out)
-modified_change t conf p old mods out same h at made said =
+pub modified_change : (t : Tree) (conf : Conf) (p : Path) (n : ℕ) (old : EntryContent) (mods : List Mod) (out : Entry) → t.conf ≡ conf → IsDirectory t.conf t.entries → finite.get t.numbers p ≡ Some n → finite.get t.entries p ≡ Some old
+    → IsMade conf.types out.attrs → modify_entry conf old mods ≡ changed_to (content_of out) → IsChange t (changes.Replace p n out)
+modified_change t conf p n old mods out same h number at made said =
     let k = modify_keeps conf old (content_of out) mods (good_under t.conf conf t.entries p old same h at) said in
     record {
-      fit = (ap is_some at, made_under t.conf conf out.attrs same made);
+      fit = (number, made_under t.conf conf out.attrs same made);
       directory = replaced_kept t.conf t.entries p (content_of out) h (ap is_some at)
           (stays t.conf t.entries p old (content_of out) h at (subst (λ (r : Conf). IsGood r (content_of out)) (sym same) k.0) k.1);
     }
@@ -81,7 +81,7 @@ moves d p to upper s place there apart above =
       apart = ap (begins p) parent ∙ apart;
     }
 
-module _ (t : Tree) (conf : Conf) (p to upper : Path) (old : EntryContent) (new : TypedRdn) (delete_old : Bool) (out : Entry) (same : t.conf ≡ conf) (h : IsDirectory t.conf t.entries) (at : finite.get t.entries p ≡ Some old)
+module _ (t : Tree) (conf : Conf) (p to upper : Path) (n : ℕ) (old : EntryContent) (new : TypedRdn) (delete_old : Bool) (out : Entry) (same : t.conf ≡ conf) (h : IsDirectory t.conf t.entries) (number : finite.get t.numbers p ≡ Some n) (at : finite.get t.entries p ≡ Some old)
     (rdn : IsRdn conf.types new) (place : to ≡ upper ++ rdn_key_of conf.types new ∷ []) (made : IsMade conf.types out.attrs) (said : rename_entry conf old new delete_old ≡ changed_to (content_of out)) where
   may_stand : MayStand t.conf to (content_of out)
   may_stand =
@@ -89,23 +89,23 @@ module _ (t : Tree) (conf : Conf) (p to upper : Path) (old : EntryContent) (new 
       stands t.conf conf to upper new (content_of out) same place k.0 k.1
 
   -- another spelling of its name
-  respelled_change : same_path p to ≡ true → IsChange t (changes.Replace p out)
+  respelled_change : same_path p to ≡ true → IsChange t (changes.Replace p n out)
   respelled_change tie = record {
-    fit = (ap is_some at, made_under t.conf conf out.attrs same made);
+    fit = (number, made_under t.conf conf out.attrs same made);
     directory = replaced_kept t.conf t.entries p (content_of out) h (ap is_some at)
         (subst (λ (y : Path). MayStand t.conf y (content_of out)) (sym (path_exact p to (equal (path_cmp p to) tie))) may_stand);
   }
 
-  moved_change : begins p upper ≡ false → finite.contains_key t.entries upper ≡ true → finite.contains_key t.entries to ≡ false → IsChange t (changes.Move p to out)
+  moved_change : begins p upper ≡ false → finite.contains_key t.entries upper ≡ true → finite.contains_key t.entries to ≡ false → IsChange t (changes.Move p to n out)
   moved_change apart above free = record {
-    fit = (ap is_some at, free, made_under t.conf conf out.attrs same made);
+    fit = (number, free, made_under t.conf conf out.attrs same made);
     directory = moved_kept t.conf t.entries p to (content_of out) h
         (moves t.entries p to upper (rdn_key_of conf.types new) place (ap is_some at) apart above) may_stand;
   }
 
   -- either of them
-  pub renaming_change : begins p upper ≡ false → finite.contains_key t.entries upper ≡ true → is_taken t.entries p to ≡ false → IsChange t (renaming p to out)
-  renaming_change apart above free = elim (same_path p to) as (λ (b : Bool). same_path p to ≡ b → not b && finite.contains_key t.entries to ≡ false → IsChange t (cond b (changes.Replace p out) (changes.Move p to out))) [
+  pub renaming_change : begins p upper ≡ false → finite.contains_key t.entries upper ≡ true → is_taken t.entries p to ≡ false → IsChange t (renaming p to n out)
+  renaming_change apart above free = elim (same_path p to) as (λ (b : Bool). same_path p to ≡ b → not b && finite.contains_key t.entries to ≡ false → IsChange t (cond b (changes.Replace p n out) (changes.Move p to n out))) [
     | true ↦ λ tie _. respelled_change tie
     | false ↦ λ tie free. moved_change apart above free
   ] refl free

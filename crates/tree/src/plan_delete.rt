@@ -12,18 +12,16 @@ use crate::laws::removing_keeps_a_directory;
 use crate::planner::Planner;
 use crate::plans::Change;
 use entries::Refusal;
-use schema::{Code, Located, Path};
+use schema::{Code, Path};
 
 impl Planner<'_> {
     /// The entry with this name is taken away.
-    #[tactic(auto, unfolding(crate::specs::Deletes::delete))]
     pub(crate) fn delete_of(&self, dn: &[u8]) -> Result<Change, Refusal>
         ensures change { IfOk result (λ c. IsChange self.now.tree.now c) }
         ensures path { IfOk result (λ c. path_before (seen_change c) ≡ path_in self.now.conf.now (located self.now.conf.now dn.now)) }
         ensures gives { Gives seen_change result (delete self.now.conf.now self.now.tree.now.entries dn.now) }
     {
-        let Located { path, rdns } = self.conf.locate(self.alloc, dn)?;
-        drop(rdns);
+        let path = self.conf.path_of_text(self.alloc, dn)?;
         self.delete_at(path)
     }
 
@@ -34,13 +32,14 @@ impl Planner<'_> {
         ensures gives { Gives seen_change result (delete_at self.now.tree.now.entries path) }
     {
         self.tree.entries_are_a_directory();
+        self.tree.entries_are_numbered();
         removing_keeps_a_directory();
-        if !self.tree.contains(&path) {
+        let Some(number) = self.tree.number(&path) else {
             return Err(Refusal::Code(Code::NoSuchObject));
-        }
+        };
         if self.tree.has_child(&path) {
             return Err(Refusal::Code(Code::NotAllowedOnNonLeaf));
         }
-        Ok(Change::Remove { path })
+        Ok(Change::Remove { path, number })
     }
 }

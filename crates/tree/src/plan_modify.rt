@@ -13,18 +13,16 @@ use crate::planner::Planner;
 use crate::plans::Change;
 use entries::{Refusal, modified};
 use ldif::Mod;
-use schema::{Code, Located, Path};
+use schema::{Code, Path};
 
 impl Planner<'_> {
     /// The blocks change the entry with this name.
-    #[tactic(auto, unfolding(crate::specs::Modifies::modify))]
     pub(crate) fn modify_of(&self, dn: &[u8], mods: &[Mod]) -> Result<Change, Refusal>
         ensures change { IfOk result (λ c. IsChange self.now.tree.now c) }
         ensures path { IfOk result (λ c. path_before (seen_change c) ≡ path_in self.now.conf.now (located self.now.conf.now dn.now)) }
         ensures gives { Gives seen_change result (modify self.now.conf.now self.now.tree.now.entries dn.now mods.now) }
     {
-        let Located { path, rdns } = self.conf.locate(self.alloc, dn)?;
-        drop(rdns);
+        let path = self.conf.path_of_text(self.alloc, dn)?;
         self.modify_at(path, mods)
     }
 
@@ -35,10 +33,14 @@ impl Planner<'_> {
         ensures gives { Gives seen_change result (modify_there self.now.conf.now path mods.now (finite.get self.now.tree.now.entries path)) }
     {
         self.tree.entries_are_a_directory();
-        let Some(entry) = self.tree.get(&path) else {
+        let Some((number, entry)) = self.tree.find(&path) else {
             return Err(Refusal::Code(Code::NoSuchObject));
         };
         let entry = modified(self.alloc, self.conf, entry, mods)?;
-        Ok(Change::Replace { path, entry })
+        Ok(Change::Replace {
+            path,
+            number,
+            entry,
+        })
     }
 }

@@ -1,7 +1,6 @@
 -- What a configuration keeps beside what is seen of it.
-use Rattle.std.specs.Prelude.{◌≡◌, ℕ, List, map, reverse}
+use Rattle.std.specs.Prelude.{◌≡◌, List, map, reverse}
 use Rattle.dn.specs.Writing.{text_of}
-use Rattle.paths.specs.Paths.{Path}
 use Rattle.values.specs.declared.types.AttributeType.{AttributeType}
 use Rattle.schema.specs.declared.derived.Derived.{Derived}
 use Rattle.schema.specs.declared.object_class.ObjectClass.{ObjectClass}

@@ -12,3 +12,7 @@ AreKnown types r = AllByRecursion (λ p. p.0 < length types) r
 -- the path goes from the root of the tree down
 abbrev pub KeysFit : List AttributeType → TypedName → Type 0
 KeysFit types x = x.path ≡ map (rdn_key_of types) (reverse x.rdns.items)
+
+-- the RDNs from the suffix down
+abbrev pub rdns_down : TypedName → List TypedRdn
+rdns_down x = reverse x.rdns.items

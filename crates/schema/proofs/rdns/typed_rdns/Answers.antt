@@ -42,20 +42,11 @@ returns-clause-gives c =
 pub returns-in_err-typed_rdn-clause-known : goal.returns-in_err-typed_rdn-clause-known
 returns-in_err-typed_rdn-clause-known c = IfOk-from_err _ _ c.from_residual-in_err-typed_rdn.ensures.0
 
-pub returns-in_err-typed_rdn-clause-named : goal.returns-in_err-typed_rdn-clause-named
-returns-in_err-typed_rdn-clause-named c = IfOk-from_err _ _ c.from_residual-in_err-typed_rdn.ensures.0
-
 pub returns-in_err-push-clause-known : goal.returns-in_err-push-clause-known
 returns-in_err-push-clause-known c = IfOk-from_err _ _ c.from_residual-in_err-push.ensures.0
 
-pub returns-in_err-push-clause-named : goal.returns-in_err-push-clause-named
-returns-in_err-push-clause-named c = IfOk-from_err _ _ c.from_residual-in_err-push.ensures.0
-
 pub returns-in_err-rdns-clause-known : goal.returns-in_err-rdns-clause-known
 returns-in_err-rdns-clause-known c = IfOk-from_err _ _ c.from_residual.ensures.0
-
-pub returns-in_err-rdns-clause-named : goal.returns-in_err-rdns-clause-named
-returns-in_err-rdns-clause-named c = IfOk-from_err _ _ c.from_residual.ensures.0
 
 pub returns-in_err-push-clause-gives : goal.returns-in_err-push-clause-gives
 returns-in_err-push-clause-gives c = gives_nothing _ c.from_residual-in_err-push.result _ c.from_residual-in_err-push.ensures.1

@@ -6,10 +6,7 @@ use Rattle.schema.specs.declared.code.Code.{Code}
 use Rattle.paths.specs.Paths.{Path, begins}
 use Rattle.schema.specs.Rdns.{TypedRdn, rdn_key_of}
 use Rattle.schema.proofs.Below.{isnt_below, is_below, reversed_front, begins_long}
-use Rattle.schema.specs.GoodRdns.{IsRdn}
-use Rattle.schema.proofs.Found.{below_are}
-use Rattle.schema.proofs.Locating.{all_reverse}
-use Rattle.schema.proofs.conf.Conf.below_suffix.Goals.{After-suffix, After-reverse}
+use Rattle.schema.proofs.conf.Conf.below_suffix.Goals.{After-suffix, After-truncate}
 use Rattle.schema.proofs.conf.Conf.below_suffix.Goals as goal
 
 abbrev ok : List TypedRdn → Result (List TypedRdn) Code
@@ -17,7 +14,7 @@ ok rs = Ok rs
 
 pub returns-then-not-begins-clause-rdns : goal.returns-then-not-begins-clause-rdns
 returns-then-not-begins-clause-rdns c =
-    isnt_below c.args.self.now.types (reverse c.args.self.now.suffix) (reverse c.args.typed.rdns.items) c.args.typed.path c.begins.result c.requires.keys
+    isnt_below c.args.self.now.types (reverse c.args.self.now.suffix) (reverse c.args.typed.rdns.items) c.args.typed.path c.begins.result c.requires
     (c.begins.ensures ∙ ap (λ (k : Path). begins k c.args.typed.path) c.root.ensures) c.if-not-begins.true
 
 -- the name has as many RDNs as the suffix, or more
@@ -27,7 +24,7 @@ long c =
     let upper : length c.root.result.now ≡ length c.args.self.now.suffix =
     ap (λ (p : Path). length p) c.root.ensures ∙ length-map (reverse c.args.self.now.suffix) (rdn_key_of c.args.self.now.types) ∙ length-reverse c.args.self.now.suffix in
     let whole : length c.args.typed.path ≡ length c.args.typed.rdns.items =
-    ap (λ (p : Path). length p) c.requires.keys ∙ length-map (reverse c.args.typed.rdns.items) (rdn_key_of c.args.self.now.types) ∙ length-reverse c.args.typed.rdns.items in
+    ap (λ (p : Path). length p) c.requires ∙ length-map (reverse c.args.typed.rdns.items) (rdn_key_of c.args.self.now.types) ∙ length-reverse c.args.typed.rdns.items in
     omega (arith, le)
 
 pub overflow_sub-len : goal.overflow_sub-len
@@ -37,38 +34,30 @@ overflow_sub-len c =
     omega (arith, le, c.args.typed.rdns.ok.0)
 
 -- the RDNs below the suffix, from the suffix down
-rest_is : (c : After-reverse) → length c.args.self.now.suffix ≤ length c.args.typed.rdns.items → c.reverse.new.self.items ≡ drop (length (reverse c.args.self.now.suffix)) (reverse c.args.typed.rdns.items)
+rest_is : (c : After-truncate) → length c.args.self.now.suffix ≤ length c.args.typed.rdns.items → reverse c.truncate.new.self.items ≡ drop (length (reverse c.args.self.now.suffix)) (reverse c.args.typed.rdns.items)
 rest_is c le =
     let rdns : List TypedRdn = c.args.typed.rdns.items in
     let few : ℕ = length c.args.self.now.suffix in
     let kept : c.len.result - length c.suffix.result.now ≡ length rdns - few = λ i. (c.len.ensures ∙ c.args.typed.rdns.ok.0) i - length (c.suffix.ensures i) in
-    c.reverse.ensures.items ∙ ap (λ (rs : List TypedRdn). reverse rs) (c.truncate.ensures.items ∙ ap (λ n. take n rdns) kept) ∙ reversed_front rdns few le
+    ap (λ (rs : List TypedRdn). reverse rs) (c.truncate.ensures.items ∙ ap (λ n. take n rdns) kept) ∙ reversed_front rdns few le
     ∙ ap (λ n. drop n (reverse rdns)) (sym (length-reverse c.args.self.now.suffix))
 
 pub returns-clause-rdns : goal.returns-clause-rdns
 returns-clause-rdns c =
-    is_below c.args.self.now.types (reverse c.args.self.now.suffix) (reverse c.args.typed.rdns.items) c.args.typed.path c.begins.result c.requires.keys
+    is_below c.args.self.now.types (reverse c.args.self.now.suffix) (reverse c.args.typed.rdns.items) c.args.typed.path c.begins.result c.requires
     (c.begins.ensures ∙ ap (λ (k : Path). begins k c.args.typed.path) c.root.ensures) c.if-not-begins.false
-    ∙ ap ok (sym (rest_is (goal.at.returns-clause-rdns c).After-reverse (long (goal.at.returns-clause-rdns c).After-suffix)) ∙ sym c.from_vec.ensures)
+    ∙ ap ok (sym (rest_is (goal.at.returns-clause-rdns c).After-truncate (long (goal.at.returns-clause-rdns c).After-suffix)))
 
-pub returns-clause-path : goal.returns-clause-path
-returns-clause-path c =
+pub returns-clause-keys : goal.returns-clause-keys
+returns-clause-keys c =
     let types = c.args.self.now.types in
     let upper : length c.root-2.result.now ≡ length (reverse c.args.self.now.suffix) = ap (λ (p : Path). length p) c.root-2.ensures ∙ length-map (reverse c.args.self.now.suffix) (rdn_key_of types) in
-    c.in_ok-behind.ensures ∙ ap (λ n. drop n c.args.typed.path) upper ∙ ap (λ (p : Path). drop (length (reverse c.args.self.now.suffix)) p) c.requires.keys
+    c.in_ok-path.ensures ∙ ap (λ n. drop n c.args.typed.path) upper ∙ ap (λ (p : Path). drop (length (reverse c.args.self.now.suffix)) p) c.requires
     ∙ drop-map (rdn_key_of types) (length (reverse c.args.self.now.suffix)) (reverse c.args.typed.rdns.items)
-    ∙ ap (map (rdn_key_of types)) (sym (rest_is (goal.at.returns-clause-path c).After-reverse (long (goal.at.returns-clause-path c).After-suffix)) ∙ sym c.from_vec.ensures)
+    ∙ ap (map (rdn_key_of types)) (sym (rest_is (goal.at.returns-clause-keys c).After-truncate (long (goal.at.returns-clause-keys c).After-suffix)))
 
-pub returns-clause-good : goal.returns-clause-good
-returns-clause-good c =
-    below_are c.args.self.now.types (IsRdn c.args.self.now.types) (reverse c.args.self.now.suffix) (reverse c.args.typed.rdns.items) c.from_vec.result
-    (all_reverse (IsRdn c.args.self.now.types) c.args.typed.rdns.items c.requires.good) (returns-clause-rdns c)
+pub returns-in_err-path-clause-keys : goal.returns-in_err-path-clause-keys
+returns-in_err-path-clause-keys c = IfOk-from_err _ _ c.from_residual.ensures.0
 
-pub returns-in_err-behind-clause-path : goal.returns-in_err-behind-clause-path
-returns-in_err-behind-clause-path c = IfOk-from_err _ _ c.from_residual.ensures.0
-
-pub returns-in_err-behind-clause-good : goal.returns-in_err-behind-clause-good
-returns-in_err-behind-clause-good c = IfOk-from_err _ _ c.from_residual.ensures.0
-
-pub returns-in_err-behind-clause-rdns : goal.returns-in_err-behind-clause-rdns
-returns-in_err-behind-clause-rdns c = gives_nothing _ c.from_residual.result _ c.from_residual.ensures.1
+pub returns-in_err-path-clause-rdns : goal.returns-in_err-path-clause-rdns
+returns-in_err-path-clause-rdns c = gives_nothing _ c.from_residual.result _ c.from_residual.ensures.1

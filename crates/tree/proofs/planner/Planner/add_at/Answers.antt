@@ -6,7 +6,6 @@ use Rattle.base.specs.Answers.{Fails}
 use Rattle.paths.specs.Paths.{parent_of, is_root}
 use Rattle.entries.specs.Gives.{fault_of}
 use Rattle.entries.specs.StoredEntries.{Entry, attributes_of, content_of, IsMade}
-use Rattle.tree.specs.Adds.{own_rdn}
 use Rattle.tree.specs.Changes.{Put}
 use Rattle.tree.proofs.PlanLemmas.{at_root, has_parent, add_at_is}
 use Rattle.tree.proofs.planner.Planner.add_at.Goals as goal
@@ -26,15 +25,6 @@ returns-in_err-complete-clause-new c = IfOk-from_err _ _ c.from_residual-in_err-
 
 pub returns-in_err-complete-clause-made : goal.returns-in_err-complete-clause-made
 returns-in_err-complete-clause-made c = IfOk-from_err _ _ c.from_residual-in_err-complete.ensures.0
-
-pub returns-in_err-rdn-clause-new : goal.returns-in_err-rdn-clause-new
-returns-in_err-rdn-clause-new c = IfOk-from_err _ _ c.from_residual-in_err-rdn.ensures.0
-
-pub returns-in_err-rdn-clause-made : goal.returns-in_err-rdn-clause-made
-returns-in_err-rdn-clause-made c = IfOk-from_err _ _ c.from_residual-in_err-rdn.ensures.0
-
-pub returns-in_err-rdn-clause-gives : goal.returns-in_err-rdn-clause-gives
-returns-in_err-rdn-clause-gives c = let p = err_from_is_err_and c.from_residual-in_err-rdn.result c.from_residual-in_err-rdn.ensures.1 in rw (p.1, p.2) tt
 
 pub returns-in_err-attrs-clause-new : goal.returns-in_err-attrs-clause-new
 returns-in_err-attrs-clause-new c = IfOk-from_err _ _ c.from_residual-in_err-attrs.ensures.0
@@ -60,7 +50,7 @@ returns-clause-gives c =
       | else-not-is_root-via-then-not-is_root+else-not-has_parent w ↦ has_parent (is_root p) (finite.contains_key d (parent_of p)) (sym c.in_ok-is_there.ensures.parent ∙ w.if-not-has_parent.false)
       | else-not-is_root-via-else-not-is_root w ↦ at_root (is_root p) (finite.contains_key d (parent_of p)) (sym c.is_root.ensures ∙ w.if-not-is_root.false)
     ] in
-    let is = add_at_is conf c.args.self.now.mode d p c.in_ok-rdn.rdn (own_rdn conf c.args.rdns.now) c.args.lines.now (attributes_of c.in_ok-attrs.attrs.entries) (sym c.in_ok-is_there.ensures.entry ∙ c.if-is_there.false) above c.in_ok-rdn.ensures.rdn c.in_ok-attrs.ensures.gives in
+    let is = add_at_is conf c.args.self.now.mode d p c.args.rdn c.args.lines.now (attributes_of c.in_ok-attrs.attrs.entries) (sym c.in_ok-is_there.ensures.entry ∙ c.if-is_there.false) above c.in_ok-attrs.ensures.gives in
     is ∙ c.in_ok-complete.ensures.gives p ∙ ap (λ (e : Entry). Ok (Put p (content_of e))) (sym c.new.ensures)
 
 pub returns-in_err-complete-clause-gives : goal.returns-in_err-complete-clause-gives
@@ -72,6 +62,6 @@ returns-in_err-complete-clause-gives c =
       | else-not-is_root-via-then-not-is_root+else-not-has_parent w ↦ has_parent (is_root p) (finite.contains_key d (parent_of p)) (sym c.in_ok-is_there.ensures.parent ∙ w.if-not-has_parent.false)
       | else-not-is_root-via-else-not-is_root w ↦ at_root (is_root p) (finite.contains_key d (parent_of p)) (sym c.is_root.ensures ∙ w.if-not-is_root.false)
     ] in
-    let is = add_at_is conf c.args.self.now.mode d p c.in_ok-rdn.rdn (own_rdn conf c.args.rdns.now) c.args.lines.now (attributes_of c.in_ok-attrs.attrs.entries) (sym c.in_ok-is_there.ensures.entry ∙ c.if-is_there.false) above c.in_ok-rdn.ensures.rdn c.in_ok-attrs.ensures.gives in
+    let is = add_at_is conf c.args.self.now.mode d p c.args.rdn c.args.lines.now (attributes_of c.in_ok-attrs.attrs.entries) (sym c.in_ok-is_there.ensures.entry ∙ c.if-is_there.false) above c.in_ok-attrs.ensures.gives in
     let k = err_from_is_err_and c.from_residual-in_err-complete.result c.from_residual-in_err-complete.ensures.1 in
     rw (k.1, k.2) (subst (Fails (fault_of c.in_err-complete.field-0.0)) (sym is) (c.in_err-complete.ensures.gives p))

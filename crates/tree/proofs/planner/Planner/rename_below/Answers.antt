@@ -10,9 +10,9 @@ renamed-requires-clause-old c =
     c.args.self.now.same_conf c.entries_are_a_directory.ensures c.requires.there).rdn
 
 pub returns-clause-change : goal.returns-clause-change
-returns-clause-change c =
-    renaming_change c.args.self.now.tree.now c.args.self.now.conf.now c.args.path.now c.in_ok-to.to c.args.upper.now (content_of c.args.entry.now) c.args.new c.args.delete_old c.in_ok-entry.entry
-    c.args.self.now.same_conf c.entries_are_a_directory.ensures c.requires.there c.requires.good c.in_ok-to.ensures c.in_ok-entry.ensures.made c.in_ok-entry.ensures.gives
+returns-clause-change c = λ number own.
+    renaming_change c.args.self.now.tree.now c.args.self.now.conf.now c.args.path.now c.in_ok-to.to c.args.upper.now number (content_of c.args.entry.now) c.args.new c.args.delete_old c.in_ok-entry.entry
+    c.args.self.now.same_conf c.entries_are_a_directory.ensures own c.requires.there c.requires.good c.in_ok-to.ensures c.in_ok-entry.ensures.made c.in_ok-entry.ensures.gives
     (sym c.begins.ensures ∙ c.if-begins.false) (sym c.contains.ensures ∙ c.if-not-contains.false) (sym c.is_taken.ensures ∙ c.if-is_taken.false)
 
 pub returns-in_err-entry-clause-change : goal.returns-in_err-entry-clause-change
