@@ -27,7 +27,7 @@ use Rattle.commands.specs.Loaded.{IsConfigured, IsLoaded, LoadFails}
 use Rattle.commands.specs.Failures.{IsMemory, FailsToRead, FailsToWrite}
 use Rattle.commands.specs.Changes.{Breaks}
 use Rattle.commands.specs.Prints.{ComesFirst, ComesLater}
-use Rattle.commands.specs.Queries.{Query, LacksBase, target_of, StopsWith, IsBegun, HasBegun, PrintsPartly, QueryStops}
+use Rattle.commands.specs.Queries.{Wanted, LacksBase, target_of, StopsWith, IsBegun, HasBegun, PrintsPartly, QueryStops}
 use Rattle.commands.specs.inner.Refusals.{FilterFails, Refuses, RefusesOrBreaks}
 use Rattle.commands.specs.inner.LoadFaults.{TellsLoadFault}
 use Rattle.commands.specs.inner.WriteFaults.{TellsWriteFault}
@@ -111,9 +111,6 @@ reported ComesTo w mid messages why s has tells = record {
 -- ---- loading
 
 module _ (files : Option Files) (db : List ℕ) where
-  pub conf_unread : (name : List ℕ) (f : CommandFault) → name ≡ conf_name db → FailsToRead name f → LoadFails files db f
-  conf_unread name f is = of_unread (LoadFails files db) name (λ n named. inl (named ∙ is)) tt f
-
   pub data_unread : (conf : Conf) (name : List ℕ) (f : CommandFault) → IsConfigured files (conf_name db) conf → name ≡ data_name db → FailsToRead name f → LoadFails files db f
   data_unread conf name f configured is = of_unread (LoadFails files db) name (λ n named. inr (record { conf = conf; configured = configured; name_is = named ∙ is })) tt f
 
@@ -140,7 +137,7 @@ pub of_faults : {A E : Type 0} {P Q : E → Type 0} (r : Result A E) → ((f : E
 of_faults {A} {E} {P} {Q} (Ok x) goes h = tt
 of_faults {A} {E} {P} {Q} (Err f) goes h = goes f h
 
-module _ (q : Query) (files : Option Files) where
+module _ (q : Wanted) (files : Option Files) where
   pub filter_stops : (f : CommandFault) → FilterFails q.filter f → StopsWith q files f
   filter_stops faults.Words h = h
   filter_stops (faults.Filter fault) h = h
@@ -202,7 +199,7 @@ refuses_more command Less More goes (faults.InUse name) h = h
 refuses_more command Less More goes faults.OutOfMemory h = h
 
 -- a query stops with this fault
-pub query_stops : (q : Query) (IsText : List ℕ → Type 0) (w w' : World) (f : CommandFault) → StopsWith q w.files f → PrintsPartly (HasBegun IsText q.file) w.output w'.output f → w' ≡ record w { output = w'.output }
+pub query_stops : (q : Wanted) (IsText : List ℕ → Type 0) (w w' : World) (f : CommandFault) → StopsWith q w.files f → PrintsPartly (HasBegun IsText q.file) w.output w'.output f → w' ≡ record w { output = w'.output }
     → QueryStops q IsText w (record { why = stops.Fault f; stored = []; world = w' })
 query_stops q IsText w w' f why printed stays = record { fault = f; fault_is = refl; why = why; printed = printed; only = record { stored = refl; stays = stays } }
 
@@ -251,11 +248,8 @@ load_first files db = first_of (LoadFails files db) (λ by code h. h) (λ n h. h
 pub unread_first : (name : List ℕ) (f : CommandFault) → FailsToRead name f → ComesFirst f
 unread_first name = first_of (FailsToRead name) (λ by code h. h) (λ n h. h)
 
-pub memory_first : (f : CommandFault) → IsMemory f → ComesFirst f
-memory_first = of_memory ComesFirst tt
-
 -- a base that isn't there, and what is printed to, come later
-pub refused_later : (q : Query) (conf : Conf) (d : Entries) (f : CommandFault) → RefusesOrBreaks q conf d f → ComesLater f
+pub refused_later : (q : Wanted) (conf : Conf) (d : Entries) (f : CommandFault) → RefusesOrBreaks q conf d f → ComesLater f
 refused_later q conf d faults.Words (inl h) = h
 refused_later q conf d faults.Words (inr h) = h
 refused_later q conf d (faults.Filter fault) (inl h) = h

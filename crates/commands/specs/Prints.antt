@@ -24,7 +24,7 @@ use Rattle.commands.specs.Messages.{code_text, line_of}
 use Rattle.commands.specs.IndexFiles.{Said, said_by, SaysOf, found_by, index_fault_text, IsFaultReported}
 use Rattle.commands.specs.Loaded.{IsLoaded}
 use Rattle.commands.specs.Excerpts.{excerpt_text}
-use Rattle.commands.specs.Queries.{Query, Basis, HasBasis, QueryStops}
+use Rattle.commands.specs.Queries.{Wanted, Basis, HasBasis, QueryStops}
 use Rattle.commands.specs.declared.messages.CommandFault.{CommandFault}
 use Rattle.commands.specs.declared.messages.CommandFault.TheVariants as faults
 use Rattle.commands.specs.declared.messages.Status.{Status}
@@ -34,8 +34,8 @@ use Rattle.commands.specs.declared.messages.Stop.TheVariants as stops
 -- ---- slapcat
 
 -- a base that is named has to be there
-abbrev pub cat_query : CatOptions → Query
-cat_query asked = record {
+abbrev pub cat_wanted : CatOptions → Wanted
+cat_wanted asked = record {
   command = codes "slapcat";
   db = asked.db.now;
   filter = option_copied asked.filter;
@@ -63,7 +63,7 @@ IsCatText false asked basis text = IsExcerpt asked basis text
 
 -- that of the directory that was loaded
 abbrev pub CatText : CatOptions → Option Files → List ℕ → Type 0
-CatText asked files text = HasBasis (cat_query asked) files (λ basis. IsCatText (is_whole asked) asked basis text)
+CatText asked files text = HasBasis (cat_wanted asked) files (λ basis. IsCatText (is_whole asked) asked basis text)
 
 -- a text is printed, or is stored as the file of this name, which is none of the directory's own; nothing else changes
 abbrev pub Puts : List ℕ → Option (List ℕ) → List ℕ → World → World → Type 0
@@ -81,12 +81,12 @@ abbrev pub CatGoesThrough : CatOptions → World → World → Status → Type 0
 CatGoesThrough asked w w' s = (s ≡ Done) × HasPut (CatText asked w.files) asked.db.now (option_copied asked.file) w w'
 
 abbrev pub CatStops : CatOptions → World → StoppedAt → Type 0
-CatStops asked w at = QueryStops (cat_query asked) (CatText asked w.files) w at
+CatStops asked w at = QueryStops (cat_wanted asked) (CatText asked w.files) w at
 
 -- ---- search
 
-abbrev pub search_query : SearchOptions → Query
-search_query asked = record {
+abbrev pub search_wanted : SearchOptions → Wanted
+search_wanted asked = record {
   command = codes "search";
   db = asked.db.now;
   filter = option_copied asked.filter;
@@ -109,13 +109,9 @@ pub record IsFoundText (asked : SearchOptions) (said : Said) (basis : Basis) (pa
   pub whole : said ≡ said_by basis.conf basis.entries (Some (index_text basis.conf basis.entries))
       → found_by said basis.conf basis.entries base asked.scope basis.filter ≡ scan basis.conf basis.entries base asked.scope basis.filter
 
--- with more behind it or without
-abbrev pub MayBeFound : SearchOptions → Said → Basis → List ℕ → Type 0
-MayBeFound asked said basis text = (past : Bool) × IsFoundText asked said basis past text
-
 -- that of the directory that was loaded, with its index.txt
 abbrev pub SearchText : SearchOptions → Option Files → Said → Bool → List ℕ → Type 0
-SearchText asked files said past text = HasBasis (search_query asked) files (λ basis. SaysOf files asked.db.now basis.conf basis.entries said × IsFoundText asked said basis past text)
+SearchText asked files said past text = HasBasis (search_wanted asked) files (λ basis. SaysOf files asked.db.now basis.conf basis.entries said × IsFoundText asked said basis past text)
 
 -- where there is more than the limit, the code is 4, and it is reported
 abbrev pub ReportsPast : Bool → World → World → Status → Type 0
@@ -156,7 +152,7 @@ ComesLater fault = ⊥
 
 -- it stops with such a fault, before it reports anything of index.txt
 pub record StopsUnreported (asked : SearchOptions) (w : World) (at : StoppedAt) : Type 0 where
-  pub stops : QueryStops (search_query asked) (λ text. ⊥) w at
+  pub stops : QueryStops (search_wanted asked) (λ text. ⊥) w at
   pub first : IsFault ComesFirst at.why
 
 -- or with one of the others afterwards, having printed so much
@@ -165,7 +161,7 @@ pub record StopsReported (asked : SearchOptions) (w : World) (at : StoppedAt) : 
   pub is : IsSaid asked w.files said
   pub index_reported : World
   pub reports : IsFaultReported said w index_reported
-  pub stops : QueryStops (search_query asked) (λ text. (past : Bool) × SearchText asked w.files said past text) index_reported at
+  pub stops : QueryStops (search_wanted asked) (λ text. (past : Bool) × SearchText asked w.files said past text) index_reported at
   pub later : IsFault ComesLater at.why
 
 -- or while it reports a fault of it

@@ -21,7 +21,7 @@ use Rattle.commands.specs.declared.messages.Stop.TheVariants as stops
 
 -- What is asked for: the name of the command, the folder, the filter, the base, whether that has to be there, whether index.txt is read, and the
 -- file that is printed to, none for the output.
-pub record Query : Type 0 where
+pub record Wanted : Type 0 where
   pub command : List ℕ
   pub db : List ℕ
   pub filter : Option (List ℕ)
@@ -39,7 +39,7 @@ pub record Basis : Type 0 where
   pub entries : Entries
 
 -- the filter is the one that is asked for, the directory was loaded, and this holds of them
-pub record HasBasis (q : Query) (files : Option Files) (Holds : Basis → Type 0) : Type 0 where
+pub record HasBasis (q : Wanted) (files : Option Files) (Holds : Basis → Type 0) : Type 0 where
   pub basis : Basis
   pub filter_is : IsFilter q.filter basis.filter
   pub loaded : IsLoaded files q.db basis.conf basis.entries
@@ -58,18 +58,18 @@ abbrev pub HasNoBase : Conf → Entries → Option (List ℕ) → Code → Type 
 HasNoBase conf d name code = (base_of conf name ≡ Err code) ⊎ (IsNotThere conf d name × (code ≡ NoSuchObject))
 
 -- it has to be there, and isn't
-abbrev pub LacksBase : Query → Conf → Entries → Code → Type 0
+abbrev pub LacksBase : Wanted → Conf → Entries → Code → Type 0
 LacksBase q conf d code = (q.needs_base ≡ true) × HasNoBase conf d q.base code
 
 -- a directory was loaded that lacks the base
-pub record IsRefused (q : Query) (files : Option Files) (code : Code) : Type 0 where
+pub record IsRefused (q : Wanted) (files : Option Files) (code : Code) : Type 0 where
   pub conf : Conf
   pub entries : Entries
   pub loaded : IsLoaded files q.db conf entries
   pub refused : LacksBase q conf entries code
 
 -- index.txt is what can't be read, where a directory was loaded
-pub record IndexUnread (q : Query) (files : Option Files) (name : List ℕ) : Type 0 where
+pub record IndexUnread (q : Wanted) (files : Option Files) (name : List ℕ) : Type 0 where
   pub needs : q.needs_index ≡ true
   pub conf : Conf
   pub entries : Entries
@@ -82,7 +82,7 @@ target_of file = unwrap_or file (codes "output")
 
 -- With which fault it stops: its filter is none, no directory was loaded, index.txt can't be read, the base isn't there, or what it prints to
 -- can't be written. They are looked for in this order: where one of the later ones is reported, the text spells a filter.
-abbrev pub StopsWith : Query → Option Files → CommandFault → Type 0
+abbrev pub StopsWith : Wanted → Option Files → CommandFault → Type 0
 StopsWith q files faults.Words = ⊥
 StopsWith q files (faults.Filter fault) = IsNoFilterFor q.filter fault
 StopsWith q files (faults.Code by code) = HasFilter q.filter × (by.now ≡ q.command) × IsRefused q files code
@@ -117,7 +117,7 @@ PrintsPartly Partly a b faults.OutOfMemory = (b ≡ a) ⊎ Partly faults.OutOfMe
 PrintsPartly Partly a b fault = b ≡ a
 
 -- it stops with such a fault, having printed so much of a text of which this holds
-pub record QueryStops (q : Query) (IsText : List ℕ → Type 0) (w : World) (at : StoppedAt) : Type 0 where
+pub record QueryStops (q : Wanted) (IsText : List ℕ → Type 0) (w : World) (at : StoppedAt) : Type 0 where
   pub fault : CommandFault
   pub fault_is : at.why ≡ stops.Fault fault
   pub why : StopsWith q w.files fault

@@ -1,7 +1,7 @@
 //! slapadd and ldapmodify: the records of an LDIF text are carried out on a directory in a folder.
 ghost use Rattle.std.specs.Prelude.{◌≡◌, ◌<◌, ◌-◌, ◌^◌, Ok, Err, IfOk, IfErr};
 ghost use Rattle.databases.specs.declared.runs.RunFault.{RunFault};
-ghost use Rattle.commands.specs.Worlds.{World};
+ghost use Rattle.commands.specs.Worlds.{World, change_world, locked_change_world, run_world};
 ghost use Rattle.commands.specs.Loaded.{IsLoaded};
 ghost use Rattle.commands.specs.Changes.{written_by, Breaks, RunsInput, RunsSource, RunsAndStores, ChangeGoesThrough, ChangeStops};
 ghost use Rattle.commands.specs.inner.Views.{run_of};
@@ -85,15 +85,15 @@ fn run_source<S: Source, E: Sink>(
 ) -> Result<Tally, Stop>
     requires source { (S.seen source.old).failed < 2 ^ 64 - 1 }
     requires err { (E.written err.old).failed < 2 ^ 64 - 1 }
-    ensures same_conf { database.new.tree.conf ≡ database.old.tree.conf }
+    ensures same_conf { database.new.conf ≡ database.old.conf }
     ensures ran { IfOk result (λ t. (w : World) → RunsInput task.now
-        (run_of database.old.tree database.new.tree (Ok t))
-        (record w { input = S.seen source.old; messages = E.written err.old })
-        (record w { input = S.seen source.new; messages = E.written err.new })) }
-    ensures broke { IfErr result (λ why. (fault : RunFault) × Breaks fault name.now why × ((w : World) → RunsInput task.now
-        (run_of database.old.tree database.new.tree (Err fault))
-        (record w { input = S.seen source.old; messages = E.written err.old })
-        (record w { input = S.seen source.new; messages = E.written err.new }))) }
+        (run_of database.old database.new (Ok t))
+        (run_world w S.seen E.written source.old err.old)
+        (run_world w S.seen E.written source.new err.new)) }
+    ensures broke { IfErr result (λ why. (fault : RunFault) × Breaks fault name.now why
+        × ((w : World) → RunsInput task.now (run_of database.old database.new (Err fault))
+        (run_world w S.seen E.written source.old err.old)
+        (run_world w S.seen E.written source.new err.new))) }
     ensures can_report { IfErr result (λ why. CanReport why (E.written err.new).failed) }
 {
     match run(alloc, database, source, err, task.mode, task.go_on) {
@@ -113,15 +113,15 @@ fn run_records<F: Folder, S: Source, E: Sink>(
 ) -> Result<Tally, Stop>
     requires input { (S.seen input.old).failed < 2 ^ 64 - 1 }
     requires err { (E.written err.old).failed < 2 ^ 64 - 1 }
-    requires loaded { IsLoaded (F.files folder.now) task.now.db.now database.old.tree.conf database.old.tree.entries }
-    ensures same_conf { database.new.tree.conf ≡ database.old.tree.conf }
+    requires loaded { IsLoaded (F.files folder.now) task.now.db.now database.old.conf database.old.entries }
+    ensures same_conf { database.new.conf ≡ database.old.conf }
     ensures ran { IfOk result (λ t. (w : World) → RunsSource task.now
-        (run_of database.old.tree database.new.tree (Ok t))
-        (record w { files = F.files folder.now; input = S.seen input.old; messages = E.written err.old })
-        (record w { files = F.files folder.now; input = S.seen input.new; messages = E.written err.new })) }
+        (run_of database.old database.new (Ok t))
+        (change_world w F.files S.seen E.written folder.now input.old err.old)
+        (change_world w F.files S.seen E.written folder.now input.new err.new)) }
     ensures stops { IfErr result (λ why. (w : World) → HasStopped (ChangeStops task.now)
-        (record w { files = F.files folder.now; input = S.seen input.old; messages = E.written err.old })
-        (record w { files = F.files folder.now; input = S.seen input.new; messages = E.written err.new }) why) }
+        (change_world w F.files S.seen E.written folder.now input.old err.old)
+        (change_world w F.files S.seen E.written folder.now input.new err.new) why) }
     ensures can_report { IfErr result (λ why. CanReport why (E.written err.new).failed) }
 {
     let Some(name) = task.file else {
@@ -144,10 +144,10 @@ fn run_and_store<F: Folder, S: Source, E: Sink>(
 ) -> Result<Status, Stop>
     requires input { (S.seen input.old).failed < 2 ^ 64 - 1 }
     requires err { (E.written err.old).failed < 2 ^ 64 - 1 }
-    requires loaded { IsLoaded (F.files folder.old) task.now.db.now database.old.tree.conf database.old.tree.entries }
+    requires loaded { IsLoaded (F.files folder.old) task.now.db.now database.old.conf database.old.entries }
     ensures ends { (w : World) → HasEnded (RunsAndStores task.now) (ChangeStops task.now)
-        (record w { files = F.files folder.old; input = S.seen input.old; messages = E.written err.old })
-        (record w { files = F.files folder.new; input = S.seen input.new; messages = E.written err.new }) result }
+        (change_world w F.files S.seen E.written folder.old input.old err.old)
+        (change_world w F.files S.seen E.written folder.new input.new err.new) result }
     ensures locking { F.locking folder.new ≡ F.locking folder.old }
     ensures can_report { IfErr result (λ why. CanReport why (E.written err.new).failed) }
 {
@@ -172,8 +172,8 @@ fn load_and_run<F: Folder, S: Source, E: Sink>(
     requires input { (S.seen input.old).failed < 2 ^ 64 - 1 }
     requires err { (E.written err.old).failed < 2 ^ 64 - 1 }
     ensures ends { (w : World) → HasEnded (ChangeGoesThrough task.now) (ChangeStops task.now)
-        (record w { files = F.files folder.old; input = S.seen input.old; messages = E.written err.old })
-        (record w { files = F.files folder.new; input = S.seen input.new; messages = E.written err.new }) result }
+        (change_world w F.files S.seen E.written folder.old input.old err.old)
+        (change_world w F.files S.seen E.written folder.new input.new err.new) result }
     ensures locking { F.locking folder.new ≡ F.locking folder.old }
     ensures can_report { IfErr result (λ why. CanReport why (E.written err.new).failed) }
 {
@@ -201,9 +201,10 @@ pub fn change<F: Folder, S: Source, E: Sink>(
 ) -> Result<Status, Stop>
     requires input { (S.seen input.old).failed < 2 ^ 64 - 1 }
     requires err { (E.written err.old).failed < 2 ^ 64 - 1 }
-    ensures ends { (w : World) → HasEndedUnder (written_by task.now) (ChangeGoesThrough task.now) (ChangeStops task.now)
-        (record w { files = F.files folder.old; lock = F.locking folder.old; input = S.seen input.old; messages = E.written err.old })
-        (record w { files = F.files folder.new; lock = F.locking folder.new; input = S.seen input.new; messages = E.written err.new }) result }
+    ensures ends { (w : World) → HasEndedUnder (written_by task.now)
+        (ChangeGoesThrough task.now) (ChangeStops task.now)
+        (locked_change_world w F.files F.locking S.seen E.written folder.old input.old err.old)
+        (locked_change_world w F.files F.locking S.seen E.written folder.new input.new err.new) result }
     ensures can_report { IfErr result (λ why. CanReport why (E.written err.new).failed) }
 {
     if !task.dry_run {

@@ -1,6 +1,6 @@
 //! One command, from its words to its status.
 ghost use Rattle.std.specs.Prelude.{◌<◌, ◌≤◌, ◌-◌, ◌^◌, IfErr, map};
-ghost use Rattle.commands.specs.Worlds.{World};
+ghost use Rattle.commands.specs.Worlds.{World, printed_world, world_of};
 ghost use Rattle.commands.specs.Commands.{HelpGoesThrough, HelpStops, RequestGoesThrough, RequestStops, writes_in, CommandEnds};
 ghost use Rattle.commands.specs.inner.Stopped.{CanReport, HasEnded, HasEndedUnder};
 
@@ -19,7 +19,7 @@ use std::convert::AsStr;
 fn print_help<O: Sink>(alloc: Global, text: &str, out: &mut O) -> Result<Status, Stop>
     requires { (O.written out.old).failed < 2 ^ 64 - 1 }
     ensures { (w : World) → HasEnded (HelpGoesThrough text.now) (HelpStops text.now)
-        (record w { output = O.written out.old }) (record w { output = O.written out.new }) result }
+        (printed_world w O.written out.old) (printed_world w O.written out.new) result }
 {
     match push_all(out, text.as_bytes()) {
         Ok(()) => Ok(Status::Done),
@@ -40,8 +40,8 @@ fn carry_out<F: Folder, S: Source, O: Sink, E: Sink>(
     requires out { (O.written out.old).failed < 2 ^ 64 - 1 }
     requires err { (E.written err.old).failed < 2 ^ 64 - 1 }
     ensures ends { HasEndedUnder (writes_in asked.entry) (RequestGoesThrough asked.entry) (RequestStops asked.entry)
-        (record { files = F.files folder.old; lock = F.locking folder.old; input = S.seen input.old; output = O.written out.old; messages = E.written err.old })
-        (record { files = F.files folder.new; lock = F.locking folder.new; input = S.seen input.new; output = O.written out.new; messages = E.written err.new })
+        (world_of F.files F.locking S.seen O.written E.written folder.old input.old out.old err.old)
+        (world_of F.files F.locking S.seen O.written E.written folder.new input.new out.new err.new)
         result }
     ensures can_report { IfErr result (λ why. CanReport why (E.written err.new).failed) }
 {
@@ -74,8 +74,8 @@ pub fn command<W: AsStr, F: Folder, S: Source, O: Sink, E: Sink>(
     ensures range { result ≤ 3 }
     // What the words ask for is done, or the command stops; and what becomes of the files and the streams.
     ensures ends { CommandEnds (map W.text words.now)
-        (record { files = F.files folder.old; lock = F.locking folder.old; input = S.seen input.old; output = O.written out.old; messages = E.written err.old })
-        (record { files = F.files folder.new; lock = F.locking folder.new; input = S.seen input.new; output = O.written out.new; messages = E.written err.new })
+        (world_of F.files F.locking S.seen O.written E.written folder.old input.old out.old err.old)
+        (world_of F.files F.locking S.seen O.written E.written folder.new input.new out.new err.new)
         result }
 {
     let asked = read(alloc, words);

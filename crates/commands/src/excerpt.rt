@@ -1,37 +1,41 @@
-//! An excerpt of a directory, as the text of a file.
+//! What a query finds, as the text of a file.
 ghost use Rattle.std.specs.Prelude.{◌≡◌, ⊤};
-ghost use Rattle.filter_text.specs.Spells.{view};
-ghost use Rattle.commands.specs.Excerpts.{excerpt_text};
+ghost use Rattle.commands.specs.inner.Printed.{scanned_text};
 
-use databases::{Database, Scope, Selection, scan, write_found};
+use crate::query::Query;
+use databases::{Database, scan};
 use device::Sink;
-use filter::Prepared;
 use folders::FileText;
 use ldif::WriteFault;
-use schema::Path;
 use std::alloc::Global;
 
-/// The entries at a base and below it that a filter is True of.
+/// What a query finds by a test of each entry in scope.
 #[derive(Clone, Copy, Drop)]
 pub struct Excerpt<'a> {
     pub database: &'a Database,
-    pub base: &'a Path,
-    pub filter: &'a Prepared,
-    ghost same_conf: { filter.now.conf ≡ database.now.tree.conf },
+    pub query: &'a Query,
+    ghost same_conf: { query.now.filter.conf ≡ database.now.conf },
 }
 
 impl<'a> FileText for Excerpt<'a> {
-    /// Whether entries were left out, which none are.
+    /// Whether there is more than may be printed.
     type Answer = bool;
 
     ghost answers = { λ _ _. ⊤ };
 
-    ghost text = { λ p. excerpt_text p.database.now.tree.conf p.database.now.tree.entries p.base.now (view p.filter.now.filter) };
+    ghost text = { λ e. scanned_text e.query.now e.database.now };
 
     fn write<W: Sink>(&self, alloc: Global, sink: &mut W) -> Result<bool, WriteFault> {
-        let Database { conf, tree } = self.database;
-        match scan(alloc, tree, self.base, Scope::Sub, self.filter) {
-            Some(hits) => write_found(alloc, tree, conf, sink, hits, None, &Selection::all()),
+        let database = self.database;
+        let query = self.query;
+        match scan(
+            alloc,
+            database.tree(),
+            &query.base,
+            query.scope,
+            &query.filter,
+        ) {
+            Some(hits) => database.write_found(alloc, sink, hits, query.limit, &query.selection),
             None => Ok(false),
         }
     }

@@ -39,7 +39,8 @@ pub fn path_of(
     command: &'static str,
 ) -> Result<Path, CommandFault>
     ensures found { IfOk result (IsBase conf.now (option_copied name.entry)) }
-    ensures fault { IfErr result (Refuses command.entry.now (λ code. base_of conf.now (option_copied name.entry) ≡ Err code)) }
+    ensures fault { IfErr result (Refuses command.entry.now
+        (λ code. base_of conf.now (option_copied name.entry) ≡ Err code)) }
 {
     let Some(name) = name else {
         return Ok(Path::root(alloc));

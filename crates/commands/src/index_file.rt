@@ -19,7 +19,7 @@ ghost use Rattle.commands.specs.inner.Stopped.{CanReport};
 use crate::database::{open, path};
 use crate::messages::{CommandFault, Stop};
 use candidates::asked_keys;
-use databases::{Database, Stamp, index_texts_reflect_dumps, kept_index_texts_are_read, stamp_of};
+use databases::{Database, Stamp, index_texts_reflect_dumps, kept_index_texts_are_read};
 use device::{Sink, Source, push_all};
 use filter::Prepared;
 use folders::Folder;
@@ -55,18 +55,20 @@ fn read_keys<S: Source>(
 ) -> Result<IndexFile, CommandFault>
     requires can_fail { (S.seen source.old).failed < 2 ^ 64 - 1 }
     requires asked { asked.now ≡ asked_keys (slot_in database.now.conf.slots) (prepared_of filter.now) }
-    requires stamp { stamp ≡ stamp_by database.now.tree.conf database.now.tree.entries }
-    ensures read { IfOk result (λ file. (files : Option Files) (db : List ℕ) → Finds files (index_name db) (Some (S.seen source.old).left)
-        → HasRead files db database.now.tree filter.now file) }
+    requires stamp { stamp ≡ stamp_by database.now.conf database.now.entries }
+    ensures read { IfOk result (λ file. (files : Option Files) (db : List ℕ)
+        → Finds files (index_name db) (Some (S.seen source.old).left)
+        → HasRead files db database.now filter.now file) }
     ensures err { IfErr result (FailsToRead name.now) }
 {
-    database.conf.rules_are_kept();
-    database.tree.entries_are_a_directory();
+    let conf = database.conf();
+    let tree = database.tree();
+    conf.rules_are_kept();
+    tree.entries_are_a_directory();
     index_texts_reflect_dumps();
     kept_index_texts_are_read();
     are_bytes(&stamp);
-    let entries = database.tree.len();
-    match StoredIndex::read_asked(alloc, source, &database.conf, &stamp, entries, asked) {
+    match StoredIndex::read_asked(alloc, source, conf, &stamp, tree.len(), asked) {
         Ok(stored) => Ok(IndexFile::Read(stored)),
         Err(IndexFault::Fault(kind)) => Ok(IndexFile::Faulty(kind)),
         Err(IndexFault::Device) => Err(CommandFault::cannot_read(alloc, name)),
@@ -83,14 +85,15 @@ fn read_source<S: Source>(
     filter: &Prepared,
 ) -> Result<IndexFile, CommandFault>
     requires { (S.seen source.old).failed < 2 ^ 64 - 1 }
-    ensures read { IfOk result (λ file. (files : Option Files) (db : List ℕ) → Finds files (index_name db) (Some (S.seen source.old).left)
-        → HasRead files db database.now.tree filter.now file) }
+    ensures read { IfOk result (λ file. (files : Option Files) (db : List ℕ)
+        → Finds files (index_name db) (Some (S.seen source.old).left)
+        → HasRead files db database.now filter.now file) }
     ensures err { IfErr result (FailsToRead name.now) }
 {
-    let Ok(stamp) = stamp_of(alloc, &database.tree, &database.conf) else {
+    let Ok(stamp) = database.stamp(alloc) else {
         return Err(CommandFault::OutOfMemory);
     };
-    let Ok(asked) = asked_keys(alloc, filter, database.conf.slots()) else {
+    let Ok(asked) = asked_keys(alloc, filter, database.conf().slots()) else {
         return Err(CommandFault::OutOfMemory);
     };
     read_keys(
@@ -112,7 +115,8 @@ fn read_named<F: Folder>(
     database: &Database,
     filter: &Prepared,
 ) -> Result<IndexFile, CommandFault>
-    ensures read { IfOk result (λ file. (db : List ℕ) → name.now ≡ index_name db → HasRead (F.files folder.now) db database.now.tree filter.now file) }
+    ensures read { IfOk result (λ file. (db : List ℕ) → name.now ≡ index_name db
+        → HasRead (F.files folder.now) db database.now filter.now file) }
     ensures err { IfErr result (FailsToRead name.now) }
 {
     match open(alloc, folder, name) {
@@ -130,7 +134,7 @@ pub fn read_index<F: Folder>(
     database: &Database,
     filter: &Prepared,
 ) -> Result<IndexFile, CommandFault>
-    ensures read { IfOk result (HasRead (F.files folder.now) db.now database.now.tree filter.now) }
+    ensures read { IfOk result (HasRead (F.files folder.now) db.now database.now filter.now) }
     ensures err { IfErr result (FailsToRead (index_name db.now)) }
 {
     let Ok(name) = path(alloc, db, "index.txt") else {
@@ -169,9 +173,11 @@ fn report_index_fault<E: Sink>(
 /// Reports what is wrong with index.txt, if anything is. Where that can't be reported, the command stops.
 pub fn report_index<E: Sink>(alloc: Global, err: &mut E, file: &IndexFile) -> Result<(), Stop>
     requires { (E.written err.old).failed < 2 ^ 64 - 1 }
-    ensures reports { (f : Made) (said : Said) → Says f file.now said → OnOk result (ReportsFault said (E.written err.old) (E.written err.new)) }
+    ensures reports { (f : Made) (said : Said) → Says f file.now said
+        → OnOk result (ReportsFault said (E.written err.old) (E.written err.new)) }
     ensures failed { OnOk result ((E.written err.new).failed ≡ (E.written err.old).failed) }
-    ensures err { (f : Made) (said : Said) → Says f file.now said → IfErr result (FailsToReport said (E.written err.old) (E.written err.new)) }
+    ensures err { (f : Made) (said : Said) → Says f file.now said
+        → IfErr result (FailsToReport said (E.written err.old) (E.written err.new)) }
     ensures can_report { IfErr result (λ why. CanReport why (E.written err.new).failed) }
 {
     match file {

@@ -8,6 +8,7 @@ mod excerpt;
 mod finding;
 mod index_file;
 mod messages;
+mod query;
 mod searching;
 mod slapcat;
 mod slapindex;

@@ -6,10 +6,11 @@ ghost use Rattle.commands.specs.Messages.{IsTextReported, IsReported, fault_text
 ghost use Rattle.commands.specs.Endings.{ReportsStop};
 ghost use Rattle.commands.specs.Failures.{FailsToRead, FailsToWrite, TellsInUse};
 ghost use Rattle.commands.specs.Statuses.{status_number, status_of_fault, status_of_tally};
+ghost use Rattle.commands.specs.inner.LoadFaults.{TellsLoadFault};
 ghost use Rattle.commands.specs.inner.Stopped.{CanReport};
 ghost use Rattle.commands.specs.inner.WriteFaults.{TellsWriteFault};
 
-use databases::{RecordRefusal, Tally};
+use databases::{LoadFault, RecordRefusal, Tally};
 use device::{Sink, push_all};
 use dir_conf::ConfFaultKind;
 use filter_text::FilterFault;
@@ -121,6 +122,17 @@ impl CommandFault {
         }
     }
 
+    /// The fault of loading the file of this name.
+    pub fn of_load(alloc: Global, name: &str, fault: LoadFault) -> CommandFault
+        ensures { TellsLoadFault name.now fault result }
+    {
+        match fault {
+            LoadFault::Read => CommandFault::cannot_read(alloc, name),
+            LoadFault::OutOfMemory => CommandFault::OutOfMemory,
+            LoadFault::Refused { line, refusal } => CommandFault::Data { line, refusal },
+        }
+    }
+
     /// The fault of a write to standard output.
     pub fn of_output(alloc: Global, fault: WriteFault) -> CommandFault
         ensures { TellsWriteFault fault result }
@@ -215,7 +227,8 @@ pub fn report_text<W: Sink>(sink: &mut W, text: &str, status: Status) -> Status
 pub fn report_fault<E: Sink>(alloc: Global, err: &mut E, fault: &CommandFault) -> Status
     requires { (E.written err.old).failed < 2 ^ 64 - 1 }
     ensures status { (result ≡ status_of_fault fault.now) ⊎ (result ≡ Status.Failed) }
-    ensures reported { IsReported (E.written err.old) (E.written err.new) (fault_text fault.now) (status_of_fault fault.now) result }
+    ensures reported { IsReported (E.written err.old) (E.written err.new)
+        (fault_text fault.now) (status_of_fault fault.now) result }
 {
     match line_of(alloc, fault) {
         Ok(line) => report_text(err, line.as_str(), fault.status()),

@@ -3,15 +3,15 @@ ghost use Rattle.std.specs.Prelude.{◌≡◌, ◌≢◌, ◌<◌, ◌-◌, ◌^
 ghost use Rattle.std.specs.FinMap as finite;
 ghost use Rattle.std.specs.Option.{option_copied};
 ghost use Rattle.device.specs.Device.{Took};
-ghost use Rattle.filter_text.specs.Spells.{view};
 ghost use Rattle.folders.specs.Folders.{with_file};
 ghost use Rattle.commands.specs.DirectoryFiles.{file_in, IsForeign};
-ghost use Rattle.commands.specs.Worlds.{World};
-ghost use Rattle.commands.specs.Asked.{IsFilter, IsBase};
+ghost use Rattle.commands.specs.Worlds.{World, put_world};
+ghost use Rattle.commands.specs.Asked.{IsBase};
 ghost use Rattle.commands.specs.Failures.{FailsToWrite};
 ghost use Rattle.commands.specs.Queries.{LacksBase, target_of, IsBegun, Begins, HasBegun, PrintsPartly, StopsWith};
-ghost use Rattle.commands.specs.Prints.{cat_query, is_whole, IsCatText, CatText, Puts, HasPut, CatGoesThrough, CatStops};
+ghost use Rattle.commands.specs.Prints.{cat_wanted, is_whole, IsCatText, CatText, Puts, HasPut, CatGoesThrough, CatStops};
 ghost use Rattle.commands.specs.inner.Refusals.{Refuses, RefusesOrBreaks};
+ghost use Rattle.commands.specs.inner.Sought.{excerpt_query};
 ghost use Rattle.commands.specs.inner.Views.{basis_of};
 ghost use Rattle.commands.specs.inner.Stopped.{HasEnded};
 
@@ -19,11 +19,11 @@ use crate::database::{load_database, path};
 use crate::excerpt::Excerpt;
 use crate::finding::{filter_of, path_of};
 use crate::messages::{CommandFault, Status, Stop};
+use crate::query::Query;
 use crate::storing::{Dump, store};
 use command_line::CatOptions;
 use databases::Database;
 use device::Sink;
-use filter::prepare;
 use filter_text::Filter;
 use folders::{FileText, Folder};
 use schema::{Code, Path};
@@ -113,10 +113,11 @@ fn put<T: FileText, F: Folder, O: Sink>(
     ensures same { OnErr result (F.files folder.new ≡ F.files folder.old) }
     ensures locking { F.locking folder.new ≡ F.locking folder.old }
     ensures put { (w : World) → OnOk result (Puts asked.now.db.now (option_copied asked.now.file) (T.text text.now)
-        (record w { files = F.files folder.old; output = O.written out.old })
-        (record w { files = F.files folder.new; output = O.written out.new })) }
+        (put_world w F.files O.written folder.old out.old)
+        (put_world w F.files O.written folder.new out.new)) }
     ensures err { IfErr result (FailsToWrite (target_of (option_copied asked.now.file))) }
-    ensures begins { IfErr result (λ f. Begins (option_copied asked.now.file) f (O.written out.old) (O.written out.new) (T.text text.now)) }
+    ensures begins { IfErr result (λ f. Begins (option_copied asked.now.file) f
+        (O.written out.old) (O.written out.new) (T.text text.now)) }
 {
     match asked.file {
         Some(name) => store_apart(alloc, text, asked.db, name, folder),
@@ -126,12 +127,14 @@ fn put<T: FileText, F: Folder, O: Sink>(
 
 /// The path of the entry that is asked for, which has to be there; where none is, that of the suffix's entry.
 fn base_of(alloc: Global, asked: &CatOptions<'_>, database: &Database) -> Result<Path, CommandFault>
-    ensures found { IfOk result (IsBase database.now.tree.conf (option_copied asked.now.base)) }
-    ensures there { IfOk result (λ base. is_some asked.now.base ≡ true → finite.contains_key database.now.tree.entries base ≡ true) }
-    ensures fault { IfErr result (Refuses (codes "slapcat") (LacksBase (cat_query asked.now) database.now.tree.conf database.now.tree.entries)) }
+    ensures found { IfOk result (IsBase database.now.conf (option_copied asked.now.base)) }
+    ensures there { IfOk result (λ base. is_some asked.now.base ≡ true
+        → finite.contains_key database.now.entries base ≡ true) }
+    ensures fault { IfErr result (Refuses (codes "slapcat")
+        (LacksBase (cat_wanted asked.now) database.now.conf database.now.entries)) }
 {
-    let base = path_of(alloc, &database.conf, asked.base, NAME)?;
-    if asked.base.is_some() && database.tree.get(&base).is_none() {
+    let base = path_of(alloc, database.conf(), asked.base, NAME)?;
+    if asked.base.is_some() && database.tree().get(&base).is_none() {
         return Err(CommandFault::Code {
             command: NAME,
             code: Code::NoSuchObject,
@@ -140,69 +143,28 @@ fn base_of(alloc: Global, asked: &CatOptions<'_>, database: &Database) -> Result
     Ok(base)
 }
 
-/// Puts the entries at this base and below it that the filter is True of.
-fn put_from<F: Folder, O: Sink>(
+/// The entries at the base that is asked for, which has to be there, and below it that the filter is True of.
+fn query_of(
     alloc: Global,
     asked: &CatOptions<'_>,
-    base: &Path,
     filter: &Filter,
     database: &Database,
-    folder: &mut F,
-    out: &mut O,
-) -> Result<(), CommandFault>
-    requires can_fail { (O.written out.old).failed < 2 ^ 64 - 1 }
-    requires base { IsBase database.now.tree.conf (option_copied asked.now.base) base.now }
-    requires there { is_some asked.now.base ≡ true → finite.contains_key database.now.tree.entries base.now ≡ true }
-    ensures same { OnErr result (F.files folder.new ≡ F.files folder.old) }
-    ensures locking { F.locking folder.new ≡ F.locking folder.old }
-    ensures put { (w : World) → OnOk result (HasPut (IsCatText false asked.now
-        (basis_of filter.now database.now.tree)) asked.now.db.now (option_copied asked.now.file)
-        (record w { files = F.files folder.old; output = O.written out.old })
-        (record w { files = F.files folder.new; output = O.written out.new })) }
-    ensures fault { IfErr result (RefusesOrBreaks (cat_query asked.now) database.now.tree.conf database.now.tree.entries) }
-    ensures partly { IfErr result (PrintsPartly (HasBegun (IsCatText false asked.now
-        (basis_of filter.now database.now.tree)) (option_copied asked.now.file))
-        (O.written out.old) (O.written out.new)) }
+) -> Result<Query, CommandFault>
+    ensures found { IfOk result (λ q. q ≡ excerpt_query database.now.conf filter.now q.base) }
+    ensures base { IfOk result (λ q. IsBase database.now.conf (option_copied asked.now.base) q.base) }
+    ensures there { IfOk result (λ q. is_some asked.now.base ≡ true
+        → finite.contains_key database.now.entries q.base ≡ true) }
+    ensures fault { IfErr result (Refuses (codes "slapcat")
+        (LacksBase (cat_wanted asked.now) database.now.conf database.now.entries)) }
 {
-    match prepare(alloc, filter, &database.conf) {
-        Ok(prepared) => {
-            let excerpt = Excerpt {
-                database,
-                base,
-                filter: &prepared,
-            };
-            put(alloc, &excerpt, asked, folder, out)
-        }
+    let base = base_of(alloc, asked, database)?;
+    match Query::of_excerpt(alloc, filter, base, database.conf()) {
+        Ok(query) => Ok(query),
         Err(_) => Err(CommandFault::OutOfMemory),
     }
 }
 
-fn put_excerpt<F: Folder, O: Sink>(
-    alloc: Global,
-    asked: &CatOptions<'_>,
-    filter: &Filter,
-    database: &Database,
-    folder: &mut F,
-    out: &mut O,
-) -> Result<(), CommandFault>
-    requires { (O.written out.old).failed < 2 ^ 64 - 1 }
-    ensures same { OnErr result (F.files folder.new ≡ F.files folder.old) }
-    ensures locking { F.locking folder.new ≡ F.locking folder.old }
-    ensures put { (w : World) → OnOk result (HasPut (IsCatText false asked.now
-        (basis_of filter.now database.now.tree)) asked.now.db.now (option_copied asked.now.file)
-        (record w { files = F.files folder.old; output = O.written out.old })
-        (record w { files = F.files folder.new; output = O.written out.new })) }
-    ensures fault { IfErr result (RefusesOrBreaks (cat_query asked.now) database.now.tree.conf database.now.tree.entries) }
-    ensures partly { IfErr result (PrintsPartly (HasBegun (IsCatText false asked.now
-        (basis_of filter.now database.now.tree)) (option_copied asked.now.file))
-        (O.written out.old) (O.written out.new)) }
-{
-    match base_of(alloc, asked, database) {
-        Ok(base) => put_from(alloc, asked, &base, filter, database, folder, out),
-        Err(fault) => Err(fault),
-    }
-}
-
+/// Puts the entries that are asked for, all of them or those that a query finds.
 fn put_entries<F: Folder, O: Sink>(
     alloc: Global,
     asked: &CatOptions<'_>,
@@ -215,45 +177,24 @@ fn put_entries<F: Folder, O: Sink>(
     ensures same { OnErr result (F.files folder.new ≡ F.files folder.old) }
     ensures locking { F.locking folder.new ≡ F.locking folder.old }
     ensures put { (w : World) → OnOk result (HasPut (IsCatText (is_whole asked.now) asked.now
-        (basis_of filter.now database.now.tree)) asked.now.db.now (option_copied asked.now.file)
-        (record w { files = F.files folder.old; output = O.written out.old })
-        (record w { files = F.files folder.new; output = O.written out.new })) }
-    ensures fault { IfErr result (RefusesOrBreaks (cat_query asked.now) database.now.tree.conf database.now.tree.entries) }
+        (basis_of filter.now database.now)) asked.now.db.now (option_copied asked.now.file)
+        (put_world w F.files O.written folder.old out.old)
+        (put_world w F.files O.written folder.new out.new)) }
+    ensures fault { IfErr result (RefusesOrBreaks (cat_wanted asked.now) database.now.conf database.now.entries) }
     ensures partly { IfErr result (PrintsPartly (HasBegun (IsCatText (is_whole asked.now) asked.now
-        (basis_of filter.now database.now.tree)) (option_copied asked.now.file))
+        (basis_of filter.now database.now)) (option_copied asked.now.file))
         (O.written out.old) (O.written out.new)) }
 {
     if asked.filter.is_none() && asked.base.is_none() {
         return put(alloc, &Dump { database }, asked, folder, out);
     }
-    put_excerpt(alloc, asked, filter, database, folder, out)
-}
-
-/// Loads the directory, and puts the entries that are asked for.
-fn load_and_put<F: Folder, O: Sink>(
-    alloc: Global,
-    asked: &CatOptions<'_>,
-    filter: &Filter,
-    folder: &mut F,
-    out: &mut O,
-) -> Result<(), CommandFault>
-    requires can_fail { (O.written out.old).failed < 2 ^ 64 - 1 }
-    requires filter { IsFilter (option_copied asked.now.filter) (view filter.now) }
-    ensures same { OnErr result (F.files folder.new ≡ F.files folder.old) }
-    ensures locking { F.locking folder.new ≡ F.locking folder.old }
-    ensures put { (w : World) → OnOk result (HasPut (CatText asked.now (F.files folder.old)) asked.now.db.now (option_copied asked.now.file)
-        (record w { files = F.files folder.old; output = O.written out.old })
-        (record w { files = F.files folder.new; output = O.written out.new })) }
-    ensures stops { IfErr result (StopsWith (cat_query asked.now) (F.files folder.old)) }
-    ensures partly { IfErr result (PrintsPartly (HasBegun (CatText asked.now (F.files folder.old)) (option_copied asked.now.file))
-        (O.written out.old) (O.written out.new)) }
-{
-    match load_database(alloc, folder, asked.db) {
-        Ok(database) => {
-            let done = put_entries(alloc, asked, filter, &database, folder, out);
-            // The program ends with its command, and that frees the entries at once.
-            mem::forget(database);
-            done
+    match query_of(alloc, asked, filter, database) {
+        Ok(query) => {
+            let excerpt = Excerpt {
+                database,
+                query: &query,
+            };
+            put(alloc, &excerpt, asked, folder, out)
         }
         Err(fault) => Err(fault),
     }
@@ -270,15 +211,17 @@ pub fn slapcat<F: Folder, O: Sink>(
 ) -> Result<Status, Stop>
     requires { (O.written out.old).failed < 2 ^ 64 - 1 }
     ensures ends { (w : World) → HasEnded (CatGoesThrough asked.now) (CatStops asked.now)
-        (record w { files = F.files folder.old; output = O.written out.old })
-        (record w { files = F.files folder.new; output = O.written out.new }) result }
+        (put_world w F.files O.written folder.old out.old)
+        (put_world w F.files O.written folder.new out.new) result }
     ensures locking { F.locking folder.new ≡ F.locking folder.old }
 {
-    match filter_of(alloc, asked.filter) {
-        Ok(filter) => match load_and_put(alloc, asked, &filter, folder, out) {
-            Ok(()) => Ok(Status::Done),
-            Err(fault) => Err(Stop::Fault(fault)),
-        },
+    let filter = filter_of(alloc, asked.filter)?;
+    let database = load_database(alloc, folder, asked.db)?;
+    let done = put_entries(alloc, asked, &filter, &database, folder, out);
+    // The program ends with its command, and that frees the entries at once.
+    mem::forget(database);
+    match done {
+        Ok(()) => Ok(Status::Done),
         Err(fault) => Err(Stop::Fault(fault)),
     }
 }

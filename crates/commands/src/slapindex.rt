@@ -1,6 +1,6 @@
 //! slapindex: the index of a directory is written anew.
 ghost use Rattle.std.specs.Prelude.{◌≡◌, Some};
-ghost use Rattle.commands.specs.Worlds.{World};
+ghost use Rattle.commands.specs.Worlds.{World, locked_world, stored_world};
 ghost use Rattle.commands.specs.Indexing.{IndexGoesThrough, IndexStops};
 ghost use Rattle.commands.specs.inner.Stopped.{HasEnded, HasEndedUnder};
 
@@ -18,8 +18,8 @@ fn make_index<F: Folder>(
     folder: &mut F,
 ) -> Result<Status, Stop>
     ensures ends { (w : World) → HasEnded (IndexGoesThrough asked.now) (IndexStops asked.now)
-        (record w { files = F.files folder.old })
-        (record w { files = F.files folder.new }) result }
+        (stored_world w F.files folder.old)
+        (stored_world w F.files folder.new) result }
     ensures locking { F.locking folder.new ≡ F.locking folder.old }
 {
     match load_database(alloc, folder, asked.db) {
@@ -44,8 +44,8 @@ pub fn slapindex<F: Folder>(
     folder: &mut F,
 ) -> Result<Status, Stop>
     ensures { (w : World) → HasEndedUnder (Some asked.now.db.now) (IndexGoesThrough asked.now) (IndexStops asked.now)
-        (record w { files = F.files folder.old; lock = F.locking folder.old })
-        (record w { files = F.files folder.new; lock = F.locking folder.new }) result }
+        (locked_world w F.files F.locking folder.old)
+        (locked_world w F.files F.locking folder.new) result }
 {
     match lock(alloc, folder, asked.db) {
         Ok(()) => make_index(alloc, asked, folder),

@@ -2,17 +2,14 @@
 ghost use Rattle.std.specs.Prelude.{◌≡◌, ℕ, ◌⊎◌, List, [], ◌∷◌, ⊤, IfOk, IfErr, OnOk, OnErr};
 ghost use Rattle.databases.specs.Runs.{dump};
 ghost use Rattle.databases.specs.IndexTexts.{stamp as stamp_by, index_text};
-ghost use Rattle.folders.specs.Folders.{File, with_file, with_files};
+ghost use Rattle.folders.specs.Folders.{with_file, with_files};
 ghost use Rattle.commands.specs.DirectoryFiles.{file_in};
 ghost use Rattle.commands.specs.Failures.{FailsToWrite, NamesUnwritten};
-ghost use Rattle.commands.specs.Stored.{index_file, kept_files};
-ghost use Rattle.commands.specs.inner.Stores.{StoresPartly};
+ghost use Rattle.commands.specs.inner.Stores.{OfDraft, OfDrafts, StoresPartly, database_files, index_files};
 
 use crate::database::path;
 use crate::messages::CommandFault;
-use databases::{
-    Database, Stamp, stamp_of, write_dump, write_index_of_entries, write_stamped_dump,
-};
+use databases::{Database, Stamp};
 use device::Sink;
 use folders::{Drafted, FileText, Folder, FolderFault, Unpublished};
 use ldif::WriteFault;
@@ -27,12 +24,12 @@ pub struct Dump<'a> {
 impl FileText for Dump<'_> {
     type Answer = ();
 
-    ghost text = { λ d. dump d.database.now.tree.conf d.database.now.tree.entries };
+    ghost text = { λ d. dump d.database.now.conf d.database.now.entries };
 
     ghost answers = { λ _ _. ⊤ };
 
     fn write<W: Sink>(&self, alloc: Global, sink: &mut W) -> Result<(), WriteFault> {
-        write_dump(alloc, &self.database.tree, &self.database.conf, sink)
+        self.database.dump(alloc, sink)
     }
 }
 
@@ -46,12 +43,12 @@ impl FileText for StampedDump<'_> {
     /// The stamp of the dump.
     type Answer = Stamp;
 
-    ghost text = { λ d. dump d.database.now.tree.conf d.database.now.tree.entries };
+    ghost text = { λ d. dump d.database.now.conf d.database.now.entries };
 
-    ghost answers = { λ d s. s ≡ stamp_by d.database.now.tree.conf d.database.now.tree.entries };
+    ghost answers = { λ d s. s ≡ stamp_by d.database.now.conf d.database.now.entries };
 
     fn write<W: Sink>(&self, alloc: Global, sink: &mut W) -> Result<Stamp, WriteFault> {
-        write_stamped_dump(alloc, &self.database.tree, &self.database.conf, sink)
+        self.database.stamped_dump(alloc, sink)
     }
 }
 
@@ -60,19 +57,18 @@ impl FileText for StampedDump<'_> {
 struct IndexText<'a> {
     database: &'a Database,
     stamp: &'a Stamp,
-    ghost is_stamp: { stamp.now ≡ stamp_by database.now.tree.conf database.now.tree.entries },
+    ghost is_stamp: { stamp.now ≡ stamp_by database.now.conf database.now.entries },
 }
 
 impl FileText for IndexText<'_> {
     type Answer = ();
 
-    ghost text = { λ t. index_text t.database.now.tree.conf t.database.now.tree.entries };
+    ghost text = { λ t. index_text t.database.now.conf t.database.now.entries };
 
     ghost answers = { λ _ _. ⊤ };
 
     fn write<W: Sink>(&self, alloc: Global, sink: &mut W) -> Result<(), WriteFault> {
-        let Database { conf, tree } = self.database;
-        write_index_of_entries(alloc, tree, conf, self.stamp, sink)
+        self.database.write_index_text(alloc, self.stamp, sink)
     }
 }
 
@@ -96,9 +92,10 @@ fn draft<F: Folder, T: FileText>(
 
 /// Puts a draft in the place of its file. It asks for no memory.
 fn publish<F: Folder>(folder: &mut F, draft: F::Draft) -> Result<(), CommandFault>
-    ensures ok { (name text : List ℕ) → F.is_draft draft name text → OnOk result (F.files folder.new ≡ with_file (F.files folder.old) name text) }
+    ensures ok { OfDraft F.is_draft draft (λ name text.
+        OnOk result (F.files folder.new ≡ with_file (F.files folder.old) name text)) }
     ensures same { OnErr result (F.files folder.new ≡ F.files folder.old) }
-    ensures err { (name text : List ℕ) → F.is_draft draft name text → IfErr result (NamesUnwritten name) }
+    ensures err { OfDraft F.is_draft draft (λ name _. IfErr result (NamesUnwritten name)) }
     ensures locking { F.locking folder.new ≡ F.locking folder.old }
 {
     match folder.publish(draft) {
@@ -133,9 +130,11 @@ fn store_index_with<F: Folder>(
     database: &Database,
     stamp: &Stamp,
 ) -> Result<(), CommandFault>
-    requires { stamp.now ≡ stamp_by database.now.tree.conf database.now.tree.entries }
-    ensures ok { OnOk result (F.files folder.new ≡ with_files (F.files folder.old) (index_file db.now database.now.tree.conf database.now.tree.entries ∷ [])) }
-    ensures err { IfErr result (StoresPartly (index_file db.now database.now.tree.conf database.now.tree.entries ∷ []) (F.files folder.old) (F.files folder.new)) }
+    requires { stamp.now ≡ stamp_by database.now.conf database.now.entries }
+    ensures ok { OnOk result
+        (F.files folder.new ≡ with_files (F.files folder.old) (index_files db.now database.now)) }
+    ensures err { IfErr result
+        (StoresPartly (index_files db.now database.now) (F.files folder.old) (F.files folder.new)) }
     ensures locking { F.locking folder.new ≡ F.locking folder.old }
 {
     match path(alloc, db, "index.txt") {
@@ -151,11 +150,13 @@ pub fn store_index<F: Folder>(
     db: &str,
     database: &Database,
 ) -> Result<(), CommandFault>
-    ensures ok { OnOk result (F.files folder.new ≡ with_files (F.files folder.old) (index_file db.now database.now.tree.conf database.now.tree.entries ∷ [])) }
-    ensures err { IfErr result (StoresPartly (index_file db.now database.now.tree.conf database.now.tree.entries ∷ []) (F.files folder.old) (F.files folder.new)) }
+    ensures ok { OnOk result
+        (F.files folder.new ≡ with_files (F.files folder.old) (index_files db.now database.now)) }
+    ensures err { IfErr result
+        (StoresPartly (index_files db.now database.now) (F.files folder.old) (F.files folder.new)) }
     ensures locking { F.locking folder.new ≡ F.locking folder.old }
 {
-    match stamp_of(alloc, &database.tree, &database.conf) {
+    match database.stamp(alloc) {
         Ok(stamp) => store_index_with(alloc, folder, db, database, &stamp),
         Err(_) => Err(CommandFault::OutOfMemory),
     }
@@ -176,8 +177,9 @@ fn draft_database<F: Folder>(
     index_name: &str,
     database: &Database,
 ) -> Result<DirectoryDrafts<F::Draft>, CommandFault>
-    ensures dump { IfOk result (λ d. F.is_draft d.dump data_name.now (dump database.now.tree.conf database.now.tree.entries)) }
-    ensures index { IfOk result (λ d. F.is_draft d.index index_name.now (index_text database.now.tree.conf database.now.tree.entries)) }
+    ensures dump { IfOk result (λ d. F.is_draft d.dump data_name.now (dump database.now.conf database.now.entries)) }
+    ensures index { IfOk result (λ d.
+        F.is_draft d.index index_name.now (index_text database.now.conf database.now.entries)) }
     ensures err { IfErr result (λ f. FailsToWrite data_name.now f ⊎ FailsToWrite index_name.now f) }
 {
     let dumped = draft(alloc, folder, data_name, &StampedDump { database })?;
@@ -194,10 +196,10 @@ fn publish_database<F: Folder>(
     folder: &mut F,
     drafts: DirectoryDrafts<F::Draft>,
 ) -> Result<(), CommandFault>
-    ensures ok { (file index : File) → F.is_draft drafts.dump file.name file.text → F.is_draft drafts.index index.name index.text
-        → OnOk result (F.files folder.new ≡ with_files (F.files folder.old) (file ∷ index ∷ [])) }
-    ensures err { (file index : File) → F.is_draft drafts.dump file.name file.text → F.is_draft drafts.index index.name index.text
-        → IfErr result (StoresPartly (file ∷ index ∷ []) (F.files folder.old) (F.files folder.new)) }
+    ensures ok { OfDrafts F.is_draft drafts.dump drafts.index (λ dump index.
+        OnOk result (F.files folder.new ≡ with_files (F.files folder.old) (dump ∷ index ∷ []))) }
+    ensures err { OfDrafts F.is_draft drafts.dump drafts.index (λ dump index.
+        IfErr result (StoresPartly (dump ∷ index ∷ []) (F.files folder.old) (F.files folder.new))) }
     ensures locking { F.locking folder.new ≡ F.locking folder.old }
 {
     publish(folder, drafts.dump)?;
@@ -212,8 +214,10 @@ pub fn store_database<F: Folder>(
     db: &str,
     database: &Database,
 ) -> Result<(), CommandFault>
-    ensures ok { OnOk result (F.files folder.new ≡ with_files (F.files folder.old) (kept_files db.now database.now.tree.conf database.now.tree.entries)) }
-    ensures err { IfErr result (StoresPartly (kept_files db.now database.now.tree.conf database.now.tree.entries) (F.files folder.old) (F.files folder.new)) }
+    ensures ok { OnOk result
+        (F.files folder.new ≡ with_files (F.files folder.old) (database_files db.now database.now)) }
+    ensures err { IfErr result
+        (StoresPartly (database_files db.now database.now) (F.files folder.old) (F.files folder.new)) }
     ensures locking { F.locking folder.new ≡ F.locking folder.old }
 {
     let data_path = path(alloc, db, "data.ldif")?;

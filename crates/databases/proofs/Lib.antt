@@ -7,7 +7,8 @@ pub mod Pieces
 pub mod EntryText
 pub mod LoadLaw
 pub mod DumpText
-pub mod LoadSteps
+pub mod Stops
+pub mod LoadedRecords
 pub mod Examples
 pub mod SelectedTypes
 pub mod FoundText

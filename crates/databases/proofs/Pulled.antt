@@ -2,7 +2,7 @@
 use Rattle.std.proofs.Common.{◌≡◌, ◌<◌, ◌⊎◌, inl, inr, ℕ, Bool, true, false, List, [], ◌∷◌, ◌++◌, Option, Some, IfSome, refl, sym, ◌∙◌, ap, subst, append_assoc}
 use Rattle.std.proofs.lemmas.List.{append-nil}
 use Rattle.base.specs.Ascii.{line_feed}
-use Rattle.std.specs.Prelude.{Result, Ok, Err, IfErr}
+use Rattle.std.specs.Prelude.{Result, Ok, Err, IfOk, IfErr}
 use Rattle.device.specs.Device.{Seen, Pulled, Written, GaveSome}
 use Rattle.device.specs.declared.source.Source.{Ghosts}
 use Rattle.device.proofs.Pulls.{pulled_none, pulled_more}
@@ -19,6 +19,8 @@ use Rattle.tree.specs.Directories.{Entries}
 use Rattle.databases.specs.Runs.{state_after}
 use Rattle.databases.specs.FailedReads.{IsLeft, StopsReading}
 use Rattle.databases.specs.inner.Pulls.{TookRecords, TookBeforeEnd, closed_with}
+use Rattle.databases.specs.inner.Endings.{tally_in, EndsAsTold}
+use Rattle.databases.specs.declared.runs.Ending.{Ending}
 use Rattle.databases.specs.declared.runs.Tally.{Tally}
 use Rattle.databases.specs.declared.runs.RunFault.{RunFault}
 use Rattle.databases.specs.declared.runs.RunFault.TheVariants as faults
@@ -144,3 +146,11 @@ stops_fresh (Ok n) closed conf mode go_on old new s s' t t' a b same e e' h = h
 stops_fresh (Err f) closed conf mode go_on old new s s' t t' a b same e e' h =
     subst (λ (x : Seen). StopsReading f closed_records conf mode go_on old new x t' a b) (sym e)
     (subst (λ (x : Seen). StopsReading f closed_records conf mode go_on old new s x a b) (sym e') (stops_same f closed conf mode go_on old new s s' a b same h))
+
+pub ends_fresh : (r : Result Ending RunFault) (conf : Conf) (mode : Mode) (go_on : Bool) (old : Entries) (all all' : Option (List RawRecord)) → all ≡ all' → IfOk r (EndsAsTold conf mode go_on old all) → IfOk r (EndsAsTold conf mode go_on old all')
+ends_fresh r conf mode go_on old all all' same h = subst (λ (rs : Option (List RawRecord)). IfOk r (EndsAsTold conf mode go_on old rs)) same h
+
+-- where it failed
+pub read_by : (P : RunFault → Type 0) (r : Result Ending RunFault) → IfErr (tally_in r) P → IfErr r P
+read_by P (Ok e) h = tt
+read_by P (Err f) h = h

@@ -1,5 +1,5 @@
 -- How the edits of the index add up over the records of a run.
-use Rattle.std.proofs.Common.{◌≡◌, ℕ, ◌+◌, ◌⊎◌, inl, inr, Bool, true, false, cond, List, [], ◌∷◌, ◌++◌, map, Option, Some, None, refl, sym, ◌∙◌, ap, arith, zero-add}
+use Rattle.std.proofs.Common.{◌≡◌, ℕ, ◌+◌, ◌*◌, ◌⊎◌, inl, inr, Bool, true, false, cond, List, [], ◌∷◌, ◌++◌, map, Option, Some, None, refl, sym, ◌∙◌, ap, arith, zero-add, length}
 use Rattle.std.specs.Prelude.{Result, Ok, Err}
 use Rattle.std.specs.List.{fold}
 use Rattle.std.proofs.lemmas.List.{append-nil, map-append}
@@ -13,11 +13,11 @@ use Rattle.ldif.specs.Reading.{reading}
 use Rattle.schema.specs.Conf.{Conf}
 use Rattle.tree.specs.Directories.{Entries}
 use Rattle.databases.specs.Folds.{Over}
-use Rattle.databases.specs.RunEdits.{CountEdits, step_edits, edits_from, run_edits, Edited, EditedByFirst, EditsRise}
+use Rattle.databases.specs.RunEdits.{CountEdits, RisesUpTo, edits_read, step_edits, next_edits, edits_from, run_edits, Edited, EditedByFirst, EditedAndTakenBack, EditsRise}
 use Rattle.databases.specs.Runs.{State, start, outcome, step, after_records, read_as, state_after}
-use Rattle.databases.specs.inner.RecordEdits.{RiseBy}
 use Rattle.databases.specs.inner.Stands.{IsReached, Stands}
-use Rattle.databases.specs.inner.Steps.{IsTaken, IsBrokenOff}
+use Rattle.databases.specs.inner.Steps.{IsTaken, IsCounted}
+use Rattle.databases.specs.declared.refusal.RecordRefusal.{RecordRefusal}
 use Rattle.databases.specs.declared.runs.Tally.{Tally}
 use Rattle.databases.specs.declared.runs.RunFault.{RunFault}
 use Rattle.databases.specs.declared.runs.RunFault.TheVariants as faults
@@ -29,7 +29,7 @@ module _ (count : CountEdits) (conf : Conf) (mode : Mode) (go_on : Bool) where
   none_ended : (s : State) (rs : List (ℕ × Result Record LdifFaultKind)) → s.ended ≡ true → edits_from count conf mode go_on s rs ≡ 0
   none_ended s [] over = refl
   none_ended s (r ∷ rs) over =
-      let one : step_edits count conf mode s r.1 ≡ 0 = ap (λ b. cond b 0 (count conf mode s.entries r.1)) over in
+      let one : step_edits count conf mode s r.1 ≡ 0 = ap (λ b. cond b 0 (edits_read count conf mode s.entries r.1)) over in
       let stays : edits_from count conf mode go_on (step conf mode go_on s r) rs ≡ edits_from count conf mode go_on s rs = ap (λ (x : State). edits_from count conf mode go_on x rs) (step_ended conf mode go_on s.entries s r over) in
       let rest = none_ended s rs over in
       omega (arith, one, stays, rest)
@@ -49,11 +49,11 @@ module _ (count : CountEdits) (conf : Conf) (mode : Mode) (go_on : Bool) where
     unfolding after_records
     split front others = ap (edits_from count conf mode go_on (start old)) (map-append (read_as mode) front others) ∙ parts (start old) (map (read_as mode) front) (map (read_as mode) others)
 
-    going_on : (s : State) (now : Entries) (r : Result Record LdifFaultKind) → s.ended ≡ false → now ≡ s.entries → step_edits count conf mode s r ≡ count conf mode now r
-    going_on s now r going here = ap (λ b. cond b 0 (count conf mode s.entries r)) going ∙ ap (λ (d : Entries). count conf mode d r) (sym here)
+    going_on : (s : State) (now : Entries) (r : Result Record LdifFaultKind) → s.ended ≡ false → now ≡ s.entries → step_edits count conf mode s r ≡ edits_read count conf mode now r
+    going_on s now r going here = ap (λ b. cond b 0 (edits_read count conf mode s.entries r)) going ∙ ap (λ (d : Entries). edits_read count conf mode d r) (sym here)
 
     -- one record more
-    pub one_more : (now : Entries) (front : List RawRecord) (r : RawRecord) → (at front).ended ≡ false → now ≡ (at front).entries → edits_of (front ++ r ∷ []) ≡ edits_of front + count conf mode now (reading mode r.first r.lines)
+    pub one_more : (now : Entries) (front : List RawRecord) (r : RawRecord) → (at front).ended ≡ false → now ≡ (at front).entries → edits_of (front ++ r ∷ []) ≡ edits_of front + edits_read count conf mode now (reading mode r.first r.lines)
     one_more now front r going here =
         let all = split front (r ∷ []) in
         let one = going_on (at front) now (reading mode r.first r.lines) going here in
@@ -63,7 +63,7 @@ module _ (count : CountEdits) (conf : Conf) (mode : Mode) (go_on : Bool) where
     none_edited edits = omega arith
 
     pub one_edited : (edits edits' edits'' : ℕ) (now : Entries) (front : List RawRecord) (r : RawRecord) → (at front).ended ≡ false → now ≡ (at front).entries → edits' ≡ edits + edits_of front
-        → edits'' ≡ edits' + count conf mode now (reading mode r.first r.lines) → edits'' ≡ edits + edits_of (front ++ r ∷ [])
+        → edits'' ≡ edits' + edits_read count conf mode now (reading mode r.first r.lines) → edits'' ≡ edits + edits_of (front ++ r ∷ [])
     one_edited edits edits' edits'' now front r going here so_far rise = let one = one_more now front r going here in omega (arith, so_far, one, rise)
 
     -- once all records were taken, or the run has ended, the rest makes none
@@ -99,6 +99,31 @@ module _ (count : CountEdits) (conf : Conf) (mode : Mode) (go_on : Bool) where
       first None h = record { given = front; are = tt; so = of_tally front [] (sym (append-nil front)) None h }
       first (Some rs) h = record { given = rs; are = refl; so = of_tally rs (others_of left) (parts_of rs front left h.parts) (Some rs) h }
 
+    -- ---- memory ran out
+
+    module _ (given front others : List RawRecord) (new : Entries) (t : Tally) (edits edits' : ℕ) (entries : new ≡ (at front).entries) (accepted : t.accepted ≡ (at front).accepted) (refused : t.refused ≡ length (at front).refused) where
+      back_in : given ≡ front ++ others → RisesUpTo (2 * next_edits count conf mode (at front) others) (edits + edits_of front) edits' → EditedAndTakenBack count conf mode go_on old new given t edits edits'
+      back_in parts rise = record { front = front; others = others; parts = parts; entries = entries; accepted = accepted; refused = refused; rise = rise }
+
+    -- in a record behind the first ones
+    taken_back : (all mid left : Option (List RawRecord)) (r : RawRecord) (front : List RawRecord) (new : Entries) (t : Tally) (edits edits' : ℕ) → Takes all mid front → Takes mid left (r ∷ [])
+        → new ≡ (at front).entries → t.accepted ≡ (at front).accepted → t.refused ≡ length (at front).refused
+        → RisesUpTo (2 * step_edits count conf mode (at front) (reading mode r.first r.lines)) (edits + edits_of front) edits' → Over all (λ given. EditedAndTakenBack count conf mode go_on old new given t edits edits')
+    taken_back None mid left r front new t edits edits' parts taken entries accepted refused rise =
+        record { given = front ++ r ∷ []; are = tt; so = back_in (front ++ r ∷ []) front (r ∷ []) new t edits edits' entries accepted refused refl rise }
+    taken_back (Some rs) None left r front new t edits edits' parts taken entries accepted refused rise = absurd parts
+    taken_back (Some rs) (Some mid) None r front new t edits edits' parts taken entries accepted refused rise = absurd taken
+    taken_back (Some rs) (Some mid) (Some left) r front new t edits edits' parts taken entries accepted refused rise =
+        record { given = rs; are = refl; so = back_in rs front (r ∷ left) new t edits edits' entries accepted refused (parts ∙ ap (λ ys. front ++ ys) taken) rise }
+
+    -- before anything of the next record came
+    none_taken_back : (new : Entries) (edits edits' : ℕ) (front : List RawRecord) (left : Option (List RawRecord)) (t : Tally) → edits' ≡ edits + edits_of front → (all : Option (List RawRecord)) → IsReached conf mode go_on old new all left t front
+        → Over all (λ given. EditedAndTakenBack count conf mode go_on old new given t edits edits')
+    none_taken_back new edits edits' front left t rise None h =
+        record { given = front; are = tt; so = back_in front front [] new t edits edits' h.entries h.accepted h.refused (sym (append-nil front)) (record { rises = omega (arith, rise); few = omega (arith, rise) }) }
+    none_taken_back new edits edits' front left t rise (Some rs) h =
+        record { given = rs; are = refl; so = back_in rs front (others_of left) new t edits edits' h.entries h.accepted h.refused (parts_of rs front left h.parts) (record { rises = omega (arith, rise); few = omega (arith, rise) }) }
+
     -- ---- where a run ends, or is broken off
 
     module _ (edits edits' : ℕ) (P : List RawRecord → Type 0) (rose : (front : List RawRecord) → P front → edits' ≡ edits + edits_of front) where
@@ -109,21 +134,39 @@ module _ (count : CountEdits) (conf : Conf) (mode : Mode) (go_on : Bool) where
         pub stops_reading : EditsRise count conf mode go_on old now all (Err (faults.Read t)) edits edits'
         stops_reading = first now edits edits' h.front left t (rose h.front h.so) all h.reached
 
+        pub stops_wanting : EditsRise count conf mode go_on old now all (Err (faults.OutOfMemory t)) edits edits'
+        stops_wanting = none_taken_back now edits edits' h.front left t (rose h.front h.so) all h.reached
+
       module _ (now new : Entries) (all mid left : Option (List RawRecord)) (t t' : Tally) (a b c : Written) (r : RawRecord) (h : Stands P conf mode go_on old now all mid t a b) (taken : Takes mid left (r ∷ [])) (edits'' : ℕ) where
-        rose_more : edits'' ≡ edits' + count conf mode now (reading mode r.first r.lines) → edits'' ≡ edits + edits_of (h.front ++ r ∷ [])
+        rose_more : edits'' ≡ edits' + edits_read count conf mode now (reading mode r.first r.lines) → edits'' ≡ edits + edits_of (h.front ++ r ∷ [])
         rose_more rise =
             let so_far = rose h.front h.so in
             let one = one_more now h.front r h.going h.reached.entries in
             omega (arith, so_far, one, rise)
 
-        pub ends_there : (ended : Bool) → IsTaken (outcome conf mode now (reading mode r.first r.lines)) go_on r.line new t t' b c ended → ended ≡ true → edits'' ≡ edits' + count conf mode now (reading mode r.first r.lines) → EditsRise count conf mode go_on old new all (Ok t') edits edits''
+        pub ends_there : (ended : Bool) → IsTaken (outcome conf mode now (reading mode r.first r.lines)) go_on r.line new t t' b c ended → ended ≡ true → edits'' ≡ edits' + edits_read count conf mode now (reading mode r.first r.lines) → EditsRise count conf mode go_on old new all (Ok t') edits edits''
         ends_there ended k on rise =
             let reached = reached_more conf mode go_on old now h.front r h.going h.reached.entries all mid left t t' new h.reached taken k.entries k.counts in
             whole new edits edits'' (h.front ++ r ∷ []) left reached.entries (rose_more rise) all reached.parts (inr (ended_is conf mode go_on old now h.front r h.going h.reached.entries ∙ sym k.ended_is ∙ on))
 
-        pub breaks_off : (f : RunFault) → IsBrokenOff (outcome conf mode now (reading mode r.first r.lines)) r.line now new t b c f → RiseBy {A = Bool} (count conf mode now (reading mode r.first r.lines)) (Err f) edits' edits'' → EditsRise count conf mode go_on old new all (Err f) edits edits''
-        breaks_off (faults.Read u) k rise = absurd k
-        breaks_off (faults.Write u) (why, k, broke) rise =
+        pub breaks_off : (u : Tally) (why : RecordRefusal) → IsCounted (outcome conf mode now (reading mode r.first r.lines)) new t u why → edits'' ≡ edits' + edits_read count conf mode now (reading mode r.first r.lines)
+            → EditsRise count conf mode go_on old new all (Err (faults.Write u)) edits edits''
+        breaks_off u why k rise =
             let reached = reached_more conf mode go_on old now h.front r h.going h.reached.entries all mid left t u new h.reached taken k.entries k.counts in
             first new edits edits'' (h.front ++ r ∷ []) left u (rose_more rise) all reached
-        breaks_off (faults.OutOfMemory u) k rise = tt
+
+        -- its report was wanting memory
+        pub wants_report : (u : Tally) (why : RecordRefusal) → IsCounted (outcome conf mode now (reading mode r.first r.lines)) new t u why → edits'' ≡ edits' + edits_read count conf mode now (reading mode r.first r.lines)
+            → EditsRise count conf mode go_on old new all (Err (faults.OutOfMemory u)) edits edits''
+        wants_report u why k rise =
+            let reached = reached_more conf mode go_on old now h.front r h.going h.reached.entries all mid left t u new h.reached taken k.entries k.counts in
+            none_taken_back new edits edits'' (h.front ++ r ∷ []) left u (rose_more rise) all reached
+
+        -- it was wanting memory itself
+        pub wants : now ≡ new → RisesUpTo (2 * edits_read count conf mode now (reading mode r.first r.lines)) edits' edits'' → EditsRise count conf mode go_on old new all (Err (faults.OutOfMemory t)) edits edits''
+        wants same k = taken_back all mid left r h.front new t edits edits'' h.reached.parts taken (sym same ∙ h.reached.entries) h.reached.accepted h.reached.refused
+            (let so_far = rose h.front h.so in
+            let next = going_on (at h.front) now (reading mode r.first r.lines) h.going h.reached.entries in
+            let rises = k.rises in
+            let few = k.few in
+            record { rises = omega (arith, so_far, rises); few = omega (arith, so_far, next, few) })

@@ -1,7 +1,7 @@
 -- What the next record of a run comes to: from where the run stands to where it stands next, or to its end.
-use Rattle.std.proofs.Common.{◌≡◌, ◌↔◌, ℕ, ◌+◌, ◌<◌, ◌≤◌, ◌^◌, inl, inr, Bool, true, false, List, refl, sym, ◌∙◌, ap, subst, arith}
+use Rattle.std.proofs.Common.{◌≡◌, ◌↔◌, ℕ, ◌+◌, ◌*◌, ◌<◌, ◌≤◌, ◌^◌, inl, inr, Bool, true, false, List, length, Some, None, refl, sym, ◌∙◌, ap, subst, arith}
 use Rattle.std.specs.Prelude.{Result, Ok, Err}
-use Rattle.device.specs.Device.{Seen, Written, Broke, GaveSome}
+use Rattle.device.specs.Device.{Seen, Written, Took, Broke, GaveSome}
 use Rattle.device.specs.declared.source.Source.{Ghosts}
 use Rattle.device.proofs.Pulls.{gave_none, gave_more}
 use Rattle.ldif_lines.specs.Reader.{IsEnd, source_of, loan_of, is_failed, records_left, bytes_left}
@@ -16,21 +16,26 @@ use Rattle.ldif.specs.Reading.{reading}
 use Rattle.schema.specs.Conf.{Conf}
 use Rattle.tree.specs.Directories.{Entries}
 use Rattle.databases.specs.Runs.{outcome}
-use Rattle.databases.specs.RunEdits.{CountEdits}
+use Rattle.databases.specs.RunEdits.{CountEdits, RisesUpTo, edits_read}
+use Rattle.databases.specs.inner.Endings.{IsEndedBy}
 use Rattle.databases.specs.inner.Pulls.{closed_with}
 use Rattle.databases.specs.inner.RecordEdits.{TookAndEdited}
 use Rattle.databases.specs.inner.Running.{IsRunning, HasRun, Reaches}
-use Rattle.databases.specs.inner.Steps.{counts_after, IsTaken, IsCounted, Counts, run_fault_of}
+use Rattle.databases.specs.inner.Steps.{counts_after, reported, ends as is_ended, IsTaken, IsCounted, Counts, run_fault_of}
 use Rattle.databases.specs.Reports.{report_line}
 use Rattle.databases.specs.declared.refusal.RecordRefusal.{RecordRefusal}
+use Rattle.databases.specs.declared.refusal.RefusedRecord.{RefusedRecord}
 use Rattle.databases.specs.declared.refusal.Outcome.{Outcome}
 use Rattle.databases.specs.declared.refusal.Outcome.TheVariants.{Refused}
+use Rattle.databases.specs.declared.runs.Progress.{Progress}
+use Rattle.databases.specs.declared.runs.Progress.TheVariants.{GoesOn, AtEnd, StoppedBy}
 use Rattle.databases.specs.declared.runs.Tally.{Tally}
 use Rattle.databases.specs.declared.runs.RunFault.{RunFault}
 use Rattle.databases.specs.declared.runs.RunFault.TheVariants as faults
 use Rattle.databases.proofs.Pulled.{TookOne, not_both, took_none, up_to}
 use Rattle.databases.proofs.Records as records
 use Rattle.databases.proofs.Records.{counts_few}
+use Rattle.databases.proofs.Stops.{none_refused, never_at_end, goes_on_behind, stops_behind, only_refused}
 use Rattle.databases.proofs.RunEdits as edited
 use Rattle.databases.proofs.RunEdits.{none_edited, one_edited}
 
@@ -50,10 +55,13 @@ module _ {S : Type 0} {g : Ghosts S} (seen : S → Seen) (count : CountEdits) (m
     abbrev P : List RawRecord → Type 0
     P = TookAndEdited seen r r1 count conf mode go_on d e e1
 
+    none_told : IsEndedBy conf mode go_on d (records_left seen r) t None
+    none_told = λ first. h.stands.reached.refused ∙ ap length (none_refused conf mode go_on d first h.stands.front h.stands.going)
+
     -- no record is left
     pub ends : (r2 : Reader S RecordDraft g) → loan_of r2 ≡ loan_of r1 → (seen (source_of r2)).failed ≡ (seen (source_of r1)).failed → GaveSome (seen (source_of r1)) (seen (source_of r2)) → IsEnd (records_left seen r1)
-        → HasRun seen count mode go_on conf r d e a conf1 r2 d1 e1 b (Ok t)
-    ends r2 loan failed gave over = record {
+        → HasRun seen count mode go_on conf r d e a conf1 r2 d1 e1 b (Ok t) × IsEndedBy conf mode go_on d (records_left seen r) t None
+    ends r2 loan failed gave over = (record {
       same_conf = h.same_conf;
       same_loan = loan ∙ h.same_loan;
       runs = records.stops conf mode go_on d d1 (records_left seen r) (records_left seen r1) t a b P h.stands over;
@@ -61,7 +69,7 @@ module _ {S : Type 0} {g : Ghosts S} (seen : S → Seen) (count : CountEdits) (m
       read = tt;
       failures = (failed ∙ h.failed, h.stands.written.failed);
       gave = gave_more _ _ _ h.gave gave;
-    }
+    }, none_told)
 
     fails_by : (r2 : Reader S RecordDraft g) (fault : ReadFault) → (fault ≡ reads.Failed → ⊥) → loan_of r2 ≡ loan_of r1 → GaveSome (seen (source_of r1)) (seen (source_of r2))
         → (fault ≡ reads.Device → (seen (source_of r2)).failed ≡ (seen (source_of r1)).failed + 1) → (fault ≡ reads.OutOfMemory → (seen (source_of r2)).failed ≡ (seen (source_of r1)).failed)
@@ -79,7 +87,7 @@ module _ {S : Type 0} {g : Ghosts S} (seen : S → Seen) (count : CountEdits) (m
       same_conf = h.same_conf;
       same_loan = loan ∙ h.same_loan;
       runs = records.stops_wanting conf mode go_on d d1 (records_left seen r) (records_left seen r1) t a b P h.stands;
-      edits = tt;
+      edits = edited.stops_wanting count conf mode go_on d e e1 P (λ front so. so.1) d1 (records_left seen r) (records_left seen r1) t a b h.stands;
       read = tt;
       failures = (memory refl ∙ h.failed, h.stands.written.failed);
       gave = gave_more _ _ _ h.gave gave;
@@ -96,34 +104,35 @@ module _ {S : Type 0} {g : Ghosts S} (seen : S → Seen) (count : CountEdits) (m
 
     module _ (conf2 : Conf) (r2 : Reader S RecordDraft g) (d2 : Entries) (e2 : ℕ) (raw : RawRecord) (m : TookOne seen r1 r2 raw) (same : conf2 ≡ conf1) where
       -- memory ran out, and the entries are those before
-      pub wants : d2 ≡ d1 → HasRun seen count mode go_on conf r d e a conf2 r2 d2 e2 b (Err (faults.OutOfMemory t))
-      wants is = record {
+      pub wants : d2 ≡ d1 → RisesUpTo (2 * edits_read count conf1 mode d1 (reading mode raw.first raw.lines)) e1 e2 → HasRun seen count mode go_on conf r d e a conf2 r2 d2 e2 b (Err (faults.OutOfMemory t))
+      wants is rise = record {
         same_conf = same ∙ h.same_conf;
         same_loan = m.same_loan ∙ h.same_loan;
         runs = records.breaks_off conf mode go_on d d1 d2 (records_left seen r) (records_left seen r1) (records_left seen r2) t t a b b raw P h.stands m.taken (faults.OutOfMemory t) (inl (record { entries = is; counts = refl; written = refl }));
-        edits = tt;
+        edits = edited.wants count conf mode go_on d e e1 P (λ front so. so.1) d1 d2 (records_left seen r) (records_left seen r1) (records_left seen r2) t t a b b raw h.stands m.taken e2 (sym is)
+            (subst (λ (k : Conf). RisesUpTo (2 * edits_read count k mode d1 (reading mode raw.first raw.lines)) e1 e2) h.same_conf rise);
         read = tt;
         failures = (m.failed ∙ h.failed, h.stands.written.failed);
         gave = gave_more _ _ _ h.gave m.gave;
       }
 
-      module _ (c : Written) (t2 : Tally) (o : Outcome) (is : outcome conf1 mode d1 (reading mode raw.first raw.lines) ≡ (d2, o)) (rise : e2 ≡ e1 + count conf1 mode d1 (reading mode raw.first raw.lines)) where
+      module _ (c : Written) (t2 : Tally) (o : Outcome) (is : outcome conf1 mode d1 (reading mode raw.first raw.lines) ≡ (d2, o)) (rise : e2 ≡ e1 + edits_read count conf1 mode d1 (reading mode raw.first raw.lines)) where
         becomes : outcome conf mode d1 (reading mode raw.first raw.lines) ≡ (d2, o)
         becomes = subst (λ (k : Conf). outcome k mode d1 (reading mode raw.first raw.lines) ≡ (d2, o)) h.same_conf is
 
-        rises : e2 ≡ e1 + count conf mode d1 (reading mode raw.first raw.lines)
-        rises = subst (λ (k : Conf). e2 ≡ e1 + count k mode d1 (reading mode raw.first raw.lines)) h.same_conf rise
+        rises : e2 ≡ e1 + edits_read count conf mode d1 (reading mode raw.first raw.lines)
+        rises = subst (λ (k : Conf). e2 ≡ e1 + edits_read count k mode d1 (reading mode raw.first raw.lines)) h.same_conf rise
 
-        taken_is : (ended : Bool) → Counts o go_on raw.line t t2 b c (Ok ended) → IsTaken (outcome conf mode d1 (reading mode raw.first raw.lines)) go_on raw.line d2 t t2 b c ended
+        taken_is : (ended : Bool) → (t2 ≡ counts_after o t) × Took b c (reported raw.line o) × (ended ≡ is_ended go_on o) → IsTaken (outcome conf mode d1 (reading mode raw.first raw.lines)) go_on raw.line d2 t t2 b c ended
         taken_is ended k = subst (λ (x : Entries × Outcome). IsTaken x go_on raw.line d2 t t2 b c ended) (sym becomes) (record { entries = refl; counts = k.0; written = k.1; ended_is = k.2 })
 
         counted_is : (why : RecordRefusal) (u : Tally) → o ≡ Refused why → u ≡ counts_after o t → IsCounted (outcome conf mode d1 (reading mode raw.first raw.lines)) d2 t u why
         counted_is why u refused counts = subst (λ (x : Entries × Outcome). IsCounted x d2 t u why) (sym becomes) (record { is = refused; entries = refl; counts = counts })
 
         -- it was carried out, counted and reported
-        pub steps : (result : Result Bool RunFault) → Counts o go_on raw.line t t2 b c result → Reaches seen count mode go_on (bytes_left seen r1) conf r d e a conf2 r2 d2 e2 c t2 result
-        steps (Ok false) k =
-            let one = taken_is false k in (
+        pub steps : (result : Result Progress RunFault) → Counts o go_on raw.line t t2 b c result → Reaches seen count mode go_on (bytes_left seen r1) conf r d e a conf2 r2 d2 e2 c t2 result
+        steps (Ok GoesOn) k =
+            let one = taken_is false (k.0, k.1, goes_on_behind go_on raw.line o k.2) in (
               record {
                 same_conf = same ∙ h.same_conf;
                 same_loan = m.same_loan ∙ h.same_loan;
@@ -144,9 +153,11 @@ module _ {S : Type 0} {g : Ghosts S} (seen : S → Seen) (count : CountEdits) (m
               },
               m.falls,
             )
-        steps (Ok true) k =
-            let one = taken_is true k in
-            record {
+        steps (Ok AtEnd) k = absurd (never_at_end go_on raw.line o k.2)
+        steps (Ok (StoppedBy x)) k =
+            let stopped = stops_behind go_on raw.line o x k.2 in
+            let one = taken_is true (k.0, k.1, stopped.0) in
+            (record {
               same_conf = same ∙ h.same_conf;
               same_loan = m.same_loan ∙ h.same_loan;
               runs = records.ends_there conf mode go_on d d1 d2 (records_left seen r) (records_left seen r1) (records_left seen r2) t t2 a b c raw P h.stands m.taken true one refl;
@@ -154,7 +165,8 @@ module _ {S : Type 0} {g : Ghosts S} (seen : S → Seen) (count : CountEdits) (m
               read = tt;
               failures = (m.failed ∙ h.failed, k.1.failed ∙ h.stands.written.failed);
               gave = gave_more _ _ _ h.gave m.gave;
-            }
+            }, only_refused conf mode go_on d d1 (records_left seen r) (records_left seen r1) (records_left seen r2) t a b raw P h.stands m.taken x stopped.1
+                (ap (λ (q : Entries × Outcome). q.1) becomes ∙ stopped.2) stopped.3)
         steps (Err (faults.Read u)) k = absurd k
         steps (Err (faults.Write u)) (why, refused, counts, broke) =
             let one : (why' : RecordRefusal) × IsCounted (outcome conf mode d1 (reading mode raw.first raw.lines)) d2 t u why' × Broke b c (report_line (raw.line, why')) = (why, counted_is why u refused counts, broke) in
@@ -162,7 +174,7 @@ module _ {S : Type 0} {g : Ghosts S} (seen : S → Seen) (count : CountEdits) (m
               same_conf = same ∙ h.same_conf;
               same_loan = m.same_loan ∙ h.same_loan;
               runs = records.breaks_off conf mode go_on d d1 d2 (records_left seen r) (records_left seen r1) (records_left seen r2) t t2 a b c raw P h.stands m.taken (faults.Write u) one;
-              edits = edited.breaks_off count conf mode go_on d e e1 P (λ front so. so.1) d1 d2 (records_left seen r) (records_left seen r1) (records_left seen r2) t t2 a b c raw h.stands m.taken e2 (faults.Write u) one rises;
+              edits = edited.breaks_off count conf mode go_on d e e1 P (λ front so. so.1) d1 d2 (records_left seen r) (records_left seen r1) (records_left seen r2) t t2 a b c raw h.stands m.taken e2 u why (counted_is why u refused counts) rises;
               read = tt;
               failures = (m.failed ∙ h.failed, broke.failed ∙ ap (λ n. n + 1) h.stands.written.failed);
               gave = gave_more _ _ _ h.gave m.gave;
@@ -171,17 +183,23 @@ module _ {S : Type 0} {g : Ghosts S} (seen : S → Seen) (count : CountEdits) (m
           same_conf = same ∙ h.same_conf;
           same_loan = m.same_loan ∙ h.same_loan;
           runs = records.breaks_off conf mode go_on d d1 d2 (records_left seen r) (records_left seen r1) (records_left seen r2) t t2 a b c raw P h.stands m.taken (faults.OutOfMemory u) (inr (why, counted_is why u refused counts, left));
-          edits = tt;
+          edits = edited.wants_report count conf mode go_on d e e1 P (λ front so. so.1) d1 d2 (records_left seen r) (records_left seen r1) (records_left seen r2) t t2 a b c raw h.stands m.taken e2 u why (counted_is why u refused counts) rises;
           read = tt;
           failures = (m.failed ∙ h.failed, ap (λ (x : Written). x.failed) left ∙ h.stands.written.failed);
           gave = gave_more _ _ _ h.gave m.gave;
         }
 
--- whether the run has ended
+-- how it goes on
 module _ {S : Type 0} {g : Ghosts S} (seen : S → Seen) (count : CountEdits) (mode : Mode) (go_on : Bool) (bytes : ℕ) (conf : Conf) (r : Reader S RecordDraft g) (d : Entries) (e : ℕ) (a : Written)
-    (conf' : Conf) (r' : Reader S RecordDraft g) (d' : Entries) (e' : ℕ) (b : Written) (t : Tally) (ended : Bool) (h : Reaches seen count mode go_on bytes conf r d e a conf' r' d' e' b t (Ok ended)) where
-  pub goes_on : ended ≡ false → IsRunning seen count mode go_on conf r d e a conf' r' d' e' b t × (bytes_left seen r' < bytes)
-  goes_on off = subst (λ x. Reaches seen count mode go_on bytes conf r d e a conf' r' d' e' b t (Ok x)) off h
+    (conf' : Conf) (r' : Reader S RecordDraft g) (d' : Entries) (e' : ℕ) (b : Written) (t : Tally) (progress : Progress) (h : Reaches seen count mode go_on bytes conf r d e a conf' r' d' e' b t (Ok progress)) where
+  abbrev Here : Progress → Type 0
+  Here p = Reaches seen count mode go_on bytes conf r d e a conf' r' d' e' b t (Ok p)
 
-  pub has_ended : ended ≡ true → HasRun seen count mode go_on conf r d e a conf' r' d' e' b (Ok t)
-  has_ended on = subst (λ x. Reaches seen count mode go_on bytes conf r d e a conf' r' d' e' b t (Ok x)) on h
+  pub goes_on : progress ≡ GoesOn → IsRunning seen count mode go_on conf r d e a conf' r' d' e' b t × (bytes_left seen r' < bytes)
+  goes_on is = subst Here is h
+
+  pub at_end : progress ≡ AtEnd → HasRun seen count mode go_on conf r d e a conf' r' d' e' b (Ok t) × IsEndedBy conf mode go_on d (records_left seen r) t None
+  at_end is = subst Here is h
+
+  pub stopped_by : (x : RefusedRecord) → progress ≡ StoppedBy x → HasRun seen count mode go_on conf r d e a conf' r' d' e' b (Ok t) × IsEndedBy conf mode go_on d (records_left seen r) t (Some x)
+  stopped_by x is = subst Here is h

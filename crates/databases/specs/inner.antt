@@ -1,6 +1,6 @@
 pub mod Steps
 pub mod Dumps
-pub mod Loading
+pub mod Endings
 pub mod Stands
 pub mod Marks
 pub mod Numberings

@@ -1,20 +1,22 @@
-//! One record, carried out on a tree.
+//! One record, carried out.
 
-ghost use Rattle.std.specs.Prelude.{◌≡◌, Ok, IfOk, OnErr};
-ghost use Rattle.std.specs.FinSet as set;
+ghost use Rattle.std.specs.Prelude.{◌≡◌, ◌+◌, ◌*◌, Ok, IfOk, OnOk, OnErr};
+ghost use Rattle.ldif.specs.Reading.{reading};
 ghost use Rattle.tree.specs.Operations.{apply};
 ghost use Rattle.entries.specs.Gives.{Gives};
+ghost use Rattle.databases.specs.RunEdits.{edits_read, RisesUpTo};
 ghost use Rattle.databases.specs.Runs.{outcome, outcome_of};
 
 use crate::refusal::{Outcome, RecordRefusal};
+use crate::target::Target;
 use entries::Refusal;
 use ldif::{LdifFault, Mode, RawRecord, Record, read_record};
 use schema::Conf;
 use std::alloc::{AllocError, Global};
 use tree::{Tree, plan};
 
-// Carries out a record on a tree, or refuses it and changes nothing.
-fn apply(
+/// Carries out a record on a tree, or refuses it and changes nothing.
+pub(crate) fn apply(
     alloc: Global,
     tree: &mut Tree,
     conf: &Conf,
@@ -31,43 +33,46 @@ fn apply(
     Ok(())
 }
 
-// What becomes of a record that is carried out on a tree.
+// What becomes of a record that is carried out.
 #[tactic(auto, unfolding(crate::specs::Runs::outcome))]
-fn outcome_of(
+fn outcome_of<T: Target>(
     alloc: Global,
-    tree: &mut Tree,
-    conf: &Conf,
+    target: &mut T,
     asked: &Record<'_>,
     mode: Mode,
 ) -> Result<Outcome, AllocError>
-    requires { tree.old.conf ≡ conf.now }
-    ensures same_conf { tree.new.conf ≡ tree.old.conf }
-    ensures outcome { IfOk result (λ o. outcome tree.old.conf mode tree.old.entries (Ok asked.now) ≡ (tree.new.entries, o)) }
-    ensures err { OnErr result (tree.new ≡ tree.old) }
+    ensures same_conf { T.conf target.new ≡ T.conf target.old }
+    ensures outcome { IfOk result (λ o. outcome (T.conf target.old) mode (T.entries target.old) (Ok asked.now) ≡ (T.entries target.new, o)) }
+    ensures err { OnErr result (T.entries target.new ≡ T.entries target.old) }
+    ensures edits { OnOk result (T.edits target.new ≡ T.edits target.old + T.count_edits (T.conf target.old) mode (T.entries target.old) asked.now) }
+    ensures wanting { OnErr result (RisesUpTo (2 * T.count_edits (T.conf target.old) mode (T.entries target.old) asked.now)
+        (T.edits target.old) (T.edits target.new)) }
 {
-    match apply(alloc, tree, conf, asked, mode) {
+    match target.carry_out(alloc, asked, mode) {
         Ok(()) => Ok(Outcome::of_accepted(asked)),
         Err(Refusal::Code(code)) => Ok(Outcome::Refused(RecordRefusal::Code(code))),
         Err(Refusal::OutOfMemory) => Err(AllocError),
     }
 }
 
-// Reads a record from its lines and carries it out on a tree.
+/// Reads a record from its lines and carries it out, or refuses it. A refusal changes no entry, nor does want of memory, which is the only error.
 #[tactic(auto, unfolding(crate::specs::Runs::outcome))]
-pub(crate) fn carry_out(
+pub(crate) fn carry_out<T: Target>(
     alloc: Global,
-    tree: &mut Tree,
-    conf: &Conf,
+    target: &mut T,
     raw: &RawRecord,
     mode: Mode,
 ) -> Result<Outcome, AllocError>
-    requires { tree.old.conf ≡ conf.now }
-    ensures same_conf { tree.new.conf ≡ tree.old.conf }
-    ensures outcome { IfOk result (λ o. outcome_of tree.old.conf mode tree.old.entries raw.now ≡ (tree.new.entries, o)) }
-    ensures err { OnErr result (tree.new ≡ tree.old) }
+    ensures same_conf { T.conf target.new ≡ T.conf target.old }
+    ensures outcome { IfOk result (λ o. outcome_of (T.conf target.old) mode (T.entries target.old) raw.now ≡ (T.entries target.new, o)) }
+    ensures err { OnErr result (T.entries target.new ≡ T.entries target.old) }
+    ensures edits { OnOk result (T.edits target.new ≡ T.edits target.old
+        + edits_read T.count_edits (T.conf target.old) mode (T.entries target.old) (reading mode raw.now.first raw.now.lines)) }
+    ensures wanting { OnErr result (RisesUpTo (2 * edits_read T.count_edits (T.conf target.old) mode (T.entries target.old)
+        (reading mode raw.now.first raw.now.lines)) (T.edits target.old) (T.edits target.new)) }
 {
     match read_record(alloc, raw, mode) {
-        Ok(asked) => outcome_of(alloc, tree, conf, &asked, mode),
+        Ok(asked) => outcome_of(alloc, target, &asked, mode),
         Err(LdifFault::Fault(fault)) => Ok(Outcome::Refused(RecordRefusal::Fault(fault))),
         Err(LdifFault::OutOfMemory) => Err(AllocError),
     }

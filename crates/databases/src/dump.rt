@@ -1,14 +1,16 @@
 //! The dump of a directory.
 
-ghost use Rattle.std.specs.Prelude.{◌≡◌, ◌<◌, ◌-◌, ◌^◌, ◌++◌, ◌∷◌, [], Some, OnOk, length};
+ghost use Rattle.std.specs.Prelude.{◌≡◌, ◌<◌, ◌-◌, ◌^◌, ◌++◌, ◌∷◌, [], List, ℕ, Some, OnOk, length};
 ghost use Rattle.std.specs.FinMap as finite;
 ghost use Rattle.ldif.specs.Writing.{written_line};
 ghost use Rattle.entries.specs.StoredEntries.{content_of};
 ghost use Rattle.databases.specs.Runs.{dump, LoadsBack};
 ghost use Rattle.ldif.specs.Written.{Writes, WritesOn};
-ghost use Rattle.databases.specs.inner.Dumps.{AreKnown, values_text, attribute_text, selected_text, entry_text, tree_entry_text};
+ghost use Rattle.databases.specs.inner.Dumps.{AreKnown, HearsOn, values_text, attribute_text, selected_text, entry_text, tree_entry_text};
 
+use crate::database::Database;
 use crate::laws::loading_a_dump;
+use crate::listening::{Listener, Nobody};
 use crate::selection::Selection;
 use device::{Sink, push_all};
 use entries::{Entry, Values};
@@ -18,7 +20,7 @@ use std::alloc::{AllocError, Global};
 use tree::{Names, Tree};
 
 // so many bytes are handed on at once
-pub(crate) const PIECE: usize = 65536;
+const PIECE: usize = 65536;
 
 // the lines of values under one name
 fn put_values(
@@ -101,7 +103,8 @@ pub fn pass_on<W: Sink>(sink: &mut W, text: &mut Vec<u8>) -> Result<(), WriteFau
 /// The same where the text has 64 KiB or more; a shorter one is left as it is.
 pub fn pass_on_long<W: Sink>(sink: &mut W, text: &mut Vec<u8>) -> Result<(), WriteFault>
     requires { (W.written sink.old).failed < 2 ^ 64 - 1 }
-    ensures { WritesOn result (W.written sink.old) (W.written sink.new) text.old.items text.new.items }
+    ensures writes { WritesOn result (W.written sink.old) (W.written sink.new) text.old.items text.new.items }
+    ensures short { OnOk result (length text.new.items < 65536) }
 {
     if text.len() < PIECE {
         return Ok(());
@@ -109,18 +112,64 @@ pub fn pass_on_long<W: Sink>(sink: &mut W, text: &mut Vec<u8>) -> Result<(), Wri
     pass_on(sink, text)
 }
 
+// has all bytes of a text heard and hands them on, and clears it
+fn pass_on_heard<W: Sink, L: Listener>(
+    sink: &mut W,
+    listener: &mut L,
+    text: &mut Vec<u8>,
+) -> Result<(), WriteFault>
+    requires { (W.written sink.old).failed < 2 ^ 64 - 1 }
+    ensures writes { Writes result (W.written sink.old) (W.written sink.new) text.old.items }
+    ensures empty { OnOk result (text.new.items ≡ []) }
+    ensures heard { (m : List ℕ) → L.heard listener.old m → L.heard listener.new (m ++ text.old.items) }
+{
+    listener.hear(text.as_slice());
+    pass_on(sink, text)
+}
+
+// the same of a text that is long
+fn pass_on_long_heard<W: Sink, L: Listener>(
+    sink: &mut W,
+    listener: &mut L,
+    text: &mut Vec<u8>,
+) -> Result<(), WriteFault>
+    requires { (W.written sink.old).failed < 2 ^ 64 - 1 }
+    ensures writes { WritesOn result (W.written sink.old) (W.written sink.new) text.old.items text.new.items }
+    ensures short { OnOk result (length text.new.items < 65536) }
+    ensures heard { OnOk result (HearsOn L.heard listener.old listener.new text.old.items text.new.items) }
+{
+    if text.len() < PIECE {
+        return Ok(());
+    }
+    pass_on_heard(sink, listener, text)
+}
+
 /// The entries of a tree, and the configuration that they are printed under: the one that they were made with.
 #[derive(Drop)]
 pub(crate) struct Printer<'a> {
-    pub(crate) alloc: Global,
-    pub(crate) tree: &'a Tree,
-    pub(crate) conf: &'a Conf,
+    alloc: Global,
+    tree: &'a Tree,
+    conf: &'a Conf,
     ghost same_conf: { tree.now.conf ≡ conf.now },
 }
 
-impl Printer<'_> {
+impl<'a> Printer<'a> {
+    pub(crate) fn new(alloc: Global, tree: &'a Tree, conf: &'a Conf) -> Printer<'a>
+        requires { tree.now.conf ≡ conf.now }
+        ensures { result.tree.now ≡ tree.now }
+    {
+        Printer { alloc, tree, conf }
+    }
+
+    // names the entries, in the order of the dump
+    pub(crate) fn names(&self) -> Names<'a>
+        ensures { result ≡ self.now.tree.now }
+    {
+        Names::new(self.alloc, self.tree, self.conf)
+    }
+
     // the content record of the entry at a path, behind what `out` holds
-    pub(crate) fn put_record(
+    fn put_record(
         &self,
         names: &mut Names<'_>,
         selection: &Selection,
@@ -146,9 +195,10 @@ impl Printer<'_> {
     }
 
     // puts the content record of the entry at a path behind a text, and hands the text on where it is long
-    pub(crate) fn write_entry<W: Sink>(
+    pub(crate) fn write_entry<W: Sink, L: Listener>(
         &self,
         sink: &mut W,
+        listener: &mut L,
         names: &mut Names<'_>,
         selection: &Selection,
         found: (&Path, &Entry),
@@ -159,38 +209,48 @@ impl Printer<'_> {
         requires there { finite.get self.now.tree.now.entries found.0.now ≡ Some (content_of found.1.now) }
         ensures names { names.new ≡ self.now.tree.now }
         ensures writes { WritesOn result (W.written sink.old) (W.written sink.new) (text.old.items ++ tree_entry_text self.now.tree.now selection.now found.entry) text.new.items }
+        ensures short { OnOk result (length text.new.items < 65536) }
+        ensures heard { OnOk result (HearsOn L.heard listener.old listener.new (text.old.items ++ tree_entry_text self.now.tree.now selection.now found.entry) text.new.items) }
     {
         let (path, entry) = found;
         self.put_record(names, selection, path, entry, text)?;
-        pass_on_long(sink, text)
+        pass_on_long_heard(sink, listener, text)
+    }
+
+    /// Writes each entry as a content record, in the order of paths (RFC 2849), in pieces of some 64 KiB. On a fault a beginning was written.
+    pub(crate) fn write_dump<W: Sink, L: Listener>(
+        &self,
+        sink: &mut W,
+        listener: &mut L,
+    ) -> Result<(), WriteFault>
+        requires { (W.written sink.old).failed < 2 ^ 64 - 1 }
+        ensures writes { Writes result (W.written sink.old) (W.written sink.new) (dump self.now.tree.now.conf self.now.tree.now.entries) }
+        ensures heard { OnOk result ((m : List ℕ) → L.heard listener.old m → L.heard listener.new (m ++ dump self.now.tree.now.conf self.now.tree.now.entries)) }
+    {
+        self.tree.entries_are_a_directory();
+        schema::order_of_paths();
+        let root = Path::root(self.alloc);
+        let mut names = self.names();
+        let mut text = Vec::new(self.alloc);
+        for found in self.tree.range(&root) {
+            self.write_entry(sink, listener, &mut names, &Selection::all(), found, &mut text)?;
+        }
+        pass_on_heard(sink, listener, &mut text)
     }
 }
 
-/// Writes each entry of a tree as a content record, in the order of paths (RFC 2849), in pieces of some 64 KiB. The tree was made with
-/// this configuration. On a fault a beginning was written.
-///
-/// Loading what a whole dump holds gives these entries again, and refuses none of its records.
-pub fn write_dump<W: Sink>(
-    alloc: Global,
-    tree: &Tree,
-    conf: &Conf,
-    sink: &mut W,
-) -> Result<(), WriteFault>
-    requires made { tree.now.conf ≡ conf.now }
-    requires can_fail { (W.written sink.old).failed < 2 ^ 64 - 1 }
-    ensures writes { Writes result (W.written sink.old) (W.written sink.new) (dump tree.now.conf tree.now.entries) }
-    ensures loads { LoadsBack tree.now.conf tree.now.entries }
-{
-    tree.entries_are_a_directory();
-    conf.rules_are_kept();
-    loading_a_dump();
-    schema::order_of_paths();
-    let root = Path::root(alloc);
-    let printer = Printer { alloc, tree, conf };
-    let mut names = Names::new(alloc, tree, conf);
-    let mut text = Vec::new(alloc);
-    for found in tree.range(&root) {
-        printer.write_entry(sink, &mut names, &Selection::all(), found, &mut text)?;
+impl Database {
+    /// Writes each entry as a content record, in the order of paths (RFC 2849), in pieces of some 64 KiB. On a fault a beginning was written.
+    ///
+    /// Loading what a whole dump holds gives these entries again, and refuses none of its records.
+    pub fn dump<W: Sink>(&self, alloc: Global, sink: &mut W) -> Result<(), WriteFault>
+        requires { (W.written sink.old).failed < 2 ^ 64 - 1 }
+        ensures writes { Writes result (W.written sink.old) (W.written sink.new) (dump self.now.conf self.now.entries) }
+        ensures loads { LoadsBack self.now.conf self.now.entries }
+    {
+        self.tree().entries_are_a_directory();
+        self.conf().rules_are_kept();
+        loading_a_dump();
+        Printer::new(alloc, self.tree(), self.conf()).write_dump(sink, &mut Nobody)
     }
-    pass_on(sink, &mut text)
 }

@@ -5,15 +5,16 @@ ghost use Rattle.databases.specs.Walks.{seen};
 ghost use Rattle.databases.specs.Found.{AreThere, limited_text, goes_past, WritesFound};
 ghost use Rattle.databases.specs.inner.Found.{is_used_up, one_fewer, WritesFoundOn};
 
+use crate::database::Database;
 use crate::dump::{Printer, pass_on};
 use crate::hits::Hits;
+use crate::listening::Nobody;
 use crate::selection::Selection;
 use device::Sink;
 use id_sets::IdSet;
 use ldif::WriteFault;
-use schema::Conf;
 use std::alloc::Global;
-use tree::{Names, Tree};
+use tree::Names;
 
 fn is_used_up(left: Option<u32>) -> bool
     ensures { result ≡ is_used_up left }
@@ -57,36 +58,51 @@ fn put_found<W: Sink, S: IdSet>(
         if is_used_up(left) {
             return Ok(true);
         }
-        printer.write_entry(sink, names, selection, found, text)?;
+        printer.write_entry(sink, &mut Nobody, names, selection, found, text)?;
         left = one_fewer(left);
     }
     Ok(false)
 }
 
-/// Writes entries that a search of a tree found, each as a content record with the attributes that are selected (RFC 2849;
-/// RFC 4511, 4.5.1.8), in pieces of some 64 KiB. The tree was made with this configuration. With a limit it writes the first ones up to
-/// it, and answers whether there are more (RFC 4511, 4.5.1.4). On a fault a beginning was written.
-pub fn write_found<W: Sink, S: IdSet>(
+// writes the records of entries that a search found, up to the limit; answers whether there are more
+fn write_all_found<W: Sink, S: IdSet>(
     alloc: Global,
-    tree: &Tree,
-    conf: &Conf,
+    printer: &Printer<'_>,
     sink: &mut W,
     hits: Hits<'_, S>,
     limit: Option<u32>,
     selection: &Selection,
 ) -> Result<bool, WriteFault>
-    requires made { tree.now.conf ≡ conf.now }
     requires can_fail { (W.written sink.old).failed < 2 ^ 64 - 1 }
-    requires there { AreThere tree.now.entries (map seen hits.to_come) }
+    requires there { AreThere printer.now.tree.now.entries (map seen hits.to_come) }
     ensures { WritesFound result (goes_past limit hits.entry.to_come) (W.written sink.old) (W.written sink.new)
-        (limited_text tree.now.conf tree.now.entries selection.now limit (map seen hits.entry.to_come)) }
+        (limited_text printer.now.tree.now.conf printer.now.tree.now.entries selection.now limit (map seen hits.entry.to_come)) }
 {
-    let printer = Printer { alloc, tree, conf };
-    let mut names = Names::new(alloc, tree, conf);
+    let mut names = printer.names();
     let mut text = Vec::new(alloc);
-    let past = put_found(
-        &printer, sink, &mut names, hits, limit, selection, &mut text,
-    )?;
+    let past = put_found(printer, sink, &mut names, hits, limit, selection, &mut text)?;
     pass_on(sink, &mut text)?;
     Ok(past)
+}
+
+impl Database {
+    /// Writes entries that a search found, each as a content record with the attributes that are selected (RFC 2849; RFC 4511, 4.5.1.8),
+    /// in pieces of some 64 KiB. With a limit it writes the first ones up to it, and answers whether there are more (RFC 4511, 4.5.1.4).
+    /// On a fault a beginning was written.
+    pub fn write_found<W: Sink, S: IdSet>(
+        &self,
+        alloc: Global,
+        sink: &mut W,
+        hits: Hits<'_, S>,
+        limit: Option<u32>,
+        selection: &Selection,
+    ) -> Result<bool, WriteFault>
+        requires can_fail { (W.written sink.old).failed < 2 ^ 64 - 1 }
+        requires there { AreThere self.now.entries (map seen hits.to_come) }
+        ensures { WritesFound result (goes_past limit hits.entry.to_come) (W.written sink.old) (W.written sink.new)
+            (limited_text self.now.conf self.now.entries selection.now limit (map seen hits.entry.to_come)) }
+    {
+        let printer = Printer::new(alloc, self.tree(), self.conf());
+        write_all_found(alloc, &printer, sink, hits, limit, selection)
+    }
 }

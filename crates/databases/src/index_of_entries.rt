@@ -7,6 +7,7 @@ ghost use Rattle.ldif.specs.Written.{SoFar, Writes, WritesOn};
 ghost use Rattle.databases.specs.IndexTexts.{stamp as stamp_by, index_text, first_line, slot_lines, slots_lines, keys_lines};
 ghost use Rattle.databases.specs.inner.RankedEntries.{AreRankedEntries};
 
+use crate::database::Database;
 use crate::dump::{pass_on, pass_on_long};
 use crate::placed_entries::ranked_entries;
 use crate::stamps::Stamp;
@@ -17,9 +18,8 @@ use index_keys::{
 };
 use index_text::{put_end, put_header, put_slot};
 use ldif::WriteFault;
-use schema::{Conf, IndexKind, Path, Slot};
+use schema::{IndexKind, Path, Slot};
 use std::alloc::{AllocError, Global};
-use tree::Tree;
 
 // puts the row of the first key behind a text, hands the text on where it is long, and hands out the keys of the other rows
 fn write_row<'k, K: RankedKey, W: Sink>(
@@ -59,14 +59,12 @@ fn write_rows<K: RankedKey, W: Sink>(
     Ok(())
 }
 
-/// The entries of a tree in the order of its dump, each with its rank as its number, and the configuration that the tree was made with.
+/// The entries of a database, each with its rank as its number.
 #[derive(Drop)]
 struct RankedEntries<'a> {
     alloc: Global,
-    tree: &'a Tree,
-    conf: &'a Conf,
+    database: &'a Database,
     entries: &'a [Numbered<'a>],
-    ghost same_conf: { tree.now.conf ≡ conf.now },
 }
 
 impl<'a> RankedEntries<'a> {
@@ -79,9 +77,9 @@ impl<'a> RankedEntries<'a> {
         text: &mut Vec<u8>,
     ) -> Result<(), WriteFault>
         requires can_fail { (W.written sink.old).failed < 2 ^ 64 - 1 }
-        requires ranked { AreRankedEntries self.now.conf.now self.now.tree.now.entries self.now.entries.now }
-        requires norms { AreNormsOf self.now.conf.now.types self.now.entries.now slot.now.type_id norms.now }
-        ensures { WritesOn result (W.written sink.old) (W.written sink.new) (text.old.items ++ keys_lines self.now.conf.now self.now.tree.now.entries slot.now) text.new.items }
+        requires ranked { AreRankedEntries self.now.database.now.conf self.now.database.now.entries self.now.entries.now }
+        requires norms { AreNormsOf self.now.database.now.conf.types self.now.entries.now slot.now.type_id norms.now }
+        ensures { WritesOn result (W.written sink.old) (W.written sink.new) (text.old.items ++ keys_lines self.now.database.now.conf self.now.database.now.entries slot.now) text.new.items }
     {
         let alloc = self.alloc;
         match slot.kind {
@@ -110,25 +108,26 @@ impl<'a> RankedEntries<'a> {
         text: &mut Vec<u8>,
     ) -> Result<(), WriteFault>
         requires can_fail { (W.written sink.old).failed < 2 ^ 64 - 1 }
-        requires known { slot.now.type_id < length self.now.conf.now.types }
-        requires ranked { AreRankedEntries self.now.conf.now self.now.tree.now.entries self.now.entries.now }
-        requires norms { AreNormsOf self.now.conf.now.types self.now.entries.now slot.now.type_id norms.now }
-        ensures { WritesOn result (W.written sink.old) (W.written sink.new) (text.old.items ++ slot_lines self.now.conf.now self.now.tree.now.entries slot.now) text.new.items }
+        requires known { slot.now.type_id < length self.now.database.now.conf.types }
+        requires ranked { AreRankedEntries self.now.database.now.conf self.now.database.now.entries self.now.entries.now }
+        requires norms { AreNormsOf self.now.database.now.conf.types self.now.entries.now slot.now.type_id norms.now }
+        ensures { WritesOn result (W.written sink.old) (W.written sink.new) (text.old.items ++ slot_lines self.now.database.now.conf self.now.database.now.entries slot.now) text.new.items }
     {
-        put_slot(text, self.conf, slot)?;
+        put_slot(text, self.database.conf(), slot)?;
         self.write_keys(sink, slot, norms, text)
     }
 
     // the same of all slots
     fn write_slots<W: Sink>(&self, sink: &mut W, text: &mut Vec<u8>) -> Result<(), WriteFault>
         requires can_fail { (W.written sink.old).failed < 2 ^ 64 - 1 }
-        requires ranked { AreRankedEntries self.now.conf.now self.now.tree.now.entries self.now.entries.now }
-        ensures { WritesOn result (W.written sink.old) (W.written sink.new) (text.old.items ++ slots_lines self.now.conf.now self.now.tree.now.entries self.now.conf.now.slots) text.new.items }
+        requires ranked { AreRankedEntries self.now.database.now.conf self.now.database.now.entries self.now.entries.now }
+        ensures { WritesOn result (W.written sink.old) (W.written sink.new) (text.old.items ++ slots_lines self.now.database.now.conf self.now.database.now.entries self.now.database.now.conf.slots) text.new.items }
     {
-        self.conf.rules_are_kept();
+        let conf = self.database.conf();
+        conf.rules_are_kept();
         let mut kept = None;
-        for slot in self.conf.slots() {
-            let of_type = norms_for(self.alloc, self.conf, kept, slot.type_id, self.entries)?;
+        for slot in conf.slots() {
+            let of_type = norms_for(self.alloc, conf, kept, slot.type_id, self.entries)?;
             self.write_slot(sink, slot, of_type.norms.as_slice(), text)?;
             kept = Some(of_type);
         }
@@ -136,66 +135,56 @@ impl<'a> RankedEntries<'a> {
     }
 }
 
-// puts the lines of all slots of a tree's entries behind a text, and hands the text on where it is long; without a slot it looks at no entry
-fn write_all_slots<W: Sink>(
-    alloc: Global,
-    tree: &Tree,
-    conf: &Conf,
-    sink: &mut W,
-    text: &mut Vec<u8>,
-) -> Result<(), WriteFault>
-    requires made { tree.now.conf ≡ conf.now }
-    requires can_fail { (W.written sink.old).failed < 2 ^ 64 - 1 }
-    ensures { WritesOn result (W.written sink.old) (W.written sink.new) (text.old.items ++ slots_lines conf.now tree.now.entries conf.now.slots) text.new.items }
-{
-    if conf.slots().is_empty() {
-        return Ok(());
+impl Database {
+    /// A text that begins as the text of the index does: with the line that says how many entries there are, and the stamp of their dump.
+    pub fn begin_index_text(&self, alloc: Global, stamp: &Stamp) -> Result<Vec<u8>, AllocError>
+        requires { stamp.now ≡ stamp_by self.now.conf self.now.entries }
+        ensures { IfOk result (λ text. text.items ≡ first_line self.now.conf self.now.entries) }
+    {
+        let mut text = Vec::new(alloc);
+        put_header(alloc, &mut text, self.tree().len(), stamp)?;
+        Ok(text)
     }
-    let root = Path::root(alloc);
-    let entries = ranked_entries(alloc, conf, tree, &root)?;
-    let ranked = RankedEntries {
-        alloc,
-        tree,
-        conf,
-        entries: entries.as_slice(),
-    };
-    ranked.write_slots(sink, text)
-}
 
-/// A text that begins as the text of an index does: with the line that says how many entries there are, and the stamp of their dump. The tree was
-/// made with this configuration, and this is its stamp.
-pub fn begin_index_text(
-    alloc: Global,
-    tree: &Tree,
-    conf: &Conf,
-    stamp: &Stamp,
-) -> Result<Vec<u8>, AllocError>
-    requires { stamp.now ≡ stamp_by conf.now tree.now.entries }
-    ensures { IfOk result (λ text. text.items ≡ first_line conf.now tree.now.entries) }
-{
-    let mut text = Vec::new(alloc);
-    put_header(alloc, &mut text, tree.len(), stamp)?;
-    Ok(text)
-}
+    // puts the lines of all slots behind a text, and hands the text on where it is long; without a slot it looks at no entry
+    fn write_all_slots<W: Sink>(
+        &self,
+        alloc: Global,
+        sink: &mut W,
+        text: &mut Vec<u8>,
+    ) -> Result<(), WriteFault>
+        requires { (W.written sink.old).failed < 2 ^ 64 - 1 }
+        ensures { WritesOn result (W.written sink.old) (W.written sink.new) (text.old.items ++ slots_lines self.now.conf self.now.entries self.now.conf.slots) text.new.items }
+    {
+        if self.conf().slots().is_empty() {
+            return Ok(());
+        }
+        let root = Path::root(alloc);
+        let entries = ranked_entries(alloc, self, &root)?;
+        let ranked = RankedEntries {
+            alloc,
+            database: self,
+            entries: entries.as_slice(),
+        };
+        ranked.write_slots(sink, text)
+    }
 
-/// Writes the text of the index of a tree's entries, in pieces of some 64 KiB: how many entries there are, the stamp of their dump, and for each
-/// slot the keys that the entries have, each with the places in the dump of the entries that have it. It is made of the entries alone: slot by
-/// slot the keys of all entries are sorted, so it takes the memory of one slot. The tree was made with this configuration, and this is its stamp.
-/// On a fault a beginning was written.
-pub fn write_index_of_entries<W: Sink>(
-    alloc: Global,
-    tree: &Tree,
-    conf: &Conf,
-    stamp: &Stamp,
-    sink: &mut W,
-) -> Result<(), WriteFault>
-    requires made { tree.now.conf ≡ conf.now }
-    requires stamped { stamp.now ≡ stamp_by conf.now tree.now.entries }
-    requires can_fail { (W.written sink.old).failed < 2 ^ 64 - 1 }
-    ensures writes { Writes result (W.written sink.old) (W.written sink.new) (index_text conf.now tree.now.entries) }
-{
-    let mut text = begin_index_text(alloc, tree, conf, stamp)?;
-    write_all_slots(alloc, tree, conf, sink, &mut text)?;
-    put_end(&mut text)?;
-    pass_on(sink, &mut text)
+    /// Writes the text of the index, in pieces of some 64 KiB: how many entries there are, the stamp of their dump, and for each slot the keys
+    /// that the entries have, each with the places in the dump of the entries that have it. It is made of the entries alone: slot by slot the
+    /// keys of all entries are sorted, so it takes the memory of one slot. On a fault a beginning was written.
+    pub fn write_index_text<W: Sink>(
+        &self,
+        alloc: Global,
+        stamp: &Stamp,
+        sink: &mut W,
+    ) -> Result<(), WriteFault>
+        requires stamped { stamp.now ≡ stamp_by self.now.conf self.now.entries }
+        requires can_fail { (W.written sink.old).failed < 2 ^ 64 - 1 }
+        ensures { Writes result (W.written sink.old) (W.written sink.new) (index_text self.now.conf self.now.entries) }
+    {
+        let mut text = self.begin_index_text(alloc, stamp)?;
+        self.write_all_slots(alloc, sink, &mut text)?;
+        put_end(&mut text)?;
+        pass_on(sink, &mut text)
+    }
 }

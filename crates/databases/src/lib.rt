@@ -11,6 +11,7 @@ mod found;
 mod hits;
 mod index_of_entries;
 mod laws;
+mod listening;
 mod loading;
 mod marked;
 mod numbering;
@@ -26,21 +27,18 @@ mod stamps;
 mod target;
 
 pub use database::Database;
-pub use dump::{pass_on, pass_on_long, write_dump};
-pub use found::write_found;
+pub use dump::{pass_on, pass_on_long};
 pub use hits::Hits;
-pub use index_of_entries::{begin_index_text, write_index_of_entries};
 pub use laws::{
     candidates_suffice, index_texts_reflect_dumps, kept_index_texts_are_read, loading_a_dump,
     ranks_are_places,
 };
 pub use loading::{LoadFault, load_tree};
 pub use paths::Scope;
-pub use reading_index::read_index;
 pub use refusal::{Outcome, RecordRefusal};
 pub use runs::{RunFault, Tally, run};
 pub use scanning::{scan, search, search_by_ranks};
 pub use searching::search_with;
 pub use selection::Selection;
-pub use stamps::{Stamp, stamp_of, write_stamped_dump};
+pub use stamps::{Stamp, stamp_of};
 pub use target::Target;

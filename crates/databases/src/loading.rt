@@ -1,20 +1,23 @@
 //! Loading: the tree of the content records of a source.
 
-ghost use Rattle.std.specs.Prelude.{◌≡◌, ◌<◌, ◌-◌, ◌^◌, false, Err, IfOk, IfErr, OnOk, option_map};
+ghost use Rattle.std.specs.Prelude.{◌≡◌, ◌<◌, ◌-◌, ◌^◌, Err, IfOk, IfErr, option_map};
 ghost use Rattle.std.specs.FinMap as finite;
 ghost use Rattle.device.specs.Device.{GaveSome};
 ghost use Rattle.ldif_lines.specs.Records.{records, closed_records};
-ghost use Rattle.ldif_lines.specs.Reader.{source_of, is_failed};
 ghost use Rattle.databases.specs.Runs.{LoadsRecords};
 ghost use Rattle.databases.specs.Folds.{Over};
 ghost use Rattle.databases.specs.Loading.{StopsAt, PullFailures};
 ghost use Rattle.databases.specs.FailedReads.{LoadedUpTo};
-ghost use Rattle.databases.specs.inner.Loading.{load_outcome, load_fault_of, LoadsStep, HasLoaded};
+ghost use Rattle.databases.specs.declared.runs.Tally.{Tally};
+ghost use Rattle.databases.specs.inner.Endings.{load_fault_of};
 
-use crate::applying::carry_out;
-use crate::refusal::{Outcome, RecordRefusal};
-use device::Source;
-use ldif::{Mode, ReadFault, Reader};
+use crate::applying::apply;
+use crate::refusal::{RecordRefusal, RefusedRecord};
+use crate::runs::{RunFault, run_to_ending};
+use crate::target::Target;
+use device::{Nowhere, Source};
+use entries::Refusal;
+use ldif::{Mode, Record};
 use schema::Conf;
 use std::alloc::{AllocError, Global};
 use thiserror::Error;
@@ -43,71 +46,45 @@ impl From<AllocError> for LoadFault {
     }
 }
 
-// whether loading goes on behind the record that begins on this line
-fn load_outcome(line: u64, outcome: Result<Outcome, AllocError>) -> Result<bool, LoadFault>
-    ensures { result ≡ load_outcome line outcome }
-{
-    match outcome {
-        Ok(Outcome::Refused(refusal)) => Err(LoadFault::Refused { line, refusal }),
-        Ok(Outcome::Nothing | Outcome::Accepted) => Ok(true),
-        Err(_) => Err(LoadFault::OutOfMemory),
+/// The entries that were loaded so far, under a configuration that is lent.
+#[derive(Drop)]
+struct LoadedTree<'a> {
+    conf: &'a Conf,
+    tree: Tree,
+    ghost same_conf: { tree.conf ≡ conf.now },
+}
+
+impl Target for LoadedTree<'_> {
+    ghost conf = { λ l. l.tree.conf };
+
+    ghost entries = { λ l. l.tree.entries };
+
+    ghost edits = { λ _. 0 };
+
+    ghost count_edits = { λ _ _ _ _. 0 };
+
+    fn carry_out(&mut self, alloc: Global, asked: &Record<'_>, mode: Mode) -> Result<(), Refusal> {
+        apply(alloc, &mut self.tree, self.conf, asked, mode)
     }
 }
 
-// why nothing is loaded where there is no next record
-fn fault_of(fault: ReadFault) -> LoadFault
-    requires { fault ≡ ReadFault.Failed → ⊥ }
+// that a record is refused
+fn fault_of(refused: RefusedRecord) -> LoadFault
+    ensures { result ≡ LoadFault.Refused refused.line refused.refusal }
+{
+    let RefusedRecord { line, refusal } = refused;
+    LoadFault::Refused { line, refusal }
+}
+
+// why nothing is loaded where the run was broken off; it reports to nowhere, so no sink fails
+fn load_fault_of(fault: RunFault) -> LoadFault
+    requires { (t : Tally) → fault ≡ RunFault.Write t → ⊥ }
     ensures { result ≡ load_fault_of fault }
 {
     match fault {
-        ReadFault::Device => LoadFault::Read,
-        ReadFault::OutOfMemory => LoadFault::OutOfMemory,
-        ReadFault::Failed => unreachable!(),
-    }
-}
-
-// loads the next record; it answers whether there is one
-fn load_record<S: Source>(
-    alloc: Global,
-    tree: &mut Tree,
-    conf: &Conf,
-    reader: &mut Reader<'_, S>,
-) -> Result<bool, LoadFault>
-    requires made { tree.old.conf ≡ conf.now }
-    requires source { (S.seen (source_of reader.old)).failed < 2 ^ 64 - 1 }
-    requires going { is_failed reader.old ≡ false }
-    ensures { LoadsStep S.seen tree.old.conf reader.old tree.old.entries tree.new.conf reader.new tree.new.entries result }
-{
-    match reader.next() {
-        Ok(Some(raw)) => {
-            let line = raw.line;
-            let outcome = carry_out(alloc, tree, conf, &raw, Mode::Content);
-            reader.reuse(raw);
-            load_outcome(line, outcome)
-        }
-        Ok(None) => Ok(false),
-        Err(fault) => Err(fault_of(fault)),
-    }
-}
-
-// the rest of the records
-fn load_rest<S: Source>(
-    alloc: Global,
-    tree: &mut Tree,
-    conf: &Conf,
-    reader: &mut Reader<'_, S>,
-) -> Result<(), LoadFault>
-    requires made { tree.old.conf ≡ conf.now }
-    requires source { (S.seen (source_of reader.old)).failed < 2 ^ 64 - 1 }
-    requires going { is_failed reader.old ≡ false }
-    ensures { HasLoaded S.seen tree.old.conf reader.old tree.old.entries tree.new.conf reader.new tree.new.entries result }
-{
-    'records: loop {
-        match load_record(alloc, tree, conf, reader) {
-            Ok(true) => {}
-            Ok(false) => return Ok(()),
-            Err(fault) => return Err(fault),
-        }
+        RunFault::Read(_) => LoadFault::Read,
+        RunFault::OutOfMemory(_) => LoadFault::OutOfMemory,
+        RunFault::Write(_) => unreachable!(),
     }
 }
 
@@ -122,10 +99,22 @@ pub fn load_tree<S: Source>(alloc: Global, conf: &Conf, source: &mut S) -> Resul
     ensures failures { PullFailures result (S.seen source.old).failed (S.seen source.new).failed }
     ensures gave { GaveSome (S.seen source.old) (S.seen source.new) }
 {
-    let mut tree = Tree::new(alloc, conf);
-    let mut reader = Reader::new(alloc, source);
-    match load_rest(alloc, &mut tree, conf, &mut reader) {
-        Ok(()) => Ok(tree),
-        Err(fault) => Err(fault),
+    let tree = Tree::new(alloc, conf);
+    let mut loaded = LoadedTree { conf, tree };
+    let mut unread = Nowhere::new();
+    let ran = run_to_ending(
+        alloc,
+        &mut loaded,
+        source,
+        &mut unread,
+        Mode::Content,
+        false,
+    );
+    match ran {
+        Ok(ending) => match ending.stopped_by {
+            None => Ok(loaded.tree),
+            Some(refused) => Err(fault_of(refused)),
+        },
+        Err(fault) => Err(load_fault_of(fault)),
     }
 }

@@ -1,13 +1,13 @@
-//! The entries of a tree with their ranks, in the order in which they lie in memory.
+//! Entries with their ranks, in the order in which they lie in memory.
 
 ghost use Rattle.std.specs.Prelude.{◌≡◌, [], map, IfOk};
 ghost use Rattle.std.specs.List.Sorted.{IsPermutation};
 ghost use Rattle.databases.specs.inner.RankedEntries.{AreRankedEntries};
 
+use crate::database::Database;
 use index_keys::Numbered;
-use schema::{Conf, Path};
+use schema::Path;
 use std::alloc::{AllocError, Global};
-use tree::Tree;
 
 /// An entry by its number in the tree, and with its rank in the place of that number.
 #[derive(Clone, Copy, Drop)]
@@ -16,17 +16,16 @@ struct PlacedEntry<'a> {
     ranked: Numbered<'a>,
 }
 
-// all entries of a tree below its root, in the order of its dump
+// all entries below the root, in the order of the dump
 fn placed_entries<'a>(
     alloc: Global,
-    conf: &Conf,
-    tree: &'a Tree,
+    database: &'a Database,
     root: &'a Path,
 ) -> Result<Vec<PlacedEntry<'a>>, AllocError>
-    requires same_conf { tree.now.conf ≡ conf.now }
-    requires root { root.now ≡ [] }
-    ensures { IfOk result (λ es. AreRankedEntries conf.now tree.now.entries (map (λ e. e.ranked) es.items)) }
+    requires { root.now ≡ [] }
+    ensures { IfOk result (λ es. AreRankedEntries database.now.conf database.now.entries (map (λ e. e.ranked) es.items)) }
 {
+    let tree = database.tree();
     tree.entries_are_a_directory();
     let mut entries = Vec::with_capacity(alloc, tree.len())?;
     let mut rank: u32 = 0;
@@ -57,17 +56,15 @@ fn by_number<'a>(
     Ok(entries)
 }
 
-/// All entries of a tree below its root, each with its rank as its number. They stand by their numbers in the tree, since so they lie in memory.
+/// All entries below the root, each with its rank as its number. They stand by their numbers in the tree, since so they lie in memory.
 pub(crate) fn ranked_entries<'a>(
     alloc: Global,
-    conf: &Conf,
-    tree: &'a Tree,
+    database: &'a Database,
     root: &'a Path,
 ) -> Result<Vec<Numbered<'a>>, AllocError>
-    requires same_conf { tree.now.conf ≡ conf.now }
-    requires root { root.now ≡ [] }
-    ensures { IfOk result (λ es. AreRankedEntries conf.now tree.now.entries es.items) }
+    requires { root.now ≡ [] }
+    ensures { IfOk result (λ es. AreRankedEntries database.now.conf database.now.entries es.items) }
 {
-    let mut placed = placed_entries(alloc, conf, tree, root)?;
+    let mut placed = placed_entries(alloc, database, root)?;
     by_number(alloc, placed.as_mut_slice())
 }

@@ -18,6 +18,13 @@ pub enum RecordRefusal {
     Code(Code),
 }
 
+/// A record that is refused: the line of the text on which it begins, from 1, and why.
+#[derive(Clone, Copy, Debug)]
+pub(crate) struct RefusedRecord {
+    pub(crate) line: u64,
+    pub(crate) refusal: RecordRefusal,
+}
+
 /// What becomes of a record.
 #[derive(Clone, Copy)]
 pub enum Outcome {
@@ -52,12 +59,9 @@ impl fmt::Display for RecordRefusal {
 
 /// The line of a report: the number of the line on which the record begins, and the refusal.
 #[tactic(auto, unfolding(crate::specs::Reports::report_line))]
-pub(crate) fn report_line(
-    alloc: Global,
-    line: u64,
-    refusal: RecordRefusal,
-) -> Result<String, AllocError>
-    ensures { IfOk result (λ t. string_bytes t ≡ report_line (line, refusal)) }
+pub(crate) fn report_line(alloc: Global, refused: RefusedRecord) -> Result<String, AllocError>
+    ensures { IfOk result (λ t. string_bytes t ≡ report_line (refused.line, refused.refusal)) }
 {
+    let RefusedRecord { line, refusal } = refused;
     format!(in alloc; "line {line}: {refusal}\n")
 }

@@ -8,11 +8,13 @@ ghost use Rattle.databases.specs.Faults.{Failures};
 ghost use Rattle.databases.specs.Folds.{Runs};
 ghost use Rattle.databases.specs.RunEdits.{EditsRise};
 ghost use Rattle.databases.specs.FailedReads.{StopsReading};
-ghost use Rattle.databases.specs.inner.Steps.{Counts, run_fault_of};
+ghost use Rattle.databases.specs.inner.Steps.{Reports, Counts, run_fault_of};
 ghost use Rattle.databases.specs.inner.Running.{HasRun, TakesStep};
-ghost use Rattle.ldif_lines.specs.Reader.{source_of, is_failed, bytes_left};
+ghost use Rattle.databases.specs.inner.Endings.{tally_in, EndsAsTold};
+ghost use Rattle.ldif_lines.specs.Reader.{source_of, is_failed, records_left, bytes_left};
 
-use crate::refusal::{Outcome, RecordRefusal, report_line};
+use crate::applying::carry_out;
+use crate::refusal::{Outcome, RefusedRecord, report_line};
 use crate::target::Target;
 use device::{Sink, Source, push_all};
 use ldif::{Mode, ReadFault, Reader, WriteFault};
@@ -39,24 +41,60 @@ pub enum RunFault {
     OutOfMemory(Tally),
 }
 
+/// How a run goes on behind a record.
+#[derive(Clone, Copy)]
+pub(crate) enum Progress {
+    /// With the next record.
+    GoesOn,
+    /// Not at all: no record was left.
+    AtEnd,
+    /// Not at all: this record was refused, and the first one ends the run.
+    StoppedBy(RefusedRecord),
+}
+
+/// What a run that went through comes to: its counts, and the refused record that ended it, if one did.
+#[derive(Clone, Copy)]
+pub(crate) struct Ending {
+    pub(crate) tally: Tally,
+    pub(crate) stopped_by: Option<RefusedRecord>,
+}
+
 // the report line of a refused record
 fn write_report<W: Sink>(
     alloc: Global,
     sink: &mut W,
-    line: u64,
-    refusal: RecordRefusal,
+    refused: RefusedRecord,
 ) -> Result<(), WriteFault>
     requires { (W.written sink.old).failed < 2 ^ 64 - 1 }
-    ensures ok { OnOk result (Took (W.written sink.old) (W.written sink.new) (report_line (line, refusal))) }
-    ensures device { result ≡ Err WriteFault.Device → Broke (W.written sink.old) (W.written sink.new) (report_line (line, refusal)) }
+    ensures ok { OnOk result (Took (W.written sink.old) (W.written sink.new) (report_line (refused.line, refused.refusal))) }
+    ensures device { result ≡ Err WriteFault.Device → Broke (W.written sink.old) (W.written sink.new) (report_line (refused.line, refused.refusal)) }
     ensures memory { result ≡ Err WriteFault.OutOfMemory → W.written sink.new ≡ W.written sink.old }
 {
-    let text = report_line(alloc, line, refusal)?;
+    let text = report_line(alloc, refused)?;
     push_all(sink, text.as_bytes())?;
     Ok(())
 }
 
-// counts what became of a record, and reports a refusal; it answers whether the run has ended
+// reports a refused record, which was counted
+fn report<W: Sink>(
+    alloc: Global,
+    sink: &mut W,
+    refused: RefusedRecord,
+    go_on: bool,
+    tally: Tally,
+) -> Result<Progress, RunFault>
+    requires { (W.written sink.old).failed < 2 ^ 64 - 1 }
+    ensures { Reports refused go_on tally (W.written sink.old) (W.written sink.new) result }
+{
+    match write_report(alloc, sink, refused) {
+        Ok(()) if go_on => Ok(Progress::GoesOn),
+        Ok(()) => Ok(Progress::StoppedBy(refused)),
+        Err(WriteFault::Device) => Err(RunFault::Write(tally)),
+        Err(WriteFault::OutOfMemory) => Err(RunFault::OutOfMemory(tally)),
+    }
+}
+
+// counts what became of a record, and reports a refusal
 fn count<W: Sink>(
     alloc: Global,
     sink: &mut W,
@@ -64,24 +102,20 @@ fn count<W: Sink>(
     outcome: Outcome,
     go_on: bool,
     tally: &mut Tally,
-) -> Result<bool, RunFault>
+) -> Result<Progress, RunFault>
     requires can_fail { (W.written sink.old).failed < 2 ^ 64 - 1 }
     requires room { tally.old.accepted + tally.old.refused < 2 ^ 64 - 1 }
     ensures { Counts outcome go_on line tally.old tally.new (W.written sink.old) (W.written sink.new) result }
 {
     match outcome {
-        Outcome::Nothing => Ok(false),
+        Outcome::Nothing => Ok(Progress::GoesOn),
         Outcome::Accepted => {
             tally.accepted += 1;
-            Ok(false)
+            Ok(Progress::GoesOn)
         }
         Outcome::Refused(refusal) => {
             tally.refused += 1;
-            match write_report(alloc, sink, line, refusal) {
-                Ok(()) => Ok(!go_on),
-                Err(WriteFault::Device) => Err(RunFault::Write(*tally)),
-                Err(WriteFault::OutOfMemory) => Err(RunFault::OutOfMemory(*tally)),
-            }
+            report(alloc, sink, RefusedRecord { line, refusal }, go_on, *tally)
         }
     }
 }
@@ -98,7 +132,7 @@ fn fault_of(fault: ReadFault, tally: Tally) -> RunFault
     }
 }
 
-// carries out the next record; it answers whether the run has ended
+// carries out the next record
 fn take_record<T: Target, S: Source, W: Sink>(
     alloc: Global,
     target: &mut T,
@@ -107,7 +141,7 @@ fn take_record<T: Target, S: Source, W: Sink>(
     mode: Mode,
     go_on: bool,
     tally: &mut Tally,
-) -> Result<bool, RunFault>
+) -> Result<Progress, RunFault>
     requires source { (S.seen (source_of reader.old)).failed < 2 ^ 64 - 1 }
     requires sink { (W.written sink.old).failed < 2 ^ 64 - 1 }
     requires going { is_failed reader.old ≡ false }
@@ -118,14 +152,14 @@ fn take_record<T: Target, S: Source, W: Sink>(
     match reader.next() {
         Ok(Some(raw)) => {
             let line = raw.line;
-            let carried_out = target.carry_out(alloc, &raw, mode);
+            let carried_out = carry_out(alloc, target, &raw, mode);
             reader.reuse(raw);
             match carried_out {
                 Ok(outcome) => count(alloc, sink, line, outcome, go_on, tally),
                 Err(_) => Err(RunFault::OutOfMemory(*tally)),
             }
         }
-        Ok(None) => Ok(true),
+        Ok(None) => Ok(Progress::AtEnd),
         Err(fault) => Err(fault_of(fault, *tally)),
     }
 }
@@ -138,13 +172,14 @@ fn run_rest<T: Target, S: Source, W: Sink>(
     sink: &mut W,
     mode: Mode,
     go_on: bool,
-) -> Result<Tally, RunFault>
+) -> Result<Ending, RunFault>
     requires source { (S.seen (source_of reader.old)).failed < 2 ^ 64 - 1 }
     requires sink { (W.written sink.old).failed < 2 ^ 64 - 1 }
     requires going { is_failed reader.old ≡ false }
     requires bound { bytes_left S.seen reader.old ≤ 2 ^ 64 }
-    ensures { HasRun S.seen T.count_edits mode go_on (T.conf target.old) reader.old (T.entries target.old) (T.edits target.old) (W.written sink.old)
-        (T.conf target.new) reader.new (T.entries target.new) (T.edits target.new) (W.written sink.new) result }
+    ensures run { HasRun S.seen T.count_edits mode go_on (T.conf target.old) reader.old (T.entries target.old) (T.edits target.old) (W.written sink.old)
+        (T.conf target.new) reader.new (T.entries target.new) (T.edits target.new) (W.written sink.new) (tally_in result) }
+    ensures ending { IfOk result (EndsAsTold (T.conf target.old) mode go_on (T.entries target.old) (records_left S.seen reader.old)) }
 {
     let mut tally = Tally {
         accepted: 0,
@@ -152,11 +187,45 @@ fn run_rest<T: Target, S: Source, W: Sink>(
     };
     'records: loop {
         match take_record(alloc, target, reader, sink, mode, go_on, &mut tally) {
-            Ok(false) => {}
-            Ok(true) => return Ok(tally),
+            Ok(Progress::GoesOn) => {}
+            Ok(Progress::AtEnd) => {
+                return Ok(Ending {
+                    tally,
+                    stopped_by: None,
+                });
+            }
+            Ok(Progress::StoppedBy(refused)) => {
+                return Ok(Ending {
+                    tally,
+                    stopped_by: Some(refused),
+                });
+            }
             Err(fault) => return Err(fault),
         }
     }
+}
+
+/// The same as `run`, with the refused record that ended the run.
+pub(crate) fn run_to_ending<T: Target, S: Source, W: Sink>(
+    alloc: Global,
+    target: &mut T,
+    source: &mut S,
+    sink: &mut W,
+    mode: Mode,
+    go_on: bool,
+) -> Result<Ending, RunFault>
+    requires source { (S.seen source.old).failed < 2 ^ 64 - 1 }
+    requires sink { (W.written sink.old).failed < 2 ^ 64 - 1 }
+    ensures same_conf { T.conf target.new ≡ T.conf target.old }
+    ensures runs { Runs (T.conf target.old) mode go_on (T.entries target.old) (T.entries target.new) (option_map records (S.seen source.old).left) (tally_in result) (W.written sink.old) (W.written sink.new) }
+    ensures edits { EditsRise T.count_edits (T.conf target.old) mode go_on (T.entries target.old) (T.entries target.new) (option_map records (S.seen source.old).left) (tally_in result) (T.edits target.old) (T.edits target.new) }
+    ensures read { IfErr result (λ f. StopsReading f closed_records (T.conf target.old) mode go_on (T.entries target.old) (T.entries target.new) (S.seen source.old) (S.seen source.new) (W.written sink.old) (W.written sink.new)) }
+    ensures failures { Failures (tally_in result) (S.seen source.old).failed (S.seen source.new).failed (W.written sink.old).failed (W.written sink.new).failed }
+    ensures gave { GaveSome (S.seen source.old) (S.seen source.new) }
+    ensures ending { IfOk result (EndsAsTold (T.conf target.old) mode go_on (T.entries target.old) (option_map records (S.seen source.old).left)) }
+{
+    let mut reader = Reader::new(alloc, source);
+    run_rest(alloc, target, &mut reader, sink, mode, go_on)
 }
 
 /// Carries out the records of a source in turn, on a `Database` or a directory. For each that is refused, a line with the number of the
@@ -181,6 +250,8 @@ pub fn run<T: Target, S: Source, W: Sink>(
     ensures failures { Failures result (S.seen source.old).failed (S.seen source.new).failed (W.written sink.old).failed (W.written sink.new).failed }
     ensures gave { GaveSome (S.seen source.old) (S.seen source.new) }
 {
-    let mut reader = Reader::new(alloc, source);
-    run_rest(alloc, target, &mut reader, sink, mode, go_on)
+    match run_to_ending(alloc, target, source, sink, mode, go_on) {
+        Ok(ending) => Ok(ending.tally),
+        Err(fault) => Err(fault),
+    }
 }

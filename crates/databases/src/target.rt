@@ -1,15 +1,15 @@
 //! What the records of a run are carried out on.
 
-ghost use Rattle.std.specs.Prelude.{◌≡◌, ℕ, ◌+◌, IfOk, OnOk, OnErr};
-ghost use Rattle.ldif.specs.Reading.{reading};
+ghost use Rattle.std.specs.Prelude.{◌≡◌, ℕ, OnErr};
 ghost use Rattle.schema.specs.Conf.{Conf};
+ghost use Rattle.entries.specs.Gives.{Gives};
 ghost use Rattle.tree.specs.Directories.{Entries};
-ghost use Rattle.databases.specs.RunEdits.{CountEdits};
-ghost use Rattle.databases.specs.Runs.{outcome_of};
+ghost use Rattle.tree.specs.Operations.{apply};
+ghost use Rattle.databases.specs.RunEdits.{CountEdits, RiseBy};
 
-use crate::refusal::Outcome;
-use ldif::{Mode, RawRecord};
-use std::alloc::{AllocError, Global};
+use entries::Refusal;
+use ldif::{Mode, Record};
+use std::alloc::Global;
 
 /// What the records of a run are carried out on: a `Database`, or a directory, which keeps an index with its entries.
 ///
@@ -23,16 +23,11 @@ pub trait Target {
 
     ghost count_edits: { CountEdits };
 
-    /// Reads a record from its lines and carries it out, or refuses it. A refusal changes no entry, nor does want of memory, which is the
-    /// only error.
-    fn carry_out(
-        &mut self,
-        alloc: Global,
-        raw: &RawRecord,
-        mode: Mode,
-    ) -> Result<Outcome, AllocError>
+    /// Carries out a record, or refuses it with the code of the first check that fails (RFC 4511, 4.6 to 4.9). A refusal, also for want of
+    /// memory, changes no entry. Edits that came before memory ran out are taken back, an edit each again.
+    fn carry_out(&mut self, alloc: Global, asked: &Record<'_>, mode: Mode) -> Result<(), Refusal>
         ensures same_conf { conf self.new ≡ conf self.old }
-        ensures edits { OnOk result (edits self.new ≡ edits self.old + count_edits (conf self.old) mode (entries self.old) (reading mode raw.now.first raw.now.lines)) }
-        ensures outcome { IfOk result (λ o. outcome_of (conf self.old) mode (entries self.old) raw.now ≡ (entries self.new, o)) }
-        ensures err { OnErr result (entries self.new ≡ entries self.old) };
+        ensures gives { Gives (λ _. entries self.new) result (apply (conf self.old) mode (entries self.old) asked.now) }
+        ensures err { OnErr result (entries self.new ≡ entries self.old) }
+        ensures edits { RiseBy result (count_edits (conf self.old) mode (entries self.old) asked.now) (edits self.old) (edits self.new) };
 }

@@ -1,9 +1,10 @@
 -- An index after the keys of one entry came and went.
-use Rattle.std.proofs.Common.{◌≡◌, ◌≢◌, ℕ, ◌+◌, ◌<◌, Bool, true, false, not, cond, ◌&&◌, ◌||◌, nat_eq, List, [], ◌∷◌, length, Option, Some, None, refl, sym, ap, subst, ◌∙◌}
-use Rattle.std.specs.List.{AllByRecursion, IsDistinct}
+use Rattle.std.proofs.Common.{◌≡◌, ◌≢◌, ℕ, ◌+◌, ◌*◌, ◌<◌, Bool, true, false, not, cond, ◌&&◌, ◌||◌, nat_eq, List, [], ◌∷◌, length, Option, Some, None, refl, sym, ap, subst, ◌∙◌, arith}
+use Rattle.std.specs.Prelude.{Result, Ok, Err, OnErr}
+use Rattle.std.specs.List.{list_any, AllByRecursion, IsDistinct}
 use Rattle.std.specs.FinSet as set
 use Rattle.std.specs.Cmp.{nat_cmp_total, unsigned_tied}
-use Rattle.std.proofs.lemmas.Bool.{eqb-true, eqb-false, eq-eqb, ne_eqb}
+use Rattle.std.proofs.lemmas.Bool.{eqb-true, eqb-false, eq-eqb, ne_eqb, both_ways}
 use Rattle.std.proofs.lemmas.Cmp.{eq_by_cmp_equiv}
 use Rattle.schema.specs.Conf.{Conf}
 use Rattle.std.specs.Borrow.{Bor}
@@ -17,9 +18,12 @@ use Rattle.index_text.specs.declared.slot_key.SlotKey.{SlotKey}
 use Rattle.index_text.specs.KeySets.{Members}
 use Rattle.index_text.specs.SlotKeys.{same_slot_key, is_among, slot_key_cmp}
 use Rattle.index_text.specs.Indexes.{Index, members}
-use Rattle.index.specs.Indexes.{Inserts, Removes, KeepsMembers, Forgets, IsNowhere}
+use Rattle.index.specs.Indexes.{AllHave, Inserts, Removes, KeepsMembers, Forgets, IsNowhere}
 use Rattle.index_keys.specs.EntryKeys.{slot_keys, slot_keys_in, edits}
 use Rattle.index.specs.KeyChanges.{AreChanges, content_in}
+use Rattle.index.specs.Edits.{differ, has_changed, same_member, CountsEdits, RisesUpTo}
+use Rattle.index.proofs.Counted.{those_came, taken_back as counted_back}
+use Rattle.index.proofs.Edits.{differ_itself}
 use Rattle.index.proofs.OneByOne.{back}
 use Rattle.index_text.proofs.SlotKeyOrder.{itself, slot_key_total, slot_key_exact}
 use Rattle.directory.specs.Indexes.{IsIndexOf, edits_of}
@@ -179,6 +183,21 @@ module _ (conf : Conf) (p : Planned) (x : Index) (n : ℕ) (came gone : List Slo
   pub apart_gone : (ls : List SlotKey) → ls ≡ gone → IsDistinct same_slot_key ls
   apart_gone ls is = subst (IsDistinct same_slot_key) (sym is) r.changes.go.apart
 
+  -- the number stands under all that came
+  pub came_there : (y : Index) (ls ms : List SlotKey) → ls ≡ came → ms ≡ came → Inserts (λ k. is_among k ls) n x y → AllHave n y ms
+  came_there y ls ms is_ls is_ms puts = subst (AllHave n y) (sym is_ms) (all_of (λ k. set.contains (members y k) n ≡ true) came (λ k h.
+      ap (λ (s : Members). set.contains s n) (puts k ∙ ap (λ (qs : List SlotKey). cond (is_among k qs) (set.insert (members x k) n) (members x k)) is_ls ∙ ap (λ b. cond b (set.insert (members x k) n) (members x k)) h)
+      ∙ put_has (members x k) n n
+      ∙ ap (λ b. b || set.contains (members x k) n) (eq-eqb n n refl)))
+
+  -- some of what came was counted, and taken back, an edit each again
+  pub came_few : (ls : List SlotKey) (d : Entries) (z : Index) → ls ≡ came → p.tree.entries ≡ d → RisesUpTo (2 * length ls) x z → RisesUpTo (2 * edits_of conf d p.change) x z
+  came_few ls d z is_ls is_d h =
+      let all : length came + length gone ≡ edits_of conf d p.change = r.changes.count ∙ ap (λ (e : Entries). edits_of conf e p.change) is_d in
+      let same = ap length is_ls in
+      let few = h.few in
+      record { rises = h.rises; few = omega (arith, all, same, few) }
+
   -- what was put in is taken out again
   pub taken_back : (y z : Index) (ls ms : List SlotKey) → ls ≡ came → ms ≡ came → Inserts (λ k. is_among k ls) n x y → Removes (λ k. is_among k ms) n y z → KeepsMembers x z
   taken_back y z ls ms is_ls is_ms puts takes k =
@@ -280,3 +299,43 @@ none_come conf stored x n is k =
 
 pub none_count : (conf : Conf) (stored : Option (Bor Entry)) → stored ≡ None → 0 ≡ edits conf None (content_in stored)
 none_count conf stored is = sym (ap (λ (o : Option (Bor Entry)). edits conf None (content_in o)) is ∙ no_edits conf)
+
+-- ---- edits that were taken back
+
+-- where no member came or went, there was none
+nothing_more : (old new : Index) → KeepsMembers old new → CountsEdits old new → new.edits ≡ old.edits
+nothing_more old new same counts = by counts.changed refl
+  where
+    unchanged : (a : SlotKey × ℕ) → has_changed (members old) (members new) a ≡ false
+    unchanged a = ap (λ (s : Members). differ (set.contains (members old a.0) a.1) (set.contains s a.1)) (same a.0) ∙ differ_itself (set.contains (members old a.0) a.1)
+
+    by : (changed : List (SlotKey × ℕ)) → counts.changed ≡ changed → new.edits ≡ old.edits
+    by [] is =
+        let rise = counts.rise in
+        let none = ap (λ (xs : List (SlotKey × ℕ)). length xs) is in
+        omega (arith, rise, none)
+    by (x ∷ xs) is =
+        let among : list_any (λ y. same_member same_slot_key y x) (x ∷ xs) ≡ true = ap (λ b. b || list_any (λ y. same_member same_slot_key y x) xs) (λ i. itself x.0 i && eq-eqb x.1 x.1 refl i) in
+        absurd (both_ways (has_changed (members old) (members new) x) (unchanged x) (sym (counts.exact x) ∙ ap (list_any (λ y. same_member same_slot_key y x)) is ∙ among))
+
+-- those of an entry that is new, where one is there
+pub all_taken_back : (conf : Conf) (stored : Option EntryContent) (n : ℕ) (old mid new : Index) → IsNowhere n old → Inserts (set.contains (slot_keys_in conf stored)) n old mid → CountsEdits old mid → Forgets n mid new → CountsEdits mid new
+    → RisesUpTo (2 * edits conf None stored) old new
+all_taken_back conf None n old mid new nowhere puts first went next =
+    let came : KeepsMembers old mid = λ k. puts k ∙ ap (λ b. cond b (set.insert (members old k) n) (members old k)) (set.contains-empty slot_key_cmp k) in
+    let gone : KeepsMembers old new = came_and_went n (set.contains (slot_keys_in conf None)) old mid nowhere puts new went in
+    let one = nothing_more old mid came first in
+    let two = nothing_more mid new (λ k. gone k ∙ sym (came k)) next in
+    record { rises = omega (arith, one, two); few = omega (arith, one, two) }
+all_taken_back conf (Some e) n old mid new nowhere puts first went next =
+    counted_back conf e n old mid new nowhere (those_came (set.contains (slot_keys conf e.attrs)) (set.contains (slot_keys conf e.attrs)) n old mid (λ p h. h) puts) first went next
+
+-- how many keys an entry has that is new
+pub new_edits : (conf conf' : Conf) (d : Tree) (p : Planned) (stored : Option EntryContent) → conf' ≡ conf → p.tree ≡ d → before p ≡ None → stored ≡ after p → edits conf' None stored ≡ edits_of conf d.entries p.change
+new_edits conf conf' d p stored same of new is_after =
+    ap (λ (k : Conf). edits k None stored) same ∙ ap (edits conf None) is_after ∙ ap (λ (o : Option EntryContent). edits conf o (after p)) (sym new) ∙ ap (λ (t : Tree). edits_of conf t.entries p.change) of
+
+-- whatever the answer is
+pub on_err : {A E : Type 0} {P : Type 0} (answer : Result A E) → P → OnErr answer P
+on_err (Ok a) so = tt
+on_err (Err e) so = so

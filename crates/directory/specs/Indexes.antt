@@ -1,7 +1,6 @@
 -- The index that is kept with the entries of a directory, and what a change edits of it.
 use Rattle.std.specs.Prelude.{◌≡◌, ℕ, false, Result, Ok, Err}
 use Rattle.std.specs.FinSet as set
-use Rattle.ldif.specs.declared.fault.LdifFaultKind.{LdifFaultKind}
 use Rattle.ldif.specs.declared.record.Mode.{Mode}
 use Rattle.ldif.specs.declared.record.Record.{Record}
 use Rattle.schema.specs.declared.code.Code.{Code}
@@ -34,8 +33,3 @@ edits_by conf d (Err code) = 0
 -- those of a record
 abbrev pub record_edits : Conf → Mode → Entries → Record → ℕ
 record_edits conf mode d r = edits_by conf d (change_of conf mode d r)
-
--- those of what was read of a record; a fault edits nothing
-abbrev pub read_edits : Conf → Mode → Entries → Result Record LdifFaultKind → ℕ
-read_edits conf mode d (Ok r) = record_edits conf mode d r
-read_edits conf mode d (Err fault) = 0

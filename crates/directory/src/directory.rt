@@ -1,6 +1,6 @@
 //! Directories.
 
-ghost use Rattle.std.specs.Prelude.{◌≡◌, ◌+◌, ◌<◌, ◌-◌, ◌^◌, true, false, Err, map, IfOk, IfErr, OnErr};
+ghost use Rattle.std.specs.Prelude.{◌≡◌, ◌+◌, ◌*◌, ◌<◌, ◌-◌, ◌^◌, true, false, Err, map, IfOk, IfErr, OnErr};
 ghost use Rattle.std.specs.FinMap as finite;
 ghost use Rattle.tree.specs.Operations.{apply};
 ghost use Rattle.entries.specs.Gives.{Gives};
@@ -11,22 +11,23 @@ ghost use Rattle.directory.specs.Directories.{tree_of};
 ghost use Rattle.ldif.specs.Written.{Writes};
 ghost use Rattle.databases.specs.Runs.{LoadsBack, dump};
 ghost use Rattle.databases.specs.Found.{AreThere};
-ghost use Rattle.directory.specs.Indexes.{IsIndexOf, record_edits, read_edits};
+ghost use Rattle.directory.specs.Indexes.{IsIndexOf, record_edits};
+ghost use Rattle.databases.specs.RunEdits.{RisesUpTo};
 ghost use Rattle.databases.specs.Searches.{IsRefused};
 ghost use Rattle.directory.specs.Searches.{AreSteps, IsTestCount};
 ghost use Rattle.schema.specs.declared.code.Code.{Code};
 ghost use Rattle.schema.specs.declared.code.Code.TheVariants.{NoSuchObject};
 
-use crate::applying::{Edits, apply_record, carry_out};
+use crate::applying::{Edits, apply_record};
 use crate::indexing::index_of;
 use crate::searching::search_with_index;
-use databases::{Hits, Outcome, Scope, Target, write_dump};
+use databases::{Database, Hits, Scope, Target};
 use dense_sets::KeySet;
 use device::Sink;
 use entries::Refusal;
 use filter::Prepared;
 use index::Index;
-use ldif::{Mode, RawRecord, Record, WriteFault};
+use ldif::{Mode, Record, WriteFault};
 use schema::{Conf, Path};
 use std::alloc::{AllocError, Global};
 use std::marker::Model;
@@ -37,13 +38,11 @@ use tree::Tree;
 #[derive(Drop)]
 pub struct Directory {
     alloc: Global,
-    conf: Conf,
-    tree: Tree,
+    database: Database,
     index: Index,
 }
 
 impl Model for Directory {
-    ghost use Rattle.std.specs.Prelude.{◌≡◌};
     ghost use Rattle.directory.specs.Directories as seen;
     ghost use Rattle.directory.specs.Indexes.{IsIndexOf};
 
@@ -51,9 +50,9 @@ impl Model for Directory {
 
     ghost coded = { seen.directory_code };
 
-    ghost view = { λ d. seen.with_edits d.tree d.index.edits };
+    ghost view = { λ d. seen.with_edits d.database d.index.edits };
 
-    ghost invariant = { λ d. (d.tree.conf ≡ d.conf) × IsIndexOf d.conf d.tree.entries d.tree.numbers d.index };
+    ghost invariant = { λ d. IsIndexOf d.database.conf d.database.entries d.database.numbers d.index };
 }
 
 impl Directory {
@@ -62,8 +61,7 @@ impl Directory {
         ensures same_conf { IfOk result (λ d. d.conf ≡ conf) }
         ensures entries { IfOk result (λ d. d.entries ≡ finite.empty) }
     {
-        let tree = Tree::new(alloc, &conf);
-        Directory::from_tree(alloc, conf, tree)
+        Directory::from_database(alloc, Database::new(alloc, conf))
     }
 
     /// The directory of a tree that was made with this configuration.
@@ -71,11 +69,17 @@ impl Directory {
         requires { tree.conf ≡ conf }
         ensures { IfOk result (λ d. tree_of d ≡ tree) }
     {
-        let index = index_of(alloc, &conf, &tree)?;
+        Directory::from_database(alloc, Database::from_tree(conf, tree))
+    }
+
+    /// The directory of these entries.
+    pub fn from_database(alloc: Global, database: Database) -> Result<Directory, AllocError>
+        ensures { IfOk result (λ d. tree_of d ≡ database) }
+    {
+        let index = index_of(alloc, &database)?;
         Ok(Directory {
             alloc,
-            conf,
-            tree,
+            database,
             index,
         })
     }
@@ -84,14 +88,21 @@ impl Directory {
     pub fn conf(&self) -> &Conf
         ensures { result.now ≡ self.now.conf }
     {
-        &self.conf
+        self.database.conf()
     }
 
     /// The entries.
     pub fn tree(&self) -> &Tree
         ensures { result.now ≡ tree_of self.now }
     {
-        &self.tree
+        self.database.tree()
+    }
+
+    /// The entries and the configuration, without the index.
+    pub fn database(&self) -> &Database
+        ensures { result.now ≡ tree_of self.now }
+    {
+        &self.database
     }
 
     /// The index of the entries.
@@ -123,8 +134,7 @@ impl Directory {
     {
         search_with_index(
             self.alloc,
-            &self.conf,
-            &self.tree,
+            &self.database,
             &self.index,
             base,
             scope,
@@ -133,20 +143,21 @@ impl Directory {
     }
 
     /// Carries out a record (RFC 4511, 4.6 to 4.9) and edits the index, or refuses it with the code of the first check that fails. A refusal,
-    /// also for want of memory, changes no entry and no member of the index.
+    /// also for want of memory, changes no entry and no member of the index. Where memory runs out, keys that came by then are taken back, an
+    /// edit each again.
     pub fn apply(&mut self, asked: &Record<'_>, mode: Mode) -> Result<Edits, Refusal>
         ensures same_conf { self.new.conf ≡ self.old.conf }
         ensures gives { Gives (λ _. self.new.entries) result (apply self.old.conf mode self.old.entries asked.now) }
         ensures count { IfOk result (λ e. e.count ≡ record_edits self.old.conf mode self.old.entries asked.now) }
         ensures edits { IfOk result (λ e. self.new.edits ≡ self.old.edits + e.count) }
         ensures refused { (code : Code) → result ≡ Err (Refusal.Code code) → self.new.edits ≡ self.old.edits }
+        ensures wanting { OnErr result (RisesUpTo (2 * record_edits self.old.conf mode self.old.entries asked.now) self.old.edits self.new.edits) }
         ensures err { OnErr result (tree_of self.new ≡ tree_of self.old) }
     {
         apply_record(
             self.alloc,
-            &mut self.tree,
+            &mut self.database,
             &mut self.index,
-            &self.conf,
             asked,
             mode,
         )
@@ -163,7 +174,7 @@ impl Directory {
         ensures writes { Writes result (W.written sink.old) (W.written sink.new) (dump self.now.conf self.now.entries) }
         ensures loads { LoadsBack self.now.conf self.now.entries }
     {
-        write_dump(alloc, self.tree(), self.conf(), sink)
+        self.database.dump(alloc, sink)
     }
 }
 
@@ -174,21 +185,12 @@ impl Target for Directory {
 
     ghost edits = { λ d. d.edits };
 
-    ghost count_edits = { read_edits };
+    ghost count_edits = { record_edits };
 
-    fn carry_out(
-        &mut self,
-        alloc: Global,
-        raw: &RawRecord,
-        mode: Mode,
-    ) -> Result<Outcome, AllocError> {
-        carry_out(
-            alloc,
-            &mut self.tree,
-            &mut self.index,
-            &self.conf,
-            raw,
-            mode,
-        )
+    fn carry_out(&mut self, _alloc: Global, asked: &Record<'_>, mode: Mode) -> Result<(), Refusal> {
+        match self.apply(asked, mode) {
+            Ok(_) => Ok(()),
+            Err(refusal) => Err(refusal),
+        }
     }
 }

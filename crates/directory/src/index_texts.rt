@@ -3,21 +3,20 @@
 ghost use Rattle.std.specs.Prelude.{◌≡◌, ◌<◌, ◌-◌, ◌^◌, ◌++◌, Some, OnOk};
 ghost use Rattle.std.specs.List.{slice_get};
 ghost use Rattle.ldif.specs.Written.{Writes, WritesOn};
-ghost use Rattle.directory.specs.Indexes.{IsIndexOf};
+ghost use Rattle.directory.specs.Directories.{tree_of};
 ghost use Rattle.databases.specs.IndexTexts.{stamp as stamp_by, index_text, slot_lines, slots_lines};
-ghost use Rattle.directory.specs.inner.IndexRows.{row_text, rows_text, IsListing};
+ghost use Rattle.directory.specs.inner.IndexRows.{row_text, rows_text, AreRanked, numbers_in_order};
 
 use crate::directory::Directory;
 use crate::ranks::{ranks_by_number, ranks_of};
-use databases::{Stamp, begin_index_text, pass_on, pass_on_long, stamp_of};
+use databases::{Stamp, pass_on, pass_on_long};
 use dense_sets::KeySet;
 use device::Sink;
-use index::{Index, Keys};
+use index::Keys;
 use index_text::{SlotNumber, put_end, put_key, put_slot};
 use ldif::WriteFault;
-use schema::{Conf, Slot};
+use schema::Slot;
 use std::alloc::{AllocError, Global};
-use tree::Tree;
 
 // the line of a key with its members, behind what `text` holds
 fn put_row(
@@ -66,15 +65,12 @@ fn write_rows<W: Sink>(
     Ok(())
 }
 
-/// The index of a tree's entries, with the configuration that both were made with, and the rank of each entry at its number.
+/// The entries of a directory with their index, and the rank of each entry at its number.
 #[derive(Drop)]
 struct Listing<'a> {
     alloc: Global,
-    tree: &'a Tree,
-    conf: &'a Conf,
-    index: &'a Index,
+    directory: &'a Directory,
     ranks: &'a [u32],
-    ghost same_conf: { tree.now.conf ≡ conf.now },
 }
 
 impl Listing<'_> {
@@ -87,60 +83,33 @@ impl Listing<'_> {
         text: &mut Vec<u8>,
     ) -> Result<(), WriteFault>
         requires can_fail { (W.written sink.old).failed < 2 ^ 64 - 1 }
-        requires listing { IsListing self.now.conf.now self.now.tree.now self.now.index.now self.now.ranks.now }
-        requires place { slice_get self.now.conf.now.slots place ≡ Some slot.now }
-        ensures { WritesOn result (W.written sink.old) (W.written sink.new) (text.old.items ++ slot_lines self.now.conf.now self.now.tree.now.entries slot.now) text.new.items }
+        requires ranked { AreRanked self.now.ranks.now 0 (numbers_in_order (tree_of self.now.directory.now)) }
+        requires place { slice_get self.now.directory.now.conf.slots place ≡ Some slot.now }
+        ensures { WritesOn result (W.written sink.old) (W.written sink.new) (text.old.items ++ slot_lines self.now.directory.now.conf self.now.directory.now.entries slot.now) text.new.items }
     {
-        self.tree.entries_are_a_directory();
-        self.tree.entries_are_numbered();
-        self.conf.rules_are_kept();
-        put_slot(text, self.conf, slot)?;
-        let keys = self.index.keys(SlotNumber(place));
+        let tree = self.directory.tree();
+        tree.entries_are_a_directory();
+        tree.entries_are_numbered();
+        let conf = self.directory.conf();
+        conf.rules_are_kept();
+        put_slot(text, conf, slot)?;
+        let index = self.directory.index();
+        let keys = index.keys(SlotNumber(place));
         write_rows(self.alloc, sink, self.ranks, keys, text)
     }
 
     // the same of all slots
     fn write_slots<W: Sink>(&self, sink: &mut W, text: &mut Vec<u8>) -> Result<(), WriteFault>
         requires can_fail { (W.written sink.old).failed < 2 ^ 64 - 1 }
-        requires listing { IsListing self.now.conf.now self.now.tree.now self.now.index.now self.now.ranks.now }
-        ensures { WritesOn result (W.written sink.old) (W.written sink.new) (text.old.items ++ slots_lines self.now.conf.now self.now.tree.now.entries self.now.conf.now.slots) text.new.items }
+        requires ranked { AreRanked self.now.ranks.now 0 (numbers_in_order (tree_of self.now.directory.now)) }
+        ensures { WritesOn result (W.written sink.old) (W.written sink.new) (text.old.items ++ slots_lines self.now.directory.now.conf self.now.directory.now.entries self.now.directory.now.conf.slots) text.new.items }
     {
-        for (place, slot) in self.conf.slots().iter().enumerate() {
+        let conf = self.directory.conf();
+        for (place, slot) in conf.slots().iter().enumerate() {
             self.write_slot(sink, place, slot, text)?;
         }
         Ok(())
     }
-}
-
-/// Writes the text of the index of a tree's entries, in pieces of some 64 KiB: how many entries there are, the stamp of their dump, and
-/// for each slot the keys that the entries have, each with the places in the dump of the entries that have it. The tree and the index
-/// were made with this configuration, and this is the stamp of the tree. On a fault a beginning was written.
-pub fn write_index_text<W: Sink>(
-    alloc: Global,
-    tree: &Tree,
-    conf: &Conf,
-    index: &Index,
-    stamp: &Stamp,
-    sink: &mut W,
-) -> Result<(), WriteFault>
-    requires made { tree.now.conf ≡ conf.now }
-    requires stamped { stamp.now ≡ stamp_by conf.now tree.now.entries }
-    requires indexed { IsIndexOf conf.now tree.now.entries tree.now.numbers index.now }
-    requires can_fail { (W.written sink.old).failed < 2 ^ 64 - 1 }
-    ensures writes { Writes result (W.written sink.old) (W.written sink.new) (index_text conf.now tree.now.entries) }
-{
-    let mut text = begin_index_text(alloc, tree, conf, stamp)?;
-    let ranks = ranks_by_number(alloc, tree)?;
-    let listing = Listing {
-        alloc,
-        tree,
-        conf,
-        index,
-        ranks: ranks.as_slice(),
-    };
-    listing.write_slots(sink, &mut text)?;
-    put_end(&mut text)?;
-    pass_on(sink, &mut text)
 }
 
 impl Directory {
@@ -151,7 +120,7 @@ impl Directory {
         requires { (W.written sink.old).failed < 2 ^ 64 - 1 }
         ensures { Writes result (W.written sink.old) (W.written sink.new) (index_text self.now.conf self.now.entries) }
     {
-        let stamp = stamp_of(alloc, self.tree(), self.conf())?;
+        let stamp = self.database().stamp(alloc)?;
         self.index_text_with(alloc, &stamp, sink)
     }
 
@@ -166,6 +135,15 @@ impl Directory {
         requires can_fail { (W.written sink.old).failed < 2 ^ 64 - 1 }
         ensures { Writes result (W.written sink.old) (W.written sink.new) (index_text self.now.conf self.now.entries) }
     {
-        write_index_text(alloc, self.tree(), self.conf(), self.index(), stamp, sink)
+        let mut text = self.database().begin_index_text(alloc, stamp)?;
+        let ranks = ranks_by_number(alloc, self.tree())?;
+        let listing = Listing {
+            alloc,
+            directory: self,
+            ranks: ranks.as_slice(),
+        };
+        listing.write_slots(sink, &mut text)?;
+        put_end(&mut text)?;
+        pass_on(sink, &mut text)
     }
 }

@@ -1,4 +1,4 @@
-//! The index of a whole tree.
+//! The index of all entries.
 
 ghost use Rattle.std.specs.Prelude.{◌≡◌, [], ℕ, IfOk};
 ghost use Rattle.std.specs.List.{AllByRecursion};
@@ -8,24 +8,23 @@ ghost use Rattle.index_keys.specs.NumberedEntries.{has_among};
 ghost use Rattle.directory.specs.Indexes.{IsIndexOf};
 ghost use Rattle.directory.specs.inner.Indexes.{has_in_tree};
 
+use databases::Database;
 use index::Index;
 use index_keys::Numbered;
-use schema::{Conf, Path};
+use schema::Path;
 use std::alloc::{AllocError, Global};
-use tree::Tree;
 
-/// All entries of a tree below its root, each with its number.
+/// All entries below the root, each with its number.
 fn numbered_entries<'a>(
     alloc: Global,
-    conf: &Conf,
-    tree: &'a Tree,
+    database: &'a Database,
     root: &'a Path,
 ) -> Result<Vec<Numbered<'a>>, AllocError>
-    requires same_conf { tree.now.conf ≡ conf.now }
-    requires root { root.now ≡ [] }
-    ensures made { IfOk result (λ es. AllByRecursion (λ e. IsMade conf.now.types e.entry.now.attrs) es.items) }
-    ensures all { IfOk result (λ es. (n : ℕ) (k : seen.SlotKey) → has_among conf.now es.items n k ≡ has_in_tree conf.now tree.now n k) }
+    requires { root.now ≡ [] }
+    ensures made { IfOk result (λ es. AllByRecursion (λ e. IsMade database.now.conf.types e.entry.now.attrs) es.items) }
+    ensures all { IfOk result (λ es. (n : ℕ) (k : seen.SlotKey) → has_among database.now.conf es.items n k ≡ has_in_tree database.now.conf database.now n k) }
 {
+    let tree = database.tree();
     let mut entries = Vec::with_capacity(alloc, tree.len())?;
     for found in tree.numbered(root) {
         let (_, number, entry) = found;
@@ -34,15 +33,14 @@ fn numbered_entries<'a>(
     Ok(entries)
 }
 
-/// The index of all entries of a tree, which was made with this configuration.
-pub(crate) fn index_of(alloc: Global, conf: &Conf, tree: &Tree) -> Result<Index, AllocError>
-    requires { tree.now.conf ≡ conf.now }
-    ensures { IfOk result (λ x. IsIndexOf conf.now tree.now.entries tree.now.numbers x) }
+/// The index of all entries.
+pub(crate) fn index_of(alloc: Global, database: &Database) -> Result<Index, AllocError>
+    ensures { IfOk result (λ x. IsIndexOf database.now.conf database.now.entries database.now.numbers x) }
 {
-    tree.entries_are_a_directory();
-    tree.entries_are_numbered();
+    database.tree().entries_are_a_directory();
+    database.tree().entries_are_numbered();
     schema::order_of_paths();
     let root = Path::root(alloc);
-    let entries = numbered_entries(alloc, conf, tree, &root)?;
-    Index::of_entries(alloc, conf, entries.as_slice())
+    let entries = numbered_entries(alloc, database, &root)?;
+    Index::of_entries(alloc, database.conf(), entries.as_slice())
 }

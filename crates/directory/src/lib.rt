@@ -13,10 +13,8 @@ mod searching;
 pub use applying::Edits;
 pub use databases::{
     Database, Hits, LoadFault, Outcome, RecordRefusal, RunFault, Scope, Selection, Stamp, Tally,
-    Target, index_texts_reflect_dumps, kept_index_texts_are_read, load_tree, loading_a_dump,
-    read_index, run, scan, search_with, stamp_of, write_dump, write_found, write_index_of_entries,
-    write_stamped_dump,
+    Target, index_texts_reflect_dumps, kept_index_texts_are_read, load_tree, loading_a_dump, run,
+    scan, search_with, stamp_of,
 };
 pub use directory::Directory;
-pub use index_texts::write_index_text;
 pub use loading::load;

@@ -10,7 +10,7 @@ ghost use Rattle.databases.specs.Loading.{StopsAt, PullFailures};
 ghost use Rattle.databases.specs.FailedReads.{LoadedUpTo};
 
 use crate::directory::Directory;
-use databases::{LoadFault, load_tree};
+use databases::{Database, LoadFault};
 use device::Source;
 use schema::Conf;
 use std::alloc::Global;
@@ -26,6 +26,6 @@ pub fn load<S: Source>(alloc: Global, conf: Conf, source: &mut S) -> Result<Dire
     ensures failures { PullFailures result (S.seen source.old).failed (S.seen source.new).failed }
     ensures gave { GaveSome (S.seen source.old) (S.seen source.new) }
 {
-    let tree = load_tree(alloc, &conf, source)?;
-    Ok(Directory::from_tree(alloc, conf, tree)?)
+    let database = Database::load(alloc, conf, source)?;
+    Ok(Directory::from_database(alloc, database)?)
 }

@@ -12,44 +12,42 @@ ghost use Rattle.databases.specs.Searches.{IsRefused};
 ghost use Rattle.directory.specs.Searches.{AreSteps, IsTestCount};
 
 use candidates::{brackets_hold, indexes_reflect_entries, may_match};
-use databases::{Hits, Scope, candidates_suffice, search};
+use databases::{Database, Hits, Scope, candidates_suffice, search};
 use dense_sets::KeySet;
 use entries::Refusal;
 use filter::Prepared;
 use index::Index;
-use schema::{Code, Conf, Path};
+use schema::{Code, Path};
 use std::alloc::Global;
-use tree::Tree;
 
-/// The entries of a tree in scope of which the filter is True, in dump order, with the index that is kept with the tree, which has the entries'
-/// numbers. `NoSuchObject` where the base isn't there, and else `OutOfMemory`.
+/// The entries in scope of which the filter is True, in dump order, with the index that is kept with them, which has their numbers in the
+/// tree. `NoSuchObject` where the base isn't there, and else `OutOfMemory`.
 pub(crate) fn search_with_index<'a>(
     alloc: Global,
-    conf: &Conf,
-    tree: &'a Tree,
+    database: &'a Database,
     index: &Index,
     base: &'a Path,
     scope: Scope,
     filter: &'a Prepared,
 ) -> Result<Hits<'a, KeySet>, Refusal>
-    requires tree { tree.now.conf ≡ conf.now }
-    requires filter { filter.now.conf ≡ tree.now.conf }
-    requires indexed { IsIndexOf conf.now tree.now.entries tree.now.numbers index.now }
-    ensures there { IfOk result (λ h. finite.contains_key tree.now.entries base.now ≡ true) }
-    ensures refused { IfErr result (IsRefused tree.now.entries base.now) }
-    ensures missing { finite.contains_key tree.now.entries base.now ≡ false → result ≡ Err (Refusal.Code NoSuchObject) }
+    requires filter { filter.now.conf ≡ database.now.conf }
+    requires indexed { IsIndexOf database.now.conf database.now.entries database.now.numbers index.now }
+    ensures there { IfOk result (λ h. finite.contains_key database.now.entries base.now ≡ true) }
+    ensures refused { IfErr result (IsRefused database.now.entries base.now) }
+    ensures missing { finite.contains_key database.now.entries base.now ≡ false → result ≡ Err (Refusal.Code NoSuchObject) }
     ensures start { IfOk result (λ h. h.tested ≡ 0) }
-    ensures steps { IfOk result (λ h. AreSteps conf.now tree.now filter.now base.now scope (map counted h.to_come)) }
-    ensures found { IfOk result (λ h. map seen h.to_come ≡ scan tree.now.conf tree.now.entries base.now scope (view filter.now.filter)) }
-    ensures tested { IfOk result (λ h. IsTestCount conf.now tree.now filter.now base.now scope h.in_the_end) }
-    ensures made { IfOk result (λ h. AreMade tree.now.conf.types h.to_come) }
-    ensures entries { IfOk result (λ h. AreThere tree.now.entries (map seen h.to_come)) }
+    ensures steps { IfOk result (λ h. AreSteps database.now.conf database.now filter.now base.now scope (map counted h.to_come)) }
+    ensures found { IfOk result (λ h. map seen h.to_come ≡ scan database.now.conf database.now.entries base.now scope (view filter.now.filter)) }
+    ensures tested { IfOk result (λ h. IsTestCount database.now.conf database.now filter.now base.now scope h.in_the_end) }
+    ensures made { IfOk result (λ h. AreMade database.now.conf.types h.to_come) }
+    ensures entries { IfOk result (λ h. AreThere database.now.entries (map seen h.to_come)) }
 {
     brackets_hold();
     indexes_reflect_entries();
     candidates_suffice();
     schema::order_of_paths();
-    conf.rules_are_kept();
+    database.conf().rules_are_kept();
+    let tree = database.tree();
     tree.entries_are_a_directory();
     tree.entries_are_numbered();
     if tree.get(base).is_none() {

@@ -3,7 +3,7 @@
 ghost use Rattle.std.specs.Prelude.{◌≡◌, IfOk};
 
 use crate::indexes::{INDEX, TURNED, empty, indexed};
-use directory::{Directory, Hits, Scope, read_index, search_with, stamp_of};
+use directory::{Directory, Hits, Scope, search_with};
 use entries::{Entry, Refusal};
 use filter::{Prepared, prepare};
 use filter_text::read_filter;
@@ -182,9 +182,9 @@ fn finds_each_with_nothing(alloc: Global, dir: &Directory) -> Result<bool, Fail>
 
 // the same by all that the text of the index says
 fn finds_each_by_text(alloc: Global, dir: &Directory) -> Result<bool, Fail> {
-    let stamp = stamp_of(alloc, dir.tree(), dir.conf())?;
+    let stamp = dir.database().stamp(alloc)?;
     let mut source = TrySource::new(INDEX.as_bytes(), 100, None);
-    match read_index(alloc, &mut source, dir.tree(), dir.conf(), &stamp) {
+    match dir.database().read_index(alloc, &mut source, &stamp) {
         Ok(stored) => finds_each_with(alloc, dir, &stored, &ROWS),
         Err(_) => Ok(false),
     }

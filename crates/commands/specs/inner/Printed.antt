@@ -1,12 +1,21 @@
--- What was printed of a text.
-use Rattle.std.specs.Prelude.{ℕ, Bool, List, None, Result, Ok, Err}
+-- What a query finds, and what was printed of it.
+use Rattle.std.specs.Prelude.{◌≡◌, ℕ, ◌⊎◌, Bool, true, false, List, [], None, Some, Result, Ok, Err, if◌then◌else◌, codes}
+use Rattle.std.specs.FinMap as finite
 use Rattle.device.specs.Device.{Written, Took}
-use Rattle.command_line.specs.declared.request.SearchOptions.{SearchOptions}
-use Rattle.commands.specs.IndexFiles.{Said}
-use Rattle.commands.specs.Prints.{search_query, IsFoundText, MayBeFound}
-use Rattle.commands.specs.Queries.{Basis, HasBegun, PrintsPartly}
-use Rattle.commands.specs.inner.Refusals.{RefusesOrBreaks}
+use Rattle.paths.specs.Paths.{Path}
+use Rattle.schema.specs.declared.code.Code.TheVariants.{NoSuchObject}
+use Rattle.entries.specs.Entries.{EntryContent}
+use Rattle.tree.specs.Trees.{Tree}
+use Rattle.filter_text.specs.Spells.{view}
+use Rattle.databases.specs.Found.{limited_text, goes_past}
+use Rattle.databases.specs.IndexTexts.{index_text}
+use Rattle.databases.specs.Scanned.{scan}
+use Rattle.commands.specs.Failures.{FailsToWrite}
+use Rattle.commands.specs.IndexFiles.{Said, said_by, found_by}
+use Rattle.commands.specs.Queries.{HasBegun, PrintsPartly}
+use Rattle.commands.specs.inner.Refusals.{Refuses}
 use Rattle.commands.specs.declared.messages.CommandFault.{CommandFault}
+use Rattle.commands.specs.declared.query.Query.{Query}
 
 -- a text of which this holds, whole
 pub record HasPrinted (IsText : List ℕ → Type 0) (a b : Written) : Type 0 where
@@ -14,9 +23,41 @@ pub record HasPrinted (IsText : List ℕ → Type 0) (a b : Written) : Type 0 wh
   pub is : IsText text
   pub took : Took a b text
 
--- What a search finds by what index.txt says was printed, and it was answered whether there is more; or that was broken off with this fault, which
--- may be that there is no base.
-abbrev pub PrintsFound : SearchOptions → Said → Basis → Written → Written → Result Bool CommandFault → Type 0
-PrintsFound asked said basis a b (Ok past) = HasPrinted (IsFoundText asked said basis past) a b
-PrintsFound asked said basis a b (Err fault) =
-    RefusesOrBreaks (search_query asked) basis.conf basis.entries fault × PrintsPartly (HasBegun (MayBeFound asked said basis) None) a b fault
+-- ---- what a query finds in a tree
+
+-- by a test of each entry in scope
+abbrev pub scanned : Query → Tree → List (Path × EntryContent)
+scanned q t = scan t.conf t.entries q.base q.scope (view q.filter.filter)
+
+-- by what index.txt says
+abbrev pub found : Query → Said → Tree → List (Path × EntryContent)
+found q said t = found_by said t.conf t.entries q.base q.scope (view q.filter.filter)
+
+-- the text of entries that were found, up to the limit
+abbrev pub query_text : Query → Tree → List (Path × EntryContent) → List ℕ
+query_text q t es = limited_text t.conf t.entries q.selection q.limit es
+
+-- that of a query that is answered by a test of each entry; nothing where the base isn't there
+abbrev pub scanned_text : Query → Tree → List ℕ
+scanned_text q t = if finite.contains_key t.entries q.base then query_text q t (scanned q t) else []
+
+-- The base is there, and it is the text of what is found, and whether there is more. Where the text of index.txt is that of the directory's
+-- index, that is all that the filter finds.
+pub record IsTextOf (q : Query) (said : Said) (t : Tree) (past : Bool) (text : List ℕ) : Type 0 where
+  pub there : finite.contains_key t.entries q.base ≡ true
+  pub past_is : past ≡ goes_past q.limit (found q said t)
+  pub text_is : text ≡ query_text q t (found q said t)
+  pub whole : said ≡ said_by t.conf t.entries (Some (index_text t.conf t.entries)) → found q said t ≡ scanned q t
+
+-- ---- what was printed
+
+-- the base isn't there, or the output can't be written, or memory ran out
+abbrev pub FailsToPrint : Query → Tree → CommandFault → Type 0
+FailsToPrint q t fault =
+    Refuses (codes "search") (λ code. (finite.contains_key t.entries q.base ≡ false) × (code ≡ NoSuchObject)) fault ⊎ FailsToWrite (codes "output") fault
+
+-- what a query finds by what index.txt says, and it was answered whether there is more; or that was broken off with this fault
+abbrev pub PrintsFound : Query → Said → Tree → Written → Written → Result Bool CommandFault → Type 0
+PrintsFound q said t a b (Ok past) = HasPrinted (IsTextOf q said t past) a b
+PrintsFound q said t a b (Err fault) =
+    FailsToPrint q t fault × PrintsPartly (HasBegun (λ text. (past : Bool) × IsTextOf q said t past text) None) a b fault

@@ -8,7 +8,7 @@ use Rattle.entries.specs.declared.refusal.Refusal.{Refusal}
 use Rattle.entries.specs.declared.refusal.Refusal.TheVariants as refusals
 use Rattle.commands.specs.Asked.{IsNoFilterFor}
 use Rattle.commands.specs.Failures.{IsMemory, FailsToWrite}
-use Rattle.commands.specs.Queries.{Query, LacksBase, target_of}
+use Rattle.commands.specs.Queries.{Wanted, LacksBase, target_of}
 use Rattle.commands.specs.declared.messages.CommandFault.{CommandFault}
 use Rattle.commands.specs.declared.messages.CommandFault.TheVariants as faults
 
@@ -28,5 +28,5 @@ Refuses command Holds (faults.Code by code) = (by.now ≡ command) × Holds code
 Refuses command Holds fault = IsMemory fault
 
 -- the directory lacks the base, or what is printed to can't be written, or memory ran out
-abbrev pub RefusesOrBreaks : Query → Conf → Entries → CommandFault → Type 0
+abbrev pub RefusesOrBreaks : Wanted → Conf → Entries → CommandFault → Type 0
 RefusesOrBreaks q conf d fault = Refuses q.command (LacksBase q conf d) fault ⊎ FailsToWrite (target_of q.file) fault

@@ -3,8 +3,6 @@ use Rattle.std.specs.Prelude.{◌≡◌, ℕ, ◌<◌, Some, List, [], ◌∷◌
 use Rattle.std.specs.List.{flat_map, filter, AllByRecursion}
 use Rattle.std.specs.FinMap as finite
 use Rattle.std.specs.Borrow.{Bor}
-use Rattle.sha2.specs.declared.Sha256.{Sha256}
-use Rattle.sha2.specs.Hashers.{Holds256}
 use Rattle.base.specs.Ascii.{line_feed}
 use Rattle.ldif.specs.Attrs.{Attr}
 use Rattle.ldif.specs.Contents.{written_attr, write_content}
@@ -19,9 +17,9 @@ use Rattle.entries.specs.Entries.{lines_of}
 use Rattle.entries.specs.StoredEntries.{Entry, EntryAttribute, content_of, attributes_of}
 use Rattle.databases.specs.Selections.{Selection, selects, selected}
 
--- Of the bytes a beginning went into the hasher, behind the message that it had, and the rest is left.
-abbrev pub HashesOn : Sha256 → Sha256 → List ℕ → List ℕ → Type 0
-HashesOn before after bytes left = (m : List ℕ) → Holds256 before m → (taken : List ℕ) × Holds256 after taken × (taken ++ left ≡ m ++ bytes)
+-- Of the bytes a beginning was heard, behind all that had been heard, and the rest is left.
+abbrev pub HearsOn : {L : Type 0} → (L → List ℕ → Type 0) → L → L → List ℕ → List ℕ → Type 0
+HearsOn heard before after bytes left = (m : List ℕ) → heard before m → (taken : List ℕ) × heard after taken × (taken ++ left ≡ m ++ bytes)
 
 abbrev pub attr_of : List ℕ → Value → Attr
 attr_of name v = record { name = name; value = v.raw }

@@ -1,5 +1,5 @@
 -- How the edits of the index rise by one record of a run.
-use Rattle.std.specs.Prelude.{◌≡◌, ℕ, ◌+◌, Bool, List, Result, Ok, Err, ⊤}
+use Rattle.std.specs.Prelude.{◌≡◌, ℕ, ◌+◌, Bool, List}
 use Rattle.device.specs.Device.{Seen}
 use Rattle.device.specs.declared.source.Source.{Ghosts}
 use Rattle.ldif_lines.specs.Records.{RawRecord}
@@ -9,16 +9,7 @@ use Rattle.ldif.specs.declared.record.Mode.{Mode}
 use Rattle.schema.specs.Conf.{Conf}
 use Rattle.tree.specs.Directories.{Entries}
 use Rattle.databases.specs.RunEdits.{CountEdits, run_edits}
-use Rattle.databases.specs.declared.runs.RunFault.{RunFault}
-use Rattle.databases.specs.declared.runs.RunFault.TheVariants as faults
 use Rattle.databases.specs.inner.Pulls.{TookBeforeEnd}
-
--- by so many, unless memory ran out
-abbrev pub RiseBy : {A : Type 0} → ℕ → Result A RunFault → ℕ → ℕ → Type 0
-RiseBy count (Ok x) edits edits' = edits' ≡ edits + count
-RiseBy count (Err (faults.Read t)) edits edits' = edits' ≡ edits + count
-RiseBy count (Err (faults.Write t)) edits edits' = edits' ≡ edits + count
-RiseBy count (Err (faults.OutOfMemory t)) edits edits' = ⊤
 
 -- the reader took these records, and the edits rose by theirs
 abbrev pub TookAndEdited : {S : Type 0} {g : Ghosts S} → (S → Seen) → Reader S RecordDraft g → Reader S RecordDraft g → CountEdits → Conf → Mode → Bool → Entries → ℕ → ℕ → List RawRecord → Type 0

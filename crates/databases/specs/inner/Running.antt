@@ -1,5 +1,5 @@
 -- Where a run stands, what its next record comes to, and what it comes to in the end.
-use Rattle.std.specs.Prelude.{◌≡◌, ℕ, ◌+◌, ◌<◌, ◌≤◌, ◌^◌, Bool, true, false, Result, Ok, Err, IfErr}
+use Rattle.std.specs.Prelude.{◌≡◌, ℕ, ◌+◌, ◌<◌, ◌≤◌, ◌^◌, Bool, false, Some, None, Result, Ok, Err, IfErr}
 use Rattle.device.specs.Device.{Seen, Written, GaveSome}
 use Rattle.device.specs.declared.source.Source.{Ghosts}
 use Rattle.ldif_lines.specs.Reader.{source_of, loan_of, is_failed, records_left, bytes_left}
@@ -12,8 +12,11 @@ use Rattle.databases.specs.Faults.{Failures}
 use Rattle.databases.specs.FailedReads.{StopsReading}
 use Rattle.databases.specs.Folds.{Runs}
 use Rattle.databases.specs.RunEdits.{CountEdits, EditsRise}
+use Rattle.databases.specs.declared.runs.Progress.{Progress}
+use Rattle.databases.specs.declared.runs.Progress.TheVariants.{GoesOn, AtEnd, StoppedBy}
 use Rattle.databases.specs.declared.runs.Tally.{Tally}
 use Rattle.databases.specs.declared.runs.RunFault.{RunFault}
+use Rattle.databases.specs.inner.Endings.{IsEndedBy}
 use Rattle.databases.specs.inner.Pulls.{closed_with}
 use Rattle.databases.specs.inner.RecordEdits.{TookAndEdited}
 use Rattle.databases.specs.inner.Stands.{Stands}
@@ -40,13 +43,16 @@ pub record HasRun {S : Type 0} {g : Ghosts S} (seen : S → Seen) (count : Count
   pub failures : Failures result (seen (source_of r)).failed (seen (source_of r')).failed a.failed b.failed
   pub gave : GaveSome (seen (source_of r)) (seen (source_of r'))
 
--- by whether it has ended; as long as it goes on, fewer bytes are left than these
-abbrev pub Reaches : {S : Type 0} {g : Ghosts S} → (S → Seen) → CountEdits → Mode → Bool → ℕ → Conf → Reader S RecordDraft g → Entries → ℕ → Written → Conf → Reader S RecordDraft g → Entries → ℕ → Written → Tally → Result Bool RunFault → Type 0
-Reaches seen count mode go_on bytes conf r d e a conf' r' d' e' b t (Ok false) = IsRunning seen count mode go_on conf r d e a conf' r' d' e' b t × (bytes_left seen r' < bytes)
-Reaches seen count mode go_on bytes conf r d e a conf' r' d' e' b t (Ok true) = HasRun seen count mode go_on conf r d e a conf' r' d' e' b (Ok t)
+-- by how it goes on; as long as it does, fewer bytes are left than these
+abbrev pub Reaches : {S : Type 0} {g : Ghosts S} → (S → Seen) → CountEdits → Mode → Bool → ℕ → Conf → Reader S RecordDraft g → Entries → ℕ → Written → Conf → Reader S RecordDraft g → Entries → ℕ → Written → Tally → Result Progress RunFault → Type 0
+Reaches seen count mode go_on bytes conf r d e a conf' r' d' e' b t (Ok GoesOn) = IsRunning seen count mode go_on conf r d e a conf' r' d' e' b t × (bytes_left seen r' < bytes)
+Reaches seen count mode go_on bytes conf r d e a conf' r' d' e' b t (Ok AtEnd) =
+    HasRun seen count mode go_on conf r d e a conf' r' d' e' b (Ok t) × IsEndedBy conf mode go_on d (records_left seen r) t None
+Reaches seen count mode go_on bytes conf r d e a conf' r' d' e' b t (Ok (StoppedBy x)) =
+    HasRun seen count mode go_on conf r d e a conf' r' d' e' b (Ok t) × IsEndedBy conf mode go_on d (records_left seen r) t (Some x)
 Reaches seen count mode go_on bytes conf r d e a conf' r' d' e' b t (Err f) = HasRun seen count mode go_on conf r d e a conf' r' d' e' b (Err f)
 
 -- what one record comes to, however the run began
-abbrev pub TakesStep : {S : Type 0} {g : Ghosts S} → (S → Seen) → CountEdits → Mode → Bool → Conf → Reader S RecordDraft g → Entries → ℕ → Written → Tally → Conf → Reader S RecordDraft g → Entries → ℕ → Written → Tally → Result Bool RunFault → Type 0
+abbrev pub TakesStep : {S : Type 0} {g : Ghosts S} → (S → Seen) → CountEdits → Mode → Bool → Conf → Reader S RecordDraft g → Entries → ℕ → Written → Tally → Conf → Reader S RecordDraft g → Entries → ℕ → Written → Tally → Result Progress RunFault → Type 0
 TakesStep {S} {g} seen count mode go_on conf' r' d' e' b t conf'' r'' d'' e'' c t' result = (conf : Conf) (r : Reader S RecordDraft g) (d : Entries) (e : ℕ) (a : Written)
     → IsRunning seen count mode go_on conf r d e a conf' r' d' e' b t → Reaches seen count mode go_on (bytes_left seen r') conf r d e a conf'' r'' d'' e'' c t' result

@@ -42,8 +42,3 @@ row_text ranks row = ended (key_line (ranked_row ranks row))
 
 abbrev pub rows_text : List ℕ → List Row → List ℕ
 rows_text ranks rows = flat_map (row_text ranks) rows
-
--- what the rows are made of: the index of a tree's entries, and the rank of each entry at its number
-pub record IsListing (conf : Conf) (t : Tree) (x : Index) (ranks : List ℕ) : Type 0 where
-  pub indexed : IsIndexOf conf t.entries t.numbers x
-  pub ranked : AreRanked ranks 0 (numbers_in_order t)

@@ -7,13 +7,13 @@ use Rattle.commands.proofs.changes.run_and_store.Goals as goal
 
 pub returns-then-task-clause-ends : goal.returns-then-task-clause-ends
 returns-then-task-clause-ends g c = λ w.
-    let run = run_of c.args.database.now.tree c.run_records.new.database.tree (Ok c.in_ok-tally.tally) in
+    let run = run_of c.args.database.now c.run_records.new.database (Ok c.in_ok-tally.tally) in
     let mid : World = record w { files = g.F.Folder.files c.args.folder.now; input = g.S.Source.seen c.run_records.new.input; messages = g.E.Sink.written c.run_records.new.err } in
     record { run = run; tally = c.in_ok-tally.tally; answer_is = refl; mid = mid; runs = c.in_ok-tally.ensures.ran w; stores = dry_stores c.args.task.now run mid c.if-task.true; status = c.of_tally.ensures }
 
 pub returns-in-Ok-clause-ends : goal.returns-in-Ok-clause-ends
 returns-in-Ok-clause-ends g c = λ w.
-    let run = run_of c.args.database.now.tree c.run_records.new.database.tree (Ok c.in_ok-tally.tally) in
+    let run = run_of c.args.database.now c.run_records.new.database (Ok c.in_ok-tally.tally) in
     let mid : World = record w { files = g.F.Folder.files c.args.folder.now; input = g.S.Source.seen c.run_records.new.input; messages = g.E.Sink.written c.run_records.new.err } in
     record {
       run = run;
@@ -21,14 +21,14 @@ returns-in-Ok-clause-ends g c = λ w.
       answer_is = refl;
       mid = mid;
       runs = c.in_ok-tally.ensures.ran w;
-      stores = stores c.args.task.now run mid (g.F.Folder.files c.store_database.new.folder) c.run_records.new.database.tree.conf c.if-task.false c.run_records.ensures.same_conf c.in-Ok.ensures.ok;
+      stores = stores c.args.task.now run mid (g.F.Folder.files c.store_database.new.folder) c.run_records.new.database.conf c.if-task.false c.run_records.ensures.same_conf c.in-Ok.ensures.ok;
       status = c.of_tally-in-Ok.ensures;
     }
 
 pub returns-in-Err-clause-ends : goal.returns-in-Err-clause-ends
 returns-in-Err-clause-ends g c =
     λ w.
-    let run = run_of c.args.database.now.tree c.run_records.new.database.tree (Ok c.in_ok-tally.tally) in
+    let run = run_of c.args.database.now c.run_records.new.database (Ok c.in_ok-tally.tally) in
     let mid : World = record w { files = g.F.Folder.files c.args.folder.now; input = g.S.Source.seen c.run_records.new.input; messages = g.E.Sink.written c.run_records.new.err } in
     let w₁ : World = record w { files = g.F.Folder.files c.args.folder.now; input = g.S.Source.seen c.args.input.now; messages = g.E.Sink.written c.args.err.now } in
     let w₂ : World = record mid { files = g.F.Folder.files c.store_database.new.folder } in

@@ -16,7 +16,7 @@ returns-in_default-clause-ran g c = IfOk-weaker c.run_source.result _ _
 
 pub returns-in_default-clause-stops : goal.returns-in_default-clause-stops
 returns-in_default-clause-stops g c = of_faults c.run_source.result
-    (λ why broke w. broken_off c.args.task.now (run_of c.args.database.now.tree c.run_source.new.database.tree (Err broke.0)) _ _ broke.0 why refl
+    (λ why broke w. broken_off c.args.task.now (run_of c.args.database.now c.run_source.new.database (Err broke.0)) _ _ broke.0 why refl
     (of_input c.args.task.now _ _ _ c.requires.loaded (ap option_copied c.in_default.is) (broke.2 (record w { files = g.F.Folder.files c.args.folder.now })))
     (subst (λ (file : Option (List ℕ)). Breaks broke.0 (source_name file) why) (sym (ap option_copied c.in_default.is)) broke.1))
     c.run_source.ensures.broke
@@ -29,7 +29,7 @@ returns-in-Ok-clause-ran g c = IfOk-weaker c.run_source-in-Ok.result _ _
 
 pub returns-in-Ok-clause-stops : goal.returns-in-Ok-clause-stops
 returns-in-Ok-clause-stops g c = of_faults c.run_source-in-Ok.result
-    (λ why broke w. broken_off c.args.task.now (run_of c.args.database.now.tree c.run_source-in-Ok.new.database.tree (Err broke.0)) _ _ broke.0 why refl
+    (λ why broke w. broken_off c.args.task.now (run_of c.args.database.now c.run_source-in-Ok.new.database (Err broke.0)) _ _ broke.0 why refl
     (of_file c.args.task.now _ _ _ c.requires.loaded c.in-Some.name.now _ _ (ap option_copied c.in-Some.is) c.in-Ok.ensures.finds refl
     (broke.2 (record w { files = g.F.Folder.files c.args.folder.now })))
     (subst (λ (file : Option (List ℕ)). Breaks broke.0 (source_name file) why) (sym (ap option_copied c.in-Some.is)) broke.1))

@@ -14,7 +14,7 @@ returns-in-Ok-Some-clause-read g c =
 pub returns-in-Ok-None-clause-read : goal.returns-in-Ok-None-clause-read
 returns-in-Ok-None-clause-read g c = λ db is.
     let files = g.F.Folder.files c.args.folder.now in
-    let d = c.args.database.now.tree in
+    let d = c.args.database.now in
     record {
       said = None;
       in_file = record { text = None; there = named_so files db _ _ is (missing_so files _ _ _ c.in-Ok-None.ensures.finds c.in-Ok-None.field-0-is); says = refl };

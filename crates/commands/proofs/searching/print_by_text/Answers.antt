@@ -1,31 +1,39 @@
-use Rattle.std.proofs.Common.{map, refl, sym, ap, subst, ◌∙◌}
-use Rattle.std.specs.Option.{option_copied}
-use Rattle.schema.specs.Conf.{Conf, IsConf}
-use Rattle.databases.specs.Scanned.{scan}
-use Rattle.databases.specs.Searches.{ReflectsDump}
+use Rattle.std.proofs.Common.{map, refl, sym, subst}
+use Rattle.std.specs.Prelude.{Err}
 use Rattle.databases.specs.Walks.{seen}
-use Rattle.filter_text.specs.Spells.{view}
-use Rattle.commands.specs.Asked.{IsBase}
-use Rattle.commands.specs.inner.Views.{basis_of}
-use Rattle.commands.proofs.Ends.{found_by_part, selection_so, hits_printed}
+use Rattle.commands.specs.declared.messages.CommandFault.{CommandFault}
+use Rattle.commands.specs.inner.Printed.{PrintsFound}
+use Rattle.databases.specs.Searches.{IsRefused}
+use Rattle.tree.specs.Trees.{Tree}
+use Rattle.commands.proofs.Ends.{found_by_part, found_in, hits_printed, hits_begun, none_found}
 use Rattle.commands.proofs.searching.print_by_text.Goals as goal
 
-pub returns-in-Ok : goal.returns-in-Ok
-returns-in-Ok g c = λ said kept.
-    let asked = c.args.asked.now in
-    let d = c.args.database.now.tree in
-    let f = c.args.filter.now in
-    let wanted = c.args.wanted.now in
+pub returns-in-Ok-write_found : goal.returns-in-Ok-write_found
+returns-in-Ok-write_found g c = λ said kept.
+    let q = c.args.query.now in
+    let d = c.args.database.now in
+    let part = c.args.stored.now in
     let es = map seen c.in-Ok.hits.to_come in
-    hits_printed asked said (basis_of f.filter d) wanted.selection.now es
-    (found_by_part asked d f c.args.stored.now wanted.base.now wanted.selection.now es c.requires.prepared (subst IsConf (sym c.args.database.now.same_conf) c.rules_are_kept.ensures)
-    (subst (λ (conf : Conf). IsBase conf (option_copied asked.base) wanted.base.now) (sym c.args.database.now.same_conf) c.requires.wanted.base)
-    (selection_so d.conf c.args.database.now.conf asked.attributes.items asked.attributes.items wanted.selection.now (sym c.args.database.now.same_conf) refl c.requires.wanted.selection)
-    c.in-Ok.ensures.there c.in-Ok.ensures.found c.search_with.ensures.part
-    (λ whole shows _ reflects.
-    c.in-Ok.ensures.whole whole shows (subst (λ (conf : Conf). ReflectsDump whole conf.types d.entries) c.args.database.now.same_conf reflects)
-    ∙ ap (λ (conf : Conf). scan conf d.entries wanted.base.now asked.scope (view f.filter)) (sym c.args.database.now.same_conf)) said kept)
-    c.print_hits.result _ _ c.print_hits.ensures.past c.print_hits.ensures.printed c.print_hits.ensures.fault c.print_hits.ensures.begun
+    hits_printed seen q said d c.in-Ok.hits.to_come
+    (found_by_part q d part es c.requires.prepared
+    (found_in q part es d c.tree.result.now c.conf.result.now c.tree.ensures c.conf.ensures
+    (record { there = c.in-Ok.ensures.there; found = c.in-Ok.ensures.found; same = c.search_with-found.ensures.part; all = c.in-Ok.ensures.whole })) said kept)
+    c.in-Ok-write_found.past _ _ c.in-Ok-write_found.ensures
 
-pub search_with-requires-clause-prepared : goal.search_with-requires-clause-prepared
-search_with-requires-clause-prepared g c = c.requires.prepared ∙ c.args.database.now.same_conf
+pub returns-in-Err-write_found : goal.returns-in-Err-write_found
+returns-in-Err-write_found g c = λ said kept.
+    let q = c.args.query.now in
+    let d = c.args.database.now in
+    let part = c.args.stored.now in
+    let es = map seen c.in-Ok.hits.to_come in
+    hits_begun seen q said d c.in-Ok.hits.to_come
+    (found_by_part q d part es c.requires.prepared
+    (found_in q part es d c.tree.result.now c.conf.result.now c.tree.ensures c.conf.ensures
+    (record { there = c.in-Ok.ensures.there; found = c.in-Ok.ensures.found; same = c.search_with-found.ensures.part; all = c.in-Ok.ensures.whole })) said kept)
+    c.in-Err-write_found.fault c.of_output.result _ _ c.of_output.ensures c.in-Err-write_found.ensures
+
+pub returns-in-Err : goal.returns-in-Err
+returns-in-Err g c = λ said kept.
+    subst (λ (f : CommandFault). PrintsFound c.args.query.now said c.args.database.now (g.O.Sink.written c.args.out.now) (g.O.Sink.written c.args.out.now) (Err f)) (sym c.refused.ensures)
+    (none_found c.args.query.now said c.args.database.now _ _ c.in-Err.refusal refl
+    (subst (λ (t : Tree). IsRefused t.entries c.args.query.now.base c.in-Err.refusal) c.tree.ensures c.in-Err.ensures.refused))

@@ -1,24 +1,43 @@
-use Rattle.std.proofs.Common.{refl}
-use Rattle.filter_text.specs.Spells.{view}
-use Rattle.commands.specs.DirectoryFiles.{index_name}
-use Rattle.commands.specs.Prints.{search_query}
-use Rattle.commands.proofs.Searched.{stopped_at_once}
-use Rattle.commands.proofs.Stopping.{index_stops, unread_first}
+use Rattle.std.proofs.Common.{refl, sym, ap, subst, ◌∙◌}
+use Rattle.std.proofs.lemmas.Result.{err_from_is_err_and}
+use Rattle.filter.specs.Made.{Made}
+use Rattle.commands.specs.Prints.{SearchStops}
+use Rattle.commands.specs.inner.IndexFiles.{Keeps}
+use Rattle.commands.proofs.Searched.{is_said, unreported, no_base, found_all, found_more, not_found}
+use Rattle.commands.proofs.Stopping.{stopped}
 use Rattle.commands.proofs.searching.search_by.Goals as goal
 
-pub returns-in-Ok-clause-ends : goal.returns-in-Ok-clause-ends
-returns-in-Ok-clause-ends g c = λ w. c.search_loaded-ended.ensures.ends (record w { files = g.F.Folder.files c.args.folder.now })
-    (record { filter_is = c.requires.filter; prepared = c.requires.prepared; directory = c.requires.loaded; index = c.in-Ok.ensures.read })
+pub print_found-requires-clause-prepared : goal.print_found-requires-clause-prepared
+print_found-requires-clause-prepared g c = ap (λ (m : Made). m.conf) c.in_ok-query.ensures.found.filter ∙ c.requires.prepared
 
-pub returns-in-Ok-clause-can_report : goal.returns-in-Ok-clause-can_report
-returns-in-Ok-clause-can_report g c = c.search_loaded-ended.ensures.can_report
+pub returns-in_err-report_index-clause-ends : goal.returns-in_err-report_index-clause-ends
+returns-in_err-report_index-clause-ends g c =
+    let p = err_from_is_err_and c.from_residual.result c.from_residual.ensures.1 in
+    rw (p.1, p.2) (λ w h. stopped (SearchStops c.args.asked.now) _ _ _ (unreported c.args.asked.now (record w { output = g.O.Sink.written c.args.out.now; messages = g.E.Sink.written c.args.err.now }) h.index.said _ _
+    (is_said c.args.asked.now w c.args.filter c.args.database.now c.args.file.now h) (c.in_err-report_index.ensures.err c.args.filter h.index.said h.index.kept.says)) refl)
 
-pub returns-in-Err-clause-ends : goal.returns-in-Err-clause-ends
-returns-in-Err-clause-ends g c =
-    λ w. stopped_at_once c.args.asked.now (record w { files = g.F.Folder.files c.args.folder.now; output = g.O.Sink.written c.args.out.now; messages = g.E.Sink.written c.args.err.now }) _
-    (index_stops (search_query c.args.asked.now) (g.F.Folder.files c.args.folder.now) (view c.args.filter.now.filter) c.requires.filter c.args.database.now.tree.conf c.args.database.now.tree.entries refl c.requires.loaded _ c.in-Err.ensures.err)
-    (unread_first (index_name c.args.asked.now.db.now) _ c.in-Err.ensures.err)
+pub returns-in_err-query-clause-ends : goal.returns-in_err-query-clause-ends
+returns-in_err-query-clause-ends g c =
+    let p = err_from_is_err_and c.from_residual-in_err-query.result c.from_residual-in_err-query.ensures.1 in
+    rw (p.1, p.2) (λ w h. stopped (SearchStops c.args.asked.now) _ _ _
+    (no_base c.args.asked.now (record w { output = g.O.Sink.written c.args.out.now; messages = g.E.Sink.written c.args.err.now }) c.args.filter c.args.database.now c.args.file.now h _
+    (c.in_ok-report_index.ensures.reports c.args.filter h.index.said h.index.kept.says) _ c.conf.ensures _ c.in_err-query.ensures.fault) refl)
 
-pub returns-in-Err-clause-can_report : goal.returns-in-Err-clause-can_report
-returns-in-Err-clause-can_report g c =
-    c.requires.err
+pub returns-in-Ok-false-clause-ends : goal.returns-in-Ok-false-clause-ends
+returns-in-Ok-false-clause-ends g c = λ w h.
+    found_all c.args.asked.now (record w { output = g.O.Sink.written c.args.out.now; messages = g.E.Sink.written c.args.err.now }) c.args.filter c.args.database.now c.args.file.now h _
+    (c.in_ok-report_index.ensures.reports c.args.filter h.index.said h.index.kept.says) c.in_ok-query.query _ c.conf.ensures c.in_ok-query.ensures.found
+    _ _ c.in-Ok-false.field-0-test (c.in-Ok-false.ensures h.index.said (subst (λ (f : Made). Keeps c.args.database.now f c.args.file.now h.index.said) (sym c.in_ok-query.ensures.found.filter) h.index.kept))
+
+pub returns-in-Ok-true-clause-ends : goal.returns-in-Ok-true-clause-ends
+returns-in-Ok-true-clause-ends g c = λ w h.
+    found_more c.args.asked.now (record w { output = g.O.Sink.written c.args.out.now; messages = g.E.Sink.written c.args.err.now }) c.args.filter c.args.database.now c.args.file.now h _
+    (c.in_ok-report_index.ensures.reports c.args.filter h.index.said h.index.kept.says) c.in_ok-query.query _ c.conf.ensures c.in_ok-query.ensures.found
+    _ _ _ _ c.in-Ok-true.field-0-test (c.in-Ok-true.ensures h.index.said (subst (λ (f : Made). Keeps c.args.database.now f c.args.file.now h.index.said) (sym c.in_ok-query.ensures.found.filter) h.index.kept)) c.report_past_limit.ensures
+
+pub returns-clause-ends : goal.returns-clause-ends
+returns-clause-ends g c = λ w h.
+    stopped (SearchStops c.args.asked.now) _ _ _
+    (not_found c.args.asked.now (record w { output = g.O.Sink.written c.args.out.now; messages = g.E.Sink.written c.args.err.now }) c.args.filter c.args.database.now c.args.file.now h _
+    (c.in_ok-report_index.ensures.reports c.args.filter h.index.said h.index.kept.says) c.in_ok-query.query _ c.conf.ensures c.in_ok-query.ensures.found
+    _ c.in-Err.fault (c.in-Err.ensures h.index.said (subst (λ (f : Made). Keeps c.args.database.now f c.args.file.now h.index.said) (sym c.in_ok-query.ensures.found.filter) h.index.kept))) refl

@@ -21,7 +21,7 @@ returns-in_err-pass_on_long-clause-err g c =
     let rest : List ℕ = rows_text (map g.K.RankedKey.pair c.in_ok-rest.rest.now) in
     let text : List ℕ = c.args.text.now.items in
     let put = c.in_ok-rest.ensures.text in
-    rw (p.1, p.2) (stopped_early (g.W.Sink.written c.args.sink.now) (g.W.Sink.written c.pass_on_long.new.sink) c.put_row.new.out.items rest (text ++ rows) (in_parts text c.put_row.new.out.items put.0 rows rest put.1 put.2) c.in_err-pass_on_long.field-0.0 c.in_err-pass_on_long.ensures)
+    rw (p.1, p.2) (stopped_early (g.W.Sink.written c.args.sink.now) (g.W.Sink.written c.pass_on_long.new.sink) c.put_row.new.out.items rest (text ++ rows) (in_parts text c.put_row.new.out.items put.0 rows rest put.1 put.2) c.in_err-pass_on_long.field-0.0 c.in_err-pass_on_long.ensures.writes)
 
 pub returns-clause-ok : goal.returns-clause-ok
 returns-clause-ok g c =
@@ -30,7 +30,7 @@ returns-clause-ok g c =
     let text : List ℕ = c.args.text.now.items in
     let put = c.in_ok-rest.ensures.text in
     longer (g.W.Sink.written c.args.sink.now) (g.W.Sink.written c.pass_on_long.new.sink) c.put_row.new.out.items c.pass_on_long.new.text.items rest (text ++ rows)
-    (in_parts text c.put_row.new.out.items put.0 rows rest put.1 put.2) c.in_ok-pass_on_long.ensures
+    (in_parts text c.put_row.new.out.items put.0 rows rest put.1 put.2) c.in_ok-pass_on_long.ensures.writes
 
 pub returns-clause-fewer : goal.returns-clause-fewer
 returns-clause-fewer g c = c.in_ok-rest.ensures.fewer

@@ -7,7 +7,7 @@ use Rattle.databases.proofs.placed_entries.placed_entries.Given as goal
 
 abbrev pub invariant-loop-found : goal.invariant-loop-found
 invariant-loop-found l = record {
-  made : AllByRecursion (λ e. IsMade l.tree.conf.types e.entry.attrs) l.found-iterator;
-  taken : AllByRecursion (λ e. IsMade l.conf.types e.entry.now.attrs) (map (λ e. e.ranked) l.entries.items);
-  so_far : EntriesSoFar l.tree.entries (map (λ e. e.ranked) l.entries.items) l.rank (map unnumbered l.found-iterator);
+  made : AllByRecursion (λ e. IsMade l.database.conf.types e.entry.attrs) l.found-iterator;
+  taken : AllByRecursion (λ e. IsMade l.database.conf.types e.entry.now.attrs) (map (λ e. e.ranked) l.entries.items);
+  so_far : EntriesSoFar l.database.entries (map (λ e. e.ranked) l.entries.items) l.rank (map unnumbered l.found-iterator);
 }

@@ -1,5 +1,5 @@
 use Rattle.ldif_lines.specs.Reader.{bytes_left}
-use Rattle.databases.proofs.Running.{begins, goes_on, has_ended}
+use Rattle.databases.proofs.Running.{begins, goes_on, at_end, stopped_by}
 use Rattle.databases.proofs.runs.run_rest.Goals as goal
 
 pub records-init : goal.records-init
@@ -9,19 +9,27 @@ pub records-preserved : goal.records-preserved
 records-preserved g c =
     (goes_on g.S.Source.seen g.T.Target.count_edits c.args.mode c.args.go_on (bytes_left g.S.Source.seen c.records.reader) (g.T.Target.conf c.args.target.now) c.args.reader.now (g.T.Target.entries c.args.target.now) (g.T.Target.edits c.args.target.now) (g.W.Sink.written c.args.sink.now)
     (g.T.Target.conf c.take_record.new.target) c.take_record.new.reader (g.T.Target.entries c.take_record.new.target) (g.T.Target.edits c.take_record.new.target) (g.W.Sink.written c.take_record.new.sink) c.take_record.new.tally
-    c.in-Ok-false.field-0 (c.in-Ok-false.ensures _ _ _ _ _ c.records.invariant) c.in-Ok-false.field-0-test).0
+    c.in-Ok-GoesOn.field-0 (c.in-Ok-GoesOn.ensures _ _ _ _ _ c.records.invariant) c.in-Ok-GoesOn.field-0-is).0
 
 pub records-smaller : goal.records-smaller
 records-smaller g c =
     (goes_on g.S.Source.seen g.T.Target.count_edits c.args.mode c.args.go_on (bytes_left g.S.Source.seen c.records.reader) (g.T.Target.conf c.args.target.now) c.args.reader.now (g.T.Target.entries c.args.target.now) (g.T.Target.edits c.args.target.now) (g.W.Sink.written c.args.sink.now)
     (g.T.Target.conf c.take_record.new.target) c.take_record.new.reader (g.T.Target.entries c.take_record.new.target) (g.T.Target.edits c.take_record.new.target) (g.W.Sink.written c.take_record.new.sink) c.take_record.new.tally
-    c.in-Ok-false.field-0 (c.in-Ok-false.ensures _ _ _ _ _ c.records.invariant) c.in-Ok-false.field-0-test).1
+    c.in-Ok-GoesOn.field-0 (c.in-Ok-GoesOn.ensures _ _ _ _ _ c.records.invariant) c.in-Ok-GoesOn.field-0-is).1
 
-pub returns-in-Ok-true : goal.returns-in-Ok-true
-returns-in-Ok-true g c =
-    has_ended g.S.Source.seen g.T.Target.count_edits c.args.mode c.args.go_on (bytes_left g.S.Source.seen c.records.reader) (g.T.Target.conf c.args.target.now) c.args.reader.now (g.T.Target.entries c.args.target.now) (g.T.Target.edits c.args.target.now) (g.W.Sink.written c.args.sink.now)
+pub returns-in-Ok-AtEnd : goal.returns-in-Ok-AtEnd
+returns-in-Ok-AtEnd g c =
+    let h = at_end g.S.Source.seen g.T.Target.count_edits c.args.mode c.args.go_on (bytes_left g.S.Source.seen c.records.reader) (g.T.Target.conf c.args.target.now) c.args.reader.now (g.T.Target.entries c.args.target.now) (g.T.Target.edits c.args.target.now) (g.W.Sink.written c.args.sink.now)
     (g.T.Target.conf c.take_record.new.target) c.take_record.new.reader (g.T.Target.entries c.take_record.new.target) (g.T.Target.edits c.take_record.new.target) (g.W.Sink.written c.take_record.new.sink) c.take_record.new.tally
-    c.in-Ok-true.field-0 (c.in-Ok-true.ensures _ _ _ _ _ c.records.invariant) c.in-Ok-true.field-0-test
+    c.in-Ok-AtEnd.field-0 (c.in-Ok-AtEnd.ensures _ _ _ _ _ c.records.invariant) c.in-Ok-AtEnd.field-0-is in
+    record { run = h.0; ending = h.1 }
+
+pub returns-in-Ok-StoppedBy : goal.returns-in-Ok-StoppedBy
+returns-in-Ok-StoppedBy g c =
+    let h = stopped_by g.S.Source.seen g.T.Target.count_edits c.args.mode c.args.go_on (bytes_left g.S.Source.seen c.records.reader) (g.T.Target.conf c.args.target.now) c.args.reader.now (g.T.Target.entries c.args.target.now) (g.T.Target.edits c.args.target.now) (g.W.Sink.written c.args.sink.now)
+    (g.T.Target.conf c.take_record.new.target) c.take_record.new.reader (g.T.Target.entries c.take_record.new.target) (g.T.Target.edits c.take_record.new.target) (g.W.Sink.written c.take_record.new.sink) c.take_record.new.tally
+    c.in-Ok-StoppedBy.field-0 (c.in-Ok-StoppedBy.ensures _ _ _ _ _ c.records.invariant) _ c.in-Ok-StoppedBy.field-0-is in
+    record { run = h.0; ending = h.1 }
 
 pub returns-in-Err : goal.returns-in-Err
-returns-in-Err g c = c.in-Err.ensures _ _ _ _ _ c.records.invariant
+returns-in-Err g c = record { run = c.in-Err.ensures _ _ _ _ _ c.records.invariant; ending = tt }

@@ -21,7 +21,7 @@ returns-in-Err-carried_out g c = λ conf r d e a h.
     (took_one g.S.Source.seen c.args.reader.now c.next.new.self c.reuse.new.self c.in-Ok-Some.raw _ c.in-Ok-Some.field-0-is
     c.in-Ok-Some.ensures.same_loan c.in-Ok-Some.ensures.still_good c.in-Ok-Some.ensures.going c.in-Ok-Some.ensures.gave c.in-Ok-Some.ensures.falls c.in-Ok-Some.ensures.record c.in-Ok-Some.ensures.took
     c.reuse.ensures.same_loan c.reuse.ensures.source c.reuse.ensures.records c.reuse.ensures.bytes c.reuse.ensures.failed c.reuse.ensures.place)
-    c.in-Err-carried_out.ensures.same_conf c.in-Err-carried_out.ensures.err
+    c.in-Err-carried_out.ensures.same_conf c.in-Err-carried_out.ensures.err c.in-Err-carried_out.ensures.wanting
 
 pub returns-in-Ok-None : goal.returns-in-Ok-None
 returns-in-Ok-None g c = λ conf r d e a h.

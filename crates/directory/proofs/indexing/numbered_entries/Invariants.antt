@@ -8,7 +8,7 @@ use Rattle.directory.proofs.indexing.numbered_entries.Given as goal
 
 abbrev pub invariant-loop-found : goal.invariant-loop-found
 invariant-loop-found l = record {
-  made : AllByRecursion (λ e. IsMade l.tree.conf.types e.entry.attrs) l.found-iterator;
-  taken : AllByRecursion (λ e. IsMade l.conf.types e.entry.now.attrs) l.entries.items;
-  so_far : (n : ℕ) (k : SlotKey) → (has_among l.conf l.entries.items n k || has_placed l.conf l.found-iterator n k) ≡ has_in_tree l.conf l.tree n k;
+  made : AllByRecursion (λ e. IsMade l.database.conf.types e.entry.attrs) l.found-iterator;
+  taken : AllByRecursion (λ e. IsMade l.database.conf.types e.entry.now.attrs) l.entries.items;
+  so_far : (n : ℕ) (k : SlotKey) → (has_among l.database.conf l.entries.items n k || has_placed l.database.conf l.found-iterator n k) ≡ has_in_tree l.database.conf l.database n k;
 }

@@ -8,8 +8,8 @@ use Rattle.databases.proofs.index_of_entries.RankedEntries.write_slots.Given as 
 abbrev pub invariant-loop-slot : goal.invariant-loop-slot
 invariant-loop-slot g l = record {
   failures : (g.W.Sink.written l.sink).failed ≡ (g.W.Sink.written l.fn.sink).failed;
-  kept : IfSome l.kept (λ k. AreNormsOf l.self.conf.now.types l.self.entries.now k.type_id k.norms.items);
+  kept : IfSome l.kept (λ k. AreNormsOf l.self.database.now.conf.types l.self.entries.now k.type_id k.norms.items);
   so_far : SoFar (g.W.Sink.written l.fn.sink) (g.W.Sink.written l.sink)
-      (l.fn.text.items ++ slots_lines l.self.conf.now l.self.tree.now.entries l.self.conf.now.slots)
-      (l.text.items ++ slots_lines l.self.conf.now l.self.tree.now.entries (drop l.slot-index l.slot-items));
+      (l.fn.text.items ++ slots_lines l.self.database.now.conf l.self.database.now.entries l.self.database.now.conf.slots)
+      (l.text.items ++ slots_lines l.self.database.now.conf l.self.database.now.entries (drop l.slot-index l.slot-items));
 }

@@ -15,12 +15,12 @@ use Rattle.directory.proofs.index_texts.Listing.write_slots.Goals as goal
 
 pub loop-place-init : goal.loop-place-init
 loop-place-init g c =
-    let conf : Conf = c.args.self.now.conf.now in
-    let d : Entries = c.args.self.now.tree.now.entries in
+    let conf : Conf = c.args.self.now.directory.now.conf in
+    let d : Entries = c.args.self.now.directory.now.entries in
     let text : List ℕ = c.args.text.now.items in
     record {
       failures = refl;
-      so_far = nothing_yet (g.W.Sink.written c.args.sink.now) (text ++ slots_lines conf d conf.slots) (text ++ slots_lines conf d c.slots-slot-items.result.now) (ap (λ (ss : List Slot). text ++ slots_lines conf d ss) c.slots-slot-items.ensures);
+      so_far = nothing_yet (g.W.Sink.written c.args.sink.now) (text ++ slots_lines conf d conf.slots) (text ++ slots_lines conf d c.slots-slot-items.result.now) (ap (λ (ss : List Slot). text ++ slots_lines conf d ss) (c.slots-slot-items.ensures ∙ ap (λ (r : Conf). r.slots) c.conf-conf.ensures));
     }
 
 pub write_slot-requires-clause-can_fail : goal.write_slot-requires-clause-can_fail
@@ -28,15 +28,15 @@ write_slot-requires-clause-can_fail g c = subst (λ (n : ℕ). n < 2 ^ 64 - 1) (
 
 pub write_slot-requires-clause-place : goal.write_slot-requires-clause-place
 write_slot-requires-clause-place g c =
-    ap (λ (ss : List Slot). slice_get ss c.loop-place.place) (sym c.slots-slot-items.ensures)
+    ap (λ (ss : List Slot). slice_get ss c.loop-place.place) (sym (c.slots-slot-items.ensures ∙ ap (λ (r : Conf). r.slots) c.conf-conf.ensures))
     ∙ slice_get-get_or c.slots-slot-items.result.now c.loop-place.place c.slot-item.result c.loop-place-test.true
     ∙ ap (λ (s : Slot). Some s) (sym c.slot-item.is)
 
 pub returns-in_err-write_slot : goal.returns-in_err-write_slot
 returns-in_err-write_slot g c =
     let p = err_from_is_err_and c.from_residual.result c.from_residual.ensures.1 in
-    let conf : Conf = c.args.self.now.conf.now in
-    let d : Entries = c.args.self.now.tree.now.entries in
+    let conf : Conf = c.args.self.now.directory.now.conf in
+    let d : Entries = c.args.self.now.directory.now.entries in
     let slots : List Slot = c.slots-slot-items.result.now in
     let place : ℕ = c.loop-place.place in
     rw (p.1, p.2) (stopped (g.W.Sink.written c.args.sink.now) (g.W.Sink.written c.loop-place.sink) (g.W.Sink.written c.write_slot.new.sink)
@@ -45,8 +45,8 @@ returns-in_err-write_slot g c =
 
 pub loop-place-preserved : goal.loop-place-preserved
 loop-place-preserved g c =
-    let conf : Conf = c.args.self.now.conf.now in
-    let d : Entries = c.args.self.now.tree.now.entries in
+    let conf : Conf = c.args.self.now.directory.now.conf in
+    let d : Entries = c.args.self.now.directory.now.entries in
     let slots : List Slot = c.slots-slot-items.result.now in
     let place : ℕ = c.loop-place.place in
     record {
@@ -58,8 +58,8 @@ loop-place-preserved g c =
 
 pub returns : goal.returns
 returns g c =
-    let conf : Conf = c.args.self.now.conf.now in
-    let d : Entries = c.args.self.now.tree.now.entries in
+    let conf : Conf = c.args.self.now.directory.now.conf in
+    let d : Entries = c.args.self.now.directory.now.entries in
     let text : List ℕ = c.loop-place.text.items in
     let past = c.loop-place-test.false in
     let none : text ++ slots_lines conf d (drop c.loop-place.place c.slots-slot-items.result.now) ≡ text =

@@ -7,6 +7,6 @@ abbrev pub invariant-loop-place : goal.invariant-loop-place
 invariant-loop-place g l = record {
   failures : (g.W.Sink.written l.sink).failed ≡ (g.W.Sink.written l.fn.sink).failed;
   so_far : SoFar (g.W.Sink.written l.fn.sink) (g.W.Sink.written l.sink)
-      (l.fn.text.items ++ slots_lines l.self.conf.now l.self.tree.now.entries l.self.conf.now.slots)
-      (l.text.items ++ slots_lines l.self.conf.now l.self.tree.now.entries (drop l.place l.slot-items));
+      (l.fn.text.items ++ slots_lines l.self.directory.now.conf l.self.directory.now.entries l.self.directory.now.conf.slots)
+      (l.text.items ++ slots_lines l.self.directory.now.conf l.self.directory.now.entries (drop l.place l.slot-items));
 }
