@@ -8,6 +8,7 @@ import sys
 
 import filters
 import indexes
+import ldif
 import model
 import schema
 
@@ -55,17 +56,49 @@ def shown(directory):
     return (dump + indexes.index_text(directory.conf, dump)).decode()
 
 
+def steps_of(directory, text):
+    return filters.prepared(directory.conf, model.read_filter(text.encode()))
+
+
+def found(directory, rows, text):
+    steps = steps_of(directory, text)
+    paths = directory.matching(lambda path, base: True, (), steps, rows)
+    rdns = "".join(f" {value.decode()}," for path in paths for _, value in directory.entries[path][0])
+    tested = len(directory.entries if rows is None else indexes.candidates(steps, rows, len(directory.entries))[0])
+    return f"{text}:{rdns} tested {tested}\n"
+
+
+def lies(directory, dump, text):
+    literals = strings(constant("lies.rt", "LIES"))
+    for row, other, asked in zip(*[iter(literals)] * 3):
+        rows = indexes.read(directory.conf, dump, text.replace(row.encode(), other.encode(), 1))
+        yield "by a lie, " + found(directory, rows, asked)
+
+
+def side(ranks, entries):
+    """Where the rank of no entry is among them, they are all but those of some entries."""
+    is_all = entries in ranks
+    return " ".join(["all but" if is_all else "only", *(str(rank) for rank in range(entries) if (rank in ranks) != is_all)])
+
+
+def brackets(directory, rows):
+    entries = len(directory.entries)
+    for text in strings(constant("brackets.rt", "FILTERS")):
+        may, may_not = indexes.candidates(steps_of(directory, text), rows, entries + 1)
+        yield f"{text} may be True of {side(may, entries)}, False of {side(may_not, entries)}\n"
+
+
 def searches():
     directory = loaded(PEOPLE)
     dump = directory.dump()
-    rows = indexes.read(directory.conf, dump, indexes.index_text(directory.conf, dump))
-    for rows in rows, rows, None:
-        for text in strings(constant("searches.rt", "FILTERS")):
-            steps = filters.prepared(directory.conf, model.read_filter(text.encode()))
-            paths = directory.matching(lambda path, base: True, (), steps, rows)
-            rdns = "".join(f" {value.decode()}," for path in paths for _, value in directory.entries[path][0])
-            tested = len(directory.entries if rows is None else indexes.candidates(steps, rows, len(directory.entries))[0])
-            yield f"{text}:{rdns} tested {tested}\n"
+    text = indexes.index_text(directory.conf, dump)
+    rows = indexes.read(directory.conf, dump, text)
+    asked = strings(constant("searches.rt", "FILTERS"))
+    for by in rows, rows:
+        yield from (found(directory, by, one) for one in asked)
+    yield from lies(directory, dump, text)
+    yield from brackets(directory, rows)
+    yield from (found(directory, None, one) for one in asked)
 
 
 def keys_by_entry(directory):
@@ -106,8 +139,39 @@ def runs():
     yield from run(PEOPLE, strings(constant("runs.rt", "CHANGES")), True)
 
 
+def counts(title, kinds):
+    yield f"{title}:\n"
+    yield from (f"{number} {kind}\n" for kind, number in sorted(collections.Counter(kinds).items()))
+
+
+def load_kind(begun):
+    directory = model.Directory(schema.read_conf(CONF))
+    report = model.run(directory, begun, False)
+    return "refused, " + report.split(": ", 1)[1].rstrip("\n") if report else f"loaded, {len(directory.entries)} entries"
+
+
+def run_kind(start, begun, changes):
+    directory = loaded(start)
+    report = model.run(directory, begun, True, changes)
+    accepted = len(ldif.records(begun)) - report.count("\n")
+    refusal = ", " + report.split(": ", 1)[1].rstrip("\n") if report else ""
+    return f"{accepted} accepted, a dump of {len(directory.dump())} bytes{refusal}"
+
+
+def beginnings_of(text):
+    return (text[:end] for end in range(len(text) + 1))
+
+
+def beginnings():
+    yield from counts("beginnings of a dump", map(load_kind, beginnings_of(PEOPLE)))
+    for one in constant("beginnings.rt", "RUNS").split("Run {")[1:]:
+        title, start, text = strings(one)
+        changes = "Mode::Changes" in one
+        yield from counts(title, (run_kind(start.encode(), begun, changes) for begun in beginnings_of(text.encode())))
+
+
 def main():
-    wanted = TEXTS + "".join([*searches(), *changes(), *runs()])
+    wanted = TEXTS + "".join([*searches(), *changes(), *runs(), *beginnings()])
     if wanted != (CRATE / "stdout").read_text():
         sys.stdout.write(wanted)
         sys.exit("answers: the stdout of refused_memory is another")

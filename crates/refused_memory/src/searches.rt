@@ -4,6 +4,7 @@ ghost use Rattle.std.specs.Prelude.{◌≡◌, IfOk, IfSome};
 
 use crate::directories::{PEOPLE, directory};
 use crate::shown::shown_by;
+use crate::{brackets, lies};
 use anyhow::{Error, Result};
 use candidates::asked_keys;
 use directory::{Directory, Hits, Scope, Stamp, scan, search_with, stamp_of};
@@ -44,14 +45,14 @@ const FILTERS: [&str; 21] = [
 
 /// The index text of a directory, and the stamp that stands in it.
 #[derive(Clone, Copy)]
-struct IndexText<'a> {
-    text: &'a [u8],
-    stamp: &'a Stamp,
+pub(crate) struct IndexText<'a> {
+    pub(crate) text: &'a [u8],
+    pub(crate) stamp: &'a Stamp,
 }
 
 /// How entries are found.
 #[derive(Clone, Copy)]
-enum By<'a> {
+pub(crate) enum By<'a> {
     Index,
     Text(IndexText<'a>),
     Scan,
@@ -77,7 +78,7 @@ fn print_hits<S: IdSet>(rt: &impl Print, hits: Hits<'_, S>) -> Result<()> {
 }
 
 /// The keys of an index text that a filter asks for; `None` where memory is refused.
-fn stored_for(
+pub(crate) fn stored_for(
     alloc: Global,
     dir: &Directory,
     filter: &Prepared,
@@ -158,7 +159,8 @@ fn print_by(
     Ok(true)
 }
 
-fn prepared_once(alloc: Global, dir: &Directory, text: &str) -> Result<Option<Prepared>>
+/// A filter that is made ready; `None` where memory is refused.
+pub(crate) fn prepared_once(alloc: Global, dir: &Directory, text: &str) -> Result<Option<Prepared>>
     ensures { IfOk result (λ p. IfSome p (λ p. p.conf ≡ dir.now.conf)) }
 {
     match read_filter(alloc, text.as_bytes()) {
@@ -182,7 +184,7 @@ fn print_once(
 }
 
 /// Prints a filter and what it finds, once more where memory is refused.
-fn print_search(
+pub(crate) fn print_search(
     rt: &impl Print,
     alloc: Global,
     dir: &Directory,
@@ -218,7 +220,9 @@ fn print_searches_by_text(rt: &impl Print, alloc: Global, dir: &Directory) -> Re
         text: shown.index(),
         stamp: &stamp,
     };
-    print_searches(rt, alloc, dir, By::Text(index))
+    print_searches(rt, alloc, dir, By::Text(index))?;
+    lies::print(rt, alloc, dir, index)?;
+    brackets::print(rt, alloc, dir, index)
 }
 
 fn print_in_each_way(rt: &impl Print, alloc: Global, dir: &Directory) -> Result<()> {
@@ -227,7 +231,8 @@ fn print_in_each_way(rt: &impl Print, alloc: Global, dir: &Directory) -> Result<
     print_searches(rt, alloc, dir, By::Scan)
 }
 
-/// Prints what each filter finds, by the directory's index, by its index text, and by none.
+/// Prints what each filter finds, by the directory's index, by its index text, and by none; between them what index texts that lie give, and both
+/// sides of candidates.
 pub(crate) fn print(rt: &impl Print, alloc: Global) -> Result<()> {
     let dir = directory(alloc, PEOPLE)?;
     print_in_each_way(rt, alloc, &dir)
