@@ -61,15 +61,18 @@ module _ {S : Type 0} {g : Ghosts S} (seen : S → Seen) (count : CountEdits) (m
     -- no record is left
     pub ends : (r2 : Reader S RecordDraft g) → loan_of r2 ≡ loan_of r1 → (seen (source_of r2)).failed ≡ (seen (source_of r1)).failed → GaveSome (seen (source_of r1)) (seen (source_of r2)) → IsEnd (records_left seen r1)
         → HasRun seen count mode go_on conf r d e a conf1 r2 d1 e1 b (Ok t) × IsEndedBy conf mode go_on d (records_left seen r) t None
-    ends r2 loan failed gave over = (record {
-      same_conf = h.same_conf;
-      same_loan = loan ∙ h.same_loan;
-      runs = records.stops conf mode go_on d d1 (records_left seen r) (records_left seen r1) t a b P h.stands over;
-      edits = edited.ends count conf mode go_on d e e1 P (λ front so. so.1) d1 (records_left seen r) (records_left seen r1) t a b h.stands over;
-      read = tt;
-      failures = (failed ∙ h.failed, h.stands.written.failed);
-      gave = gave_more _ _ _ h.gave gave;
-    }, none_told)
+    ends r2 loan failed gave over = (
+      record {
+        same_conf = h.same_conf;
+        same_loan = loan ∙ h.same_loan;
+        runs = records.stops conf mode go_on d d1 (records_left seen r) (records_left seen r1) t a b P h.stands over;
+        edits = edited.ends count conf mode go_on d e e1 P (λ front so. so.1) d1 (records_left seen r) (records_left seen r1) t a b h.stands over;
+        read = tt;
+        failures = (failed ∙ h.failed, h.stands.written.failed);
+        gave = gave_more _ _ _ h.gave gave;
+      },
+      none_told,
+    )
 
     fails_by : (r2 : Reader S RecordDraft g) (fault : ReadFault) → (fault ≡ reads.Failed → ⊥) → loan_of r2 ≡ loan_of r1 → GaveSome (seen (source_of r1)) (seen (source_of r2))
         → (fault ≡ reads.Device → (seen (source_of r2)).failed ≡ (seen (source_of r1)).failed + 1) → (fault ≡ reads.OutOfMemory → (seen (source_of r2)).failed ≡ (seen (source_of r1)).failed)
@@ -156,17 +159,19 @@ module _ {S : Type 0} {g : Ghosts S} (seen : S → Seen) (count : CountEdits) (m
         steps (Ok AtEnd) k = absurd (never_at_end go_on raw.line o k.2)
         steps (Ok (StoppedBy x)) k =
             let stopped = stops_behind go_on raw.line o x k.2 in
-            let one = taken_is true (k.0, k.1, stopped.0) in
-            (record {
-              same_conf = same ∙ h.same_conf;
-              same_loan = m.same_loan ∙ h.same_loan;
-              runs = records.ends_there conf mode go_on d d1 d2 (records_left seen r) (records_left seen r1) (records_left seen r2) t t2 a b c raw P h.stands m.taken true one refl;
-              edits = edited.ends_there count conf mode go_on d e e1 P (λ front so. so.1) d1 d2 (records_left seen r) (records_left seen r1) (records_left seen r2) t t2 a b c raw h.stands m.taken e2 true one refl rises;
-              read = tt;
-              failures = (m.failed ∙ h.failed, k.1.failed ∙ h.stands.written.failed);
-              gave = gave_more _ _ _ h.gave m.gave;
-            }, only_refused conf mode go_on d d1 (records_left seen r) (records_left seen r1) (records_left seen r2) t a b raw P h.stands m.taken x stopped.1
-                (ap (λ (q : Entries × Outcome). q.1) becomes ∙ stopped.2) stopped.3)
+            let one = taken_is true (k.0, k.1, stopped.0) in (
+              record {
+                same_conf = same ∙ h.same_conf;
+                same_loan = m.same_loan ∙ h.same_loan;
+                runs = records.ends_there conf mode go_on d d1 d2 (records_left seen r) (records_left seen r1) (records_left seen r2) t t2 a b c raw P h.stands m.taken true one refl;
+                edits = edited.ends_there count conf mode go_on d e e1 P (λ front so. so.1) d1 d2 (records_left seen r) (records_left seen r1) (records_left seen r2) t t2 a b c raw h.stands m.taken e2 true one refl rises;
+                read = tt;
+                failures = (m.failed ∙ h.failed, k.1.failed ∙ h.stands.written.failed);
+                gave = gave_more _ _ _ h.gave m.gave;
+              },
+              only_refused conf mode go_on d d1 (records_left seen r) (records_left seen r1) (records_left seen r2) t a b raw P h.stands m.taken x stopped.1
+                  (ap (λ (q : Entries × Outcome). q.1) becomes ∙ stopped.2) stopped.3,
+            )
         steps (Err (faults.Read u)) k = absurd k
         steps (Err (faults.Write u)) (why, refused, counts, broke) =
             let one : (why' : RecordRefusal) × IsCounted (outcome conf mode d1 (reading mode raw.first raw.lines)) d2 t u why' × Broke b c (report_line (raw.line, why')) = (why, counted_is why u refused counts, broke) in

@@ -64,11 +64,7 @@ impl Database {
 
     /// The content records of a source, under a configuration. The first record that is refused is answered with the number of its line and
     /// the refusal.
-    pub fn load<S: Source>(
-        alloc: Global,
-        conf: Conf,
-        source: &mut S,
-    ) -> Result<Database, LoadFault>
+    pub fn load<S: Source>(alloc: Global, conf: Conf, source: &mut S) -> Result<Database, LoadFault>
         requires { (S.seen source.old).failed < 2 ^ 64 - 1 }
         ensures same_conf { IfOk result (λ d. d.conf ≡ conf) }
         ensures loads { IfOk result (λ d. Over (option_map records (S.seen source.old).left) (λ given. LoadsRecords conf finite.empty given d.entries)) }

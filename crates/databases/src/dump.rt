@@ -233,7 +233,14 @@ impl<'a> Printer<'a> {
         let mut names = self.names();
         let mut text = Vec::new(self.alloc);
         for found in self.tree.range(&root) {
-            self.write_entry(sink, listener, &mut names, &Selection::all(), found, &mut text)?;
+            self.write_entry(
+                sink,
+                listener,
+                &mut names,
+                &Selection::all(),
+                found,
+                &mut text,
+            )?;
         }
         pass_on_heard(sink, listener, &mut text)
     }

@@ -132,14 +132,7 @@ impl Directory {
         ensures made { IfOk result (λ h. AreMade self.now.conf.types h.to_come) }
         ensures entries { IfOk result (λ h. AreThere self.now.entries (map seen h.to_come)) }
     {
-        search_with_index(
-            self.alloc,
-            &self.database,
-            &self.index,
-            base,
-            scope,
-            filter,
-        )
+        search_with_index(self.alloc, &self.database, &self.index, base, scope, filter)
     }
 
     /// Carries out a record (RFC 4511, 4.6 to 4.9) and edits the index, or refuses it with the code of the first check that fails. A refusal,
@@ -154,13 +147,7 @@ impl Directory {
         ensures wanting { OnErr result (RisesUpTo (2 * record_edits self.old.conf mode self.old.entries asked.now) self.old.edits self.new.edits) }
         ensures err { OnErr result (tree_of self.new ≡ tree_of self.old) }
     {
-        apply_record(
-            self.alloc,
-            &mut self.database,
-            &mut self.index,
-            asked,
-            mode,
-        )
+        apply_record(self.alloc, &mut self.database, &mut self.index, asked, mode)
     }
 }
 

@@ -13,7 +13,7 @@ returns c =
     let numbered : IsNumbered d.entries d.numbers = subst (λ (t : Tree). IsNumbered t.entries t.numbers) c.tree-2.ensures c.entries_are_numbered.ensures in
     let directory : IsDirectory d.conf d.entries = subst (λ (t : Tree). IsDirectory t.conf t.entries) c.tree.ensures c.entries_are_a_directory.ensures in
     by_both c.of_entries.result _ _ _ (λ x same has.
-        whole d.conf d numbered c.order_of_paths.ensures.total directory x c.as_slice.result.now (same ∙ c.conf.ensures)
-        (λ k n. has k n ∙ ap (λ (r : Conf). has_among r c.as_slice.result.now n k) c.conf.ensures)
-        (λ n k. ap (λ (es : List Numbered). has_among d.conf es n k) c.as_slice.ensures.value ∙ c.in_ok-entries.ensures.all n k))
+    whole d.conf d numbered c.order_of_paths.ensures.total directory x c.as_slice.result.now (same ∙ c.conf.ensures)
+    (λ k n. has k n ∙ ap (λ (r : Conf). has_among r c.as_slice.result.now n k) c.conf.ensures)
+    (λ n k. ap (λ (es : List Numbered). has_among d.conf es n k) c.as_slice.ensures.value ∙ c.in_ok-entries.ensures.all n k))
     c.of_entries.ensures.same_conf c.of_entries.ensures.members

@@ -19,10 +19,10 @@ returns-in-Some-clause-steps c =
     let f = c.args.filter.now in
     let indexed = subst (λ (x : Tree). IsIndexOf x.conf x.entries x.numbers c.args.index.now) (sym c.tree-tree.ensures) c.requires.indexed in
     subst (λ (x : Tree). AreSteps x.conf x f c.args.base.now c.args.scope (map counted c.in-Some.hits.to_come)) c.tree-tree.ensures (λ x of_x.
-        c.in-Some.ensures.steps
-        ∙ (λ i. counted_scan t.conf t.entries (λ p. c.in_ok-may.ensures (number_at t p) i) c.args.base.now c.args.scope (view f.filter))
-        ∙ same_steps (may_by_number (shown_by c.args.index.now) f t) (may_by_number (shown_by x) f t) c.args.base.now c.args.scope t.entries
-        (same_may t.conf t c.entries_are_numbered.ensures c.args.index.now indexed x of_x f) t.conf (view f.filter))
+    c.in-Some.ensures.steps
+    ∙ (λ i. counted_scan t.conf t.entries (λ p. c.in_ok-may.ensures (number_at t p) i) c.args.base.now c.args.scope (view f.filter))
+    ∙ same_steps (may_by_number (shown_by c.args.index.now) f t) (may_by_number (shown_by x) f t) c.args.base.now c.args.scope t.entries
+    (same_may t.conf t c.entries_are_numbered.ensures c.args.index.now indexed x of_x f) t.conf (view f.filter))
 
 pub returns-in-Some-clause-tested : goal.returns-in-Some-clause-tested
 returns-in-Some-clause-tested c =
@@ -30,10 +30,10 @@ returns-in-Some-clause-tested c =
     let f = c.args.filter.now in
     let indexed = subst (λ (x : Tree). IsIndexOf x.conf x.entries x.numbers c.args.index.now) (sym c.tree-tree.ensures) c.requires.indexed in
     subst (λ (x : Tree). IsTestCount x.conf x f c.args.base.now c.args.scope c.in-Some.hits.in_the_end) c.tree-tree.ensures (λ x of_x.
-        c.in-Some.ensures.tested
-        ∙ (λ i. count_among t.entries (λ p. c.in_ok-may.ensures (number_at t p) i) c.args.base.now c.args.scope)
-        ∙ same_count (may_by_number (shown_by c.args.index.now) f t) (may_by_number (shown_by x) f t) c.args.base.now c.args.scope t.entries
-        (same_may t.conf t c.entries_are_numbered.ensures c.args.index.now indexed x of_x f))
+    c.in-Some.ensures.tested
+    ∙ (λ i. count_among t.entries (λ p. c.in_ok-may.ensures (number_at t p) i) c.args.base.now c.args.scope)
+    ∙ same_count (may_by_number (shown_by c.args.index.now) f t) (may_by_number (shown_by x) f t) c.args.base.now c.args.scope t.entries
+    (same_may t.conf t c.entries_are_numbered.ensures c.args.index.now indexed x of_x f))
 
 pub returns-in-Some-clause-found : goal.returns-in-Some-clause-found
 returns-in-Some-clause-found c =
@@ -44,11 +44,11 @@ returns-in-Some-clause-found c =
     let is_conf : IsConf t.conf = subst (λ (x : Tree). IsConf x.conf) (sym c.tree-tree.ensures) (subst IsConf c.conf.ensures c.rules_are_kept.ensures) in
     let prepared = c.requires.filter ∙ ap (λ (x : Tree). x.conf) (sym c.tree-tree.ensures) in
     subst (λ (x : Tree). map seen c.in-Some.hits.to_come ≡ scan x.conf x.entries c.args.base.now c.args.scope (view f.filter)) c.tree-tree.ensures (
-        c.in-Some.ensures.found
-        ∙ (λ i. scan_among t.conf t.entries (λ p. c.in_ok-may.ensures (number_at t p) i) c.args.base.now c.args.scope (view f.filter))
-        ∙ c.candidates_suffice.ensures t.conf t.entries (may_by_number shown f t) c.args.base.now c.args.scope (view f.filter)
-        (λ p e at is. is_candidate t shown f prepared is_conf c.entries_are_a_directory.ensures c.brackets_hold.ensures (number_at t p) p e at
-        (reflected t.conf t c.entries_are_numbered.ensures c.args.index.now indexed c.indexes_reflect_entries.ensures p e at) is))
+    c.in-Some.ensures.found
+    ∙ (λ i. scan_among t.conf t.entries (λ p. c.in_ok-may.ensures (number_at t p) i) c.args.base.now c.args.scope (view f.filter))
+    ∙ c.candidates_suffice.ensures t.conf t.entries (may_by_number shown f t) c.args.base.now c.args.scope (view f.filter)
+    (λ p e at is. is_candidate t shown f prepared is_conf c.entries_are_a_directory.ensures c.brackets_hold.ensures (number_at t p) p e at
+    (reflected t.conf t c.entries_are_numbered.ensures c.args.index.now indexed c.indexes_reflect_entries.ensures p e at) is))
 
 pub returns-in-Some-clause-entries : goal.returns-in-Some-clause-entries
 returns-in-Some-clause-entries c =

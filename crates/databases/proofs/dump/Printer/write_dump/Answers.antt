@@ -66,9 +66,12 @@ loop-found-preserved g c =
           (text ++ entry) (entries_text d.conf d.entries None left) _ next c.in_ok-write_entry.ensures.writes;
       heard = λ m h.
           let before = c.loop-found.invariant.heard m h in
-          let after = c.in_ok-write_entry.ensures.heard before.0 before.1 in
-          (after.0, after.1, heard_on after.0 _ before.0 text _ (entries_text d.conf d.entries None left) _ after.2
-              (ap (λ (bs : List ℕ). before.0 ++ bs) (sym next) ∙ before.2));
+          let after = c.in_ok-write_entry.ensures.heard before.0 before.1 in (
+            after.0,
+            after.1,
+            heard_on after.0 _ before.0 text _ (entries_text d.conf d.entries None left) _ after.2
+                (ap (λ (bs : List ℕ). before.0 ++ bs) (sym next) ∙ before.2),
+          );
     }
 
 pub returns-in_err-write_entry-clause-writes : goal.returns-in_err-write_entry-clause-writes

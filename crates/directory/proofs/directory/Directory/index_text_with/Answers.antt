@@ -31,9 +31,9 @@ returns-in_err-put_end g c =
     let d : Entries = c.args.self.now.entries in
     let start : List ℕ = c.in_ok-text.text.items in
     rw (p.1, p.2) (record {
-        rest = c.write_slots.new.text.items ++ ended end_line;
-        so_far = longer (g.W.Sink.written c.args.sink.now) (g.W.Sink.written c.write_slots.new.sink) (start ++ slots_lines conf d conf.slots) c.write_slots.new.text.items (ended end_line) (index_text conf d) (in_parts conf d start (subst (λ (t : Tree). c.in_ok-text.text.items ≡ first_line t.conf t.entries) c.database.ensures c.in_ok-text.ensures)) c.in_ok-write_slots.ensures;
-      })
+      rest = c.write_slots.new.text.items ++ ended end_line;
+      so_far = longer (g.W.Sink.written c.args.sink.now) (g.W.Sink.written c.write_slots.new.sink) (start ++ slots_lines conf d conf.slots) c.write_slots.new.text.items (ended end_line) (index_text conf d) (in_parts conf d start (subst (λ (t : Tree). c.in_ok-text.text.items ≡ first_line t.conf t.entries) c.database.ensures c.in_ok-text.ensures)) c.in_ok-write_slots.ensures;
+    })
 
 pub returns : goal.returns
 returns g c =
@@ -42,6 +42,6 @@ returns g c =
     let start : List ℕ = c.in_ok-text.text.items in
     let last : c.put_end.new.out.items ≡ c.write_slots.new.text.items ++ ended end_line = c.in_ok-put_end.ensures.put in
     ends (g.W.Sink.written c.args.sink.now) (g.W.Sink.written c.write_slots.new.sink) (g.W.Sink.written c.pass_on.new.sink) (index_text conf d) c.put_end.new.out.items
-          (subst (SoFar (g.W.Sink.written c.args.sink.now) (g.W.Sink.written c.write_slots.new.sink) (index_text conf d)) (sym last)
-          (longer (g.W.Sink.written c.args.sink.now) (g.W.Sink.written c.write_slots.new.sink) (start ++ slots_lines conf d conf.slots) c.write_slots.new.text.items (ended end_line) (index_text conf d) (in_parts conf d start (subst (λ (t : Tree). c.in_ok-text.text.items ≡ first_line t.conf t.entries) c.database.ensures c.in_ok-text.ensures)) c.in_ok-write_slots.ensures))
-          c.pass_on.result c.pass_on.ensures.writes
+    (subst (SoFar (g.W.Sink.written c.args.sink.now) (g.W.Sink.written c.write_slots.new.sink) (index_text conf d)) (sym last)
+    (longer (g.W.Sink.written c.args.sink.now) (g.W.Sink.written c.write_slots.new.sink) (start ++ slots_lines conf d conf.slots) c.write_slots.new.text.items (ended end_line) (index_text conf d) (in_parts conf d start (subst (λ (t : Tree). c.in_ok-text.text.items ≡ first_line t.conf t.entries) c.database.ensures c.in_ok-text.ensures)) c.in_ok-write_slots.ensures))
+    c.pass_on.result c.pass_on.ensures.writes
