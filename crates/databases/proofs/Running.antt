@@ -20,7 +20,7 @@ use Rattle.databases.specs.RunEdits.{CountEdits, RisesUpTo, edits_read}
 use Rattle.databases.specs.inner.Endings.{IsEndedBy}
 use Rattle.databases.specs.inner.Pulls.{closed_with}
 use Rattle.databases.specs.inner.RecordEdits.{TookAndEdited}
-use Rattle.databases.specs.inner.Running.{IsRunning, HasRun, Reaches}
+use Rattle.databases.specs.inner.Running.{Standing, IsRunning, HasRun, HasRunTo, Reaches}
 use Rattle.databases.specs.inner.Steps.{counts_after, reported, ends as is_ended, IsTaken, IsCounted, Counts, run_fault_of}
 use Rattle.databases.specs.Reports.{report_line}
 use Rattle.databases.specs.declared.refusal.RecordRefusal.{RecordRefusal}
@@ -39,8 +39,23 @@ use Rattle.databases.proofs.Stops.{none_refused, never_at_end, goes_on_behind, s
 use Rattle.databases.proofs.RunEdits as edited
 use Rattle.databases.proofs.RunEdits.{none_edited, one_edited}
 
-module _ {S : Type 0} {g : Ghosts S} (seen : S → Seen) (count : CountEdits) (mode : Mode) (go_on : Bool) (conf : Conf) (r : Reader S RecordDraft g) (d : Entries) (e : ℕ) (a : Written) where
-  pub begins : is_failed r ≡ false → bytes_left seen r ≤ 2 ^ 64 → IsRunning seen count mode go_on conf r d e a conf r d e a (record { accepted = 0; refused = 0 })
+module _ {S : Type 0} {g : Ghosts S} (seen : S → Seen) (count : CountEdits) (mode : Mode) (go_on : Bool) (start : Standing S g) where
+  abbrev conf : Conf
+  conf = start.conf
+
+  abbrev r : Reader S RecordDraft g
+  r = start.reader
+
+  abbrev d : Entries
+  d = start.entries
+
+  abbrev e : ℕ
+  e = start.edits
+
+  abbrev a : Written
+  a = start.written
+
+  pub begins : is_failed r ≡ false → bytes_left seen r ≤ 2 ^ 64 → IsRunning seen count mode go_on start start (record { accepted = 0; refused = 0 })
   begins going bound = record {
     same_conf = refl;
     same_loan = refl;
@@ -51,7 +66,26 @@ module _ {S : Type 0} {g : Ghosts S} (seen : S → Seen) (count : CountEdits) (m
     stands = records.begins conf mode go_on d (TookAndEdited seen r r count conf mode go_on d e e) ((λ _. took_none seen r), none_edited count conf mode go_on d e) (records_left seen r) a;
   }
 
-  module _ (conf1 : Conf) (r1 : Reader S RecordDraft g) (d1 : Entries) (e1 : ℕ) (b : Written) (t : Tally) (h : IsRunning seen count mode go_on conf r d e a conf1 r1 d1 e1 b t) where
+  module _ (here : Standing S g) (t : Tally) (h : IsRunning seen count mode go_on start here t) where
+    abbrev conf1 : Conf
+    conf1 = here.conf
+
+    abbrev r1 : Reader S RecordDraft g
+    r1 = here.reader
+
+    abbrev d1 : Entries
+    d1 = here.entries
+
+    abbrev e1 : ℕ
+    e1 = here.edits
+
+    abbrev b : Written
+    b = here.written
+
+    -- with another reader
+    abbrev read_on : Reader S RecordDraft g → Standing S g
+    read_on reader = record { conf = conf1; reader = reader; entries = d1; edits = e1; written = b }
+
     abbrev P : List RawRecord → Type 0
     P = TookAndEdited seen r r1 count conf mode go_on d e e1
 
@@ -60,7 +94,7 @@ module _ {S : Type 0} {g : Ghosts S} (seen : S → Seen) (count : CountEdits) (m
 
     -- no record is left
     pub ends : (r2 : Reader S RecordDraft g) → loan_of r2 ≡ loan_of r1 → (seen (source_of r2)).failed ≡ (seen (source_of r1)).failed → GaveSome (seen (source_of r1)) (seen (source_of r2)) → IsEnd (records_left seen r1)
-        → HasRun seen count mode go_on conf r d e a conf1 r2 d1 e1 b (Ok t) × IsEndedBy conf mode go_on d (records_left seen r) t None
+        → HasRunTo seen count mode go_on start (read_on r2) t None
     ends r2 loan failed gave over = (
       record {
         same_conf = h.same_conf;
@@ -76,7 +110,7 @@ module _ {S : Type 0} {g : Ghosts S} (seen : S → Seen) (count : CountEdits) (m
 
     fails_by : (r2 : Reader S RecordDraft g) (fault : ReadFault) → (fault ≡ reads.Failed → ⊥) → loan_of r2 ≡ loan_of r1 → GaveSome (seen (source_of r1)) (seen (source_of r2))
         → (fault ≡ reads.Device → (seen (source_of r2)).failed ≡ (seen (source_of r1)).failed + 1) → (fault ≡ reads.OutOfMemory → (seen (source_of r2)).failed ≡ (seen (source_of r1)).failed)
-        → (fault ≡ reads.Device → Breaks seen r1 r2) → HasRun seen count mode go_on conf r d e a conf1 r2 d1 e1 b (Err (run_fault_of fault t))
+        → (fault ≡ reads.Device → Breaks seen r1 r2) → HasRun seen count mode go_on start (read_on r2) (Err (run_fault_of fault t))
     fails_by r2 reads.Device live loan gave device memory breaks = record {
       same_conf = h.same_conf;
       same_loan = loan ∙ h.same_loan;
@@ -100,26 +134,38 @@ module _ {S : Type 0} {g : Ghosts S} (seen : S → Seen) (count : CountEdits) (m
     -- there is no next record
     pub fails : {A : Type 0} (r2 : Reader S RecordDraft g) (fault : ReadFault) (answer : Result A ReadFault) → answer ≡ Err fault → ((answer ≡ Err reads.Failed) ↔ (is_failed r1 ≡ true)) → is_failed r1 ≡ false → loan_of r2 ≡ loan_of r1 → GaveSome (seen (source_of r1)) (seen (source_of r2))
         → (answer ≡ Err reads.Device → (seen (source_of r2)).failed ≡ (seen (source_of r1)).failed + 1) → (answer ≡ Err reads.OutOfMemory → (seen (source_of r2)).failed ≡ (seen (source_of r1)).failed)
-        → (answer ≡ Err reads.Device → Breaks seen r1 r2) → (f : RunFault) → f ≡ run_fault_of fault t → HasRun seen count mode go_on conf r d e a conf1 r2 d1 e1 b (Err f)
+        → (answer ≡ Err reads.Device → Breaks seen r1 r2) → (f : RunFault) → f ≡ run_fault_of fault t → HasRun seen count mode go_on start (read_on r2) (Err f)
     fails r2 fault answer is failed live loan gave device memory breaks f by =
-        subst (λ (x : RunFault). HasRun seen count mode go_on conf r d e a conf1 r2 d1 e1 b (Err x)) (sym by)
+        subst (λ (x : RunFault). HasRun seen count mode go_on start (read_on r2) (Err x)) (sym by)
         (fails_by r2 fault (λ same. not_both (failed.0 (is ∙ ap Err same)) live) loan gave (λ same. device (is ∙ ap Err same)) (λ same. memory (is ∙ ap Err same)) (λ same. breaks (is ∙ ap Err same)))
 
-    module _ (conf2 : Conf) (r2 : Reader S RecordDraft g) (d2 : Entries) (e2 : ℕ) (raw : RawRecord) (m : TookOne seen r1 r2 raw) (same : conf2 ≡ conf1) where
+    module _ (there : Standing S g) (raw : RawRecord) (m : TookOne seen r1 there.reader raw) (same : there.conf ≡ conf1) where
+      abbrev r2 : Reader S RecordDraft g
+      r2 = there.reader
+
+      abbrev d2 : Entries
+      d2 = there.entries
+
+      abbrev e2 : ℕ
+      e2 = there.edits
+
       -- memory ran out, and the entries are those before
-      pub wants : d2 ≡ d1 → RisesUpTo (2 * edits_read count conf1 mode d1 (reading mode raw.first raw.lines)) e1 e2 → HasRun seen count mode go_on conf r d e a conf2 r2 d2 e2 b (Err (faults.OutOfMemory t))
-      wants is rise = record {
+      pub wants : there.written ≡ b → d2 ≡ d1 → RisesUpTo (2 * edits_read count conf1 mode d1 (reading mode raw.first raw.lines)) e1 e2 → HasRun seen count mode go_on start there (Err (faults.OutOfMemory t))
+      wants silent is rise = record {
         same_conf = same ∙ h.same_conf;
         same_loan = m.same_loan ∙ h.same_loan;
-        runs = records.breaks_off conf mode go_on d d1 d2 (records_left seen r) (records_left seen r1) (records_left seen r2) t t a b b raw P h.stands m.taken (faults.OutOfMemory t) (inl (record { entries = is; counts = refl; written = refl }));
-        edits = edited.wants count conf mode go_on d e e1 P (λ front so. so.1) d1 d2 (records_left seen r) (records_left seen r1) (records_left seen r2) t t a b b raw h.stands m.taken e2 (sym is)
+        runs = records.breaks_off conf mode go_on d d1 d2 (records_left seen r) (records_left seen r1) (records_left seen r2) t t a b there.written raw P h.stands m.taken (faults.OutOfMemory t) (inl (record { entries = is; counts = refl; written = silent }));
+        edits = edited.wants count conf mode go_on d e e1 P (λ front so. so.1) d1 d2 (records_left seen r) (records_left seen r1) (records_left seen r2) t t a b there.written raw h.stands m.taken e2 (sym is)
             (subst (λ (k : Conf). RisesUpTo (2 * edits_read count k mode d1 (reading mode raw.first raw.lines)) e1 e2) h.same_conf rise);
         read = tt;
-        failures = (m.failed ∙ h.failed, h.stands.written.failed);
+        failures = (m.failed ∙ h.failed, ap (λ (x : Written). x.failed) silent ∙ h.stands.written.failed);
         gave = gave_more _ _ _ h.gave m.gave;
       }
 
-      module _ (c : Written) (t2 : Tally) (o : Outcome) (is : outcome conf1 mode d1 (reading mode raw.first raw.lines) ≡ (d2, o)) (rise : e2 ≡ e1 + edits_read count conf1 mode d1 (reading mode raw.first raw.lines)) where
+      abbrev c : Written
+      c = there.written
+
+      module _ (t2 : Tally) (o : Outcome) (is : outcome conf1 mode d1 (reading mode raw.first raw.lines) ≡ (d2, o)) (rise : e2 ≡ e1 + edits_read count conf1 mode d1 (reading mode raw.first raw.lines)) where
         becomes : outcome conf mode d1 (reading mode raw.first raw.lines) ≡ (d2, o)
         becomes = subst (λ (k : Conf). outcome k mode d1 (reading mode raw.first raw.lines) ≡ (d2, o)) h.same_conf is
 
@@ -133,7 +179,7 @@ module _ {S : Type 0} {g : Ghosts S} (seen : S → Seen) (count : CountEdits) (m
         counted_is why u refused counts = subst (λ (x : Entries × Outcome). IsCounted x d2 t u why) (sym becomes) (record { is = refused; entries = refl; counts = counts })
 
         -- it was carried out, counted and reported
-        pub steps : (result : Result Progress RunFault) → Counts o go_on raw.line t t2 b c result → Reaches seen count mode go_on (bytes_left seen r1) conf r d e a conf2 r2 d2 e2 c t2 result
+        pub steps : (result : Result Progress RunFault) → Counts o go_on raw.line t t2 b c result → Reaches seen count mode go_on (bytes_left seen r1) start there t2 result
         steps (Ok GoesOn) k =
             let one = taken_is false (k.0, k.1, goes_on_behind go_on raw.line o k.2) in (
               record {
@@ -195,16 +241,15 @@ module _ {S : Type 0} {g : Ghosts S} (seen : S → Seen) (count : CountEdits) (m
         }
 
 -- how it goes on
-module _ {S : Type 0} {g : Ghosts S} (seen : S → Seen) (count : CountEdits) (mode : Mode) (go_on : Bool) (bytes : ℕ) (conf : Conf) (r : Reader S RecordDraft g) (d : Entries) (e : ℕ) (a : Written)
-    (conf' : Conf) (r' : Reader S RecordDraft g) (d' : Entries) (e' : ℕ) (b : Written) (t : Tally) (progress : Progress) (h : Reaches seen count mode go_on bytes conf r d e a conf' r' d' e' b t (Ok progress)) where
+module _ {S : Type 0} {g : Ghosts S} (seen : S → Seen) (count : CountEdits) (mode : Mode) (go_on : Bool) (bytes : ℕ) (a b : Standing S g) (t : Tally) (progress : Progress) (h : Reaches seen count mode go_on bytes a b t (Ok progress)) where
   abbrev Here : Progress → Type 0
-  Here p = Reaches seen count mode go_on bytes conf r d e a conf' r' d' e' b t (Ok p)
+  Here p = Reaches seen count mode go_on bytes a b t (Ok p)
 
-  pub goes_on : progress ≡ GoesOn → IsRunning seen count mode go_on conf r d e a conf' r' d' e' b t × (bytes_left seen r' < bytes)
+  pub goes_on : progress ≡ GoesOn → IsRunning seen count mode go_on a b t × (bytes_left seen b.reader < bytes)
   goes_on is = subst Here is h
 
-  pub at_end : progress ≡ AtEnd → HasRun seen count mode go_on conf r d e a conf' r' d' e' b (Ok t) × IsEndedBy conf mode go_on d (records_left seen r) t None
+  pub at_end : progress ≡ AtEnd → HasRunTo seen count mode go_on a b t None
   at_end is = subst Here is h
 
-  pub stopped_by : (x : RefusedRecord) → progress ≡ StoppedBy x → HasRun seen count mode go_on conf r d e a conf' r' d' e' b (Ok t) × IsEndedBy conf mode go_on d (records_left seen r) t (Some x)
+  pub stopped_by : (x : RefusedRecord) → progress ≡ StoppedBy x → HasRunTo seen count mode go_on a b t (Some x)
   stopped_by x is = subst Here is h

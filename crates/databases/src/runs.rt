@@ -9,7 +9,7 @@ ghost use Rattle.databases.specs.Folds.{Runs};
 ghost use Rattle.databases.specs.RunEdits.{EditsRise};
 ghost use Rattle.databases.specs.FailedReads.{StopsReading};
 ghost use Rattle.databases.specs.inner.Steps.{Reports, Counts, run_fault_of};
-ghost use Rattle.databases.specs.inner.Running.{HasRun, TakesStep};
+ghost use Rattle.databases.specs.inner.Running.{standing, HasRun, TakesStep};
 ghost use Rattle.databases.specs.inner.Endings.{tally_in, EndsAsTold};
 ghost use Rattle.ldif_lines.specs.Reader.{source_of, is_failed, records_left, bytes_left};
 
@@ -146,8 +146,8 @@ fn take_record<T: Target, S: Source, W: Sink>(
     requires sink { (W.written sink.old).failed < 2 ^ 64 - 1 }
     requires going { is_failed reader.old ≡ false }
     requires few { tally.old.accepted + tally.old.refused + bytes_left S.seen reader.old ≤ 2 ^ 64 }
-    ensures { TakesStep S.seen T.count_edits mode go_on (T.conf target.old) reader.old (T.entries target.old) (T.edits target.old) (W.written sink.old) tally.old
-        (T.conf target.new) reader.new (T.entries target.new) (T.edits target.new) (W.written sink.new) tally.new result }
+    ensures { TakesStep S.seen T.count_edits mode go_on (standing T.conf T.entries T.edits W.written target.old reader.old sink.old) tally.old
+        (standing T.conf T.entries T.edits W.written target.new reader.new sink.new) tally.new result }
 {
     match reader.next() {
         Ok(Some(raw)) => {
@@ -177,8 +177,8 @@ fn run_rest<T: Target, S: Source, W: Sink>(
     requires sink { (W.written sink.old).failed < 2 ^ 64 - 1 }
     requires going { is_failed reader.old ≡ false }
     requires bound { bytes_left S.seen reader.old ≤ 2 ^ 64 }
-    ensures run { HasRun S.seen T.count_edits mode go_on (T.conf target.old) reader.old (T.entries target.old) (T.edits target.old) (W.written sink.old)
-        (T.conf target.new) reader.new (T.entries target.new) (T.edits target.new) (W.written sink.new) (tally_in result) }
+    ensures run { HasRun S.seen T.count_edits mode go_on (standing T.conf T.entries T.edits W.written target.old reader.old sink.old)
+        (standing T.conf T.entries T.edits W.written target.new reader.new sink.new) (tally_in result) }
     ensures ending { IfOk result (EndsAsTold (T.conf target.old) mode go_on (T.entries target.old) (records_left S.seen reader.old)) }
 {
     let mut tally = Tally {
