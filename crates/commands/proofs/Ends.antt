@@ -1,5 +1,5 @@
 -- What is printed of a directory that was loaded.
-use Rattle.std.proofs.Common.{◌≡◌, ℕ, Bool, true, false, nat_lt, inl, inr, List, [], map, Option, Some, None, refl, sym, ap, ◌∙◌, subst, Bor}
+use Rattle.std.proofs.Common.{◌≡◌, ℕ, Bool, true, nat_lt, inl, inr, List, map, Option, Some, None, refl, sym, ap, ◌∙◌, subst, Bor}
 use Rattle.std.specs.Prelude.{Result, Ok, Err, IfErr, is_some, codes}
 use Rattle.std.specs.Option.{option_copied, option_map}
 use Rattle.std.specs.FinMap as finite
@@ -41,7 +41,7 @@ use Rattle.commands.specs.declared.index_file.IndexFile.TheVariants as kept_file
 use Rattle.commands.specs.declared.messages.CommandFault.{CommandFault}
 use Rattle.commands.specs.declared.query.Query.{Query}
 use Rattle.command_line.specs.declared.request.CatOptions.{CatOptions}
-use Rattle.commands.proofs.Stopping.{of_faults, unwritten_prints, prints_more, write_told, begun_told}
+use Rattle.commands.proofs.Stopping.{unwritten_prints, write_told, begun_told}
 
 -- ---- texts
 

@@ -1,5 +1,5 @@
 -- How a search ends, from what its parts say.
-use Rattle.std.proofs.Common.{◌≡◌, ℕ, inl, inr, Bool, true, false, List, [], map, Option, Some, None, refl, sym, ap, ◌∙◌, subst}
+use Rattle.std.proofs.Common.{◌≡◌, ℕ, inl, inr, Bool, true, false, List, [], map, Some, None, refl, sym, ap, ◌∙◌, subst}
 use Rattle.std.specs.Prelude.{Result, Ok, Err, codes}
 use Rattle.std.specs.Option.{option_copied}
 use Rattle.std.specs.FinMap as finite
@@ -23,7 +23,7 @@ use Rattle.commands.specs.inner.IndexFiles.{FailsToReport, HasLoaded}
 use Rattle.commands.specs.inner.Printed.{HasPrinted, scanned, found, IsTextOf, FailsToPrint, PrintsFound}
 use Rattle.commands.specs.inner.Refusals.{Refuses, RefusesOrBreaks}
 use Rattle.commands.specs.inner.Sought.{IsQueryOf}
-use Rattle.commands.specs.inner.Stopped.{CanReport, HasStopped}
+use Rattle.commands.specs.inner.Stopped.{HasStopped}
 use Rattle.commands.specs.inner.Views.{basis_of}
 use Rattle.commands.specs.declared.index_file.IndexFile.{IndexFile}
 use Rattle.commands.specs.declared.messages.CommandFault.{CommandFault}

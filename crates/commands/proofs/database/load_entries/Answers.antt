@@ -1,4 +1,4 @@
-use Rattle.std.proofs.Common.{None, refl, ◌∙◌}
+use Rattle.std.proofs.Common.{None, ◌∙◌}
 use Rattle.commands.proofs.Loading.{loaded_so, opened_so, missing_so}
 use Rattle.commands.proofs.Stopping.{load_told}
 use Rattle.commands.proofs.database.load_entries.Goals as goal

@@ -1,4 +1,4 @@
-use Rattle.std.proofs.Common.{ℕ, List, Option, refl, ap}
+use Rattle.std.proofs.Common.{Option, refl, ap}
 use Rattle.std.specs.Option.{option_copied}
 use Rattle.std.proofs.lemmas.Result.{err_from_is_err_and}
 use Rattle.filter_text.specs.Spells.{view}
