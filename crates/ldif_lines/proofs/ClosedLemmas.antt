@@ -50,7 +50,7 @@ unfolding with_first
 with_first-append first [] bs = (with_first first bs, refl)
 with_first-append first (a ∷ cs) bs =
     let r = with_first-append false cs bs in
-    (r.0, ap (λ (l : List RawRecord). record { line = a.line; first = first; lines = a.lines } ∷ l) r.1)
+    (r.0, ap (λ (l : List RawRecord). record { line = a.line; first = first; lines = a.lines; numbers = a.numbers } ∷ l) r.1)
 
 -- the records that a text closes are the first ones of each text that goes on from it
 pub closed_first : (text more : List ℕ) → (rest : List RawRecord) × (records (text ++ more) ≡ closed_records text ++ rest)

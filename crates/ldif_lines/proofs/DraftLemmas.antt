@@ -5,10 +5,10 @@ use Rattle.std.specs.Str.Lines.{lines}
 use Rattle.std.proofs.lemmas.List.{append-nil}
 use Rattle.std.proofs.lemmas.List.Splits.{slice_split-cons_yes, slice_split-cons_no}
 use Rattle.base.specs.Ends.{begins_with}
-use Rattle.ldif_lines.specs.Records.{Body, RawRecord, is_blank, continues, is_kept, bytes_of, continuation, joined, joined_block, body_of, body_of_block, with_first, records_from}
-use Rattle.ldif_lines.specs.inner.Drafts.{Draft, append_last, add_by, add}
+use Rattle.ldif_lines.specs.Records.{Body, RawRecord, is_blank, continues, is_kept, number_of, bytes_of, continuation, joined, joined_block, body_of, body_of_block, with_first, records_from}
+use Rattle.ldif_lines.specs.inner.Drafts.{Draft, Numbers, none_numbered, with_number, append_last, add_by, add}
 use Rattle.std.proofs.lemmas.Bool.{eqb-true, false_from_ne_true}
-use Rattle.ldif_lines.specs.inner.States.{kept, after, body_after, in_blocks, cut, pending}
+use Rattle.ldif_lines.specs.inner.States.{kept, with_kept, after, body_after, in_blocks, cut, pending}
 use Rattle.ldif_lines.specs.Records.{but_last, whole_lines, closed_from}
 use Rattle.ldif_lines.proofs.PartLemmas.{split_cons, heads}
 
@@ -77,34 +77,45 @@ module _ (l : ℕ × List ℕ) (ls : List (ℕ × List ℕ)) where
 
 -- ---- the block that a draft begins
 
-abbrev pub made : ℕ → List (List ℕ) → Option Body
-made line ls = Some (record { line = line; lines = ls })
+abbrev made : Numbers → List (List ℕ) → List (ℕ × List ℕ) → Option Body
+made numbers ks ls = Some (with_kept numbers ks ls)
 
-abbrev pub draft : ℕ → Bool → List (List ℕ) → Draft
-draft line comment ks = record { line = line; comment = comment; lines = ks }
+abbrev body : ℕ → List (List ℕ) → List ℕ → Option Body
+body first ks ns = Some (record { line = first; lines = ks; numbers = ns })
 
-extended : (line : ℕ) (k : List ℕ) (ks : List (List ℕ)) (bs : List ℕ) (p : List (ℕ × List ℕ)) → after (append_last (k ∷ ks) bs) line false p ≡ made line (append_last (k ∷ ks) (bs ++ continuation p) ++ map bytes_of (kept p))
+abbrev pub raw : Numbers → Bool → List (List ℕ) → RawRecord
+raw numbers first ks = record { line = numbers.first; first = first; lines = ks; numbers = numbers.all }
+
+abbrev pub draft : Numbers → Bool → List (List ℕ) → Draft
+draft numbers comment ks = record { numbers = numbers; comment = comment; lines = ks }
+
+extended : (numbers : Numbers) (k : List ℕ) (ks : List (List ℕ)) (bs : List ℕ) (p : List (ℕ × List ℕ)) → after (append_last (k ∷ ks) bs) numbers false p ≡ made numbers (append_last (k ∷ ks) (bs ++ continuation p)) (kept p)
 unfolding after append_last
-extended line k [] bs p = ap (λ (x : List (List ℕ)). made line (x ++ map bytes_of (kept p))) (append_last-twice k [] bs (continuation p))
-extended line k (m ∷ ks) bs p = ap (λ (x : List (List ℕ)). made line (x ++ map bytes_of (kept p))) (append_last-twice k (m ∷ ks) bs (continuation p))
+extended numbers k [] bs p = ap (λ (x : List (List ℕ)). made numbers x (kept p)) (append_last-twice k [] bs (continuation p))
+extended numbers k (m ∷ ks) bs p = ap (λ (x : List (List ℕ)). made numbers x (kept p)) (append_last-twice k (m ∷ ks) bs (continuation p))
 
-module _ (line : ℕ) (l : ℕ × List ℕ) (p : List (ℕ × List ℕ)) (some : 0 < length l.1) where
+module _ (numbers : Numbers) (l : ℕ × List ℕ) (p : List (ℕ × List ℕ)) (some : 0 < length l.1) where
   pushed : (ks : List (List ℕ)) → append_last (ks ++ l.1 ∷ []) (continuation p) ++ map bytes_of (kept p) ≡ ks ++ ((l.1 ++ continuation p) ∷ map bytes_of (kept p))
   pushed ks = ap (λ (x : List (List ℕ)). x ++ map bytes_of (kept p)) (append_last-push ks l.1 (continuation p)) ∙ append_assoc ks ((l.1 ++ continuation p) ∷ []) (map bytes_of (kept p))
 
+  pushed_body : (ks : List (List ℕ)) → made (with_number false numbers l.0) (append_last (ks ++ l.1 ∷ []) (continuation p)) (kept p) ≡ made numbers ks ((l.0, l.1 ++ continuation p) ∷ kept p)
+  pushed_body ks =
+      ap (λ (x : List (List ℕ)). body numbers.first x ((numbers.all ++ l.0 ∷ []) ++ map number_of (kept p))) (pushed ks)
+      ∙ ap (body numbers.first (ks ++ ((l.1 ++ continuation p) ∷ map bytes_of (kept p)))) (append_assoc numbers.all (l.0 ∷ []) (map number_of (kept p)))
+
   -- the draft has no line yet, and the line isn't dropped
-  first_one : (h : Bool) → begins_with 35 l.1 ≡ h → body_of (headed l p) ≡ cond h (after [] line true p) (after (l.1 ∷ []) l.0 false p)
+  first_one : (h : Bool) → begins_with 35 l.1 ≡ h → body_of (headed l p) ≡ cond h (after [] numbers true p) (after (l.1 ∷ []) (with_number true numbers l.0) false p)
   unfolding after body_of append_last
   first_one true e = ap body_of (headed-comment l p some e)
   first_one false e = ap body_of (headed-line l p some e)
 
   -- the draft has lines, and the line begins a new one
-  next_one : (h : Bool) (k : List ℕ) (ks : List (List ℕ)) → begins_with 35 l.1 ≡ h → made line ((k ∷ ks) ++ map bytes_of (headed l p)) ≡ cond h (after (k ∷ ks) line true p) (after ((k ∷ ks) ++ l.1 ∷ []) line false p)
+  next_one : (h : Bool) (k : List ℕ) (ks : List (List ℕ)) → begins_with 35 l.1 ≡ h → made numbers (k ∷ ks) (headed l p) ≡ cond h (after (k ∷ ks) numbers true p) (after ((k ∷ ks) ++ l.1 ∷ []) (with_number false numbers l.0) false p)
   unfolding after
-  next_one true k ks e = ap (λ (x : List (ℕ × List ℕ)). made line ((k ∷ ks) ++ map bytes_of x)) (headed-comment l p some e)
-  next_one false k ks e = ap (λ (x : List (ℕ × List ℕ)). made line ((k ∷ ks) ++ map bytes_of x)) (headed-line l p some e) ∙ ap (made line) (sym (pushed (k ∷ ks)))
+  next_one true k ks e = ap (made numbers (k ∷ ks)) (headed-comment l p some e)
+  next_one false k ks e = ap (made numbers (k ∷ ks)) (headed-line l p some e) ∙ sym (pushed_body (k ∷ ks))
 
-  step : (ks : List (List ℕ)) (comment c h : Bool) → continues l ≡ c → begins_with 35 l.1 ≡ h → after ks line comment (l ∷ p) ≡ body_after (add_by c h (draft line comment ks) l) p
+  step : (ks : List (List ℕ)) (comment c h : Bool) → continues l ≡ c → begins_with 35 l.1 ≡ h → after ks numbers comment (l ∷ p) ≡ body_after (add_by c h (draft numbers comment ks) l) p
   unfolding after add_by body_of_block joined_block
   step [] true true h e f = ap (λ (x : List (ℕ × List ℕ)). body_of (filter is_kept x)) (joined-yes l p e)
   step [] true false true e f = ap (λ (x : List (ℕ × List ℕ)). body_of (filter is_kept x)) (joined-no l p e) ∙ first_one true f
@@ -113,10 +124,10 @@ module _ (line : ℕ) (l : ℕ × List ℕ) (p : List (ℕ × List ℕ)) (some :
   step [] false true false e f = first_one false f
   step [] false false true e f = first_one true f
   step [] false false false e f = first_one false f
-  step (k ∷ ks) true true h e f = ap (λ (x : List (ℕ × List ℕ)). made line ((k ∷ ks) ++ map bytes_of (filter is_kept x))) (joined-yes l p e)
-  step (k ∷ ks) true false true e f = ap (λ (x : List (ℕ × List ℕ)). made line ((k ∷ ks) ++ map bytes_of (filter is_kept x))) (joined-no l p e) ∙ next_one true k ks f
-  step (k ∷ ks) true false false e f = ap (λ (x : List (ℕ × List ℕ)). made line ((k ∷ ks) ++ map bytes_of (filter is_kept x))) (joined-no l p e) ∙ next_one false k ks f
-  step (k ∷ ks) false true h e f = rw (continuation-yes l p e, joined-yes l p e) (sym (extended line k ks (drop 1 l.1) p))
+  step (k ∷ ks) true true h e f = ap (λ (x : List (ℕ × List ℕ)). made numbers (k ∷ ks) (filter is_kept x)) (joined-yes l p e)
+  step (k ∷ ks) true false true e f = ap (λ (x : List (ℕ × List ℕ)). made numbers (k ∷ ks) (filter is_kept x)) (joined-no l p e) ∙ next_one true k ks f
+  step (k ∷ ks) true false false e f = ap (λ (x : List (ℕ × List ℕ)). made numbers (k ∷ ks) (filter is_kept x)) (joined-no l p e) ∙ next_one false k ks f
+  step (k ∷ ks) false true h e f = rw (continuation-yes l p e, joined-yes l p e) (sym (extended numbers k ks (drop 1 l.1) p))
   step (k ∷ ks) false false true e f = rw (continuation-no l p e, joined-no l p e, append_last-nil (k ∷ ks)) (next_one true k ks f)
   step (k ∷ ks) false false false e f = rw (continuation-no l p e, joined-no l p e, append_last-nil (k ∷ ks)) (next_one false k ks f)
 
@@ -125,9 +136,9 @@ module _ (line : ℕ) (l : ℕ × List ℕ) (p : List (ℕ × List ℕ)) (some :
 added : (only first : Bool) (d : Draft) (l : ℕ × List ℕ) (p : List (ℕ × List ℕ)) (ps : List (List (ℕ × List ℕ))) → 0 < length l.1
     → in_blocks first d (cut only ((l ∷ p) ∷ ps)) ≡ in_blocks first (add d l) (cut only (p ∷ ps))
 unfolding in_blocks but_last
-added false first d l p ps some = ap (λ (b : Option Body). with_first first (cons_option b (filter_map body_of_block ps))) (step d.line l p some d.lines d.comment (continues l) (begins_with 35 l.1) refl refl)
+added false first d l p ps some = ap (λ (b : Option Body). with_first first (cons_option b (filter_map body_of_block ps))) (step d.numbers l p some d.lines d.comment (continues l) (begins_with 35 l.1) refl refl)
 added true first d l p [] some = refl
-added true first d l p (q ∷ ps) some = ap (λ (b : Option Body). with_first first (cons_option b (filter_map body_of_block (but_last (q ∷ ps))))) (step d.line l p some d.lines d.comment (continues l) (begins_with 35 l.1) refl refl)
+added true first d l p (q ∷ ps) some = ap (λ (b : Option Body). with_first first (cons_option b (filter_map body_of_block (but_last (q ∷ ps))))) (step d.numbers l p some d.lines d.comment (continues l) (begins_with 35 l.1) refl refl)
 
 -- a line that isn't empty goes to the draft
 pub pending-add : (only first : Bool) (d : Draft) (n : ℕ) (bs : List ℕ) (ls : List (ℕ × List ℕ)) → 0 < length bs → pending only first d ((n, bs) ∷ ls) ≡ pending only first (add d (n, bs)) ls
@@ -141,63 +152,65 @@ pending-add only first d n bs ls some =
     ∙ added only first d l s.0 s.1 some
     ∙ ap (λ (ps : List (List (ℕ × List ℕ))). in_blocks first (add d l) (cut only ps)) (sym s.2)
 
-fresh_blocks : (first : Bool) (line : ℕ) (ps : List (List (ℕ × List ℕ))) → in_blocks first (draft line false []) ps ≡ with_first first (filter_map body_of_block ps)
+fresh_blocks : (first : Bool) (numbers : Numbers) (ps : List (List (ℕ × List ℕ))) → in_blocks first (draft numbers false []) ps ≡ with_first first (filter_map body_of_block ps)
 unfolding in_blocks after with_first
-fresh_blocks first line [] = refl
-fresh_blocks first line (p ∷ ps) = refl
+fresh_blocks first numbers [] = refl
+fresh_blocks first numbers (p ∷ ps) = refl
 
-pub pending-fresh : (first : Bool) (line number : ℕ) (text : List ℕ) → pending false first (draft line false []) (enumerate_from number (lines text)) ≡ records_from first number text
+pub pending-fresh : (first : Bool) (numbers : Numbers) (number : ℕ) (text : List ℕ) → pending false first (draft numbers false []) (enumerate_from number (lines text)) ≡ records_from first number text
 unfolding pending records_from
-pending-fresh first line number text = fresh_blocks first line (slice_split is_blank (enumerate_from number (lines text)))
+pending-fresh first numbers number text = fresh_blocks first numbers (slice_split is_blank (enumerate_from number (lines text)))
 
-pub closing-fresh : (first : Bool) (line number : ℕ) (text : List ℕ) → pending true first (draft line false []) (enumerate_from number (whole_lines text)) ≡ closed_from first number text
+pub closing-fresh : (first : Bool) (numbers : Numbers) (number : ℕ) (text : List ℕ) → pending true first (draft numbers false []) (enumerate_from number (whole_lines text)) ≡ closed_from first number text
 unfolding pending closed_from
-closing-fresh first line number text = fresh_blocks first line (but_last (slice_split is_blank (enumerate_from number (whole_lines text))))
+closing-fresh first numbers number text = fresh_blocks first numbers (but_last (slice_split is_blank (enumerate_from number (whole_lines text))))
 
-nothing : (line : ℕ) (comment : Bool) → after [] line comment [] ≡ None
+nothing : (numbers : Numbers) (comment : Bool) → after [] numbers comment [] ≡ None
 unfolding after joined body_of_block joined_block body_of
-nothing line true = refl
-nothing line false = refl
+nothing numbers true = refl
+nothing numbers false = refl
 
-whole : (line : ℕ) (comment : Bool) (k : List ℕ) (ks : List (List ℕ)) → after (k ∷ ks) line comment [] ≡ made line (k ∷ ks)
+whole : (numbers : Numbers) (comment : Bool) (k : List ℕ) (ks : List (List ℕ)) → after (k ∷ ks) numbers comment [] ≡ body numbers.first (k ∷ ks) numbers.all
 unfolding after joined continuation
-whole line true k ks = ap (λ (x : List (List ℕ)). made line (k ∷ x)) (append-nil ks)
-whole line false k ks = ap (λ (x : List (List ℕ)). made line x) (append-nil (append_last (k ∷ ks) []) ∙ append_last-nil (k ∷ ks))
+whole numbers true k ks = ap (λ (x : List (List ℕ)). body numbers.first (k ∷ x) (numbers.all ++ [])) (append-nil ks) ∙ ap (body numbers.first (k ∷ ks)) (append-nil numbers.all)
+whole numbers false k ks =
+    ap (λ (x : List (List ℕ)). body numbers.first x (numbers.all ++ [])) (append-nil (append_last (k ∷ ks) []) ∙ append_last-nil (k ∷ ks))
+    ∙ ap (body numbers.first (k ∷ ks)) (append-nil numbers.all)
 
 -- an empty line: the draft's block is done, and the next begins
-ended : (only first comment : Bool) (line n : ℕ) (ks : List (List ℕ)) (ls : List (ℕ × List ℕ)) → pending only first (draft line comment ks) ((n, []) ∷ ls)
-    ≡ with_first first (cons_option (after ks line comment []) (filter_map body_of_block (cut only (slice_split is_blank ls))))
+ended : (only first comment : Bool) (numbers : Numbers) (n : ℕ) (ks : List (List ℕ)) (ls : List (ℕ × List ℕ)) → pending only first (draft numbers comment ks) ((n, []) ∷ ls)
+    ≡ with_first first (cons_option (after ks numbers comment []) (filter_map body_of_block (cut only (slice_split is_blank ls))))
 unfolding pending in_blocks but_last
-ended only first comment line n ks ls =
+ended only first comment numbers n ks ls =
     let s = split_cons is_blank ls in
-    ap (λ (ps : List (List (ℕ × List ℕ))). in_blocks first (draft line comment ks) (cut only ps)) (slice_split-cons_yes is_blank (n, []) ls refl)
-    ∙ ap (in_blocks first (draft line comment ks)) (heads only [] (slice_split is_blank ls) s)
+    ap (λ (ps : List (List (ℕ × List ℕ))). in_blocks first (draft numbers comment ks) (cut only ps)) (slice_split-cons_yes is_blank (n, []) ls refl)
+    ∙ ap (in_blocks first (draft numbers comment ks)) (heads only [] (slice_split is_blank ls) s)
 
 -- an empty line before the first kept one
-pub pending-skip : (only first comment : Bool) (line n : ℕ) (ls : List (ℕ × List ℕ)) → pending only first (draft line comment []) ((n, []) ∷ ls) ≡ pending only first (draft line false []) ls
+pub pending-skip : (only first comment : Bool) (numbers : Numbers) (n : ℕ) (ls : List (ℕ × List ℕ)) → pending only first (draft numbers comment []) ((n, []) ∷ ls) ≡ pending only first (draft numbers false []) ls
 unfolding pending
-pending-skip only first comment line n ls =
-    ended only first comment line n [] ls
-    ∙ ap (λ (b : Option Body). with_first first (cons_option b (filter_map body_of_block (cut only (slice_split is_blank ls))))) (nothing line comment)
-    ∙ sym (fresh_blocks first line (cut only (slice_split is_blank ls)))
+pending-skip only first comment numbers n ls =
+    ended only first comment numbers n [] ls
+    ∙ ap (λ (b : Option Body). with_first first (cons_option b (filter_map body_of_block (cut only (slice_split is_blank ls))))) (nothing numbers comment)
+    ∙ sym (fresh_blocks first numbers (cut only (slice_split is_blank ls)))
 
 -- an empty line after a kept one
-pub pending-end : (only first comment : Bool) (line n : ℕ) (k : List ℕ) (ks : List (List ℕ)) (ls : List (ℕ × List ℕ))
-    → pending only first (draft line comment (k ∷ ks)) ((n, []) ∷ ls) ≡ record { line = line; first = first; lines = k ∷ ks } ∷ pending only false (draft 0 false []) ls
+pub pending-end : (only first comment : Bool) (numbers : Numbers) (n : ℕ) (k : List ℕ) (ks : List (List ℕ)) (ls : List (ℕ × List ℕ))
+    → pending only first (draft numbers comment (k ∷ ks)) ((n, []) ∷ ls) ≡ raw numbers first (k ∷ ks) ∷ pending only false (draft none_numbered false []) ls
 unfolding pending with_first
-pending-end only first comment line n k ks ls =
-    ended only first comment line n (k ∷ ks) ls
-    ∙ ap (λ (b : Option Body). with_first first (cons_option b (filter_map body_of_block (cut only (slice_split is_blank ls))))) (whole line comment k ks)
-    ∙ ap (λ (rs : List RawRecord). record { line = line; first = first; lines = k ∷ ks } ∷ rs) (sym (fresh_blocks false 0 (cut only (slice_split is_blank ls))))
+pending-end only first comment numbers n k ks ls =
+    ended only first comment numbers n (k ∷ ks) ls
+    ∙ ap (λ (b : Option Body). with_first first (cons_option b (filter_map body_of_block (cut only (slice_split is_blank ls))))) (whole numbers comment k ks)
+    ∙ ap (λ (rs : List RawRecord). raw numbers first (k ∷ ks) ∷ rs) (sym (fresh_blocks false none_numbered (cut only (slice_split is_blank ls))))
 
 -- no line is left
-pub pending-none : (first comment : Bool) (line : ℕ) → pending false first (draft line comment []) [] ≡ []
+pub pending-none : (first comment : Bool) (numbers : Numbers) → pending false first (draft numbers comment []) [] ≡ []
 unfolding pending in_blocks with_first
-pending-none first comment line = ap (λ (b : Option Body). with_first first (cons_option b [])) (nothing line comment)
+pending-none first comment numbers = ap (λ (b : Option Body). with_first first (cons_option b [])) (nothing numbers comment)
 
-pub pending-last : (first comment : Bool) (line : ℕ) (k : List ℕ) (ks : List (List ℕ)) → pending false first (draft line comment (k ∷ ks)) [] ≡ record { line = line; first = first; lines = k ∷ ks } ∷ []
+pub pending-last : (first comment : Bool) (numbers : Numbers) (k : List ℕ) (ks : List (List ℕ)) → pending false first (draft numbers comment (k ∷ ks)) [] ≡ raw numbers first (k ∷ ks) ∷ []
 unfolding pending in_blocks with_first
-pending-last first comment line k ks = ap (λ (b : Option Body). with_first first (cons_option b [])) (whole line comment k ks)
+pending-last first comment numbers k ks = ap (λ (b : Option Body). with_first first (cons_option b [])) (whole numbers comment k ks)
 
 pub closing-none : (first : Bool) (d : Draft) → pending true first d [] ≡ []
 unfolding pending in_blocks but_last
@@ -205,46 +218,46 @@ closing-none first d = refl
 
 -- ---- a line in two pieces: the second goes in like a continuation
 
-cut_by : (line n : ℕ) (x : ℕ) (xs more : List ℕ) (c h comment : Bool) (ks : List (List ℕ))
-    → add_by c h (draft line comment ks) (n, x ∷ (xs ++ more)) ≡ add_by true false (add_by c h (draft line comment ks) (n, x ∷ xs)) (n, 32 ∷ more)
+cut_by : (numbers : Numbers) (n : ℕ) (x : ℕ) (xs more : List ℕ) (c h comment : Bool) (ks : List (List ℕ))
+    → add_by c h (draft numbers comment ks) (n, x ∷ (xs ++ more)) ≡ add_by true false (add_by c h (draft numbers comment ks) (n, x ∷ xs)) (n, 32 ∷ more)
 unfolding add_by append_last
-cut_by line n x xs more true h true ks = refl
-cut_by line n x xs more true true false [] = refl
-cut_by line n x xs more true false false [] = refl
-cut_by line n x xs more true h false (k ∷ []) = ap (draft line false) (sym (append_last-twice k [] xs more))
-cut_by line n x xs more true h false (k ∷ m ∷ ks) = ap (draft line false) (sym (append_last-twice k (m ∷ ks) xs more))
-cut_by line n x xs more false true comment ks = refl
-cut_by line n x xs more false false comment [] = refl
-cut_by line n x xs more false false comment (k ∷ ks) = ap (draft line false) (sym (append_last-push (k ∷ ks) (x ∷ xs) more))
+cut_by numbers n x xs more true h true ks = refl
+cut_by numbers n x xs more true true false [] = refl
+cut_by numbers n x xs more true false false [] = refl
+cut_by numbers n x xs more true h false (k ∷ []) = ap (draft numbers false) (sym (append_last-twice k [] xs more))
+cut_by numbers n x xs more true h false (k ∷ m ∷ ks) = ap (draft numbers false) (sym (append_last-twice k (m ∷ ks) xs more))
+cut_by numbers n x xs more false true comment ks = refl
+cut_by numbers n x xs more false false comment [] = refl
+cut_by numbers n x xs more false false comment (k ∷ ks) = ap (draft (with_number false numbers n) false) (sym (append_last-push (k ∷ ks) (x ∷ xs) more))
 
 pub add-cut : (d : Draft) (n : ℕ) (xs more : List ℕ) → 0 < length xs → add d (n, xs ++ more) ≡ add (add d (n, xs)) (n, 32 ∷ more)
 add-cut d n [] more some = absurd (omega arith)
-add-cut d n (x ∷ xs) more some = cut_by d.line n x xs more (eqb x 32) (eqb x 35) d.comment d.lines
+add-cut d n (x ∷ xs) more some = cut_by d.numbers n x xs more (eqb x 32) (eqb x 35) d.comment d.lines
 
 -- a continuation without bytes changes nothing, where there is something to continue
-nothing_by : (line n : ℕ) (comment : Bool) (ks : List (List ℕ)) → (comment ≡ false → 0 < length ks) → add_by true false (draft line comment ks) (n, 32 ∷ []) ≡ draft line comment ks
+nothing_by : (numbers : Numbers) (n : ℕ) (comment : Bool) (ks : List (List ℕ)) → (comment ≡ false → 0 < length ks) → add_by true false (draft numbers comment ks) (n, 32 ∷ []) ≡ draft numbers comment ks
 unfolding add_by
-nothing_by line n true ks some = refl
-nothing_by line n false [] some = absurd (let h : 0 < 0 = some refl in omega arith)
-nothing_by line n false (k ∷ ks) some = ap (draft line false) (append_last-nil (k ∷ ks))
+nothing_by numbers n true ks some = refl
+nothing_by numbers n false [] some = absurd (let h : 0 < 0 = some refl in omega arith)
+nothing_by numbers n false (k ∷ ks) some = ap (draft numbers false) (append_last-nil (k ∷ ks))
 
 pub add-nothing : (d : Draft) (n : ℕ) → (d.comment ≡ false → 0 < length d.lines) → add d (n, 32 ∷ []) ≡ d
-add-nothing d n some = nothing_by d.line n d.comment d.lines some
+add-nothing d n some = nothing_by d.numbers n d.comment d.lines some
 
 -- after a line, there is something to continue
 true_ne_false : true ≡ false → ⊥
 true_ne_false e = (cc)
 
-kept_by : (line n : ℕ) (l : List ℕ) (c h comment : Bool) (ks : List (List ℕ)) → (add_by c h (draft line comment ks) (n, l)).comment ≡ false → 0 < length (add_by c h (draft line comment ks) (n, l)).lines
+kept_by : (numbers : Numbers) (n : ℕ) (l : List ℕ) (c h comment : Bool) (ks : List (List ℕ)) → (add_by c h (draft numbers comment ks) (n, l)).comment ≡ false → 0 < length (add_by c h (draft numbers comment ks) (n, l)).lines
 unfolding add_by append_last
-kept_by line n l true h true ks e = absurd (true_ne_false e)
-kept_by line n l true true false [] e = absurd (true_ne_false e)
-kept_by line n l true false false [] e = omega arith
-kept_by line n l true h false (k ∷ []) e = omega arith
-kept_by line n l true h false (k ∷ m ∷ ks) e = omega arith
-kept_by line n l false true comment ks e = absurd (true_ne_false e)
-kept_by line n l false false comment [] e = omega arith
-kept_by line n l false false comment (k ∷ ks) e = omega arith
+kept_by numbers n l true h true ks e = absurd (true_ne_false e)
+kept_by numbers n l true true false [] e = absurd (true_ne_false e)
+kept_by numbers n l true false false [] e = omega arith
+kept_by numbers n l true h false (k ∷ []) e = omega arith
+kept_by numbers n l true h false (k ∷ m ∷ ks) e = omega arith
+kept_by numbers n l false true comment ks e = absurd (true_ne_false e)
+kept_by numbers n l false false comment [] e = omega arith
+kept_by numbers n l false false comment (k ∷ ks) e = omega arith
 
 pub add-kept : (d : Draft) (l : ℕ × List ℕ) → (add d l).comment ≡ false → 0 < length (add d l).lines
-add-kept d l e = kept_by d.line l.0 l.1 (continues l) (begins_with 35 l.1) d.comment d.lines e
+add-kept d l e = kept_by d.numbers l.0 l.1 (continues l) (begins_with 35 l.1) d.comment d.lines e

@@ -5,3 +5,4 @@ pub mod StateLemmas
 pub mod MoveLemmas
 pub mod WrittenLemmas
 pub mod ClosedLemmas
+pub mod NumberLemmas

@@ -6,6 +6,7 @@ use Rattle.device.specs.Device.{Seen, Gave, Pulled, GaveSome, PullFailed}
 use Rattle.device.proofs.Pulls.{pulled_none, pulled_more, pulled_by, pulled_failed}
 use Rattle.ldif_lines.specs.Records.{RawRecord, records_from, closed_from, with_first, body_of_block, joined_block, body_of}
 use Rattle.ldif_lines.specs.Reader.{Takes, IsEnd}
+use Rattle.ldif_lines.specs.inner.Drafts.{none_numbered}
 use Rattle.ldif_lines.specs.inner.States.{State, next_state, gives}
 use Rattle.ldif_lines.specs.inner.Moves.{Moved, EndsAt, Ended, Drained, Broken}
 use Rattle.ldif_lines.proofs.StateLemmas.{closes-nothing}
@@ -99,7 +100,7 @@ none_held p a e h = let z : e - a ≡ 0 = omega arith in ap (λ (k : ℕ). take 
 
 pub gives-fresh : (first : Bool) (count : ℕ) (rest : List ℕ) → gives false (record (next_state count) { first = first }) rest ≡ records_from first (count + 1) rest
 unfolding gives
-gives-fresh first count rest = pending-fresh first 0 (count + 1) rest
+gives-fresh first count rest = pending-fresh first none_numbered (count + 1) rest
 
 takes_by : (a b : Option (List ℕ)) (got block u v : List ℕ) (first : Bool) (n m : ℕ) (r : RawRecord) → Consumes a b got → u ++ got ≡ block ++ v
     → ((rest : List ℕ) → records_from first (n + 1) (block ++ rest) ≡ r ∷ records_from false (m + 1) rest)
@@ -191,7 +192,7 @@ drained-falls a b u v first n r h fits =
 
 pub closes-fresh : (first : Bool) (count : ℕ) (text : List ℕ) → gives true (record (next_state count) { first = first }) text ≡ closed_from first (count + 1) text
 unfolding gives
-closes-fresh first count text = closing-fresh first 0 (count + 1) text
+closes-fresh first count text = closing-fresh first none_numbered (count + 1) text
 
 -- ---- what a call took
 

@@ -7,10 +7,10 @@ use Rattle.std.proofs.lemmas.List.{append-nil, take-append-drop, drop_more, drop
 use Rattle.std.proofs.lemmas.List.Splits.{slice_split-cons_no, slice_split_at}
 use Rattle.std.proofs.lemmas.Bool.{eqb-true, false_from_ne_true}
 use Rattle.ldif_lines.specs.Records.{but_last, whole_lines, records_from, closed_from}
-use Rattle.ldif_lines.specs.inner.Drafts.{Draft, add, add_by, append_last}
+use Rattle.ldif_lines.specs.inner.Drafts.{Draft, Numbers, none_numbered, add, add_by, append_last}
 use Rattle.ldif_lines.specs.inner.States.{lines_in, pending, State, raw_of, next_state, HasNoFeed, settle, ends_with_return, return_of, gives, put}
 use Rattle.ldif_lines.proofs.PartLemmas.{is_feed, split_cons}
-use Rattle.ldif_lines.proofs.DraftLemmas.{draft, pending-fresh, closing-fresh, pending-add, pending-skip, pending-end, pending-none, pending-last, closing-none, add-cut, add-nothing}
+use Rattle.ldif_lines.proofs.DraftLemmas.{draft, raw, pending-fresh, closing-fresh, pending-add, pending-skip, pending-end, pending-none, pending-last, closing-none, add-cut, add-nothing}
 
 -- ---- a line's end
 
@@ -211,33 +211,33 @@ empty_by only d first count after_return rest =
     ap (λ (ls : List (List ℕ)). pending only first d (enumerate_from n ls)) (line_done only (return_of after_return) rest (return_other after_return))
     ∙ ap (λ (l : List ℕ). pending only first d ((n, l) ∷ enumerate_from (n + 1) (lines_in only rest))) (strip_blank after_return)
 
-skip_by : (only : Bool) (line : ℕ) (comment : Bool) (ks : List (List ℕ)) (first : Bool) (count : ℕ) (after_return : Bool) (rest : List ℕ) → length ks ≡ 0
-    → gives only (state (draft line comment ks) first count false after_return) (10 ∷ rest) ≡ gives only (state (draft line false ks) first (count + 1) false false) rest
+skip_by : (only : Bool) (numbers : Numbers) (comment : Bool) (ks : List (List ℕ)) (first : Bool) (count : ℕ) (after_return : Bool) (rest : List ℕ) → length ks ≡ 0
+    → gives only (state (draft numbers comment ks) first count false after_return) (10 ∷ rest) ≡ gives only (state (draft numbers false ks) first (count + 1) false false) rest
 unfolding gives
-skip_by only line comment [] first count after_return rest none =
-    empty_by only (draft line comment []) first count after_return rest ∙ pending-skip only first comment line (count + 1) (enumerate_from (count + 1 + 1) (lines_in only rest))
-skip_by only line comment (k ∷ ks) first count after_return rest none = absurd (omega arith)
+skip_by only numbers comment [] first count after_return rest none =
+    empty_by only (draft numbers comment []) first count after_return rest ∙ pending-skip only first comment numbers (count + 1) (enumerate_from (count + 1 + 1) (lines_in only rest))
+skip_by only numbers comment (k ∷ ks) first count after_return rest none = absurd (omega arith)
 
 -- an empty line before the first kept one
 pub gives-skip : (only : Bool) (s : State) (rest : List ℕ) → s.inside ≡ false → length s.draft.lines ≡ 0
-    → gives only s (10 ∷ rest) ≡ gives only (state (draft s.draft.line false s.draft.lines) s.first (s.count + 1) false false) rest
+    → gives only s (10 ∷ rest) ≡ gives only (state (draft s.draft.numbers false s.draft.lines) s.first (s.count + 1) false false) rest
 gives-skip only s rest e none =
     ap (λ (i : Bool). gives only (state s.draft s.first s.count i s.after_return) (10 ∷ rest)) e
-    ∙ skip_by only s.draft.line s.draft.comment s.draft.lines s.first s.count s.after_return rest none
+    ∙ skip_by only s.draft.numbers s.draft.comment s.draft.lines s.first s.count s.after_return rest none
 
-end_by : (only : Bool) (line : ℕ) (comment : Bool) (ks : List (List ℕ)) (first : Bool) (count : ℕ) (after_return : Bool) (rest : List ℕ) → 0 < length ks
-    → gives only (state (draft line comment ks) first count false after_return) (10 ∷ rest) ≡ record { line = line; first = first; lines = ks } ∷ gives only (next_state (count + 1)) rest
+end_by : (only : Bool) (numbers : Numbers) (comment : Bool) (ks : List (List ℕ)) (first : Bool) (count : ℕ) (after_return : Bool) (rest : List ℕ) → 0 < length ks
+    → gives only (state (draft numbers comment ks) first count false after_return) (10 ∷ rest) ≡ raw numbers first ks ∷ gives only (next_state (count + 1)) rest
 unfolding gives
-end_by only line comment [] first count after_return rest some = absurd (omega arith)
-end_by only line comment (k ∷ ks) first count after_return rest some =
-    empty_by only (draft line comment (k ∷ ks)) first count after_return rest ∙ pending-end only first comment line (count + 1) k ks (enumerate_from (count + 1 + 1) (lines_in only rest))
+end_by only numbers comment [] first count after_return rest some = absurd (omega arith)
+end_by only numbers comment (k ∷ ks) first count after_return rest some =
+    empty_by only (draft numbers comment (k ∷ ks)) first count after_return rest ∙ pending-end only first comment numbers (count + 1) k ks (enumerate_from (count + 1 + 1) (lines_in only rest))
 
 -- an empty line after a kept one
 pub gives-end : (only : Bool) (s : State) (rest : List ℕ) → s.inside ≡ false → 0 < length s.draft.lines
     → gives only s (10 ∷ rest) ≡ raw_of s ∷ gives only (next_state (s.count + 1)) rest
 gives-end only s rest e some =
     ap (λ (i : Bool). gives only (state s.draft s.first s.count i s.after_return) (10 ∷ rest)) e
-    ∙ end_by only s.draft.line s.draft.comment s.draft.lines s.first s.count s.after_return rest some
+    ∙ end_by only s.draft.numbers s.draft.comment s.draft.lines s.first s.count s.after_return rest some
 
 -- ---- the end of the text
 
@@ -248,17 +248,17 @@ over_by d first count true some =
     pending-add false first d (count + 1) (32 ∷ []) [] (omega arith)
     ∙ ap (λ (e : Draft). pending false first e []) (add-nothing d (count + 1) (some refl))
 
-last_by : (line : ℕ) (comment : Bool) (ks : List (List ℕ)) (first : Bool) → pending false first (draft line comment ks) [] ≡ cond (eqb (length ks) 0) [] (record { line = line; first = first; lines = ks } ∷ [])
-last_by line comment [] first = pending-none first comment line
-last_by line comment (k ∷ ks) first =
+last_by : (numbers : Numbers) (comment : Bool) (ks : List (List ℕ)) (first : Bool) → pending false first (draft numbers comment ks) [] ≡ cond (eqb (length ks) 0) [] (raw numbers first ks ∷ [])
+last_by numbers comment [] first = pending-none first comment numbers
+last_by numbers comment (k ∷ ks) first =
     let no : eqb (suc (length ks)) 0 ≡ false = false_from_ne_true _ (λ h. absurd (let e = eqb-true _ _ h in omega arith)) in
-    pending-last first comment line k ks ∙ ap (λ (b : Bool). cond b [] (record { line = line; first = first; lines = k ∷ ks } ∷ [])) (sym no)
+    pending-last first comment numbers k ks ∙ ap (λ (b : Bool). cond b [] (raw numbers first (k ∷ ks) ∷ [])) (sym no)
 
 pub gives-over : (s : State) → s.after_return ≡ false → (s.inside ≡ true → s.draft.comment ≡ false → 0 < length s.draft.lines) → gives false s [] ≡ cond (eqb (length s.draft.lines) 0) [] (raw_of s ∷ [])
 gives-over s e some =
     ap (λ (c : Bool). gives false (state s.draft s.first s.count s.inside c) []) e
     ∙ over_by s.draft s.first s.count s.inside some
-    ∙ last_by s.draft.line s.draft.comment s.draft.lines s.first
+    ∙ last_by s.draft.numbers s.draft.comment s.draft.lines s.first
 
 -- a state with nothing behind it has closed no record
 closed_by : (d : Draft) (first : Bool) (count : ℕ) (inside after_return : Bool) → gives true (state d first count inside after_return) [] ≡ []
@@ -285,27 +285,27 @@ stays_before xs b rest other p q qs e =
 
 -- ---- bytes of a line of which bytes were taken
 
-put_comment_by : (n line : ℕ) (first : Bool) (count : ℕ) (inside comment after_return : Bool) (ks : List (List ℕ)) (bs : List ℕ) → inside ≡ true → comment ≡ true
-    → put (state (draft line comment ks) first count inside after_return) bs ≡ state (draft line comment ks) first count inside after_return
+put_comment_by : (n : ℕ) (numbers : Numbers) (first : Bool) (count : ℕ) (inside comment after_return : Bool) (ks : List (List ℕ)) (bs : List ℕ) → inside ≡ true → comment ≡ true
+    → put (state (draft numbers comment ks) first count inside after_return) bs ≡ state (draft numbers comment ks) first count inside after_return
 unfolding add_by
-put_comment_by n line first count false comment after_return ks bs e f = absurd (cc)
-put_comment_by n line first count true false after_return ks bs e f = absurd (cc)
-put_comment_by n line first count true true after_return ks bs e f = refl
+put_comment_by n numbers first count false comment after_return ks bs e f = absurd (cc)
+put_comment_by n numbers first count true false after_return ks bs e f = absurd (cc)
+put_comment_by n numbers first count true true after_return ks bs e f = refl
 
 pub put-comment : (s : State) (bs : List ℕ) → s.inside ≡ true → s.draft.comment ≡ true → put s bs ≡ s
-put-comment s bs e f = put_comment_by 0 s.draft.line s.first s.count s.inside s.draft.comment s.after_return s.draft.lines bs e f
+put-comment s bs e f = put_comment_by 0 s.draft.numbers s.first s.count s.inside s.draft.comment s.after_return s.draft.lines bs e f
 
-put_kept_by : (line : ℕ) (first : Bool) (count : ℕ) (inside comment after_return : Bool) (ks : List (List ℕ)) (bs : List ℕ) → inside ≡ true → comment ≡ false → 0 < length ks
-    → put (state (draft line comment ks) first count inside after_return) bs ≡ state (draft line comment (append_last ks bs)) first count inside after_return
+put_kept_by : (numbers : Numbers) (first : Bool) (count : ℕ) (inside comment after_return : Bool) (ks : List (List ℕ)) (bs : List ℕ) → inside ≡ true → comment ≡ false → 0 < length ks
+    → put (state (draft numbers comment ks) first count inside after_return) bs ≡ state (draft numbers comment (append_last ks bs)) first count inside after_return
 unfolding add_by
-put_kept_by line first count false comment after_return ks bs e f some = absurd (cc)
-put_kept_by line first count true true after_return ks bs e f some = absurd (cc)
-put_kept_by line first count true false after_return [] bs e f some = absurd (omega arith)
-put_kept_by line first count true false after_return (k ∷ ks) bs e f some = refl
+put_kept_by numbers first count false comment after_return ks bs e f some = absurd (cc)
+put_kept_by numbers first count true true after_return ks bs e f some = absurd (cc)
+put_kept_by numbers first count true false after_return [] bs e f some = absurd (omega arith)
+put_kept_by numbers first count true false after_return (k ∷ ks) bs e f some = refl
 
 pub put-kept : (s : State) (bs : List ℕ) → s.inside ≡ true → s.draft.comment ≡ false → 0 < length s.draft.lines
-    → put s bs ≡ state (draft s.draft.line s.draft.comment (append_last s.draft.lines bs)) s.first s.count s.inside s.after_return
-put-kept s bs e f some = put_kept_by s.draft.line s.first s.count s.inside s.draft.comment s.after_return s.draft.lines bs e f some
+    → put s bs ≡ state (draft s.draft.numbers s.draft.comment (append_last s.draft.lines bs)) s.first s.count s.inside s.after_return
+put-kept s bs e f some = put_kept_by s.draft.numbers s.first s.count s.inside s.draft.comment s.after_return s.draft.lines bs e f some
 
 pub put-outside : (s : State) (bs : List ℕ) → s.inside ≡ false → put s bs ≡ state (add s.draft (s.count + 1, bs)) s.first s.count true s.after_return
 put-outside s bs e = ap (λ (i : Bool). put (state s.draft s.first s.count i s.after_return) bs) e
@@ -415,11 +415,11 @@ begin_state = record (next_state 0) { first = true }
 
 pub gives-begin : (rest : List ℕ) → gives false begin_state rest ≡ records_from true 1 rest
 unfolding gives
-gives-begin rest = pending-fresh true 0 1 rest
+gives-begin rest = pending-fresh true none_numbered 1 rest
 
 pub closes-begin : (rest : List ℕ) → gives true begin_state rest ≡ closed_from true 1 rest
 unfolding gives
-closes-begin rest = closing-fresh true 0 1 rest
+closes-begin rest = closing-fresh true none_numbered 1 rest
 
 pub option_map-same : {A B : Type 0} (f h : A → B) (o : Option A) → ((x : A) → f x ≡ h x) → option_map f o ≡ option_map h o
 option_map-same f h None e = refl

@@ -9,7 +9,7 @@ use Rattle.std.proofs.lemmas.List.Splits.{slice_split_at}
 use Rattle.std.proofs.lemmas.List.Concat.{flat_map-append}
 use Rattle.std.proofs.lemmas.List.Elements.{All-from_recursion, All-get_or}
 use Rattle.base.specs.Ends.{begins_with}
-use Rattle.ldif_lines.specs.Records.{Body, is_blank, is_kept, bytes_of, continuation, joined, joined_block, body_of, body_of_block, with_first, records_from, records}
+use Rattle.ldif_lines.specs.Records.{Body, is_blank, is_kept, number_of, bytes_of, continuation, joined, joined_block, body_of, body_of_block, with_first, records_from, records}
 use Rattle.ldif_lines.proofs.PartLemmas.{is_feed, IsCons, split_cons}
 use Rattle.ldif_lines.specs.Folding.{folded, written_blocks, is_line_byte, IsWritable, AreWritable, raw_lines, raw_block, with_first_flag}
 
@@ -258,12 +258,13 @@ unnumbered k [] = refl
 unnumbered k (l ∷ ls) = ap (λ (x : List (List ℕ)). l ∷ x) (unnumbered (later k (pieces_at 76 l)) ls)
 
 -- the block that a record's lines make
-block_is : (k : ℕ) (l : List ℕ) (ls : List (List ℕ)) → AllByRecursion CanStand (l ∷ ls) → body_of_block (enumerate_from k (cut (l ∷ ls))) ≡ Some (record { line = k; lines = l ∷ ls })
+block_is : (k : ℕ) (l : List ℕ) (ls : List (List ℕ)) → AllByRecursion CanStand (l ∷ ls) → body_of_block (enumerate_from k (cut (l ∷ ls)))
+    ≡ Some (record { line = k; lines = l ∷ ls; numbers = k ∷ map number_of (numbered (later k (pieces_at 76 l)) ls) })
 unfolding body_of_block body_of numbered
 block_is k l ls h =
     ap (λ (x : List (ℕ × List ℕ)). body_of (filter is_kept x)) (block_joined k (l ∷ ls) h)
     ∙ ap body_of (all_kept k (l ∷ ls) h)
-    ∙ ap (λ (x : List (List ℕ)). Some (record { line = k; lines = l ∷ x })) (unnumbered (later k (pieces_at 76 l)) ls)
+    ∙ ap (λ (x : List (List ℕ)). Some (record { line = k; lines = l ∷ x; numbers = k ∷ map number_of (numbered (later k (pieces_at 76 l)) ls) })) (unnumbered (later k (pieces_at 76 l)) ls)
 
 -- ---- all records
 

@@ -6,7 +6,6 @@ ghost use Rattle.ldif_lines.specs.View.{view};
 ghost use Rattle.ldif_lines.specs.inner.States.{ends_with_return};
 ghost use Rattle.std.specs.Str.Lines.{strip_carriage_return};
 
-use crate::lines::Lines;
 use crate::raw_record::RawRecord;
 use base::begins_with;
 use std::alloc::{AllocError, Global};
@@ -30,6 +29,7 @@ pub struct RecordDraft {
     /// Whether bytes of the line were taken.
     pub in_line: bool,
     ghost kept: { in_line ≡ true → in_comment ≡ false → 0 < length record.lines },
+    ghost numbered: { length record.numbers.items ≡ length record.lines },
 }
 
 // A call of its own, so that no other crate proves it anew.
@@ -55,11 +55,7 @@ impl RecordDraft {
         ensures empty { result.record.lines ≡ [] }
     {
         RecordDraft {
-            record: RawRecord {
-                line: 0,
-                first,
-                lines: Lines::new(alloc),
-            },
+            record: RawRecord::new(alloc, first),
             in_comment: false,
             in_line: false,
         }
@@ -74,7 +70,7 @@ impl RecordDraft {
         self.in_line = false;
         self.record.line = 0;
         self.record.first = first;
-        self.record.lines.clear();
+        self.record.clear();
     }
 
     /// Takes over the memory of another record, where this one has no line.
@@ -86,9 +82,12 @@ impl RecordDraft {
                 line: _,
                 first: _,
                 mut lines,
+                mut numbers,
             } = used;
             lines.clear();
+            numbers.clear();
             self.record.lines = lines;
+            self.record.numbers = numbers;
         }
     }
 
@@ -118,7 +117,7 @@ impl RecordDraft {
         if self.record.lines.is_empty() {
             self.record.line = number;
         }
-        self.record.lines.push(line)?;
+        self.record.push(number, line)?;
         self.in_comment = false;
         self.in_line = true;
         Ok(())
@@ -213,13 +212,6 @@ impl RecordDraft {
     {
         self.in_comment = false;
         self.in_line = false;
-        mem::replace(
-            &mut self.record,
-            RawRecord {
-                line: 0,
-                first: false,
-                lines: Lines::new(alloc),
-            },
-        )
+        mem::replace(&mut self.record, RawRecord::new(alloc, false))
     }
 }

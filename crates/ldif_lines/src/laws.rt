@@ -2,7 +2,7 @@
 
 ghost use Rattle.std.specs.Prelude.{◌≡◌, ℕ, List, ◌++◌, map, true};
 ghost use Rattle.std.specs.List.{AllByRecursion};
-ghost use Rattle.ldif_lines.specs.Records.{RawRecord, records, closed_records};
+ghost use Rattle.ldif_lines.specs.Records.{RawRecord, IsNumbered, records, closed_records};
 ghost use Rattle.ldif_lines.specs.Folding.{AreWritable, written_blocks, raw_lines, raw_block, with_first_flag};
 
 /// Records that are written are read back: as many as there were, with the same lines, the first of them marked as the first.
@@ -14,4 +14,9 @@ pub fn written_blocks_are_read()
 /// The records whose closing empty line stands in a text are the first records of each text that begins with it.
 pub fn closed_records_come_first()
     ensures { (text more : List ℕ) → (rest : List RawRecord) × (records (text ++ more) ≡ closed_records text ++ rest) }
+{}
+
+/// Each line of a record that is read has the number of the text's line on which it begins.
+pub fn lines_are_numbered()
+    ensures { (text : List ℕ) → AllByRecursion IsNumbered (records text) }
 {}

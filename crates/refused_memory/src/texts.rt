@@ -9,7 +9,7 @@ use crate::written_filter::written_filter;
 use anyhow::{Error, Result};
 use dn::{NameFault, read_name, write_name};
 use filter_text::{FilterFault, read_filter};
-use ldif::{LdifFault, Lines, Mode, RawRecord, put_line, read_record};
+use ldif::{LdifFault, Mode, RawRecord, put_line, read_record};
 use schema::{Conf, PathFault, TypeId, ValueFault};
 use std::alloc::{AllocError, Global};
 use std::io::Print;
@@ -53,15 +53,13 @@ const VALUES: [&str; 2] = [
 const PLACE: &str = "CN = A value of More than a few bytes, sn=b+cn=c,dc=ex";
 
 fn raw_of(alloc: Global, text: &str) -> Result<RawRecord, AllocError> {
-    let mut lines = Lines::new(alloc);
+    let mut raw = RawRecord::new(alloc, false);
+    let mut number = 0u64;
     for line in text.as_bytes().split(|b| *b == b'\n') {
-        lines.push(line)?;
+        number = number.saturating_add(1);
+        raw.push(number, line)?;
     }
-    Ok(RawRecord {
-        line: 1,
-        first: false,
-        lines,
-    })
+    Ok(raw)
 }
 
 fn read_and_told(alloc: Global, raw: &RawRecord, mode: Mode) -> Result<Vec<u8>, AllocError> {

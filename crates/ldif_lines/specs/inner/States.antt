@@ -2,21 +2,25 @@
 use Rattle.std.specs.Prelude.{◌≡◌, slice_index, length, ◌-◌, All, ◌==◌, if◌then◌else◌, ℕ, ◌+◌, Bool, true, false, cond, List, [], ◌∷◌, ◌++◌, map, filter, Option, Some}
 use Rattle.std.specs.List.{slice_split, enumerate_from, filter_map, cons_option}
 use Rattle.std.specs.Str.Lines.{lines}
-use Rattle.ldif_lines.specs.Records.{Body, RawRecord, is_blank, is_kept, bytes_of, continuation, joined, body_of, body_of_block, with_first, but_last, whole_lines}
-use Rattle.ldif_lines.specs.inner.Drafts.{Draft, append_last, add}
+use Rattle.ldif_lines.specs.Records.{Body, RawRecord, is_blank, is_kept, number_of, bytes_of, continuation, joined, body_of, body_of_block, with_first, but_last, whole_lines}
+use Rattle.ldif_lines.specs.inner.Drafts.{Draft, Numbers, none_numbered, append_last, add}
 
 abbrev pub kept : List (ℕ × List ℕ) → List (ℕ × List ℕ)
 kept ls = filter is_kept (joined ls)
 
+-- a body of some lines, behind which no other line than these is kept
+abbrev pub with_kept : Numbers → List (List ℕ) → List (ℕ × List ℕ) → Body
+with_kept numbers lines ls = record { line = numbers.first; lines = lines ++ map bytes_of ls; numbers = numbers.all ++ map number_of ls }
+
 -- the body of a block of which a draft has these lines, and the rest of it is p
-unfoldable pub after : List (List ℕ) → ℕ → Bool → List (ℕ × List ℕ) → Option Body
-after [] line true p = body_of (kept p)
-after [] line false p = body_of_block p
-after (k ∷ ks) line true p = Some (record { line = line; lines = (k ∷ ks) ++ map bytes_of (kept p) })
-after (k ∷ ks) line false p = Some (record { line = line; lines = append_last (k ∷ ks) (continuation p) ++ map bytes_of (kept p) })
+unfoldable pub after : List (List ℕ) → Numbers → Bool → List (ℕ × List ℕ) → Option Body
+after [] numbers true p = body_of (kept p)
+after [] numbers false p = body_of_block p
+after (k ∷ ks) numbers true p = Some (with_kept numbers (k ∷ ks) (kept p))
+after (k ∷ ks) numbers false p = Some (with_kept numbers (append_last (k ∷ ks) (continuation p)) (kept p))
 
 abbrev pub body_after : Draft → List (ℕ × List ℕ) → Option Body
-body_after d p = after d.lines d.line d.comment p
+body_after d p = after d.lines d.numbers d.comment p
 
 unfoldable pub in_blocks : Bool → Draft → List (List (ℕ × List ℕ)) → List RawRecord
 in_blocks first d [] = []
@@ -62,11 +66,11 @@ settle s = if s.after_return then put (record s { after_return = false }) (13 �
 
 -- the record that is read, as it is
 abbrev pub raw_of : State → RawRecord
-raw_of s = record { line = s.draft.line; first = s.first; lines = s.draft.lines }
+raw_of s = record { line = s.draft.numbers.first; first = s.first; lines = s.draft.lines; numbers = s.draft.numbers.all }
 
 -- after a record
 abbrev pub next_state : ℕ → State
-next_state count = record { draft = record { line = 0; comment = false; lines = [] }; first = false; count = count; inside = false; after_return = false }
+next_state count = record { draft = record { numbers = none_numbered; comment = false; lines = [] }; first = false; count = count; inside = false; after_return = false }
 
 abbrev pub HasNoFeed : List ℕ → Type 0
 HasNoFeed xs = All (λ b. (b == 10) ≡ false) xs

@@ -6,7 +6,7 @@ use Rattle.ldif_lines.specs.declared.draft.RecordDraft.{RecordDraft}
 use Rattle.ldif_lines.specs.declared.taken.Taken.{Taken}
 
 abbrev pub draft_of : RecordDraft → Draft
-draft_of d = record { line = d.record.line; comment = d.in_comment; lines = d.record.lines }
+draft_of d = record { numbers = record { first = d.record.line; all = d.record.numbers.items }; comment = d.in_comment; lines = d.record.lines }
 
 -- the state after this many lines, where a carriage return may have come last
 abbrev pub state_of : RecordDraft → Bool → ℕ → State

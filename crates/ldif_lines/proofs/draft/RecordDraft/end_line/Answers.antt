@@ -25,4 +25,4 @@ returns-clause-goes_on c = λ e after_return count only rest.
     let s = state_of m after_return count in
     let none : length s.draft.lines ≡ 0 = grind (arith, nat_tests) in
     gives-skip only s rest c.if-self.false none
-    ∙ ap (λ (i : Bool). gives only (state (draft s.draft.line false s.draft.lines) s.first (count + 1) i false) rest) (sym c.if-self.false)
+    ∙ ap (λ (i : Bool). gives only (state (draft s.draft.numbers false s.draft.lines) s.first (count + 1) i false) rest) (sym c.if-self.false)

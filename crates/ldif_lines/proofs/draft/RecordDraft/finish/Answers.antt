@@ -15,7 +15,7 @@ returns-then-is_empty-clause-none c = λ h count e.
     let none : length t.draft.lines ≡ 0 = grind (arith, nat_tests) in
     let kept : m.in_line ≡ true → m.in_comment ≡ false → 0 < length t.draft.lines = λ i j. omega (arith, m.kept i j) in (
       gives-settle_end s ∙ ap (λ (u : State). gives false u []) (sym after) ∙ over-none t refl kept none,
-      over-none (state (draft t.draft.line false t.draft.lines) t.first count false false) refl (λ i. absurd (cc)) none,
+      over-none (state (draft t.draft.numbers false t.draft.lines) t.first count false false) refl (λ i. absurd (cc)) none,
     )
 
 pub returns-clause-some : goal.returns-clause-some

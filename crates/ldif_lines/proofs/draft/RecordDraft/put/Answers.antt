@@ -12,5 +12,5 @@ returns c = λ after_return count e.
     let m = c.args.self.now in
     let s = state_of m after_return count in
     let some : 0 < length s.draft.lines = omega (arith, m.kept c.if-not-self.false c.if-self.false) in
-    ap (λ (ls : List (List ℕ)). state (draft s.draft.line s.draft.comment ls) s.first s.count s.inside s.after_return) c.in_ok-extend_last.ensures.put
+    ap (λ (ls : List (List ℕ)). state (draft s.draft.numbers s.draft.comment ls) s.first s.count s.inside s.after_return) c.in_ok-extend_last.ensures.put
     ∙ sym (put-kept s c.args.bytes.now c.if-not-self.false c.if-self.false some)
