@@ -6,3 +6,4 @@ pub mod MoveLemmas
 pub mod WrittenLemmas
 pub mod ClosedLemmas
 pub mod NumberLemmas
+pub mod SearchLemmas

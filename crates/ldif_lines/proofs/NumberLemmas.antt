@@ -1,9 +1,9 @@
 -- The numbers of the lines of a record.
-use Rattle.std.proofs.Common.{◌≡◌, ℕ, suc, Bool, true, false, List, [], ◌∷◌, filter, length, refl, sym, ap, ◌∙◌}
+use Rattle.std.proofs.Common.{ℕ, suc, Bool, true, false, List, [], ◌∷◌, filter, refl, sym, ap, ◌∙◌}
 use Rattle.std.specs.List.{slice_split, enumerate_from, filter_map, cons_option, AllByRecursion}
 use Rattle.std.specs.Str.Lines.{lines}
 use Rattle.std.proofs.lemmas.List.{length-map}
-use Rattle.ldif_lines.specs.Records.{Body, RawRecord, IsNumbered, is_blank, is_kept, number_of, bytes_of, joined_block, body_of, body_of_block, with_first, records_from, records}
+use Rattle.ldif_lines.specs.Records.{Body, IsNumbered, is_blank, is_kept, number_of, bytes_of, joined_block, body_of, body_of_block, with_first, records_from, records}
 
 one_more : (first : Bool) (ls : List (ℕ × List ℕ)) (rest : List Body) → ((b : Bool) → AllByRecursion IsNumbered (with_first b rest)) → AllByRecursion IsNumbered (with_first first (cons_option (body_of ls) rest))
 unfolding with_first body_of

@@ -1,7 +1,7 @@
 //! A record that is read up to some place.
 
-ghost use Rattle.std.specs.Prelude.{◌≡◌, ◌<◌, ◌≤◌, ◌-◌, ◌+◌, ◌^◌, [], ℕ, true, false, length, OnOk, IfOk, Ok, All, ◌==◌, take};
-ghost use Rattle.ldif_lines.specs.inner.Drafts.{add, append_last};
+ghost use Rattle.std.specs.Prelude.{◌≡◌, ◌<◌, ◌-◌, ◌+◌, [], ℕ, true, false, length, OnOk, IfOk, Ok, take};
+ghost use Rattle.ldif_lines.specs.inner.Drafts.{add};
 ghost use Rattle.ldif_lines.specs.View.{view};
 ghost use Rattle.ldif_lines.specs.inner.States.{ends_with_return};
 ghost use Rattle.std.specs.Str.Lines.{strip_carriage_return};
@@ -45,7 +45,7 @@ impl Drop for RecordDraft {
 
 impl RecordDraft {
     ghost use Rattle.ldif_lines.specs.inner.View.{draft_of, state_of};
-    ghost use Rattle.ldif_lines.specs.inner.States.{State, settle, raw_of, next_state, HasNoFeed};
+    ghost use Rattle.ldif_lines.specs.inner.States.{settle, raw_of, next_state, HasNoFeed};
     ghost use Rattle.ldif_lines.specs.inner.DraftSteps.{HasMore, GoesOnBehindLine, EndsWithLine, EndsWithNone, EndsWithOne};
     ghost use Rattle.ldif_lines.specs.inner.Moves.{GoesOn};
 

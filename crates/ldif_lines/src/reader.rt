@@ -1,13 +1,12 @@
 //! The records of a source, one a call.
 
-ghost use Rattle.std.specs.Prelude.{◌≡◌, ◌<◌, ◌≤◌, ◌+◌, ◌-◌, ◌^◌, ◌∷◌, ◌↔◌, ◌⊎◌, [], true, false, length, IfOk, OnOk, OnErr, IfSome, Ok, Err, None, option_map};
+ghost use Rattle.std.specs.Prelude.{◌≡◌, ◌<◌, ◌≤◌, ◌+◌, ◌-◌, ◌^◌, ◌∷◌, [], true, false, length, OnOk, OnErr, Ok, Err, None, option_map};
 ghost use Rattle.std.specs.Option.{ForSome};
 ghost use Rattle.std.specs.Io.KnownBytes.{IsAtEnd};
 ghost use Rattle.std.specs.List.{sum_by};
-ghost use Rattle.device.specs.Device.{GaveSome, PullFailed};
+ghost use Rattle.device.specs.Device.{PullFailed};
 ghost use Rattle.ldif_lines.specs.Records.{records};
 ghost use Rattle.ldif_lines.specs.View.{view};
-ghost use Rattle.ldif_lines.specs.inner.Moves.{Broken};
 ghost use Rattle.ldif_lines.specs.inner.States.{gives, raw_of};
 
 use crate::draft::RecordDraft;
@@ -97,9 +96,9 @@ impl<S: Source, T: Drop> Drop for Reader<'_, S, T> {
 }
 
 impl<'a, S: Source> Reader<'a, S> {
-    ghost use Rattle.ldif_lines.specs.Reader.{Takes, IsEnd, source_of, loan_of, is_failed, has_ended, unread, next_is_first, next_number, lines_begun, records_left, bytes_left, AtSamePlace};
-    ghost use Rattle.ldif_lines.specs.Pulls.{closed_in, TakesBlock, TakesRest, Breaks};
-    ghost use Rattle.ldif_lines.specs.inner.ReaderStates.{state, Moves, EndsItsBlock, Drains, HoldsPulled};
+    ghost use Rattle.ldif_lines.specs.Reader.{source_of, loan_of, is_failed, has_ended, unread, next_is_first, next_number, lines_begun, records_left, bytes_left, AtSamePlace};
+    ghost use Rattle.ldif_lines.specs.Steps.{KeepsToSource, TellsRecord, TellsFault};
+    ghost use Rattle.ldif_lines.specs.inner.ReaderStates.{state, Moves, EndsItsBlock, HoldsPulled, LeavesSource, LeavesRecord, Searched, TellsEnd, TellsWhy};
 
     /// A reader of the records of what is left of `source`.
     #[tactic(auto, unfolding(crate::specs::Reader::records_left, crate::specs::Reader::bytes_left))]
@@ -130,11 +129,7 @@ impl<'a, S: Source> Reader<'a, S> {
     /// Takes held bytes up to a line's end or the last: whether a record ends there.
     fn advance(&mut self) -> Result<bool, AllocError>
         requires { self.old.at < self.old.end }
-        ensures same_loan { loan_of self.new ≡ loan_of self.old }
-        ensures source { source_of self.new ≡ source_of self.old }
-        ensures first { self.new.first ≡ self.old.first }
-        ensures failed { self.new.failed ≡ self.old.failed }
-        ensures at_end { self.new.at_end ≡ self.old.at_end }
+        ensures kept { LeavesSource self.old self.new }
         ensures falls { OnOk result (self.old.at < self.new.at) }
         ensures end { self.new.end ≡ self.old.end }
         ensures moved { result ≡ Ok false → Moves S.seen self.old self.new }
@@ -160,10 +155,7 @@ impl<'a, S: Source> Reader<'a, S> {
     fn pull(&mut self) -> Result<bool, Device>
         requires fine { (S.seen (source_of self.old)).failed < 2 ^ 64 - 1 }
         requires none { self.old.end ≤ self.old.at }
-        ensures same_loan { loan_of self.new ≡ loan_of self.old }
-        ensures first { self.new.first ≡ self.old.first }
-        ensures failed { self.new.failed ≡ self.old.failed }
-        ensures same { (state self.new ≡ state self.old) × (self.new.after_return ≡ self.old.after_return) × (self.new.count ≡ self.old.count) }
+        ensures kept { LeavesRecord self.old self.new }
         ensures moved { OnOk result (Moves S.seen self.old self.new) }
         ensures some { result ≡ Ok true → HoldsPulled S.seen self.old self.new }
         ensures fits { OnOk result ((S.seen (source_of self.new)).pulled < 2 ^ 64) }
@@ -186,11 +178,7 @@ impl<'a, S: Source> Reader<'a, S> {
     fn last(&mut self) -> Result<bool, AllocError>
         requires none { self.old.end ≤ self.old.at }
         requires fits { (S.seen (source_of self.old)).pulled < 2 ^ 64 }
-        ensures same_loan { loan_of self.new ≡ loan_of self.old }
-        ensures source { source_of self.new ≡ source_of self.old }
-        ensures first { self.new.first ≡ self.old.first }
-        ensures failed { self.new.failed ≡ self.old.failed }
-        ensures at_end { self.new.at_end ≡ self.old.at_end }
+        ensures kept { LeavesSource self.old self.new }
         ensures unread { unread self.new ≡ unread self.old }
         ensures settled { OnOk result (self.new.after_return ≡ false) }
         ensures none { result ≡ Ok false → (gives false (state self.old) [] ≡ []) × (gives false (state self.new) [] ≡ []) × (lines_begun self.new ≡ []) }
@@ -208,23 +196,9 @@ impl<'a, S: Source> Reader<'a, S> {
     /// Goes on to the end of a record.
     fn find(&mut self) -> Result<Found, ReadFault>
         requires { (S.seen (source_of self.old)).failed < 2 ^ 64 - 1 }
-        ensures same_loan { loan_of self.new ≡ loan_of self.old }
-        ensures closed { result ≡ Ok Found.Closed → EndsItsBlock S.seen self.old self.new }
-        ensures last { result ≡ Ok Found.Last → Drains S.seen self.old self.new (raw_of (state self.new) ∷ []) }
-        ensures nothing { result ≡ Ok Found.Nothing → Drains S.seen self.old self.new [] × (gives false (state self.new) [] ≡ []) × (lines_begun self.new ≡ []) }
-        ensures settled { OnOk result (self.new.after_return ≡ false) }
-        ensures device { result ≡ Err ReadFault.Device → Broken (S.seen (source_of self.old)) (S.seen (source_of self.new)) (unread self.old) (state self.old) }
-        ensures memory { result ≡ Err ReadFault.OutOfMemory → (S.seen (source_of self.new)).failed ≡ (S.seen (source_of self.old)).failed }
-        ensures never { result ≡ Err ReadFault.Failed → ⊥ }
-        ensures gave { GaveSome (S.seen (source_of self.old)) (S.seen (source_of self.new)) }
-        ensures failed { self.new.failed ≡ self.old.failed }
-        ensures first { self.new.first ≡ self.old.first }
-        ensures at_end { result ≡ Ok Found.Closed → self.new.at_end ≡ self.old.at_end }
-        ensures ended { (result ≡ Ok Found.Last ⊎ result ≡ Ok Found.Nothing) → self.new.at_end ≡ true }
-        ensures before_end { result ≡ Err ReadFault.Device → self.old.at_end ≡ false }
-        ensures behind_end { self.old.at_end ≡ true → source_of self.new ≡ source_of self.old }
-        ensures late { (source_of self.new ≡ source_of self.old) ⊎ (gives true (state self.old) (unread self.old) ≡ []) }
-        ensures fits { OnOk result ((S.seen (source_of self.old)).pulled < (S.seen (source_of self.new)).pulled → (S.seen (source_of self.new)).pulled < 2 ^ 64) }
+        ensures kept { Searched S.seen self.old self.new }
+        ensures found { TellsEnd S.seen self.old self.new result }
+        ensures fault { TellsWhy S.seen self.old self.new result }
     {
         loop {
             if self.at < self.end {
@@ -270,28 +244,9 @@ impl<'a, S: Source> Reader<'a, S> {
     /// `OutOfMemory` where memory is wanted, and `Failed` for each call after either of them, which leaves the source as it is.
     pub fn next(&mut self) -> Result<Option<RawRecord>, ReadFault>
         requires { (S.seen (source_of self.old)).failed < 2 ^ 64 - 1 }
-        ensures same_loan { loan_of self.new ≡ loan_of self.old }
-        ensures record { IfOk result (λ o. IfSome o (λ r. Takes (records_left S.seen self.old) (records_left S.seen self.new) (view r ∷ []))) }
-        ensures end { result ≡ Ok None → IsEnd (records_left S.seen self.old) × IsEnd (records_left S.seen self.new) }
-        ensures falls { IfOk result (λ o. IfSome o (λ _. bytes_left S.seen self.new < bytes_left S.seen self.old)) }
-        ensures more { IfOk result (λ o. IfSome o (λ _. 0 < bytes_left S.seen self.new)) }
-        ensures going { OnOk result ((S.seen (source_of self.new)).failed ≡ (S.seen (source_of self.old)).failed) }
-        ensures device { result ≡ Err ReadFault.Device → (S.seen (source_of self.new)).failed ≡ (S.seen (source_of self.old)).failed + 1 }
-        ensures memory { result ≡ Err ReadFault.OutOfMemory → (S.seen (source_of self.new)).failed ≡ (S.seen (source_of self.old)).failed }
-        ensures failed { (result ≡ Err ReadFault.Failed) ↔ (is_failed self.old ≡ true) }
-        ensures untouched { result ≡ Err ReadFault.Failed → source_of self.new ≡ source_of self.old }
-        ensures gave { GaveSome (S.seen (source_of self.old)) (S.seen (source_of self.new)) }
-        ensures for_good { OnErr result (is_failed self.new ≡ true) }
-        ensures still_good { OnOk result (is_failed self.new ≡ false) }
-
-        // What was pulled: up to the record's end, and at most a piece beyond it.
-        ensures took { IfOk result (λ o. IfSome o (λ r. TakesBlock S.seen self.old self.new (view r) ⊎ TakesRest S.seen self.old self.new (view r ∷ []))) }
-        ensures rest { result ≡ Ok None → TakesRest S.seen self.old self.new [] }
-        ensures piece { length (unread self.new) ≤ 8192 }
-        ensures breaks { result ≡ Err ReadFault.Device → Breaks S.seen self.old self.new }
-        ensures behind_end { has_ended self.old ≡ true → source_of self.new ≡ source_of self.old }
-        ensures left_alone { (source_of self.new ≡ source_of self.old) ⊎ (closed_in self.old (unread self.old) ≡ []) }
-        ensures begun { OnOk result (lines_begun self.new ≡ []) }
+        ensures source { KeepsToSource S.seen self.old self.new }
+        ensures told { TellsRecord S.seen self.old self.new result }
+        ensures fault { TellsFault S.seen self.old self.new result }
     {
         if self.failed {
             return Err(ReadFault::Failed);

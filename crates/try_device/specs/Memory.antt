@@ -1,7 +1,8 @@
 -- What is seen of the sources and sinks in memory.
-use Rattle.std.specs.Prelude.{ℕ, ◌+◌, ◌<◌, ◌≤◌, Option, None, Some, nat_le, length, drop, vec_len}
+use Rattle.std.specs.Prelude.{◌≡◌, ℕ, ◌+◌, ◌<◌, ◌≤◌, ◌↔◌, ◌⊎◌, Option, None, Some, IfSome, MatchOption, Result, IfOk, IsOk, IsErr, OnOk, OnErr, nat_le, length, drop, vec_len}
 use Rattle.std.specs.Vec.{vec_capacity}
 use Rattle.device.specs.Device.{Seen, Written}
+use Rattle.device.specs.declared.source.Device.{Device}
 use Rattle.try_device.specs.declared.memory.TrySource.{TrySource}
 use Rattle.try_device.specs.declared.memory.TrySink.{TrySink}
 
@@ -37,3 +38,20 @@ LacksRoom s len = (sink_room s < vec_len s.bytes + len) × (sink_room s < vec_le
 abbrev pub IsSpent : Option ℕ → ℕ → Type 0
 IsSpent None count = ⊥
 IsSpent (Some limit) count = limit ≤ count
+
+-- how few bytes a pull gives, and when it fails
+pub record PullsByLimit (old new : TrySource) (answer : Result ℕ Device) : Type 0 where
+  pub most : source_most new ≡ source_most old
+  pub few : IfOk answer (λ n. n ≤ source_most old)
+  pub limit : source_limit new ≡ source_limit old
+  pub fails : MatchOption (source_limit old) (IsOk answer) (λ limit. IsErr answer ↔ (limit ≤ (source_seen old).pulled))
+  pub within : IfSome (source_limit old) (λ limit. OnOk answer ((source_seen new).pulled ≤ limit))
+
+-- how few bytes a push takes, and when it fails: at its limit, or where it wants more memory for so many bytes
+pub record PushesByLimit (old new : TrySink) (len : ℕ) (answer : Result ℕ Device) : Type 0 where
+  pub most : sink_most new ≡ sink_most old
+  pub few : IfOk answer (λ n. n ≤ sink_most old)
+  pub limit : sink_limit new ≡ sink_limit old
+  pub fails : IsSpent (sink_limit old) (sink_written old).count → IsErr answer
+  pub only : OnErr answer (IsSpent (sink_limit old) (sink_written old).count ⊎ LacksRoom old len)
+  pub within : IfSome (sink_limit old) (λ limit. OnOk answer ((sink_written new).count ≤ limit))

@@ -1,6 +1,6 @@
 //! Bytes in memory, as a source and as a sink.
 
-ghost use Rattle.std.specs.Prelude.{◌≡◌, ◌+◌, ◌-◌, ◌^◌, ◌<◌, ◌≤◌, ◌↔◌, ◌⊎◌, true, nat_le, length, take, Some, [], IfSome, IsSome, MatchOption, IfOk, IsOk, IsErr, OnOk, OnErr};
+ghost use Rattle.std.specs.Prelude.{◌≡◌, ◌+◌, ◌-◌, ◌^◌, ◌<◌, ◌≤◌, ◌↔◌, true, nat_le, length, take, Some, [], IfSome, IsSome, MatchOption, IfOk, OnErr};
 ghost use Rattle.std.specs.Io.KnownBytes.{IsAtEnd};
 ghost use Rattle.device.specs.Device.{Gave, PullFailed, Took, PushFailed};
 
@@ -57,7 +57,7 @@ impl<'a> TrySource<'a> {
 }
 
 impl<'a> Source for TrySource<'a> {
-    ghost use Rattle.try_device.specs.Memory.{source_seen, source_most, source_limit};
+    ghost use Rattle.try_device.specs.Memory.{source_seen, PullsByLimit};
 
     ghost seen = { source_seen };
 
@@ -74,12 +74,8 @@ impl<'a> Source for TrySource<'a> {
             → ((source_seen self.new).ended ≡ true) × IsAtEnd (source_seen self.new).left) }
         ensures device { OnErr result (PullFailed (source_seen self.old) (source_seen self.new)) }
 
-        // Beside what the trait says: how few bytes come, and when it fails.
-        ensures most { source_most self.new ≡ source_most self.old }
-        ensures few { IfOk result (λ n. n ≤ source_most self.old) }
-        ensures limit { source_limit self.new ≡ source_limit self.old }
-        ensures fails { MatchOption (source_limit self.old) (IsOk result) (λ limit. IsErr result ↔ (limit ≤ (source_seen self.old).pulled)) }
-        ensures within { IfSome (source_limit self.old) (λ limit. OnOk result ((source_seen self.new).pulled ≤ limit)) }
+        // Beside what the trait says.
+        ensures limited { PullsByLimit self.old self.new result }
     {
         let Some(most) = allowed(self.most, self.fails_after, self.at) else {
             self.failures += 1;
@@ -132,7 +128,7 @@ impl TrySink {
 }
 
 impl Sink for TrySink {
-    ghost use Rattle.try_device.specs.Memory.{sink_written, sink_most, sink_limit, IsSpent, LacksRoom};
+    ghost use Rattle.try_device.specs.Memory.{sink_written, PushesByLimit};
 
     ghost written = { sink_written };
 
@@ -147,13 +143,8 @@ impl Sink for TrySink {
         ensures took { IfOk result (λ n. Took (sink_written self.old) (sink_written self.new) (take n bytes.now)) }
         ensures device { OnErr result (PushFailed (sink_written self.old) (sink_written self.new)) }
 
-        // Beside what the trait says: how few bytes go, and when it fails: at its limit, or where it wants more memory.
-        ensures most { sink_most self.new ≡ sink_most self.old }
-        ensures few { IfOk result (λ n. n ≤ sink_most self.old) }
-        ensures limit { sink_limit self.new ≡ sink_limit self.old }
-        ensures fails { IsSpent (sink_limit self.old) (sink_written self.old).count → IsErr result }
-        ensures only { OnErr result (IsSpent (sink_limit self.old) (sink_written self.old).count ⊎ LacksRoom self.old (length bytes.now)) }
-        ensures within { IfSome (sink_limit self.old) (λ limit. OnOk result ((sink_written self.new).count ≤ limit)) }
+        // Beside what the trait says.
+        ensures limited { PushesByLimit self.old self.new (length bytes.now) result }
     {
         let Some(most) = allowed(self.most, self.fails_after, self.bytes.len()) else {
             self.failures += 1;
