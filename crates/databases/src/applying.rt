@@ -9,6 +9,7 @@ ghost use Rattle.databases.specs.Runs.{outcome, outcome_of};
 
 use crate::refusal::{Outcome, RecordRefusal};
 use crate::target::Target;
+use crate::teller::Teller;
 use entries::Refusal;
 use ldif::{LdifFault, Mode, RawRecord, Record, read_record};
 use schema::Conf;
@@ -57,7 +58,7 @@ fn outcome_of<T: Target>(
 
 /// Reads a record from its lines and carries it out, or refuses it. A refusal changes no entry, nor does want of memory, which is the only error.
 #[tactic(auto, unfolding(crate::specs::Runs::outcome))]
-pub(crate) fn carry_out<T: Target>(
+fn carry_out<T: Target>(
     alloc: Global,
     target: &mut T,
     raw: &RawRecord,
@@ -75,5 +76,30 @@ pub(crate) fn carry_out<T: Target>(
         Ok(asked) => outcome_of(alloc, target, &asked, mode),
         Err(LdifFault::Fault(fault)) => Ok(Outcome::Refused(RecordRefusal::Fault(fault))),
         Err(LdifFault::OutOfMemory) => Err(AllocError),
+    }
+}
+
+/// The same as `carry_out`, with note taken of a record that is refused.
+pub(crate) fn carry_out_noted<T: Target, L: Teller>(
+    alloc: Global,
+    target: &mut T,
+    teller: &mut L,
+    raw: &RawRecord,
+    mode: Mode,
+) -> Result<Outcome, AllocError>
+    ensures same_conf { T.conf target.new ≡ T.conf target.old }
+    ensures outcome { IfOk result (λ o. outcome_of (T.conf target.old) mode (T.entries target.old) raw.now ≡ (T.entries target.new, o)) }
+    ensures err { OnErr result (T.entries target.new ≡ T.entries target.old) }
+    ensures edits { OnOk result (T.edits target.new ≡ T.edits target.old
+        + edits_read T.count_edits (T.conf target.old) mode (T.entries target.old) (reading mode raw.now.first raw.now.lines)) }
+    ensures wanting { OnErr result (RisesUpTo (2 * edits_read T.count_edits (T.conf target.old) mode (T.entries target.old)
+        (reading mode raw.now.first raw.now.lines)) (T.edits target.old) (T.edits target.new)) }
+{
+    match carry_out(alloc, target, raw, mode) {
+        Ok(Outcome::Refused(refusal)) => {
+            teller.note(alloc, target.conf(), target.tree(), raw, mode, refusal);
+            Ok(Outcome::Refused(refusal))
+        }
+        answer => answer,
     }
 }

@@ -14,8 +14,9 @@ ghost use Rattle.databases.specs.Loading.{StopsAt, PullFailures};
 ghost use Rattle.databases.specs.Runs.{LoadsRecords};
 
 use crate::applying::apply;
-use crate::loading::{LoadFault, load_tree};
+use crate::loading::{LoadFault, load_tree_telling};
 use crate::target::Target;
+use crate::teller::{Silent, Teller};
 use device::Source;
 use entries::Refusal;
 use ldif::{Mode, Record};
@@ -73,7 +74,25 @@ impl Database {
         ensures failures { PullFailures result (S.seen source.old).failed (S.seen source.new).failed }
         ensures gave { GaveSome (S.seen source.old) (S.seen source.new) }
     {
-        match load_tree(alloc, &conf, source) {
+        Database::load_telling(alloc, conf, source, &mut Silent)
+    }
+
+    /// The same as `load`, with note taken of the record that is refused.
+    pub fn load_telling<S: Source, T: Teller>(
+        alloc: Global,
+        conf: Conf,
+        source: &mut S,
+        teller: &mut T,
+    ) -> Result<Database, LoadFault>
+        requires { (S.seen source.old).failed < 2 ^ 64 - 1 }
+        ensures same_conf { IfOk result (λ d. d.conf ≡ conf) }
+        ensures loads { IfOk result (λ d. Over (option_map records (S.seen source.old).left) (λ given. LoadsRecords conf finite.empty given d.entries)) }
+        ensures stops { IfErr result (λ f. StopsAt f conf finite.empty (option_map records (S.seen source.old).left)) }
+        ensures read { result ≡ Err LoadFault.Read → LoadedUpTo closed_records conf finite.empty (S.seen source.old) (S.seen source.new) }
+        ensures failures { PullFailures result (S.seen source.old).failed (S.seen source.new).failed }
+        ensures gave { GaveSome (S.seen source.old) (S.seen source.new) }
+    {
+        match load_tree_telling(alloc, &conf, source, teller) {
             Ok(tree) => Ok(Database { conf, tree }),
             Err(fault) => Err(fault),
         }
@@ -122,6 +141,14 @@ impl Target for Database {
     ghost edits = { λ _. 0 };
 
     ghost count_edits = { λ _ _ _ _. 0 };
+
+    fn conf(&self) -> &Conf {
+        &self.conf
+    }
+
+    fn tree(&self) -> &Tree {
+        &self.tree
+    }
 
     fn carry_out(&mut self, alloc: Global, asked: &Record<'_>, mode: Mode) -> Result<(), Refusal> {
         apply(alloc, &mut self.tree, &self.conf, asked, mode)

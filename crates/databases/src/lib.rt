@@ -25,6 +25,7 @@ mod searching;
 mod selection;
 mod stamps;
 mod target;
+mod teller;
 
 pub use database::Database;
 pub use dump::{pass_on, pass_on_long};
@@ -33,12 +34,13 @@ pub use laws::{
     candidates_suffice, index_texts_reflect_dumps, kept_index_texts_are_read, loading_a_dump,
     ranks_are_places,
 };
-pub use loading::{LoadFault, load_tree};
+pub use loading::{LoadFault, load_tree, load_tree_telling};
 pub use paths::Scope;
 pub use refusal::{Outcome, RecordRefusal};
-pub use runs::{RunFault, Tally, run};
+pub use runs::{RunFault, Tally, run, run_telling};
 pub use scanning::{scan, search, search_by_ranks};
 pub use searching::search_with;
 pub use selection::Selection;
 pub use stamps::{Stamp, stamp_of};
 pub use target::Target;
+pub use teller::{Silent, Teller};

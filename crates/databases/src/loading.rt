@@ -15,6 +15,7 @@ use crate::applying::apply;
 use crate::refusal::{RecordRefusal, RefusedRecord};
 use crate::runs::{RunFault, run_to_ending};
 use crate::target::Target;
+use crate::teller::{Silent, Teller};
 use device::{Nowhere, Source};
 use entries::Refusal;
 use ldif::{Mode, Record};
@@ -63,6 +64,14 @@ impl Target for LoadedTree<'_> {
 
     ghost count_edits = { λ _ _ _ _. 0 };
 
+    fn conf(&self) -> &Conf {
+        self.conf
+    }
+
+    fn tree(&self) -> &Tree {
+        &self.tree
+    }
+
     fn carry_out(&mut self, alloc: Global, asked: &Record<'_>, mode: Mode) -> Result<(), Refusal> {
         apply(alloc, &mut self.tree, self.conf, asked, mode)
     }
@@ -99,6 +108,24 @@ pub fn load_tree<S: Source>(alloc: Global, conf: &Conf, source: &mut S) -> Resul
     ensures failures { PullFailures result (S.seen source.old).failed (S.seen source.new).failed }
     ensures gave { GaveSome (S.seen source.old) (S.seen source.new) }
 {
+    load_tree_telling(alloc, conf, source, &mut Silent)
+}
+
+/// The same as `load_tree`, with note taken of the record that is refused.
+pub fn load_tree_telling<S: Source, T: Teller>(
+    alloc: Global,
+    conf: &Conf,
+    source: &mut S,
+    teller: &mut T,
+) -> Result<Tree, LoadFault>
+    requires { (S.seen source.old).failed < 2 ^ 64 - 1 }
+    ensures same_conf { IfOk result (λ t. t.conf ≡ conf.now) }
+    ensures loads { IfOk result (λ t. Over (option_map records (S.seen source.old).left) (λ given. LoadsRecords conf.now finite.empty given t.entries)) }
+    ensures stops { IfErr result (λ f. StopsAt f conf.now finite.empty (option_map records (S.seen source.old).left)) }
+    ensures read { result ≡ Err LoadFault.Read → LoadedUpTo closed_records conf.now finite.empty (S.seen source.old) (S.seen source.new) }
+    ensures failures { PullFailures result (S.seen source.old).failed (S.seen source.new).failed }
+    ensures gave { GaveSome (S.seen source.old) (S.seen source.new) }
+{
     let tree = Tree::new(alloc, conf);
     let mut loaded = LoadedTree { conf, tree };
     let mut unread = Nowhere::new();
@@ -107,6 +134,7 @@ pub fn load_tree<S: Source>(alloc: Global, conf: &Conf, source: &mut S) -> Resul
         &mut loaded,
         source,
         &mut unread,
+        teller,
         Mode::Content,
         false,
     );

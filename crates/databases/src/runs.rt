@@ -1,6 +1,6 @@
 //! Runs: the records of a source, carried out in turn, with a report of those that are refused.
 
-ghost use Rattle.std.specs.Prelude.{◌≡◌, ◌<◌, ◌≤◌, ◌+◌, ◌-◌, ◌^◌, false, IfOk, IfErr, OnOk, Err, option_map};
+ghost use Rattle.std.specs.Prelude.{◌≡◌, ◌<◌, ◌≤◌, ◌+◌, ◌-◌, ◌^◌, false, IfOk, IfErr, OnOk, Err, option_map, if◌then◌else◌};
 ghost use Rattle.device.specs.Device.{Took, Broke, GaveSome};
 ghost use Rattle.ldif_lines.specs.Records.{records, closed_records};
 ghost use Rattle.databases.specs.Reports.{report_line};
@@ -13,9 +13,10 @@ ghost use Rattle.databases.specs.inner.Running.{standing, HasRun, TakesStep};
 ghost use Rattle.databases.specs.inner.Endings.{tally_in, EndsAsTold};
 ghost use Rattle.ldif_lines.specs.Reader.{source_of, is_failed, records_left, bytes_left};
 
-use crate::applying::carry_out;
+use crate::applying::carry_out_noted;
 use crate::refusal::{Outcome, RefusedRecord, report_line};
 use crate::target::Target;
+use crate::teller::{Silent, Teller};
 use device::{Sink, Source, push_all};
 use ldif::{Mode, ReadFault, Reader, WriteFault};
 use std::alloc::Global;
@@ -75,10 +76,22 @@ fn write_report<W: Sink>(
     Ok(())
 }
 
-// reports a refused record, which was counted
-fn report<W: Sink>(
+// how a run goes on behind a refused record
+fn behind_report(refused: RefusedRecord, go_on: bool) -> Progress
+    ensures { result ≡ (if go_on then Progress.GoesOn else Progress.StoppedBy refused) }
+{
+    if go_on {
+        Progress::GoesOn
+    } else {
+        Progress::StoppedBy(refused)
+    }
+}
+
+// reports a refused record, which was counted, and then tells why it is refused
+fn report<W: Sink, T: Teller>(
     alloc: Global,
     sink: &mut W,
+    teller: &mut T,
     refused: RefusedRecord,
     go_on: bool,
     tally: Tally,
@@ -87,17 +100,20 @@ fn report<W: Sink>(
     ensures { Reports refused go_on tally (W.written sink.old) (W.written sink.new) result }
 {
     match write_report(alloc, sink, refused) {
-        Ok(()) if go_on => Ok(Progress::GoesOn),
-        Ok(()) => Ok(Progress::StoppedBy(refused)),
+        Ok(()) => {
+            teller.tell();
+            Ok(behind_report(refused, go_on))
+        }
         Err(WriteFault::Device) => Err(RunFault::Write(tally)),
         Err(WriteFault::OutOfMemory) => Err(RunFault::OutOfMemory(tally)),
     }
 }
 
 // counts what became of a record, and reports a refusal
-fn count<W: Sink>(
+fn count<W: Sink, T: Teller>(
     alloc: Global,
     sink: &mut W,
+    teller: &mut T,
     line: u64,
     outcome: Outcome,
     go_on: bool,
@@ -115,7 +131,14 @@ fn count<W: Sink>(
         }
         Outcome::Refused(refusal) => {
             tally.refused += 1;
-            report(alloc, sink, RefusedRecord { line, refusal }, go_on, *tally)
+            report(
+                alloc,
+                sink,
+                teller,
+                RefusedRecord { line, refusal },
+                go_on,
+                *tally,
+            )
         }
     }
 }
@@ -133,11 +156,12 @@ fn fault_of(fault: ReadFault, tally: Tally) -> RunFault
 }
 
 // carries out the next record
-fn take_record<T: Target, S: Source, W: Sink>(
+fn take_record<T: Target, S: Source, W: Sink, L: Teller>(
     alloc: Global,
     target: &mut T,
     reader: &mut Reader<'_, S>,
     sink: &mut W,
+    teller: &mut L,
     mode: Mode,
     go_on: bool,
     tally: &mut Tally,
@@ -152,10 +176,10 @@ fn take_record<T: Target, S: Source, W: Sink>(
     match reader.next() {
         Ok(Some(raw)) => {
             let line = raw.line;
-            let carried_out = carry_out(alloc, target, &raw, mode);
+            let carried_out = carry_out_noted(alloc, target, teller, &raw, mode);
             reader.reuse(raw);
             match carried_out {
-                Ok(outcome) => count(alloc, sink, line, outcome, go_on, tally),
+                Ok(outcome) => count(alloc, sink, teller, line, outcome, go_on, tally),
                 Err(_) => Err(RunFault::OutOfMemory(*tally)),
             }
         }
@@ -165,11 +189,12 @@ fn take_record<T: Target, S: Source, W: Sink>(
 }
 
 // the rest of the records
-fn run_rest<T: Target, S: Source, W: Sink>(
+fn run_rest<T: Target, S: Source, W: Sink, L: Teller>(
     alloc: Global,
     target: &mut T,
     reader: &mut Reader<'_, S>,
     sink: &mut W,
+    teller: &mut L,
     mode: Mode,
     go_on: bool,
 ) -> Result<Ending, RunFault>
@@ -186,7 +211,7 @@ fn run_rest<T: Target, S: Source, W: Sink>(
         refused: 0,
     };
     'records: loop {
-        match take_record(alloc, target, reader, sink, mode, go_on, &mut tally) {
+        match take_record(alloc, target, reader, sink, teller, mode, go_on, &mut tally) {
             Ok(Progress::GoesOn) => {}
             Ok(Progress::AtEnd) => {
                 return Ok(Ending {
@@ -206,11 +231,12 @@ fn run_rest<T: Target, S: Source, W: Sink>(
 }
 
 /// The same as `run`, with the refused record that ended the run.
-pub(crate) fn run_to_ending<T: Target, S: Source, W: Sink>(
+pub(crate) fn run_to_ending<T: Target, S: Source, W: Sink, L: Teller>(
     alloc: Global,
     target: &mut T,
     source: &mut S,
     sink: &mut W,
+    teller: &mut L,
     mode: Mode,
     go_on: bool,
 ) -> Result<Ending, RunFault>
@@ -225,7 +251,7 @@ pub(crate) fn run_to_ending<T: Target, S: Source, W: Sink>(
     ensures ending { IfOk result (EndsAsTold (T.conf target.old) mode go_on (T.entries target.old) (option_map records (S.seen source.old).left)) }
 {
     let mut reader = Reader::new(alloc, source);
-    run_rest(alloc, target, &mut reader, sink, mode, go_on)
+    run_rest(alloc, target, &mut reader, sink, teller, mode, go_on)
 }
 
 /// Carries out the records of a source in turn, on a `Database` or a directory. For each that is refused, a line with the number of the
@@ -250,7 +276,29 @@ pub fn run<T: Target, S: Source, W: Sink>(
     ensures failures { Failures result (S.seen source.old).failed (S.seen source.new).failed (W.written sink.old).failed (W.written sink.new).failed }
     ensures gave { GaveSome (S.seen source.old) (S.seen source.new) }
 {
-    match run_to_ending(alloc, target, source, sink, mode, go_on) {
+    run_telling(alloc, target, source, sink, &mut Silent, mode, go_on)
+}
+
+/// The same as `run`, where a teller tells why each refused record is refused, behind its line.
+pub fn run_telling<T: Target, S: Source, W: Sink, L: Teller>(
+    alloc: Global,
+    target: &mut T,
+    source: &mut S,
+    sink: &mut W,
+    teller: &mut L,
+    mode: Mode,
+    go_on: bool,
+) -> Result<Tally, RunFault>
+    requires source { (S.seen source.old).failed < 2 ^ 64 - 1 }
+    requires sink { (W.written sink.old).failed < 2 ^ 64 - 1 }
+    ensures same_conf { T.conf target.new ≡ T.conf target.old }
+    ensures runs { Runs (T.conf target.old) mode go_on (T.entries target.old) (T.entries target.new) (option_map records (S.seen source.old).left) result (W.written sink.old) (W.written sink.new) }
+    ensures edits { EditsRise T.count_edits (T.conf target.old) mode go_on (T.entries target.old) (T.entries target.new) (option_map records (S.seen source.old).left) result (T.edits target.old) (T.edits target.new) }
+    ensures read { IfErr result (λ f. StopsReading f closed_records (T.conf target.old) mode go_on (T.entries target.old) (T.entries target.new) (S.seen source.old) (S.seen source.new) (W.written sink.old) (W.written sink.new)) }
+    ensures failures { Failures result (S.seen source.old).failed (S.seen source.new).failed (W.written sink.old).failed (W.written sink.new).failed }
+    ensures gave { GaveSome (S.seen source.old) (S.seen source.new) }
+{
+    match run_to_ending(alloc, target, source, sink, teller, mode, go_on) {
         Ok(ending) => Ok(ending.tally),
         Err(fault) => Err(fault),
     }

@@ -5,10 +5,9 @@ ghost use Rattle.std.specs.FinMap as finite;
 ghost use Rattle.schema.specs.declared.code.Code.TheVariants.{NoSuchObject};
 ghost use Rattle.filter_text.specs.Spells.{view};
 ghost use Rattle.index_text.specs.Postings.{Shown};
-ghost use Rattle.databases.specs.Scanned.{scan, count_among};
-ghost use Rattle.databases.specs.TreeSearches.{found, counted_found};
-ghost use Rattle.databases.specs.Walks.{seen, counted, AreMade};
-ghost use Rattle.databases.specs.Found.{AreThere};
+ghost use Rattle.databases.specs.Scanned.{scan};
+ghost use Rattle.databases.specs.TreeSearches.{FindsAmong};
+ghost use Rattle.databases.specs.Walks.{seen};
 ghost use Rattle.databases.specs.Searches.{IsRefused, may_by_rank, ShowsTo, ReflectsDump, ShowsIndexText};
 
 use crate::hits::Hits;
@@ -44,18 +43,13 @@ pub fn search_with<'a, P: Postings>(
     ensures there { IfOk result (λ h. finite.contains_key tree.now.entries base.now ≡ true) }
     ensures refused { IfErr result (IsRefused tree.now.entries base.now) }
     ensures missing { finite.contains_key tree.now.entries base.now ≡ false → result ≡ Err (Refusal.Code NoSuchObject) }
-    ensures start { IfOk result (λ h. h.tested ≡ 0) }
-    ensures steps { IfOk result (λ h. map counted h.to_come ≡ counted_found tree.now (may_by_rank (P.shown postings.now) filter.now tree.now) base.now scope filter.now) }
-    ensures found { IfOk result (λ h. map seen h.to_come ≡ found tree.now (may_by_rank (P.shown postings.now) filter.now tree.now) base.now scope filter.now) }
-    ensures tested { IfOk result (λ h. h.in_the_end ≡ count_among tree.now.entries (may_by_rank (P.shown postings.now) filter.now tree.now) base.now scope) }
+    ensures finds { IfOk result (FindsAmong conf.now tree.now (may_by_rank (P.shown postings.now) filter.now tree.now) base.now scope filter.now) }
     ensures part { (whole : Shown) → ShowsTo filter.now (P.shown postings.now) whole
         → may_by_rank (P.shown postings.now) filter.now tree.now ≡ may_by_rank whole filter.now tree.now }
     ensures whole { (whole : Shown) → ShowsTo filter.now (P.shown postings.now) whole → ReflectsDump whole conf.now.types tree.now.entries
         → IfOk result (λ h. map seen h.to_come ≡ scan conf.now tree.now.entries base.now scope (view filter.now.filter)) }
     ensures index { ShowsIndexText (P.shown postings.now) conf.now tree.now.entries
         → IfOk result (λ h. map seen h.to_come ≡ scan conf.now tree.now.entries base.now scope (view filter.now.filter)) }
-    ensures made { IfOk result (λ h. AreMade conf.now.types h.to_come) }
-    ensures entries { IfOk result (λ h. AreThere tree.now.entries (map seen h.to_come)) }
 {
     asked_keys_suffice();
     brackets_hold();

@@ -1,7 +1,7 @@
 //! What the records of a run are carried out on.
 
 ghost use Rattle.std.specs.Prelude.{◌≡◌, ℕ, OnErr};
-ghost use Rattle.schema.specs.Conf.{Conf};
+ghost use Rattle.schema.specs.Conf as configurations;
 ghost use Rattle.entries.specs.Gives.{Gives};
 ghost use Rattle.tree.specs.Directories.{Entries};
 ghost use Rattle.tree.specs.Operations.{apply};
@@ -9,19 +9,29 @@ ghost use Rattle.databases.specs.RunEdits.{CountEdits, RiseBy};
 
 use entries::Refusal;
 use ldif::{Mode, Record};
+use schema::Conf;
 use std::alloc::Global;
+use tree::Tree;
 
 /// What the records of a run are carried out on: a `Database`, or a directory, which keeps an index with its entries.
 ///
 /// Contracts see of it its configuration, its entries, how many edits of its index were made, and how many of them a record makes.
 pub trait Target {
-    ghost conf: { Self → Conf };
+    ghost conf: { Self → configurations.Conf };
 
     ghost entries: { Self → Entries };
 
     ghost edits: { Self → ℕ };
 
     ghost count_edits: { CountEdits };
+
+    /// The configuration.
+    fn conf(&self) -> &Conf
+        ensures { result.now ≡ conf self.now };
+
+    /// The entries.
+    fn tree(&self) -> &Tree
+        ensures { result.now.conf ≡ conf self.now };
 
     /// Carries out a record, or refuses it with the code of the first check that fails (RFC 4511, 4.6 to 4.9). A refusal, also for want of
     /// memory, changes no entry. Edits that came before memory ran out are taken back, an edit each again.

@@ -1,20 +1,16 @@
 //! Directories.
 
-ghost use Rattle.std.specs.Prelude.{◌≡◌, ◌+◌, ◌*◌, ◌<◌, ◌-◌, ◌^◌, true, false, Err, map, IfOk, IfErr, OnErr};
+ghost use Rattle.std.specs.Prelude.{◌≡◌, ◌+◌, ◌*◌, ◌<◌, ◌-◌, ◌^◌, true, false, Err, IfOk, IfErr, OnErr};
 ghost use Rattle.std.specs.FinMap as finite;
 ghost use Rattle.tree.specs.Operations.{apply};
 ghost use Rattle.entries.specs.Gives.{Gives};
-ghost use Rattle.filter_text.specs.Spells.{view};
-ghost use Rattle.databases.specs.Scanned.{scan};
-ghost use Rattle.databases.specs.Walks.{seen, counted, AreMade};
 ghost use Rattle.directory.specs.Directories.{tree_of};
 ghost use Rattle.ldif.specs.Written.{Writes};
 ghost use Rattle.databases.specs.Runs.{LoadsBack, dump};
-ghost use Rattle.databases.specs.Found.{AreThere};
 ghost use Rattle.directory.specs.Indexes.{IsIndexOf, record_edits};
 ghost use Rattle.databases.specs.RunEdits.{RisesUpTo};
 ghost use Rattle.databases.specs.Searches.{IsRefused};
-ghost use Rattle.directory.specs.Searches.{AreSteps, IsTestCount};
+ghost use Rattle.directory.specs.Searches.{FindsByIndex};
 ghost use Rattle.schema.specs.declared.code.Code.{Code};
 ghost use Rattle.schema.specs.declared.code.Code.TheVariants.{NoSuchObject};
 
@@ -125,12 +121,7 @@ impl Directory {
         ensures there { IfOk result (λ h. finite.contains_key self.now.entries base.now ≡ true) }
         ensures refused { IfErr result (IsRefused self.now.entries base.now) }
         ensures missing { finite.contains_key self.now.entries base.now ≡ false → result ≡ Err (Refusal.Code NoSuchObject) }
-        ensures start { IfOk result (λ h. h.tested ≡ 0) }
-        ensures steps { IfOk result (λ h. AreSteps self.now.conf (tree_of self.now) filter.now base.now scope (map counted h.to_come)) }
-        ensures found { IfOk result (λ h. map seen h.to_come ≡ scan self.now.conf self.now.entries base.now scope (view filter.now.filter)) }
-        ensures tested { IfOk result (λ h. IsTestCount self.now.conf (tree_of self.now) filter.now base.now scope h.in_the_end) }
-        ensures made { IfOk result (λ h. AreMade self.now.conf.types h.to_come) }
-        ensures entries { IfOk result (λ h. AreThere self.now.entries (map seen h.to_come)) }
+        ensures finds { IfOk result (FindsByIndex self.now.conf (tree_of self.now) filter.now base.now scope) }
     {
         search_with_index(self.alloc, &self.database, &self.index, base, scope, filter)
     }
@@ -173,6 +164,14 @@ impl Target for Directory {
     ghost edits = { λ d. d.edits };
 
     ghost count_edits = { record_edits };
+
+    fn conf(&self) -> &Conf {
+        self.database.conf()
+    }
+
+    fn tree(&self) -> &Tree {
+        self.database.tree()
+    }
 
     fn carry_out(&mut self, _alloc: Global, asked: &Record<'_>, mode: Mode) -> Result<(), Refusal> {
         match self.apply(asked, mode) {

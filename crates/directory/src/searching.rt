@@ -1,15 +1,11 @@
 //! Searches of a tree with the index that is kept with it.
 
-ghost use Rattle.std.specs.Prelude.{◌≡◌, true, false, map, Err, IfOk, IfErr};
+ghost use Rattle.std.specs.Prelude.{◌≡◌, true, false, Err, IfOk, IfErr};
 ghost use Rattle.std.specs.FinMap as finite;
 ghost use Rattle.schema.specs.declared.code.Code.TheVariants.{NoSuchObject};
-ghost use Rattle.filter_text.specs.Spells.{view};
-ghost use Rattle.databases.specs.Scanned.{scan};
-ghost use Rattle.databases.specs.Walks.{seen, counted, AreMade};
-ghost use Rattle.databases.specs.Found.{AreThere};
 ghost use Rattle.directory.specs.Indexes.{IsIndexOf};
 ghost use Rattle.databases.specs.Searches.{IsRefused};
-ghost use Rattle.directory.specs.Searches.{AreSteps, IsTestCount};
+ghost use Rattle.directory.specs.Searches.{FindsByIndex};
 
 use candidates::{brackets_hold, indexes_reflect_entries, may_match};
 use databases::{Database, Hits, Scope, candidates_suffice, search};
@@ -35,12 +31,7 @@ pub(crate) fn search_with_index<'a>(
     ensures there { IfOk result (λ h. finite.contains_key database.now.entries base.now ≡ true) }
     ensures refused { IfErr result (IsRefused database.now.entries base.now) }
     ensures missing { finite.contains_key database.now.entries base.now ≡ false → result ≡ Err (Refusal.Code NoSuchObject) }
-    ensures start { IfOk result (λ h. h.tested ≡ 0) }
-    ensures steps { IfOk result (λ h. AreSteps database.now.conf database.now filter.now base.now scope (map counted h.to_come)) }
-    ensures found { IfOk result (λ h. map seen h.to_come ≡ scan database.now.conf database.now.entries base.now scope (view filter.now.filter)) }
-    ensures tested { IfOk result (λ h. IsTestCount database.now.conf database.now filter.now base.now scope h.in_the_end) }
-    ensures made { IfOk result (λ h. AreMade database.now.conf.types h.to_come) }
-    ensures entries { IfOk result (λ h. AreThere database.now.entries (map seen h.to_come)) }
+    ensures finds { IfOk result (FindsByIndex database.now.conf database.now filter.now base.now scope) }
 {
     brackets_hold();
     indexes_reflect_entries();

@@ -17,7 +17,7 @@ returns-in-Ok-write_found g c = λ said kept.
     hits_printed seen q said d c.in-Ok.hits.to_come
     (found_by_part q d part es c.requires.prepared
     (found_in q part es d c.tree.result.now c.conf.result.now c.tree.ensures c.conf.ensures
-    (record { there = c.in-Ok.ensures.there; found = c.in-Ok.ensures.found; same = c.search_with-found.ensures.part; all = c.in-Ok.ensures.whole })) said kept)
+    (record { there = c.in-Ok.ensures.there; found = c.in-Ok.ensures.finds.found; same = c.search_with-found.ensures.part; all = c.in-Ok.ensures.whole })) said kept)
     c.in-Ok-write_found.past _ _ c.in-Ok-write_found.ensures
 
 pub returns-in-Err-write_found : goal.returns-in-Err-write_found
@@ -29,7 +29,7 @@ returns-in-Err-write_found g c = λ said kept.
     hits_begun seen q said d c.in-Ok.hits.to_come
     (found_by_part q d part es c.requires.prepared
     (found_in q part es d c.tree.result.now c.conf.result.now c.tree.ensures c.conf.ensures
-    (record { there = c.in-Ok.ensures.there; found = c.in-Ok.ensures.found; same = c.search_with-found.ensures.part; all = c.in-Ok.ensures.whole })) said kept)
+    (record { there = c.in-Ok.ensures.there; found = c.in-Ok.ensures.finds.found; same = c.search_with-found.ensures.part; all = c.in-Ok.ensures.whole })) said kept)
     c.in-Err-write_found.fault c.of_output.result _ _ c.of_output.ensures c.in-Err-write_found.ensures
 
 pub returns-in-Err : goal.returns-in-Err

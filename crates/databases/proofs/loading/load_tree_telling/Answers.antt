@@ -4,7 +4,7 @@ use Rattle.tree.specs.Trees.{Tree}
 use Rattle.databases.specs.declared.loading.LoadFault.{LoadFault}
 use Rattle.databases.specs.declared.loading.LoadFault.TheVariants as load_faults
 use Rattle.databases.proofs.LoadedRecords.{read_by, says_nothing, failed_so, not_writing}
-use Rattle.databases.proofs.loading.load_tree.Goals as goal
+use Rattle.databases.proofs.loading.load_tree_telling.Goals as goal
 
 abbrev fails : LoadFault → Result Tree LoadFault
 fails f = Err f
