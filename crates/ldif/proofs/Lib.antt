@@ -22,3 +22,4 @@ pub mod Ways
 pub mod Walks
 pub mod RecordPlaces
 pub mod RecordFaultExamples
+pub mod WalkedLines

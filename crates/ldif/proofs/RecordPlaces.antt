@@ -16,9 +16,10 @@ use Rattle.ldif.specs.Places.{Place, text_start, after_version, record_start, co
 use Rattle.ldif.specs.RecordFaults.{IsFaultHere, IsRecordFault, IsWhy}
 use Rattle.ldif.proofs.ChangeForms.{AreBytes}
 use Rattle.ldif.proofs.RecordForms.{record_found, record_only}
-use Rattle.ldif.proofs.Steps.{told, dn_told, change_told, step, step_ok, ok_step, err_step}
+use Rattle.ldif.specs.Steps.{Done, told, dn_told, change_told, step, finish}
+use Rattle.ldif.proofs.Steps.{step_ok, ok_step, err_step}
 use Rattle.ldif.proofs.WrittenLines.{bytes_at}
-use Rattle.ldif.proofs.Ways.{Done, done, finish, walk, through, broken_found, broken_only}
+use Rattle.ldif.proofs.Ways.{done, walk, through, broken_found, broken_only}
 use Rattle.ldif.proofs.Walks.{fault_of, fault_is, reading_walk}
 use Rattle.base.specs.Answers.{◌>>=◌}
 

@@ -13,9 +13,10 @@ use Rattle.ldif.specs.declared.record.Op.TheVariants as ops
 use Rattle.ldif.specs.declared.record.Mode.{Mode}
 use Rattle.ldif.specs.Line.{value_line, same_name, is_word}
 use Rattle.ldif.specs.Controls.{control_of}
-use Rattle.ldif.specs.Reading.{flag_of, is_dash, op_of}
+use Rattle.ldif.specs.Reading.{flag_of, op_of}
 use Rattle.ldif.specs.Forms.{IsValueLine, IsSame, IsLineOf, IsWord, op_word, flag_word}
 use Rattle.ldif.specs.Places.{Place, text_start, after_version, record_start, contents, changes, attributes, block_start, block_values, new_name, delete_old, new_superior, over, body_place, IsChangeWord, IsDn, IsStep}
+use Rattle.ldif.specs.Steps.{dn_told, change_told, told, ends_block, step}
 use Rattle.ldif.specs.RecordFaults.{Not, IsNoChange, IsMisplaced, EndsBlock, IsFaultHere}
 use Rattle.ldif.proofs.Inverted.{chosen, okay, ok_is, good, bad, same_found, same_only, other_found, other_only, other_word}
 use Rattle.ldif.proofs.Spaces.{trimmed_found, trimmed_only}
@@ -36,42 +37,6 @@ failed_is f g e = cc
 
 pub never : {A : Type 0} (x : A) (f : LdifFaultKind) → okay x ≡ failed f → ⊥
 never x f e = cc
-
--- ---- what a line says at a place
-
-unfoldable pub dn_told : Mode → Attr → Result Place LdifFaultKind
-dn_told mode a = cond (same_name a.name (codes "dn")) (Ok (body_place mode)) (Err DnMissing)
-
-unfoldable pub change_told : List ℕ → Result Place LdifFaultKind
-change_told w =
-    cond (is_word w (codes "add")) (Ok attributes)
-    (cond (is_word w (codes "delete")) (Ok over)
-    (cond (is_word w (codes "modify")) (Ok block_start)
-    (cond (is_word w (codes "modrdn")) (Ok new_name)
-    (cond (is_word w (codes "moddn")) (Ok new_name) (Err ChangetypeUnknown)))))
-
-unfoldable pub told : Mode → Place → Attr → Result Place LdifFaultKind
-told mode text_start a = cond (same_name a.name (codes "version")) (cond (bytes_eq a.value (codes "1")) (Ok after_version) (Err Version)) (dn_told mode a)
-told mode after_version a = dn_told mode a
-told mode record_start a = dn_told mode a
-told mode contents a = cond (same_name a.name (codes "changetype")) (Err ChangetypeInContent) (Ok contents)
-told mode (changes add) a =
-    cond (same_name a.name (codes "control")) (control_of a.value >>= λ c. Ok (changes add))
-    (cond (same_name a.name (codes "changetype")) (change_told a.value) (cond add (Ok attributes) (Err ChangetypeMissing)))
-told mode attributes a = Ok attributes
-told mode block_start a = op_of a.name >>= λ op. Ok (block_values (without_end a.value))
-told mode (block_values name) a = cond (same_name a.name name) (Ok (block_values name)) (Err OtherAttribute)
-told mode new_name a = cond (same_name a.name (codes "newrdn")) (Ok delete_old) (Err PartMissing)
-told mode delete_old a = cond (same_name a.name (codes "deleteoldrdn")) (flag_of a.value >>= λ f. Ok new_superior) (Err PartMissing)
-told mode new_superior a = cond (same_name a.name (codes "newsuperior")) (Ok over) (Err StrayLine)
-told mode over a = Err StrayLine
-
-abbrev pub ends_block : Place → List ℕ → Bool
-ends_block (block_values name) l = is_dash l
-ends_block _ l = false
-
-unfoldable pub step : Mode → Place → List ℕ → Result Place LdifFaultKind
-step mode p l = cond (ends_block p l) (Ok block_start) (value_line l >>= told mode p)
 
 -- ---- words
 

@@ -15,8 +15,8 @@ use Rattle.ldif.specs.Controls.{control_of}
 use Rattle.ldif.specs.Reading.{content_line, part, nothing_more, new_superior_of, flag_of, delete_old_of, controls_of, is_dash, blocks, op_of, block, renaming, change, after_controls, body, entry, after_version, first_of_text, reading}
 use Rattle.ldif.specs.Places as places
 use Rattle.ldif.specs.Places.{Place, start, body_place}
-use Rattle.ldif.proofs.Steps.{step, told, dn_told, change_told}
-use Rattle.ldif.proofs.Ways.{Done, done, finish, walk}
+use Rattle.ldif.specs.Steps.{Done, step, told, dn_told, change_told, finish}
+use Rattle.ldif.proofs.Ways.{done, walk}
 use Rattle.ldif.proofs.RecordLines.{Lines, old, old_tail, old_by, new_tail, new_by, read_blocks, read_values, values_line, values_dash, with_value, block_tail, blocks_line, blocks_dash, dash_line, first_values, made, untyped, typed, tail, changes, changes_by}
 use Rattle.base.specs.Answers.{◌>>=◌, each}
 use Rattle.base.specs.Ends.{without_end}

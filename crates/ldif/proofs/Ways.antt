@@ -7,28 +7,12 @@ use Rattle.ldif.specs.declared.record.Mode.{Mode}
 use Rattle.ldif.specs.Places.{Place, text_start, after_version, record_start, contents, changes, attributes, block_start, block_values, new_name, delete_old, new_superior, over, IsStep, IsWay}
 use Rattle.ldif.specs.RecordFaults.{IsFaultHere, IsUnfinished, IsBroken}
 use Rattle.ldif.proofs.ChangeForms.{AreBytes, bytes_front, bytes_back}
-use Rattle.ldif.proofs.Steps.{failed, failed_is, never, step, step_ok, step_err, ok_step, err_step}
+use Rattle.ldif.specs.Steps.{Done, finish, step}
+use Rattle.ldif.proofs.Steps.{failed, failed_is, never, step_ok, step_err, ok_step, err_step}
 use Rattle.base.specs.Answers.{◌>>=◌}
-
-abbrev pub Done : Type 0
-Done = Result (Unit {0}) LdifFaultKind
 
 abbrev pub done : Done
 done = Ok tt
-
-unfoldable pub finish : Place → Done
-finish text_start = Err DnMissing
-finish after_version = Ok tt
-finish record_start = Err DnMissing
-finish contents = Ok tt
-finish (changes add) = cond add (Ok tt) (Err ChangetypeMissing)
-finish attributes = Ok tt
-finish block_start = Ok tt
-finish (block_values name) = Ok tt
-finish new_name = Err PartMissing
-finish delete_old = Err PartMissing
-finish new_superior = Ok tt
-finish over = Ok tt
 
 unfoldable pub walk : Mode → Place → List (List ℕ) → Done
 walk mode p [] = finish p
@@ -46,7 +30,7 @@ changes_end : (add : Bool) (f : LdifFaultKind) → cond add done (Err Changetype
 changes_end true f e = absurd (none f e)
 changes_end false f e = (is_fault f ChangetypeMissing e, refl)
 
-unfinished : (p : Place) (f : LdifFaultKind) → finish p ≡ Err f → IsUnfinished p f
+pub unfinished : (p : Place) (f : LdifFaultKind) → finish p ≡ Err f → IsUnfinished p f
 unfolding finish
 unfinished text_start f e = is_fault f DnMissing e
 unfinished after_version f e = absurd (none f e)
@@ -114,7 +98,7 @@ module _ (mode : Mode) where
   unfolding walk
   stops p l ls f bytes h = ap (λ (r : Result Place LdifFaultKind). r >>= λ q. walk mode q ls) (err_step mode p l bytes f h)
 
-  all_through : (p q : Place) (ls : List (List ℕ)) → AreBytes ls → IsWay mode p ls q → walk mode p ls ≡ finish q
+  pub all_through : (p q : Place) (ls : List (List ℕ)) → AreBytes ls → IsWay mode p ls q → walk mode p ls ≡ finish q
   unfolding walk
   all_through p q [] bytes e = ap finish e
   all_through p q (l ∷ ls) bytes (next, s, way) = ap (λ (r : Result Place LdifFaultKind). r >>= λ q. walk mode q ls) (ok_step mode p l bytes.0 next s) ∙ all_through next q ls bytes.1 way

@@ -12,3 +12,6 @@ pub mod Forms
 pub mod LineFaults
 pub mod Places
 pub mod RecordFaults
+pub mod Steps
+pub mod Dues
+pub mod FaultPlaces
