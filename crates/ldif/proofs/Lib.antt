@@ -23,3 +23,5 @@ pub mod Walks
 pub mod RecordPlaces
 pub mod RecordFaultExamples
 pub mod WalkedLines
+pub mod PartPlaces
+pub mod PartExamples

@@ -15,3 +15,5 @@ pub mod RecordFaults
 pub mod Steps
 pub mod Dues
 pub mod FaultPlaces
+pub mod Parts
+pub mod PartLines

@@ -52,7 +52,7 @@ fn colons(bytes: u8x16) -> u64
 }
 
 // In most lines it is one of the first 16 bytes.
-fn colon_in(line: &[u8]) -> Option<usize>
+pub(crate) fn colon_in(line: &[u8]) -> Option<usize>
     ensures at { result ≡ position is_colon line.now }
     ensures within { IfSome result (λ at. at < length line.now) }
 {
