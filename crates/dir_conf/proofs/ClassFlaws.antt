@@ -31,13 +31,13 @@ abbrev fine : {A : Type 0} → A → Result A At
 fine x = Ok x
 
 module _ (s : Defined) (d : ClassDefinition) where
-  abbrev are_classes : List (List ℕ) → Bool
+  abbrev pub are_classes : List (List ℕ) → Bool
   are_classes = list_all (is_class s.classes)
 
-  abbrev are_types : List (List ℕ) → Bool
+  abbrev pub are_types : List (List ℕ) → Bool
   are_types = list_all (is_type s.types)
 
-  abbrev class_test : ConfFaultKind → Bool
+  abbrev pub class_test : ConfFaultKind → Bool
   class_test Twice = is_class_taken s.classes d.element
   class_test UnknownName = not (are_classes d.superiors) || (not (are_types d.must) || not (are_types d.may))
   class_test Keyword = false

@@ -16,7 +16,7 @@ use Rattle.dir_conf.proofs.LineWords.{type_word, class_word, no_other, says_some
 use Rattle.dir_conf.proofs.TypeFlaws.{TypesRead, type_faulty, type_fails}
 use Rattle.dir_conf.proofs.ClassFlaws.{ClassesRead, class_faulty, class_fails}
 
-abbrev Outcome : Type 0
+abbrev pub Outcome : Type 0
 Outcome = Result Defined At
 
 abbrev types_failed : At → Result (List AttributeType) At
@@ -27,21 +27,21 @@ with_types-err s (Ok types) e h = absurd cc
 with_types-err s (Err f) e h = ap types_failed (same_err {A = Defined} f e h)
 
 module _ (types_read : TypesRead) (classes_read : ClassesRead) (s : Defined) (l : Line) where
-  abbrev of_type : Outcome
+  abbrev pub of_type : Outcome
   of_type = with_types s (placed s.types l.number (type_definition_of (after_word l.text)))
 
-  abbrev of_class : Outcome
+  abbrev pub of_class : Outcome
   of_class = class_placed s l.number (class_definition_of (after_word l.text))
 
-  abbrev failed : ConfFaultKind → Outcome
+  abbrev pub failed : ConfFaultKind → Outcome
   failed kind = Err (l.number, kind)
 
   -- by what the line begins with
-  abbrev line_by : Bool → Bool → Bool → Bool → Bool → Bool → Outcome
+  abbrev pub line_by : Bool → Bool → Bool → Bool → Bool → Bool → Outcome
   line_by nothing blank suffix index ty class =
       cond nothing (Ok s) (cond blank (failed Form) (cond (suffix || index) (Ok s) (cond ty of_type (cond class of_class (failed Keyword)))))
 
-  line_is : definition_line s l ≡ line_by (says_nothing l.text) (begins_blank l.text) (is_first (codes "suffix") l.text) (is_first (codes "index") l.text) (is_first (codes "attributetype") l.text) (is_first (codes "objectclass") l.text)
+  pub line_is : definition_line s l ≡ line_by (says_nothing l.text) (begins_blank l.text) (is_first (codes "suffix") l.text) (is_first (codes "index") l.text) (is_first (codes "attributetype") l.text) (is_first (codes "objectclass") l.text)
   unfolding definition_line
   line_is = refl
 

@@ -39,7 +39,7 @@ split = slice_split is_comma
 abbrev gap : List (List ℕ) → Bool
 gap parts = list_any is_empty parts
 
-abbrev listed : List (List ℕ) → Option Lists
+abbrev pub listed : List (List ℕ) → Option Lists
 listed [] = None
 listed (a ∷ []) = None
 listed (a ∷ b ∷ []) = unless_gap (gap (split a) || gap (split b)) (split a, split b)
@@ -48,7 +48,7 @@ listed (a ∷ b ∷ c ∷ others) = None
 same_lists : (a b : Lists) → ◌≡◌ {A = Option Lists} (Some a) (Some b) → a ≡ b
 same_lists a b e = cc
 
-lists_are : (text : List ℕ) (ws : List (List ℕ)) → words text ≡ ws → (lists : Lists) → listed ws ≡ Some lists → AreListed text lists.0 lists.1
+pub lists_are : (text : List ℕ) (ws : List (List ℕ)) → words text ≡ ws → (lists : Lists) → listed ws ≡ Some lists → AreListed text lists.0 lists.1
 lists_are text [] is lists e = absurd cc
 lists_are text (a ∷ []) is lists e = absurd cc
 lists_are text (a ∷ b ∷ c ∷ others) is lists e = absurd cc
@@ -61,7 +61,7 @@ lists_are text (a ∷ b ∷ []) is lists e = by (gap (split a) || gap (split b))
         subst (λ (l : Lists). AreListed text l.0 l.1) (same_lists (split a, split b) lists said)
         (record { first = a; second = b; words_are = is; names_are = refl; kinds_are = refl; names_some = both.0; kinds_some = both.1 })
 
-are_lists : (text : List ℕ) (names kinds : List (List ℕ)) → AreListed text names kinds → listed (words text) ≡ Some (names, kinds)
+pub are_lists : (text : List ℕ) (names kinds : List (List ℕ)) → AreListed text names kinds → listed (words text) ≡ Some (names, kinds)
 are_lists text names kinds h =
     ap listed h.words_are
     ∙ (λ j. unless_gap (gap (h.names_are j) || gap (h.kinds_are j)) (h.names_are j, h.kinds_are j))
@@ -78,7 +78,7 @@ module _ (types : List AttributeType) where
   unkept_in None = false
   unkept_in (Some lists) = not (list_all is_some_kind lists.1) || list_any (unkept types lists.0 lists.1) every_kind
 
-  abbrev index_test : Option Lists → ConfFaultKind → Bool
+  abbrev pub index_test : Option Lists → ConfFaultKind → Bool
   index_test lists Form = not (is_some lists)
   index_test lists UnknownName = unknown_in lists
   index_test lists Index = unkept_in lists
@@ -189,7 +189,7 @@ module _ (types : List AttributeType) where
         subst (Told line (cond (list_any (unkept types names kinds) every_kind) (Some Index) None)) (sym (ap (of_types kinds) ts.1 ∙ ap (of_kinds ts.0) ks.1))
         (kept_told names kinds ts.0 ks.0 ts.1 ks.1)
 
-    abbrev all_tests : Option Lists → Option ConfFaultKind
+    abbrev pub all_tests : Option Lists → Option ConfFaultKind
     all_tests lists = first_of (index_test lists) index_order
 
     abbrev from_words : Result (List ℕ × List ℕ) At → Slots
@@ -207,7 +207,7 @@ module _ (types : List AttributeType) where
     words_told (a ∷ b ∷ c ∷ others) = inr (Form, refl, refl)
     words_told (a ∷ b ∷ []) = two_told (split a) (split b) (gap (split a)) (gap (split b)) refl refl
 
-    slots_told : (text : List ℕ) → Told line (all_tests (listed (words text))) (slots_in types line text)
+    pub slots_told : (text : List ℕ) → Told line (all_tests (listed (words text))) (slots_in types line text)
     unfolding slots_in
     slots_told text = words_told (words text)
 

@@ -20,7 +20,7 @@ use Rattle.dir_conf.proofs.FirstStops.{same_err, stops, fails, fails_on}
 use Rattle.dir_conf.proofs.LineWords.{suffix_word, index_word, no_other, says_some}
 use Rattle.dir_conf.proofs.IndexFlaws.{index_faulty, index_fails}
 
-abbrev Later : Type 0
+abbrev pub Later : Type 0
 Later = Result Found At
 
 abbrev slots_failed : At → Result (List Slot) At
@@ -39,10 +39,10 @@ with_suffix-err f (Err g) e h = ap suffix_failed (same_err {A = Found} g e h)
 
 -- ---- a name
 
-abbrev Rdns : Type 0
+abbrev pub Rdns : Type 0
 Rdns = Result (List TypedRdn) Code
 
-abbrev IsNone : Rdns → Type 0
+abbrev pub IsNone : Rdns → Type 0
 IsNone r = (x : TypedRdn) (xs : List TypedRdn) → Not (r ≡ Ok (x ∷ xs))
 
 at_line : (line at : ℕ) (kind : ConfFaultKind) → ◌≡◌ {A = Result (Option (List TypedRdn)) At} (Err (line, Suffix)) (Err (at, kind)) → (at ≡ line) × (kind ≡ Suffix)
@@ -53,7 +53,7 @@ no_name line (Ok []) at kind e = let k = at_line line at kind e in (k.0, k.1, λ
 no_name line (Ok (x ∷ xs)) at kind e = absurd cc
 no_name line (Err code) at kind e = let k = at_line line at kind e in (k.0, k.1, λ x xs h. absurd cc)
 
-name_fails : (line : ℕ) (r : Rdns) → IsNone r → some_rdns line r ≡ Err (line, Suffix)
+pub name_fails : (line : ℕ) (r : Rdns) → IsNone r → some_rdns line r ≡ Err (line, Suffix)
 name_fails line (Ok []) none = refl
 name_fails line (Ok (x ∷ xs)) none = absurd (none x xs refl)
 name_fails line (Err code) none = refl
@@ -70,20 +70,20 @@ or_false true = refl
 or_false false = refl
 
 module _ (types : List AttributeType) (f : Found) (l : Line) where
-  abbrev of_slots : Later
+  abbrev pub of_slots : Later
   of_slots = with_slots f (slots_in types l.number (after_word l.text))
 
-  abbrev named : Result (Option (List TypedRdn)) At
+  abbrev pub named : Result (Option (List TypedRdn)) At
   named = suffix_at types l.number (suffix_text l.text)
 
-  abbrev failed : ConfFaultKind → Later
+  abbrev pub failed : ConfFaultKind → Later
   failed kind = Err (l.number, kind)
 
   -- by what the line begins with, and whether there is a suffix
-  abbrev later_by : Bool → Bool → Bool → Bool → Later
+  abbrev pub later_by : Bool → Bool → Bool → Bool → Later
   later_by nothing index suffix there = cond nothing (Ok f) (cond index of_slots (cond suffix (cond there (failed Suffix) (with_suffix f named)) (Ok f)))
 
-  later_is : later_line types f l ≡ later_by (says_nothing l.text) (is_first (codes "index") l.text) (is_first (codes "suffix") l.text) (is_some f.suffix)
+  pub later_is : later_line types f l ≡ later_by (says_nothing l.text) (is_first (codes "index") l.text) (is_first (codes "suffix") l.text) (is_some f.suffix)
   unfolding later_line
   later_is = refl
 

@@ -23,18 +23,18 @@ use Rattle.dir_conf.proofs.FlawsTold.{failed_at, Told, told_is}
 
 -- ---- tests for each flaw
 
-abbrev has_none_above : Option (Option ℕ) → Bool
+abbrev pub has_none_above : Option (Option ℕ) → Bool
 has_none_above up = not (is_some up)
 
-abbrev leaves : List AttributeType → TypeDefinition → Option (Option ℕ) → Bool
+abbrev pub leaves : List AttributeType → TypeDefinition → Option (Option ℕ) → Bool
 leaves types d None = false
 leaves types d (Some up) = breaks_with (type_below types d up) (up_of types up)
 
-abbrev wants_syntax : List AttributeType → TypeDefinition → Option (Option ℕ) → Bool
+abbrev pub wants_syntax : List AttributeType → TypeDefinition → Option (Option ℕ) → Bool
 wants_syntax types d None = false
 wants_syntax types d (Some up) = needs_another_syntax (type_below types d up)
 
-abbrev type_test : List AttributeType → TypeDefinition → ConfFaultKind → Bool
+abbrev pub type_test : List AttributeType → TypeDefinition → ConfFaultKind → Bool
 type_test types d TooManyTypes = nat_le 65535 (length types)
 type_test types d Twice = is_taken types d.element
 type_test types d Collective = d.is_collective
@@ -58,7 +58,7 @@ module _ (types : List AttributeType) (d : TypeDefinition) where
   unnamed_too None e = refl
   unnamed_too (Some t) e = absurd cc
 
-  unknown : (superior : Option (List ℕ)) → has_none_above (superior_of types superior) ≡ true → (name : List ℕ) × (superior ≡ Some name) × (is_type types name ≡ false)
+  pub unknown : (superior : Option (List ℕ)) → has_none_above (superior_of types superior) ≡ true → (name : List ℕ) × (superior ≡ Some name) × (is_type types name ≡ false)
   unknown None e = absurd cc
   unknown (Some name) e = (name, refl, sym (type_is_there types name) ∙ unnamed (type_of types name) e)
 
@@ -96,7 +96,7 @@ module _ (types : List AttributeType) (d : TypeDefinition) where
 
   -- ---- the definition
 
-  abbrev done : Option (Option ℕ) → List AttributeType
+  abbrev pub done : Option (Option ℕ) → List AttributeType
   done None = types
   done (Some up) = types ++ type_below types d up ∷ []
 

@@ -6,5 +6,6 @@ pub mod IndexLines
 pub mod Configurations
 pub mod FaultyLines
 pub mod Inherited
+pub mod Flaws
 pub mod Reads
 pub mod inner

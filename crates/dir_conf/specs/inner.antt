@@ -1,1 +1,4 @@
 pub mod Views
+pub mod FoundFlaws
+pub mod ListsView
+pub mod Passes

@@ -80,8 +80,8 @@ pub(crate) fn extensible_object(alloc: Global) -> Result<ObjectClass, AllocError
     )
 }
 
-// whether a class has this name or OID
-fn is_class(classes: &ClassTable, name: &[u8]) -> bool
+/// Whether a class has this name or OID.
+pub(crate) fn is_class(classes: &ClassTable, name: &[u8]) -> bool
     ensures { result ≡ is_class classes.now name.now }
 {
     classes.class_of(name).is_some()

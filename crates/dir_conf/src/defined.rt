@@ -33,7 +33,7 @@ enum Addition {
     OneClass(ObjectClass),
 }
 
-fn begins_blank(text: &[u8]) -> bool
+pub(crate) fn begins_blank(text: &[u8]) -> bool
     ensures { result ≡ begins_blank text.now }
 {
     begins_with(text, b' ') || begins_with(text, b'\t')
@@ -101,7 +101,12 @@ fn with_addition(alloc: Global, known: Defined, addition: Addition) -> Result<De
     }
 }
 
-fn read_definition_line(alloc: Global, known: Defined, line: &Line) -> Result<Defined, ConfFault>
+/// What is defined behind a line.
+pub(crate) fn read_definition_line(
+    alloc: Global,
+    known: Defined,
+    line: &Line,
+) -> Result<Defined, ConfFault>
     ensures { Reads defined_view result (definition_line (defined_view known) line.now) }
 {
     let addition = addition_at(alloc, &known, line)?;
@@ -123,14 +128,21 @@ fn built_in_types(alloc: Global, names: usize) -> Result<TypeTable, AllocError>
     none.with(alloc, object_class(alloc)?)
 }
 
+/// What is defined before any line: what is built in. `names` is how many names of each kind are expected.
+pub(crate) fn nothing_defined(alloc: Global, names: usize) -> Result<Defined, AllocError>
+    ensures { IfOk result (λ d. defined_view d ≡ built_in) }
+{
+    Ok(Defined {
+        types: built_in_types(alloc, names)?,
+        classes: built_in_classes(alloc, names)?,
+    })
+}
+
 /// The types and classes that the lines define, after those that are built in. `names` is how many names of each are expected.
 pub(crate) fn defined_by(alloc: Global, names: usize, lines: &[Line]) -> Result<Defined, ConfFault>
     ensures { Reads defined_view result (defined_by built_in lines.now) }
 {
-    let mut known = Defined {
-        types: built_in_types(alloc, names)?,
-        classes: built_in_classes(alloc, names)?,
-    };
+    let mut known = nothing_defined(alloc, names)?;
     for line in lines {
         known = read_definition_line(alloc, known, line)?;
     }

@@ -21,8 +21,8 @@ const EVERY_KIND: [IndexKind; 3] = [
     IndexKind::Substrings,
 ];
 
-// what stands between spaces and tabs
-fn words<'a>(alloc: Global, text: &'a [u8]) -> Result<Vec<&'a [u8]>, AllocError>
+/// What stands between spaces and tabs.
+pub(crate) fn words<'a>(alloc: Global, text: &'a [u8]) -> Result<Vec<&'a [u8]>, AllocError>
     ensures { IfOk result (λ v. map (λ w. w.now) v.items ≡ words text.now) }
 {
     text.split(|b| *b == b' ' || *b == b'\t')
@@ -44,14 +44,15 @@ fn two_words<'a>(
     }
 }
 
-// what stands between commas
-fn parts_of<'a>(alloc: Global, word: &'a [u8]) -> Result<Vec<&'a [u8]>, AllocError>
+/// What stands between commas.
+pub(crate) fn parts_of<'a>(alloc: Global, word: &'a [u8]) -> Result<Vec<&'a [u8]>, AllocError>
     ensures { IfOk result (λ v. map (λ p. p.now) v.items ≡ slice_split is_comma word.now) }
 {
     word.split(|b| *b == b',').collect(alloc)
 }
 
-fn is_any_empty(parts: &[&[u8]]) -> bool
+/// Whether one of these is empty.
+pub(crate) fn is_any_empty(parts: &[&[u8]]) -> bool
     ensures { result ≡ list_any is_empty (map (λ p. p.now) parts.now) }
 {
     parts.iter().any(|part| part.is_empty())
@@ -141,8 +142,8 @@ fn slots_with(alloc: Global, ts: &[TypeId], kinds: &[IndexKind]) -> Result<Vec<S
     Ok(slots)
 }
 
-// whether a type has the rule that a kind of index goes by
-fn has_rule_for(t: &AttributeType, kind: IndexKind) -> bool
+/// Whether a type has the rule that a kind of index goes by.
+pub(crate) fn has_rule_for(t: &AttributeType, kind: IndexKind) -> bool
     ensures { result ≡ has_rule_for t.now kind }
 {
     match kind {

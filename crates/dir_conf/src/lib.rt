@@ -3,20 +3,33 @@
 //! The functions of `laws` do nothing: a call of one is made for what it states alone.
 #![tactic(auto)]
 
+mod class_flaws;
 mod class_lines;
 mod conf_fault;
 mod conf_lines;
 mod configuration;
 mod defined;
+mod explaining;
+mod index_flaws;
 mod index_lines;
 mod later_lines;
 mod laws;
+mod line_flaws;
+mod line_numbers;
+mod reason;
 mod rule_names;
 mod slots;
 mod suffix_lines;
+mod tokens;
+mod type_flaws;
 mod type_lines;
 mod type_rules;
+mod unread;
+mod word_lines;
 
 pub use conf_fault::{ConfFault, ConfFaultKind};
 pub use configuration::read_conf;
+pub use explaining::explain;
 pub use laws::{conf_faults_stand_at_lines, types_inherit_from_the_nearest};
+pub use line_numbers::line_at;
+pub use reason::{ConfFlaw, ConfReason, NameField, SyntaxRule, UnreadPart};

@@ -104,8 +104,8 @@ fn is_taken(alloc: Global, types: &TypeTable, element: &Element) -> Result<bool,
     Ok(is_known(types, element) || has_twin(alloc, element.names.as_slice())?)
 }
 
-// the number of the type above, or that there is none; nothing where no type has this name
-fn superior_of(types: &TypeTable, name: &Option<Bytes>) -> Option<Option<TypeId>>
+/// The number of the type above, or that there is none; nothing where no type has this name.
+pub(crate) fn superior_of(types: &TypeTable, name: &Option<Bytes>) -> Option<Option<TypeId>>
     ensures number { result ≡ superior_of types.now name.now }
     ensures bound { IfSome result (λ number. IfSome number (λ t. t < length types.now)) }
 {
@@ -118,7 +118,7 @@ fn superior_of(types: &TypeTable, name: &Option<Bytes>) -> Option<Option<TypeId>
     }
 }
 
-fn up_of<'a>(types: &'a TypeTable, number: &Option<TypeId>) -> Option<&'a AttributeType>
+pub(crate) fn up_of<'a>(types: &'a TypeTable, number: &Option<TypeId>) -> Option<&'a AttributeType>
     requires { IfSome number.now (λ t. t < length types.now) }
     ensures { option_map (λ t. t.now) result ≡ up_of types.entry.now number.now }
 {
@@ -137,7 +137,7 @@ fn copy_of(number: &Option<TypeId>) -> Option<TypeId>
     }
 }
 
-fn derived(
+pub(crate) fn derived(
     alloc: Global,
     types: &TypeTable,
     definition: &TypeDefinition,

@@ -30,7 +30,7 @@ fn rule_number(rule: EqualityRule) -> u8
     }
 }
 
-fn is_equality(rule: EqualityRule, other: Option<EqualityRule>) -> bool
+pub(crate) fn is_equality(rule: EqualityRule, other: Option<EqualityRule>) -> bool
     ensures { result ≡ is_equality rule other }
 {
     match other {
