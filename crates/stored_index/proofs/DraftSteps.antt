@@ -2,7 +2,10 @@
 use Rattle.std.proofs.Common.{◌≡◌, ℕ, true, false, List, [], ◌∷◌, ◌++◌, Option, Some, None, Ok, Err, Bor, refl, sym, ap, ◌∙◌, subst, append_assoc}
 use Rattle.std.proofs.lemmas.List.{append-nil}
 use Rattle.std.specs.Str.{bytes_eq}
+use Rattle.std.specs.List.{AllByRecursion}
 use Rattle.base.specs.Answers.{Fails}
+use Rattle.values.specs.declared.types.AttributeType.{AttributeType}
+use Rattle.values.specs.Types.{is_known}
 use Rattle.schema.specs.declared.slots.Slot.{Slot}
 use Rattle.index_text.specs.KeySets as keys
 use Rattle.index_text.specs.IndexTexts.{Row, Rows, end_line}
@@ -54,6 +57,10 @@ last_key before (r ∷ rows) row = last_key (Some r.0) rows row
 pub no_word : (before : Option Slot) (rows : List Row) (word : List ℕ) → IsLast (key_behind None rows) word → (before ≡ None → rows ≡ []) → rows_behind before word ≡ []
 no_word None rows word last alone = subst (λ (rs : List Row). IsLast (key_behind None rs) word) (alone refl) last
 no_word (Some slot) rows word last alone = refl
+
+-- the slots that are due, as they are now
+pub known_due : (types : List AttributeType) (due same : List Slot) → due ≡ same → AllByRecursion (λ s. is_known types s.type_id ≡ true) due → AllByRecursion (λ s. is_known types s.type_id ≡ true) same
+known_due types due same is known = subst (AllByRecursion (λ (s : Slot). is_known types s.type_id ≡ true)) is known
 
 -- ---- lines
 

@@ -33,7 +33,8 @@ use Rattle.stored_index.proofs.RowLaws.{parts_at}
 use Rattle.stored_index.proofs.SlotLemmas.{AllRows}
 use Rattle.stored_index.proofs.WholeLaws.{text_writes}
 use Rattle.stored_index.proofs.WholeLemmas.{opened}
-use Rattle.stored_index.proofs.WrittenLaws.{AreNamed, header_lacks, header_is_told}
+use Rattle.stored_index.specs.inner.Named.{AreNamed}
+use Rattle.stored_index.proofs.WrittenLaws.{header_lacks, header_is_told}
 
 -- ---- slots in their order
 

@@ -32,7 +32,8 @@ use Rattle.stored_index.proofs.RowLaws.{parts_at, parts_word, row_read}
 use Rattle.stored_index.proofs.SlotLaws.{slot_writes, is_by}
 use Rattle.stored_index.proofs.SlotLemmas.{AllRows, all_rows, opened, is_due}
 use Rattle.stored_index.proofs.TextFaults.{slot_known}
-use Rattle.stored_index.proofs.WrittenLaws.{AreNamed, slot_read, slot_lacks, slot_ends, is_its_own, none_above}
+use Rattle.stored_index.specs.inner.Named.{AreNamed}
+use Rattle.stored_index.proofs.WrittenLaws.{slot_read, slot_lacks, slot_ends, is_its_own, none_above}
 
 -- ---- rows
 

@@ -29,7 +29,8 @@ use Rattle.stored_index.proofs.SlotLemmas.{AllRows}
 use Rattle.stored_index.proofs.TextFaults.{parts_lack, slots_fault}
 use Rattle.stored_index.proofs.WholeLaws.{text_of, header_by, words_write, header_writes}
 use Rattle.stored_index.proofs.WholeLemmas.{opened}
-use Rattle.stored_index.proofs.WrittenLaws.{AreNamed, header_lacks, header_is_told}
+use Rattle.stored_index.specs.inner.Named.{AreNamed}
+use Rattle.stored_index.proofs.WrittenLaws.{header_lacks, header_is_told}
 
 abbrev Told : Type 0 → Type 0
 Told X = Result X IndexFaultKind

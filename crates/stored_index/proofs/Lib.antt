@@ -23,6 +23,9 @@ mod SearchLemmas
 mod KeptLaws
 mod TextLemmas
 mod WrittenLaws
+mod GoodFronts
+mod FaultGoing
+mod FaultPulls
 mod FaultWords
 mod Examples
 mod RowFaults

@@ -30,7 +30,8 @@ use Rattle.stored_index.proofs.RowFaults.{bind_err, is_err, row_fault}
 use Rattle.stored_index.proofs.SlotLaws.{some_of, slot_writes, due_writes, words_known}
 use Rattle.stored_index.proofs.SlotLemmas.{all_rows}
 use Rattle.stored_index.proofs.WholeLaws.{text_of, slot_writes as slot_writes_rows}
-use Rattle.stored_index.proofs.WrittenLaws.{AreNamed, slot_read, is_its_own}
+use Rattle.stored_index.specs.inner.Named.{AreNamed}
+use Rattle.stored_index.proofs.WrittenLaws.{slot_read, is_its_own}
 
 -- ---- lines have no LF
 

@@ -11,12 +11,12 @@ use Rattle.std.specs.Str.{bytes_eq}
 use Rattle.std.specs.Char.{is_ascii_digit}
 use Rattle.base.specs.Ascii.{space, line_feed}
 use Rattle.base.specs.Answers.{◌>>=◌}
-use Rattle.dn.specs.Names.{is_type, is_type_byte}
+use Rattle.dn.specs.Names.{is_type_byte}
 use Rattle.hex.specs.Hex.{lower_digits, encode_with, encode_lower}
 use Rattle.hex.proofs.HexLemmas.{length-encode_with}
 use Rattle.memchr.specs.Find.{is_byte}
 use Rattle.values.specs.declared.types.AttributeType.{AttributeType}
-use Rattle.values.specs.Types.{type_of, name_of, is_known}
+use Rattle.values.specs.Types.{name_of, is_known}
 use Rattle.schema.specs.Conf.{Conf}
 use Rattle.schema.specs.declared.slots.IndexKind.{IndexKind}
 use Rattle.schema.specs.declared.slots.IndexKind.TheVariants.{Equality, Presence, Substrings}
@@ -28,6 +28,7 @@ use Rattle.stored_index.specs.Words.{is_hex_byte, is_small_hex_letter, hex_digit
 use Rattle.stored_index.specs.SlotLines.{kind_named, if_printed, slot_with, slot_of, slot_in, is_slot}
 use Rattle.stored_index.specs.Reading.{HeaderContent, is_stamp, header_with, header_of, header_in, if_current, current_header, ends_rows, rows_of, slot_rows, slots_of, rows_in}
 use Rattle.stored_index.specs.Rows as good
+use Rattle.stored_index.specs.inner.Named.{AreNamed}
 use Rattle.stored_index.specs.Rows.{IsByte, AreSlotRows, AreRows}
 use Rattle.stored_index.specs.declared.fault.IndexFaultKind.{IndexFaultKind}
 use Rattle.stored_index.specs.declared.fault.IndexFaultKind.TheVariants.{Form, Header, Stale}
@@ -72,12 +73,7 @@ kind_lacks Equality = lacks_by_test line_feed (other_than line_feed) refl (kind_
 kind_lacks Presence = lacks_by_test line_feed (other_than line_feed) refl (kind_name Presence) refl
 kind_lacks Substrings = lacks_by_test line_feed (other_than line_feed) refl (kind_name Substrings) refl
 
--- what holds of the names of types under a configuration
-pub record AreNamed (types : List AttributeType) : Type 0 where
-  pub found : (t : ℕ) → is_known types t ≡ true → type_of types (name_of types t) ≡ Some t
-  pub plain : (t : ℕ) → is_known types t ≡ true → is_type (name_of types t) ≡ true
-
-abbrev IsKnown : List AttributeType → Slot → Type 0
+abbrev pub IsKnown : List AttributeType → Slot → Type 0
 IsKnown types s = is_known types s.type_id ≡ true
 
 module _ (types : List AttributeType) (named : AreNamed types) where
@@ -110,7 +106,7 @@ module _ (types : List AttributeType) (named : AreNamed types) where
 
   -- ---- slots with their rows, and the end
 
-  abbrev tail : Rows → List ℕ
+  abbrev pub tail : Rows → List ℕ
   tail rows = flat_map (slot_text types) rows ++ ended end_line
 
   tail_is : (s : Slot × List Row) (rows : Rows) → tail (s ∷ rows) ≡ slot_line types s.0 ++ line_feed ∷ (row_lines s.1 ++ tail rows)
@@ -119,11 +115,11 @@ module _ (types : List AttributeType) (named : AreNamed types) where
       ∙ append_assoc (ended (slot_line types s.0)) (row_lines s.1) (tail rows)
       ∙ append_assoc (slot_line types s.0) (line_feed ∷ []) (row_lines s.1 ++ tail rows)
 
-  tail_parts : (s : Slot × List Row) (rows : Rows) → IsKnown types s.0 → parts line_feed (tail (s ∷ rows)) ≡ slot_line types s.0 ∷ parts line_feed (row_lines s.1 ++ tail rows)
+  pub tail_parts : (s : Slot × List Row) (rows : Rows) → IsKnown types s.0 → parts line_feed (tail (s ∷ rows)) ≡ slot_line types s.0 ∷ parts line_feed (row_lines s.1 ++ tail rows)
   tail_parts s rows known = ap (parts line_feed) (tail_is s rows) ∙ parts_at line_feed (slot_line types s.0) (row_lines s.1 ++ tail rows) refl (slot_lacks s.0 known)
 
   -- the first line ends rows, and is no last part
-  record EndsRows (lines : List (List ℕ)) : Type 0 where
+  pub record EndsRows (lines : List (List ℕ)) : Type 0 where
     pub line : List ℕ
     pub others : List (List ℕ)
     pub is : lines ≡ line ∷ others
@@ -133,7 +129,7 @@ module _ (types : List AttributeType) (named : AreNamed types) where
   pub slot_ends : (s : Slot) → ends_rows (slot_line types s) ≡ true
   slot_ends s = refl
 
-  tail_ends : (rows : Rows) → AllByRecursion (λ s. IsKnown types s.0) rows → EndsRows (parts line_feed (tail rows))
+  pub tail_ends : (rows : Rows) → AllByRecursion (λ s. IsKnown types s.0) rows → EndsRows (parts line_feed (tail rows))
   tail_ends [] known = record { line = end_line; others = [] ∷ []; is = refl; some = ([], [], refl); ends = refl }
   tail_ends (s ∷ rows) known = record {
     line = slot_line types s.0;
@@ -221,7 +217,7 @@ module _ (entries : ℕ) (few : entries < 10 ^ 10) (stamp : List ℕ) (size : le
       ∙ ap (λ (t : Bool). cond t (header_with digits (number_in (decimal entries))) (Err Header)) stamp_is
       ∙ ap (header_with digits) (number_read entries few)
 
-  header_is_read : current_header entries stamp (header_line entries stamp) ≡ Ok tt
+  pub header_is_read : current_header entries stamp (header_line entries stamp) ≡ Ok tt
   header_is_read =
       ap (λ (r : Result HeaderContent IndexFaultKind). r >>= if_current entries stamp) header_is_told
       ∙ ap (λ (t : Bool). cond (t && bytes_eq digits digits) ended_well (Err Stale)) (eq-eqb entries entries refl)

@@ -1,4 +1,5 @@
 pub mod Cuts
+pub mod FaultLines
 pub mod Faults
 pub mod FaultyLines
 pub mod Gives

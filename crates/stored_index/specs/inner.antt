@@ -1,8 +1,10 @@
 pub mod Asked
 pub mod Drafts
+pub mod FaultLines
 pub mod Faults
 pub mod HexFaults
 pub mod Kept
+pub mod Named
 pub mod Reads
 pub mod Sorted
 pub mod Lines

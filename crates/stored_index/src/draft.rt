@@ -55,6 +55,7 @@ impl<'a> Draft<'a> {
     /// Nothing was read yet.
     pub(crate) fn new(given: Given<'a>) -> Draft<'a>
         ensures given { result.given ≡ given.entry }
+        ensures due { result.due.now ≡ given.entry.conf.now.slots }
         ensures goes { Goes (lines_in given.entry.conf.now given.entry.entries given.entry.stamp.now) result }
     {
         Draft {

@@ -7,6 +7,7 @@ mod asked;
 mod cuts;
 mod draft;
 mod fault;
+mod fault_lines;
 mod given;
 mod header;
 mod kept;
@@ -22,6 +23,7 @@ mod stored;
 mod words;
 
 pub use fault::{IndexFault, IndexFaultKind};
+pub use fault_lines::{FaultLine, fault_line};
 pub use laws::{
     faults_stand_at_lines, read_texts_are_written, texts_at_fault_are_refused,
     written_texts_are_read,

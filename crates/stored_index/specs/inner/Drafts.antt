@@ -1,9 +1,11 @@
 -- How far an index text was read, line by line.
 use Rattle.std.specs.Prelude.{◌≡◌, ℕ, Bool, true, ⊤, List, [], ◌∷◌, ◌++◌, Option, Some, None, Result, Ok, Err, if◌then◌else◌}
+use Rattle.std.specs.List.{AllByRecursion}
 use Rattle.base.specs.Answers.{◌>>=◌, Fails}
 use Rattle.base.specs.Ascii.{line_feed}
 use Rattle.schema.specs.declared.slots.Slot.{Slot}
 use Rattle.values.specs.declared.types.AttributeType.{AttributeType}
+use Rattle.values.specs.Types.{is_known}
 use Rattle.index_text.specs.IndexTexts.{Row, Rows}
 use Rattle.stored_index.specs.Cuts.{parts}
 use Rattle.stored_index.specs.FaultyLines.{HasNoLineFeed, key_behind}
@@ -77,9 +79,14 @@ pub record Goes (w : Lines → Reading) (d : Draft) : Type 0 where
   pub closed : d.place ≡ End → d.before ≡ None
   pub goes_on : (next : List ℕ) (more : Lines) → w (next ∷ more) ≡ joined done rows d.before (coming d (key_behind None rows) (next ∷ more))
 
+-- the slots that are still to come are of types that are there
+abbrev pub AreKnown : Draft → Type 0
+AreKnown d = AllByRecursion (λ s. is_known d.given.conf.now.types s.type_id ≡ true) d.due.now
+
 -- a line was read
 pub record GoesOn (old new : Draft) (line : List ℕ) : Type 0 where
   pub given : new.given ≡ old.given
+  pub due : AreKnown old → AreKnown new
   pub goes : (w : Lines → Reading) → Goes w old → Goes (λ lines. w (line ∷ lines)) new
 
 -- a fault has each text that goes on behind a line

@@ -1,7 +1,7 @@
 use Rattle.std.proofs.Common.{◌∷◌, Option, refl, sym, ap, ◌∙◌}
 use Rattle.schema.specs.declared.slots.Slot.{Slot}
 use Rattle.stored_index.specs.SlotLines.{is_slot}
-use Rattle.stored_index.proofs.DraftSteps.{fails, slot_stops, behind_slot}
+use Rattle.stored_index.proofs.DraftSteps.{known_due, fails, slot_stops, behind_slot}
 use Rattle.stored_index.proofs.draft.Draft.begin_slot.Goals as goal
 
 pub returns-then-not-is_slot-clause-err : goal.returns-then-not-is_slot-clause-err
@@ -13,6 +13,7 @@ returns-then-not-is_slot-clause-err c w goes next more =
 pub returns-clause-ok : goal.returns-clause-ok
 returns-clause-ok c = record {
   given = refl;
+  due = λ known. (known_due c.args.self.now.given.conf.now.types c.args.self.now.due.now (c.args.due ∷ c.args.later.now) c.requires.due known).1;
   goes = λ w goes.
       behind_slot w c.args.self.now goes c.args.line.now c.close_slot.new.kept
       c.in_ok-close_slot.ensures.slots c.in_ok-close_slot.ensures.rows c.in_ok-close_slot.ensures.word c.requires.place c.requires.row c.args.due c.args.later c.requires.due

@@ -15,6 +15,7 @@ returns-then-ne-clause-err c w goes next more =
 pub returns-clause-ok : goal.returns-clause-ok
 returns-clause-ok c = record {
   given = refl;
+  due = λ known. known;
   goes = λ w goes.
       let same = sym (ap (λ (word : List ℕ). not (bytes_eq c.args.line.now word)) c.as_slice.ensures) ∙ sym c.ne.ensures ∙ c.if-ne.false in
       behind_end w c.args.self.now goes c.args.line.now c.close_slot.new.kept

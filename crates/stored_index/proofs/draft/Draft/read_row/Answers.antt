@@ -21,6 +21,7 @@ returns-in_err-row-clause-err c =
 pub returns-clause-ok : goal.returns-clause-ok
 returns-clause-ok c = record {
   given = refl;
+  due = λ known. known;
   goes = λ w goes.
       let d = c.args.self.now in
       let key = key_behind None goes.rows in
