@@ -7,5 +7,6 @@ pub mod Configurations
 pub mod FaultyLines
 pub mod Inherited
 pub mod Flaws
+pub mod WordLines
 pub mod Reads
 pub mod inner

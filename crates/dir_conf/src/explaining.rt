@@ -1,8 +1,9 @@
 //! Why a text is no configuration, with what its fault is of.
 
-ghost use Rattle.std.specs.Prelude.{◌≡◌, ◌≤◌, ◌||◌, IfOk, IfSome, codes};
+ghost use Rattle.std.specs.Prelude.{◌≡◌, ◌||◌, IfOk, IfSome, codes};
 ghost use Rattle.dir_conf.specs.Configurations.{is_first};
 ghost use Rattle.dir_conf.specs.Flaws.{Explains};
+ghost use Rattle.dir_conf.specs.WordLines.{sought, IsWordLine};
 ghost use Rattle.dir_conf.specs.inner.Passes.{StepTells, FirstTells, SecondTells, LinesTell};
 ghost use Rattle.dir_conf.specs.inner.Views.{defined_view};
 
@@ -109,7 +110,7 @@ fn flaw_on_lines(alloc: Global, lines: &[Line]) -> Result<Option<FlawAt>, AllocE
 /// once more for this, so that reading itself keeps none of it.
 pub fn explain(alloc: Global, text: &[u8]) -> Result<Option<ConfReason>, AllocError>
     ensures reason { IfOk result (Explains text.now) }
-    ensures word { IfOk result (λ found. IfSome found (λ r. r.line ≤ r.word_line)) }
+    ensures word { IfOk result (λ found. IfSome found (λ r. IsWordLine text.now (sought r.flaw) r.line r.word_line)) }
 {
     spelled_types_are_read();
     spelled_classes_are_read();

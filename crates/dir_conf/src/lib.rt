@@ -1,6 +1,9 @@
 //! Reading `dir.conf`: the configuration that its lines say, or the first of its faults.
 //!
 //! The functions of `laws` do nothing: a call of one is made for what it states alone.
+//!
+//! Of what `explain` tells, these parts are only tested: where a definition can't be read and what it is called by (`ConfFlaw::Unread`), the part of
+//! a suffix (`ConfFlaw::BadSuffix`), and that a word is found which stands on a further line of its definition: else the first line is told.
 #![tactic(auto)]
 
 mod class_flaws;

@@ -1,6 +1,9 @@
 //! On which line of a text a word of a definition stands.
 
-ghost use Rattle.std.specs.Prelude.{◌≤◌};
+ghost use Rattle.std.specs.Prelude.{◌≡◌, ◌++◌, ℕ, true, List, IsTrue};
+ghost use Rattle.std.specs.Option.{option_map};
+ghost use Rattle.std.specs.Str.{str_eq_ignore_ascii_case};
+ghost use Rattle.dir_conf.specs.WordLines.{field_word, keyword_of, word_in, word_of, sought, IsWordLine};
 
 use crate::line_numbers::line_feeds_in;
 use crate::reason::{ConfFlaw, NameField, UnreadPart};
@@ -56,28 +59,42 @@ fn whole_line(text: &[u8]) -> &[u8] {
     text
 }
 
-// whether a token is this word, in any case
-fn is_token(token: Token<'_>, word: &[u8]) -> bool {
+// how many bytes are left of a text from the text of this token on, where it is this word, in any case
+fn left_from(token: Token<'_>, word: &[u8], behind: &[u8]) -> Option<usize> {
     match token {
-        Token::Word(text) | Token::Quoted(text) => text.eq_ignore_ascii_case(word),
-        _ => false,
+        Token::Word(text) if text.eq_ignore_ascii_case(word) => {
+            Some(text.len().saturating_add(behind.len()))
+        }
+        Token::Quoted(text) if text.eq_ignore_ascii_case(word) => Some(
+            text.len().saturating_add(1).saturating_add(behind.len()),
+        ),
+        _ => None,
     }
 }
 
-// what stands behind the first token that is this word
-fn behind_word<'a>(word: &[u8], text: &'a [u8]) -> Option<&'a [u8]> {
+/// A word in a text: how many bytes are left from it on, and what stands behind it.
+#[derive(Clone, Copy)]
+struct Found<'a> {
+    left: usize,
+    behind: &'a [u8],
+}
+
+// the first token that is this word
+fn find_word<'a>(word: &[u8], text: &'a [u8]) -> Option<Found<'a>> {
     let mut rest = text;
     for _ in text {
         let (token, behind) = next_token(rest)?;
-        if is_token(token, word) {
-            return Some(behind);
+        if let Some(left) = left_from(token, word, behind) {
+            return Some(Found { left, behind });
         }
         rest = behind;
     }
     None
 }
 
-fn field_word(field: NameField) -> &'static [u8] {
+fn field_word(field: NameField) -> &'static [u8]
+    ensures { result.now ≡ field_word field }
+{
     match field {
         NameField::Superior => b"SUP",
         NameField::Must => b"MUST",
@@ -86,7 +103,9 @@ fn field_word(field: NameField) -> &'static [u8] {
 }
 
 // the word of the field that a flaw is of, where it is known; else nothing
-fn keyword_of(flaw: &ConfFlaw) -> &'static [u8] {
+fn keyword_of(flaw: &ConfFlaw) -> &'static [u8]
+    ensures { result.now ≡ keyword_of flaw.now }
+{
     match flaw {
         ConfFlaw::UnknownName { field, .. } => field_word(*field),
         ConfFlaw::Subtype { .. } => b"SUP",
@@ -96,7 +115,9 @@ fn keyword_of(flaw: &ConfFlaw) -> &'static [u8] {
     }
 }
 
-fn word_in(part: &UnreadPart) -> Option<&Bytes> {
+fn word_in(part: &UnreadPart) -> Option<&Bytes>
+    ensures { option_map (λ w. w.now) result ≡ word_in part.now }
+{
     match part {
         UnreadPart::NoField { word } => Some(word),
         UnreadPart::Field { word } => Some(word),
@@ -106,7 +127,9 @@ fn word_in(part: &UnreadPart) -> Option<&Bytes> {
 }
 
 // the word that a flaw is of, if it is of one that may stand on another line than the first
-fn word_of(flaw: &ConfFlaw) -> Option<&Bytes> {
+fn word_of(flaw: &ConfFlaw) -> Option<&Bytes>
+    ensures { option_map (λ w. w.now) result ≡ word_of flaw.now }
+{
     match flaw {
         ConfFlaw::Unread { part, .. } => word_in(part),
         ConfFlaw::UnknownName { word, .. } => Some(word),
@@ -130,41 +153,79 @@ fn is_again(flaw: &ConfFlaw) -> bool {
     }
 }
 
-// what stands behind this word, perhaps the second time
-fn behind_word_of<'a>(word: &[u8], is_again: bool, text: &'a [u8]) -> Option<&'a [u8]> {
-    let behind = behind_word(word, text)?;
-    if is_again {
-        behind_word(word, behind)
-    } else {
-        Some(behind)
+// a word that stands twice: its second place, or else the first
+fn find_again<'a>(word: &[u8], text: &'a [u8]) -> Option<Found<'a>> {
+    let first = find_word(word, text)?;
+    match find_word(word, first.behind) {
+        Some(second) => Some(second),
+        None => Some(first),
     }
 }
 
 // what stands behind a keyword, if there is one
 fn behind_keyword<'a>(keyword: &[u8], text: &'a [u8]) -> Option<&'a [u8]> {
     if keyword.is_empty() {
-        Some(text)
-    } else {
-        behind_word(keyword, text)
+        return Some(text);
     }
+    let found = find_word(keyword, text)?;
+    Some(found.behind)
 }
 
-// what stands behind the word of a flaw
-fn behind_flaw<'a>(flaw: &ConfFlaw, text: &'a [u8]) -> Option<&'a [u8]> {
-    let rest = behind_keyword(keyword_of(flaw), text)?;
-    match word_of(flaw) {
-        Some(word) => behind_word_of(word.as_slice(), is_again(flaw), rest),
-        None => Some(rest),
+// how many bytes are left of a line from the word of a flaw on
+fn left_of_line(flaw: &ConfFlaw, line: &[u8]) -> Option<usize> {
+    let keyword = keyword_of(flaw);
+    let found = match word_of(flaw) {
+        Some(word) => {
+            let rest = behind_keyword(keyword, line)?;
+            if is_again(flaw) {
+                find_again(word.as_slice(), rest)
+            } else {
+                find_word(word.as_slice(), rest)
+            }
+        }
+        None => find_word(keyword, line),
+    };
+    Some(found?.left)
+}
+
+// where the word of a flaw is to be looked for, that a line of this number has
+fn place_of(text: &[u8], line: u64, flaw: &ConfFlaw) -> Option<usize> {
+    let rest = from_line(text, line);
+    let whole = whole_line(rest);
+    let left = left_of_line(flaw, whole)?;
+    let before = text.len().saturating_sub(rest.len());
+    Some(before.saturating_add(whole.len().saturating_sub(left)))
+}
+
+// whether a text begins with a word, in any case
+fn begins_with_word(text: &[u8], word: &[u8]) -> bool
+    ensures { IsTrue result → (found : List ℕ) × (behind : List ℕ) × (text.now ≡ found ++ behind) × (str_eq_ignore_ascii_case found word.now ≡ true) }
+{
+    text.len() >= word.len() && text.split_at(word.len()).0.eq_ignore_ascii_case(word)
+}
+
+// the line on which a word stands at this place, where that is no line before this one; else this one
+fn line_there(text: &[u8], at: usize, word: &[u8], line: u64) -> u64
+    ensures { IsWordLine text.now word.now line result }
+{
+    let (front, rest) = text.split_at(at.min(text.len()));
+    let there = line_feeds_in(front) + 1;
+    if !word.is_empty() && line <= there && begins_with_word(rest, word) {
+        there
+    } else {
+        line
     }
 }
 
 /// The line of a text on which the word of a flaw stands, that a line of this number has; this number where it isn't found.
 pub(crate) fn word_line(text: &[u8], line: u64, flaw: &ConfFlaw) -> u64
-    ensures { line ≤ result }
+    ensures { IsWordLine text.now (sought flaw.now) line result }
 {
-    let whole = whole_line(from_line(text, line));
-    match behind_flaw(flaw, whole) {
-        Some(behind) => line.saturating_add(line_feeds_in(before(whole, behind))),
-        None => line,
+    let Some(at) = place_of(text, line, flaw) else {
+        return line;
+    };
+    match word_of(flaw) {
+        Some(word) => line_there(text, at, word.as_slice(), line),
+        None => line_there(text, at, keyword_of(flaw), line),
     }
 }
