@@ -9,7 +9,7 @@ ghost use Rattle.databases.specs.Runs.{outcome, outcome_of};
 
 use crate::refusal::{Outcome, RecordRefusal};
 use crate::target::Target;
-use crate::teller::Teller;
+use crate::teller::{NotedRecord, Teller};
 use entries::Refusal;
 use ldif::{LdifFault, Mode, RawRecord, Record, read_record};
 use schema::Conf;
@@ -34,11 +34,13 @@ pub(crate) fn apply(
     Ok(())
 }
 
-// What becomes of a record that is carried out.
+// What becomes of a record that is carried out; a teller takes note of one that is refused.
 #[tactic(auto, unfolding(crate::specs::Runs::outcome))]
-fn outcome_of<T: Target>(
+fn outcome_of<T: Target, L: Teller>(
     alloc: Global,
     target: &mut T,
+    teller: &mut L,
+    raw: &RawRecord,
     asked: &Record<'_>,
     mode: Mode,
 ) -> Result<Outcome, AllocError>
@@ -51,36 +53,25 @@ fn outcome_of<T: Target>(
 {
     match target.carry_out(alloc, asked, mode) {
         Ok(()) => Ok(Outcome::of_accepted(asked)),
-        Err(Refusal::Code(code)) => Ok(Outcome::Refused(RecordRefusal::Code(code))),
+        Err(Refusal::Code(code)) => {
+            let refusal = RecordRefusal::Code(code);
+            let refused = NotedRecord {
+                raw,
+                asked: Some(asked),
+                mode,
+                refusal,
+            };
+            teller.note(alloc, target.conf(), target.tree(), &refused);
+            Ok(Outcome::Refused(refusal))
+        }
         Err(Refusal::OutOfMemory) => Err(AllocError),
     }
 }
 
-/// Reads a record from its lines and carries it out, or refuses it. A refusal changes no entry, nor does want of memory, which is the only error.
+/// Reads a record from its lines and carries it out, or refuses it, and has a teller take note of that. A refusal changes no entry, nor does want of
+/// memory, which is the only error.
 #[tactic(auto, unfolding(crate::specs::Runs::outcome))]
-fn carry_out<T: Target>(
-    alloc: Global,
-    target: &mut T,
-    raw: &RawRecord,
-    mode: Mode,
-) -> Result<Outcome, AllocError>
-    ensures same_conf { T.conf target.new ≡ T.conf target.old }
-    ensures outcome { IfOk result (λ o. outcome_of (T.conf target.old) mode (T.entries target.old) raw.now ≡ (T.entries target.new, o)) }
-    ensures err { OnErr result (T.entries target.new ≡ T.entries target.old) }
-    ensures edits { OnOk result (T.edits target.new ≡ T.edits target.old
-        + edits_read T.count_edits (T.conf target.old) mode (T.entries target.old) (reading mode raw.now.first raw.now.lines)) }
-    ensures wanting { OnErr result (RisesUpTo (2 * edits_read T.count_edits (T.conf target.old) mode (T.entries target.old)
-        (reading mode raw.now.first raw.now.lines)) (T.edits target.old) (T.edits target.new)) }
-{
-    match read_record(alloc, raw, mode) {
-        Ok(asked) => outcome_of(alloc, target, &asked, mode),
-        Err(LdifFault::Fault(fault)) => Ok(Outcome::Refused(RecordRefusal::Fault(fault))),
-        Err(LdifFault::OutOfMemory) => Err(AllocError),
-    }
-}
-
-/// The same as `carry_out`, with note taken of a record that is refused.
-pub(crate) fn carry_out_noted<T: Target, L: Teller>(
+pub(crate) fn carry_out<T: Target, L: Teller>(
     alloc: Global,
     target: &mut T,
     teller: &mut L,
@@ -95,11 +86,19 @@ pub(crate) fn carry_out_noted<T: Target, L: Teller>(
     ensures wanting { OnErr result (RisesUpTo (2 * edits_read T.count_edits (T.conf target.old) mode (T.entries target.old)
         (reading mode raw.now.first raw.now.lines)) (T.edits target.old) (T.edits target.new)) }
 {
-    match carry_out(alloc, target, raw, mode) {
-        Ok(Outcome::Refused(refusal)) => {
-            teller.note(alloc, target.conf(), target.tree(), raw, mode, refusal);
+    match read_record(alloc, raw, mode) {
+        Ok(asked) => outcome_of(alloc, target, teller, raw, &asked, mode),
+        Err(LdifFault::Fault(fault)) => {
+            let refusal = RecordRefusal::Fault(fault);
+            let refused = NotedRecord {
+                raw,
+                asked: None,
+                mode,
+                refusal,
+            };
+            teller.note(alloc, target.conf(), target.tree(), &refused);
             Ok(Outcome::Refused(refusal))
         }
-        answer => answer,
+        Err(LdifFault::OutOfMemory) => Err(AllocError),
     }
 }

@@ -77,7 +77,7 @@ impl Database {
         Database::load_telling(alloc, conf, source, &mut Silent)
     }
 
-    /// The same as `load`, with note taken of the record that is refused.
+    /// The same as `load`. The teller takes note of the record that is refused, and tells nothing as yet.
     pub fn load_telling<S: Source, T: Teller>(
         alloc: Global,
         conf: Conf,

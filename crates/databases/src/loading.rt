@@ -15,7 +15,7 @@ use crate::applying::apply;
 use crate::refusal::{RecordRefusal, RefusedRecord};
 use crate::runs::{RunFault, run_to_ending};
 use crate::target::Target;
-use crate::teller::{Silent, Teller};
+use crate::teller::{NotedRecord, Silent, Teller};
 use device::{Nowhere, Source};
 use entries::Refusal;
 use ldif::{Mode, Record};
@@ -77,6 +77,20 @@ impl Target for LoadedTree<'_> {
     }
 }
 
+/// Has a teller take note of a refusal, and tell nothing: the line that reports it is still to come.
+#[derive(Drop)]
+struct NotesAlone<'a, T> {
+    teller: &'a mut T,
+}
+
+impl<T: Teller> Teller for NotesAlone<'_, T> {
+    fn note(&mut self, alloc: Global, conf: &Conf, tree: &Tree, refused: &NotedRecord<'_>) {
+        self.teller.note(alloc, conf, tree, refused);
+    }
+
+    fn tell(&mut self) {}
+}
+
 // that a record is refused
 fn fault_of(refused: RefusedRecord) -> LoadFault
     ensures { result ≡ LoadFault.Refused refused.line refused.refusal }
@@ -111,7 +125,7 @@ pub fn load_tree<S: Source>(alloc: Global, conf: &Conf, source: &mut S) -> Resul
     load_tree_telling(alloc, conf, source, &mut Silent)
 }
 
-/// The same as `load_tree`, with note taken of the record that is refused.
+/// The same as `load_tree`. The teller takes note of the record that is refused, and tells nothing as yet.
 pub fn load_tree_telling<S: Source, T: Teller>(
     alloc: Global,
     conf: &Conf,
@@ -129,12 +143,13 @@ pub fn load_tree_telling<S: Source, T: Teller>(
     let tree = Tree::new(alloc, conf);
     let mut loaded = LoadedTree { conf, tree };
     let mut unread = Nowhere::new();
+    let mut notes = NotesAlone { teller };
     let ran = run_to_ending(
         alloc,
         &mut loaded,
         source,
         &mut unread,
-        teller,
+        &mut notes,
         Mode::Content,
         false,
     );

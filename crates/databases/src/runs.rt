@@ -13,7 +13,7 @@ ghost use Rattle.databases.specs.inner.Running.{standing, HasRun, TakesStep};
 ghost use Rattle.databases.specs.inner.Endings.{tally_in, EndsAsTold};
 ghost use Rattle.ldif_lines.specs.Reader.{source_of, is_failed, records_left, bytes_left};
 
-use crate::applying::carry_out_noted;
+use crate::applying::carry_out;
 use crate::refusal::{Outcome, RefusedRecord, report_line};
 use crate::target::Target;
 use crate::teller::{Silent, Teller};
@@ -176,7 +176,7 @@ fn take_record<T: Target, S: Source, W: Sink, L: Teller>(
     match reader.next() {
         Ok(Some(raw)) => {
             let line = raw.line;
-            let carried_out = carry_out_noted(alloc, target, teller, &raw, mode);
+            let carried_out = carry_out(alloc, target, teller, &raw, mode);
             reader.reuse(raw);
             match carried_out {
                 Ok(outcome) => count(alloc, sink, teller, line, outcome, go_on, tally),

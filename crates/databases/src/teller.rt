@@ -3,23 +3,24 @@
 ghost use Rattle.std.specs.Prelude.{◌≡◌};
 
 use crate::refusal::RecordRefusal;
-use ldif::{Mode, RawRecord};
+use ldif::{Mode, RawRecord, Record};
 use schema::Conf;
 use std::alloc::Global;
 use tree::Tree;
 
+/// A record that is refused: its lines, what it asks for where they can be read, and why.
+#[derive(Drop)]
+pub struct NotedRecord<'a> {
+    pub raw: &'a RawRecord,
+    pub asked: Option<&'a Record<'a>>,
+    pub mode: Mode,
+    pub refusal: RecordRefusal,
+}
+
 /// Tells why records are refused, beside the lines that report it. What it tells is no part of a run.
 pub trait Teller {
     /// Takes note of a record that is refused, with the entries as they are, under the configuration that they were made with.
-    fn note(
-        &mut self,
-        alloc: Global,
-        conf: &Conf,
-        tree: &Tree,
-        raw: &RawRecord,
-        mode: Mode,
-        refusal: RecordRefusal,
-    )
+    fn note(&mut self, alloc: Global, conf: &Conf, tree: &Tree, refused: &NotedRecord<'_>)
         requires { tree.now.conf ≡ conf.now };
 
     /// Tells of the refusal that it took note of last, now that its line is reported.
@@ -31,15 +32,7 @@ pub trait Teller {
 pub struct Silent;
 
 impl Teller for Silent {
-    fn note(
-        &mut self,
-        _alloc: Global,
-        _conf: &Conf,
-        _tree: &Tree,
-        _raw: &RawRecord,
-        _mode: Mode,
-        _refusal: RecordRefusal,
-    ) {}
+    fn note(&mut self, _alloc: Global, _conf: &Conf, _tree: &Tree, _refused: &NotedRecord<'_>) {}
 
     fn tell(&mut self) {}
 }

@@ -9,7 +9,7 @@ use Rattle.databases.proofs.runs.take_record.Goals as goal
 pub returns-in-Ok : goal.returns-in-Ok
 returns-in-Ok g c = λ start h.
     steps g.S.Source.seen g.T.Target.count_edits c.args.mode c.args.go_on start (standing g.T.Target.conf g.T.Target.entries g.T.Target.edits g.W.Sink.written c.args.target.now c.args.reader.now c.args.sink.now) c.args.tally.now h
-    (standing g.T.Target.conf g.T.Target.entries g.T.Target.edits g.W.Sink.written c.carry_out_noted-carried_out.new.target c.reuse.new.self c.count.new.sink) (view c.in-Ok-Some.raw)
+    (standing g.T.Target.conf g.T.Target.entries g.T.Target.edits g.W.Sink.written c.carry_out-carried_out.new.target c.reuse.new.self c.count.new.sink) (view c.in-Ok-Some.raw)
     (took_one g.S.Source.seen c.args.reader.now c.next.new.self c.reuse.new.self c.in-Ok-Some.raw _ c.in-Ok-Some.field-0-is
     c.in-Ok-Some.ensures.source.same_loan c.in-Ok-Some.ensures.told.still_good c.in-Ok-Some.ensures.told.going c.in-Ok-Some.ensures.source.gave c.in-Ok-Some.ensures.told.falls c.in-Ok-Some.ensures.told.gives c.in-Ok-Some.ensures.told.took
     c.reuse.ensures.same_loan c.reuse.ensures.source c.reuse.ensures.records c.reuse.ensures.bytes c.reuse.ensures.failed c.reuse.ensures.place)
@@ -18,7 +18,7 @@ returns-in-Ok g c = λ start h.
 pub returns-in-Err-carried_out : goal.returns-in-Err-carried_out
 returns-in-Err-carried_out g c = λ start h.
     wants g.S.Source.seen g.T.Target.count_edits c.args.mode c.args.go_on start (standing g.T.Target.conf g.T.Target.entries g.T.Target.edits g.W.Sink.written c.args.target.now c.args.reader.now c.args.sink.now) c.args.tally.now h
-    (standing g.T.Target.conf g.T.Target.entries g.T.Target.edits g.W.Sink.written c.carry_out_noted-carried_out.new.target c.reuse.new.self c.args.sink.now) (view c.in-Ok-Some.raw)
+    (standing g.T.Target.conf g.T.Target.entries g.T.Target.edits g.W.Sink.written c.carry_out-carried_out.new.target c.reuse.new.self c.args.sink.now) (view c.in-Ok-Some.raw)
     (took_one g.S.Source.seen c.args.reader.now c.next.new.self c.reuse.new.self c.in-Ok-Some.raw _ c.in-Ok-Some.field-0-is
     c.in-Ok-Some.ensures.source.same_loan c.in-Ok-Some.ensures.told.still_good c.in-Ok-Some.ensures.told.going c.in-Ok-Some.ensures.source.gave c.in-Ok-Some.ensures.told.falls c.in-Ok-Some.ensures.told.gives c.in-Ok-Some.ensures.told.took
     c.reuse.ensures.same_loan c.reuse.ensures.source c.reuse.ensures.records c.reuse.ensures.bytes c.reuse.ensures.failed c.reuse.ensures.place)
