@@ -1,6 +1,12 @@
-//! Why a record is refused: which check of its operation fails first.
+//! Why a record is refused: which check of its operation fails first, and what that is of.
+//!
+//! The functions of `laws` do nothing: a call of one is made for what it states alone.
 #![tactic(auto)]
 
 mod laws;
+mod reason;
 
 pub use laws::{a_change_has_no_flaw, a_refusal_is_of_the_first_flaw};
+pub use reason::{
+    AvaReason, BlockReason, EntryReason, LineReason, NameReason, Reason, ValueReason,
+};
