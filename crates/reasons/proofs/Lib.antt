@@ -15,3 +15,15 @@ pub mod ModifyAnswers
 pub mod RenameAnswers
 pub mod Told
 pub mod FlawExamples
+pub mod Finding
+pub mod NameFound
+pub mod RecordFound
+pub mod LinesFound
+pub mod DraftLemmas
+pub mod EntriesFound
+pub mod AddFound
+pub mod ValuesFound
+pub mod BlocksFound
+pub mod NormsFound
+pub mod ModifyFound
+pub mod RenameFound

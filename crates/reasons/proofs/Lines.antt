@@ -43,7 +43,7 @@ says types t v l = passes (nat_eq t) (type_of types l.name) && are_equal types t
 abbrev some_number : ℕ → Option ℕ
 some_number n = Some n
 
-is_it : (t : ℕ) (o : Option ℕ) → passes (nat_eq t) o ≡ true → o ≡ Some t
+pub is_it : (t : ℕ) (o : Option ℕ) → passes (nat_eq t) o ≡ true → o ≡ Some t
 is_it t None h = absurd cc
 is_it t (Some u) h = ap (λ (s : ℕ). some_number s) (sym (eqb-true t u h))
 

@@ -41,17 +41,17 @@ equal Less h = absurd cc
 equal Equal h = refl
 equal Greater h = absurd cc
 
-others : (p q : Path) → same_path p q ≡ false → q ≢ p
+pub others : (p q : Path) → same_path p q ≡ false → q ≢ p
 others p q h e = let both = sym ((eq_by_cmp_equiv path_total).refl p) ∙ ap (same_path p) (sym e) ∙ h in absurd cc
 
-apart : (p q : Path) → q ≢ p → same_path p q ≡ false
+pub apart : (p q : Path) → q ≢ p → same_path p q ≡ false
 apart p q ne = by (same_path p q) refl
   where
     by : (b : Bool) → same_path p q ≡ b → b ≡ false
     by true e = absurd (ne (sym (path_exact p q (equal (path_cmp p q) e))))
     by false e = refl
 
-same_rdn : (a b : TypedRdn) → a ∷ [] ≡ b ∷ [] → a ≡ b
+pub same_rdn : (a b : TypedRdn) → a ∷ [] ≡ b ∷ [] → a ≡ b
 same_rdn a b h = cc
 
 module _ (conf : Conf) (mode : Mode) (d : Entries) (dn : List ℕ) (controls : List Control) (newrdn : List ℕ) (delete_old : Bool) (superior : Option (List ℕ)) (x : Result Change Code) where

@@ -4,3 +4,5 @@ pub mod LineFlaws
 pub mod BlockFlaws
 pub mod Asked
 pub mod Flaws
+pub mod Reasons
+pub mod inner

@@ -95,7 +95,9 @@ pub enum EntryReason {
 #[derive(Clone, Copy, PartialEq, Eq)]
 pub enum Reason {
     /// This control is critical (RFC 4511, 4.1.11), and none is known.
-    CriticalControl { control: usize },
+    CriticalControl {
+        control: usize,
+    },
     /// The name of the entry has a flaw.
     Name(NameReason),
     /// An entry has the name.
@@ -107,9 +109,15 @@ pub enum Reason {
     /// Entries stand below it.
     HasChildren,
     /// A line of an add has a flaw.
-    Line { line: usize, why: LineReason },
+    Line {
+        line: usize,
+        why: LineReason,
+    },
     /// A block of a modify has a flaw.
-    Block { block: usize, why: BlockReason },
+    Block {
+        block: usize,
+        why: BlockReason,
+    },
     /// A value of a block has a flaw.
     Value {
         block: usize,
@@ -117,7 +125,9 @@ pub enum Reason {
         why: ValueReason,
     },
     /// A value of the entry's RDN is to go: that of this AVA, as the entry's name is kept.
-    NoRdnValue { ava: usize },
+    NoRdnValue {
+        ava: usize,
+    },
     /// It is the suffix's own entry, which keeps its name.
     IsSuffix,
     /// The new RDN has a flaw.

@@ -1,0 +1,25 @@
+use Rattle.std.proofs.Common.{◌++◌, map}
+use Rattle.reasons.specs.Asked.{name_of_record}
+use Rattle.reasons.specs.NameFlaws.{place_checks}
+use Rattle.reasons.specs.Flaws.{Name}
+use Rattle.reasons.specs.inner.Found.{Finds, later_checks}
+use Rattle.reasons.proofs.RecordFound.{ok_map, name_found, name_passed, found_behind, stands_there, refused_there}
+use Rattle.reasons.proofs.explainer.Explainer.named_reason.Goals as goal
+
+pub returns-in-Ok : goal.returns-in-Ok
+returns-in-Ok c =
+    let conf = c.args.self.now.conf.now in
+    let mode = c.args.self.now.mode in
+    let d = c.args.self.now.tree.now.entries in
+    let r = c.args.self.now.asked.now in
+    let names = map Name (place_checks (name_of_record r)) in
+    let stands = stands_there conf c.args.dn.now (name_of_record r) c.in_ok-place.field-0 c.in-Ok.place c.requires c.in-Ok.is c.in_ok-place.ensures in
+    ok_map (Finds conf mode d r (later_checks r)) (Finds conf mode d r (names ++ later_checks r))
+    (λ found is. found_behind conf mode d r names (later_checks r) found (name_passed conf mode d r c.in-Ok.place.path c.in-Ok.place.rdn stands.0) is) c.placed_reason.result c.placed_reason.ensures
+
+pub returns-in-Err : goal.returns-in-Err
+returns-in-Err c =
+    let conf = c.args.self.now.conf.now in
+    let r = c.args.self.now.asked.now in
+    name_found conf c.args.self.now.mode c.args.self.now.tree.now.entries r c.in-Err.why
+    (refused_there conf c.args.dn.now (name_of_record r) c.in_ok-place.field-0 c.in-Err.why c.requires c.in-Err.is c.in_ok-place.ensures) (later_checks r)

@@ -1,0 +1,178 @@
+//! Explains refusals.
+
+ghost use Rattle.std.specs.Prelude.{◌≡◌, ◌++◌, ◌&&◌, ◌∷◌, not, IfOk, IfSome, IfNone, Err, None, Ok, Some, true, false, map, length};
+ghost use Rattle.std.specs.FinMap as finite;
+ghost use Rattle.std.specs.List.{slice_get};
+ghost use Rattle.std.specs.Option.{option_map};
+ghost use Rattle.ldif.specs.declared.record.Control as controls;
+ghost use Rattle.paths.specs.Paths.{is_root, parent_of};
+ghost use Rattle.schema.specs.GoodRdns.{IsRdn};
+ghost use Rattle.tree.specs.Operations.{has_critical, controls_of};
+ghost use Rattle.reasons.specs.NameFlaws.{place_checks};
+ghost use Rattle.reasons.specs.Asked.{name_of_record, lines_of_record, IsAt};
+ghost use Rattle.reasons.specs.Flaws.{Name, delete_checks, add_checks, checks_of};
+ghost use Rattle.reasons.specs.Reasons.{Explains};
+ghost use Rattle.reasons.specs.inner.Found.{Finds, IsPlace, Stands, later_checks};
+
+use crate::explain_names::NameExplainer;
+use crate::laws::a_refusal_is_of_the_first_flaw;
+use crate::reason::{NameReason, Reason};
+use ldif::{Control, Mode, Record};
+use schema::{Conf, Located, Path, PathFault};
+use std::alloc::{AllocError, Global};
+use tree::Tree;
+
+/// A record, what its records are, the tree that it is asked of, and the configuration of that.
+#[derive(Drop)]
+pub(crate) struct Explainer<'a> {
+    pub(crate) alloc: Global,
+    pub(crate) tree: &'a Tree,
+    pub(crate) conf: &'a Conf,
+    pub(crate) mode: Mode,
+    pub(crate) asked: &'a Record<'a>,
+    ghost same_conf: { tree.now.conf ≡ conf.now },
+}
+
+// the index of the first control that is critical
+fn critical(asked: &[Control]) -> Option<usize>
+    ensures some { IfSome result (λ index. (c : controls.Control) × (slice_get asked.now index ≡ Some c) × (c.critical ≡ true)) }
+    ensures none { IfNone result (has_critical asked.now ≡ false) }
+{
+    for index in 0..asked.len() {
+        if asked[index].critical {
+            return Some(index);
+        }
+    }
+    None
+}
+
+fn controls_of<'a>(asked: &'a Record<'_>) -> &'a [Control]
+    ensures { result.now ≡ controls_of asked.now }
+{
+    match asked {
+        Record::Empty | Record::Content { .. } => &[],
+        Record::Add { controls, .. } => controls.as_slice(),
+        Record::Delete { controls, .. } => controls.as_slice(),
+        Record::Modify { controls, .. } => controls.as_slice(),
+        Record::ModRdn { controls, .. } => controls.as_slice(),
+    }
+}
+
+impl Explainer<'_> {
+    /// Where a name stands, or what it is refused for.
+    pub(crate) fn place(&self, text: &[u8]) -> Result<Result<Located, NameReason>, AllocError>
+        ensures { IfOk result (IsPlace self.now.conf.now text.now) }
+    {
+        match self.conf.locate(self.alloc, text) {
+            Ok(place) => Ok(Ok(place)),
+            Err(PathFault::Code(_)) => {
+                let names = NameExplainer {
+                    alloc: self.alloc,
+                    conf: self.conf,
+                    text,
+                };
+                Ok(Err(names.place_reason()?))
+            }
+            Err(PathFault::OutOfMemory) => Err(AllocError),
+        }
+    }
+
+    /// Whether an entry is there.
+    pub(crate) fn is_there(&self, path: &Path) -> bool
+        ensures { result ≡ finite.contains_key self.now.tree.now.entries path.now }
+    {
+        self.tree.get(path).is_some()
+    }
+
+    // what a delete is refused for, of the entry at a path
+    fn delete_reason(&self, path: &Path) -> Option<Reason>
+        requires { IsAt self.now.conf.now self.now.asked.now path.now }
+        ensures { Finds self.now.conf.now self.now.mode self.now.tree.now.entries self.now.asked.now delete_checks result }
+    {
+        if !self.is_there(path) {
+            return Some(Reason::NoEntry);
+        }
+        if self.tree.has_child(path) {
+            return Some(Reason::HasChildren);
+        }
+        None
+    }
+
+    // what a record is refused for, where its name stands at this place
+    fn placed_reason(&self, place: &Located) -> Result<Option<Reason>, AllocError>
+        requires stands { Stands self.now.conf.now (name_of_record self.now.asked.now) place.now.path place.now.rdn }
+        requires good { IsRdn self.now.conf.now.types place.now.rdn }
+        ensures { IfOk result (Finds self.now.conf.now self.now.mode self.now.tree.now.entries self.now.asked.now (later_checks self.now.asked.now)) }
+    {
+        match self.asked {
+            Record::Empty => Ok(None),
+            Record::Content { attrs, .. } => self.add_reason(place, attrs.as_slice()),
+            Record::Add { attrs, .. } => self.add_reason(place, attrs.as_slice()),
+            Record::Delete { .. } => Ok(self.delete_reason(&place.path)),
+            Record::Modify { mods, .. } => self.modify_reason(&place.path, mods.as_slice()),
+            Record::ModRdn {
+                newrdn,
+                delete_old,
+                new_superior,
+                ..
+            } => self.rename_reason(
+                &place.path,
+                newrdn.as_slice(),
+                *delete_old,
+                new_superior.as_ref(),
+            ),
+        }
+    }
+
+    // what a record is refused for, by this name and what stands there
+    fn named_reason(&self, dn: &[u8]) -> Result<Option<Reason>, AllocError>
+        requires { dn.now ≡ name_of_record self.now.asked.now }
+        ensures { IfOk result (Finds self.now.conf.now self.now.mode self.now.tree.now.entries self.now.asked.now (map Name (place_checks (name_of_record self.now.asked.now)) ++ later_checks self.now.asked.now)) }
+    {
+        match self.place(dn)? {
+            Ok(place) => self.placed_reason(&place),
+            Err(why) => Ok(Some(Reason::Name(why))),
+        }
+    }
+
+    // what a record without a critical control is refused for
+    fn reason(&self) -> Result<Option<Reason>, AllocError>
+        requires { has_critical (controls_of self.now.asked.now) ≡ false }
+        ensures { IfOk result (Finds self.now.conf.now self.now.mode self.now.tree.now.entries self.now.asked.now (checks_of self.now.asked.now)) }
+    {
+        match self.asked {
+            Record::Empty => Ok(None),
+            Record::Content { dn, .. } => self.named_reason(dn.as_slice()),
+            Record::Add { dn, .. } => self.named_reason(dn.as_slice()),
+            Record::Delete { dn, .. } => self.named_reason(dn.as_slice()),
+            Record::Modify { dn, .. } => self.named_reason(dn.as_slice()),
+            Record::ModRdn { dn, .. } => self.named_reason(dn.as_slice()),
+        }
+    }
+}
+
+/// Why a record is refused: its first flaw (RFC 4511, 4.6 to 4.9), and what that is of; None where it isn't refused. `conf` is the
+/// configuration that the tree was made with.
+pub fn explain(
+    alloc: Global,
+    tree: &Tree,
+    conf: &Conf,
+    asked: &Record<'_>,
+    mode: Mode,
+) -> Result<Option<Reason>, AllocError>
+    requires made { tree.now.conf ≡ conf.now }
+    ensures { IfOk result (Explains conf.now mode tree.now.entries asked.now) }
+{
+    a_refusal_is_of_the_first_flaw();
+    if let Some(control) = critical(controls_of(asked)) {
+        return Ok(Some(Reason::CriticalControl { control }));
+    }
+    let explainer = Explainer {
+        alloc,
+        tree,
+        conf,
+        mode,
+        asked,
+    };
+    explainer.reason()
+}
