@@ -17,6 +17,7 @@ use Rattle.stored_index.specs.declared.draft.Draft.{Draft}
 use Rattle.stored_index.specs.declared.given.Given.{Given}
 use Rattle.stored_index.specs.declared.fault_lines.FaultLine.{FaultLine}
 use Rattle.stored_index.proofs.CutLemmas.{split_cons}
+use Rattle.stored_index.proofs.HeaderFaults.{text_fault}
 use Rattle.stored_index.specs.inner.Named.{AreNamed}
 use Rattle.stored_index.proofs.GoodFronts.{can_go_on}
 
@@ -131,28 +132,31 @@ module _ (known : List ℕ) (d : Draft) (held rest : List ℕ) (lines : ℕ) (go
       named = subst (λ (g : Given). AreNamed g.conf.now.types) (sym on.given) going.named;
     }
 
+    whole_is : (more : List ℕ) → known ++ more ≡ going.front ++ (whole_line ++ line_feed ∷ (next ++ more))
+    whole_is more =
+        ap (λ (bytes : List ℕ). bytes ++ more) (going.known_is ∙ ap (λ (bytes : List ℕ). going.front ++ bytes) held_is)
+        ∙ append_assoc going.front (whole_line ++ line_feed ∷ next) more
+        ∙ ap (λ (bytes : List ℕ). going.front ++ bytes) (append_assoc whole_line (line_feed ∷ next) more)
+
+    fails : {count : ℕ} (fault : FaultLine) → IsBad d count whole_line fault → (other : List ℕ) → read (going.front ++ (whole_line ++ line_feed ∷ other)) ≡ Err fault.kind
+    fails fault bad other =
+        let s = split_cons (is_byte line_feed) other in
+        going.opens (whole_line ++ line_feed ∷ other)
+        ∙ ap going.w (cut_line whole_line other none_there ∙ ap (λ (ls : Lines). whole_line ∷ ls) s.2)
+        ∙ bad.fails going.w going.goes s.0 s.1
+
     pub bad_line : (count : ℕ) → count ≡ lines + 1 → (fault : FaultLine) → IsBad d count whole_line fault → (more : List ℕ)
         → IsFaultLine d.given.conf.now d.given.entries d.given.stamp.now (known ++ more) fault
     bad_line count count_is fault bad more = record {
+      kind_is = text_fault d.given.conf.now going.named d.given.entries d.given.stamp.now (known ++ more) fault.kind (ap read (whole_is more) ∙ fails fault bad (next ++ more));
       front = going.front;
       line = whole_line;
       rest = line_feed ∷ (next ++ more);
-      whole_is =
-          ap (λ (bytes : List ℕ). bytes ++ more) (going.known_is ∙ ap (λ (bytes : List ℕ). going.front ++ bytes) held_is)
-          ∙ append_assoc going.front (whole_line ++ line_feed ∷ next) more
-          ∙ ap (λ (bytes : List ℕ). going.front ++ bytes) (append_assoc whole_line (line_feed ∷ next) more);
+      whole_is = whole_is more;
       lines = going.whole;
       alone = none_there;
       good = good;
-      bad = inr (
-        next ++ more,
-        refl,
-        λ other.
-            let s = split_cons (is_byte line_feed) other in
-            going.opens (whole_line ++ line_feed ∷ other)
-            ∙ ap going.w (cut_line whole_line other none_there ∙ ap (λ (ls : Lines). whole_line ∷ ls) s.2)
-            ∙ bad.fails going.w going.goes s.0 s.1,
-      );
+      bad = inr (next ++ more, refl, fails fault bad);
       number_is = bad.number_is ∙ count_is ∙ ap (λ (n : ℕ). n + 1) going.lines_are;
       text_is = bad.text_is;
     }
@@ -161,6 +165,7 @@ module _ (known : List ℕ) (d : Draft) (held rest : List ℕ) (lines : ℕ) (go
   pub bad_end : rest ≡ [] → (fault : FaultLine) → fault.number ≡ lines + 1 → fault.text ≡ take 60 held → read known ≡ Err fault.kind
       → IsFaultLine d.given.conf.now d.given.entries d.given.stamp.now known fault
   bad_end none fault number text fails = record {
+    kind_is = text_fault d.given.conf.now going.named d.given.entries d.given.stamp.now known fault.kind fails;
     front = going.front;
     line = held;
     rest = rest;

@@ -5,7 +5,7 @@ use Rattle.memchr.specs.Find.{is_byte}
 use Rattle.schema.specs.Conf.{Conf}
 use Rattle.index_text.specs.IndexTexts.{Rows}
 use Rattle.stored_index.specs.Reading.{rows_in}
-use Rattle.stored_index.specs.FaultyLines.{HasNoLineFeed, IsHeader}
+use Rattle.stored_index.specs.FaultyLines.{HasNoLineFeed, IsHeader, IsIndexFault}
 use Rattle.stored_index.specs.declared.fault_lines.FaultLine.{FaultLine}
 
 -- no line, or lines of which a line feed ends the last one
@@ -17,8 +17,10 @@ AreWholeLines front = (front ≡ []) ⊎ ((body : List ℕ) × (front ≡ body +
 abbrev pub CanGoOn : Conf → ℕ → List ℕ → List ℕ → Type 0
 CanGoOn conf entries stamp front = IsHeader entries stamp → (rest : List ℕ) × (rows : Rows) × (rows_in conf entries stamp (front ++ rest) ≡ Ok rows)
 
--- a line behind whole lines that can go on; with it, whatever comes behind its line feed, or where the text ends in it, the fault is this
+-- The fault of the text, and the line on which it stands: whole lines stand before that and can go on; with it, whatever comes behind its line feed, or
+-- where the text ends in it, the fault is this.
 pub record IsFaultLine (conf : Conf) (entries : ℕ) (stamp whole : List ℕ) (fault : FaultLine) : Type 0 where
+  pub kind_is : IsIndexFault conf entries stamp whole fault.kind
   pub front : List ℕ
   pub line : List ℕ
   pub rest : List ℕ
