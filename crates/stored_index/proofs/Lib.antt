@@ -26,6 +26,7 @@ mod WrittenLaws
 mod GoodFronts
 mod FaultGoing
 mod FaultPulls
+mod OneFaultLine
 mod FaultWords
 mod Examples
 mod RowFaults

@@ -6,6 +6,8 @@ ghost use Rattle.schema.specs.Conf.{Conf, IsConf};
 ghost use Rattle.index_text.specs.IndexTexts.{Rows, index_text};
 ghost use Rattle.stored_index.specs.Reading.{rows_in};
 ghost use Rattle.stored_index.specs.FaultyLines.{IsHeader, IsIndexFault};
+ghost use Rattle.stored_index.specs.FaultLines.{IsFaultLine};
+ghost use Rattle.stored_index.specs.declared.fault_lines.FaultLine.{FaultLine};
 ghost use Rattle.stored_index.specs.Rows.{IsByte, AreRows};
 ghost use Rattle.stored_index.specs.declared.fault.IndexFaultKind.{IndexFaultKind};
 
@@ -39,3 +41,8 @@ pub fn texts_at_fault_are_refused()
 {
     schema::printed_names_name_their_types();
 }
+
+/// A text has one line at most that `fault_line` may tell, where a header can say how many entries there are and which stamp.
+pub fn one_line_is_at_fault()
+    ensures { (conf : Conf) (entries : ℕ) (stamp text : List ℕ) (f g : FaultLine) → IsHeader entries stamp → IsFaultLine conf entries stamp text f → IsFaultLine conf entries stamp text g → f ≡ g }
+{}

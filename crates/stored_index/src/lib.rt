@@ -25,7 +25,7 @@ mod words;
 pub use fault::{IndexFault, IndexFaultKind};
 pub use fault_lines::{FaultLine, fault_line};
 pub use laws::{
-    faults_stand_at_lines, read_texts_are_written, texts_at_fault_are_refused,
-    written_texts_are_read,
+    faults_stand_at_lines, one_line_is_at_fault, read_texts_are_written,
+    texts_at_fault_are_refused, written_texts_are_read,
 };
 pub use stored::StoredIndex;
