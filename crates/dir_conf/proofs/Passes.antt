@@ -155,31 +155,31 @@ module _ (types_read : TypesRead) (classes_read : ClassesRead) (lines : List Lin
       )
 
 module _ (types_read : TypesRead) (classes_read : ClassesRead) (text : List ℕ) where
-  abbrev lines : List Line
-  lines = lines_of text
+  abbrev text_lines : List Line
+  text_lines = lines_of text
 
-  conf_is : conf_of text ≡ conf_on_lines lines
+  conf_is : conf_of text ≡ conf_on_lines text_lines
   unfolding conf_of
   conf_is = refl
 
-  pub is_conf : LinesTell lines None → Explains text None
+  pub is_conf : LinesTell text_lines None → Explains text None
   is_conf h = (h.0, conf_is ∙ h.1)
 
-  pub is_reason : (found : FlawAt) → LinesTell lines (Some found) → IsReason text found.line found.flaw
+  pub is_reason : (found : FlawAt) → LinesTell text_lines (Some found) → IsReason text found.line found.flaw
   is_reason found (inl first) =
-      let told = first_told types_read classes_read lines found first in
+      let told = first_told types_read classes_read text_lines found first in
       record { fault = conf_faulty types_read classes_read text found.line (kind_of found.flaw) (conf_is ∙ told.0); flaw_is = inl told.1 }
   is_reason found (inr (s, defined, inl stops)) =
-      let told = second_told types_read classes_read lines found s stops in
+      let told = second_told types_read classes_read text_lines found s stops in
       record {
-        fault = conf_faulty types_read classes_read text found.line (kind_of found.flaw) (conf_is ∙ ap (whole lines) defined ∙ ap (behind lines s) told.0);
+        fault = conf_faulty types_read classes_read text found.line (kind_of found.flaw) (conf_is ∙ ap (whole text_lines) defined ∙ ap (behind text_lines s) told.0);
         flaw_is = inr (s, defined, inl told.1);
       }
   is_reason found (inr (s, defined, inr (fine, line, flaw))) =
       record {
         fault =
             conf_faulty types_read classes_read text found.line (kind_of found.flaw)
-            (conf_is ∙ ap (whole lines) defined ∙ ap (behind lines s) fine.found_is ∙ no_suffix s fine.found fine.found.suffix fine.suffix_is ∙ (λ j. failed (sym line j) (kind_of (sym flaw j))));
+            (conf_is ∙ ap (whole text_lines) defined ∙ ap (behind text_lines s) fine.found_is ∙ no_suffix s fine.found fine.found.suffix fine.suffix_is ∙ (λ j. failed (sym line j) (kind_of (sym flaw j))));
         flaw_is = inr (s, defined, inr (line, flaw));
       }
 
