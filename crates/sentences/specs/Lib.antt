@@ -1,0 +1,4 @@
+pub mod Missing
+pub mod Noted
+pub mod Sentence
+pub mod Telling

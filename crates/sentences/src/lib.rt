@@ -1,0 +1,27 @@
+//! Why a record or a file is refused, in sentences that a person can act on.
+//!
+//! Which check of a record fails is told by `reasons`, whose contract ties it to the record; what stands here is text. Each sentence is one line,
+//! of two spaces and at most some 400 bytes: values and names are cut, and what can't be printed in them is escaped.
+#![tactic(auto, using(crate::proofs::Pieces::shown_both, crate::proofs::Pieces::shown_decimal))]
+
+mod conf_words;
+mod entry_words;
+mod explainer;
+mod failure_words;
+mod index_words;
+mod ldif_words;
+mod lines;
+mod missing;
+mod name_words;
+mod names;
+mod part_words;
+mod places;
+mod record_parts;
+mod record_words;
+mod search_words;
+mod shown;
+mod summary;
+mod telling;
+mod value_words;
+
+pub use explainer::Explainer;

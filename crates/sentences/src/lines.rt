@@ -1,0 +1,125 @@
+//! Texts of one line that any terminal can show.
+
+ghost use Rattle.std.specs.Prelude.{◌≡◌, ◌≤◌, ◌≢◌, Some};
+ghost use Rattle.std.specs.Result.{IfOk};
+ghost use Rattle.std.specs.String.{string_bytes};
+ghost use Rattle.sentences.specs.Sentence.{IsShown, IsLine, IsSentence};
+
+use std::alloc::{AllocError, Global};
+use std::fmt;
+
+/// Words in which no byte is a control character.
+#[derive(Drop)]
+pub(crate) struct ShownText {
+    text: String,
+    ghost shown: { IsShown (string_bytes text) },
+}
+
+impl ShownText {
+    pub(crate) fn new(alloc: Global) -> ShownText {
+        ShownText {
+            text: String::new(alloc),
+        }
+    }
+
+    /// Words that were put together of shown ones.
+    pub(crate) fn of(text: Result<String, AllocError>) -> Result<ShownText, AllocError>
+        requires { IfOk text (λ made. IsShown (string_bytes made)) }
+    {
+        Ok(ShownText { text: text? })
+    }
+
+    /// Words that are written in the program.
+    pub(crate) fn fixed(alloc: Global, words: &str) -> Result<ShownText, AllocError>
+        requires { IsShown words.now }
+    {
+        Ok(ShownText {
+            text: String::from_str(alloc, words)?,
+        })
+    }
+
+    /// Puts a character behind them that is no control character.
+    #[tactic(auto, using(crate::proofs::Pieces::shown_both, crate::proofs::Pieces::shown_char))]
+    pub(crate) fn push(&mut self, c: char) -> Result<(), AllocError>
+        requires printed { 32 ≤ c }
+        requires no_delete { c ≢ 127 }
+    {
+        self.text.push(c)
+    }
+
+    pub(crate) fn push_str(&mut self, words: &str) -> Result<(), AllocError>
+        requires { IsShown words.now }
+    {
+        self.text.push_str(words)
+    }
+
+    pub(crate) fn is_empty(&self) -> bool {
+        self.text.is_empty()
+    }
+
+    pub(crate) fn as_str(&self) -> &str
+        ensures value { result.now ≡ string_bytes self.now.text }
+        ensures shown { IsShown result.now }
+    {
+        self.text.as_str()
+    }
+}
+
+impl fmt::Display for ShownText {
+    ghost output = { λ words. Some (string_bytes words.text) };
+
+    fn fmt<W: fmt::Write>(&self, f: &mut fmt::Formatter<W>) -> fmt::Result {
+        f.write_str(self.text.as_str())
+    }
+}
+
+/// One line of shown words, with its line feed.
+#[derive(Drop)]
+pub(crate) struct Line {
+    text: String,
+    ghost line: { IsLine (string_bytes text) },
+}
+
+/// A line that tells why something is refused or fails: two spaces, words and a line feed.
+#[derive(Drop)]
+pub(crate) struct Sentence {
+    text: String,
+    ghost sentence: { IsSentence (string_bytes text) },
+}
+
+impl Line {
+    #[tactic(auto, using(crate::proofs::Pieces::line_is))]
+    pub(crate) fn of(alloc: Global, words: &ShownText) -> Result<Line, AllocError> {
+        let text = format!(in alloc; "{words}\n")?;
+        Ok(Line { text })
+    }
+
+    pub(crate) fn as_bytes(&self) -> &[u8]
+        ensures { IsLine result.now }
+    {
+        self.text.as_bytes()
+    }
+}
+
+impl Sentence {
+    #[tactic(auto, using(crate::proofs::Pieces::sentence_is))]
+    pub(crate) fn of(alloc: Global, words: &ShownText) -> Result<Sentence, AllocError> {
+        let text = format!(in alloc; "  {words}\n")?;
+        Ok(Sentence { text })
+    }
+
+    /// A sentence of words that are written in the program.
+    pub(crate) fn fixed(alloc: Global, words: &str) -> Result<Sentence, AllocError>
+        requires { IsShown words.now }
+    {
+        let words = ShownText::fixed(alloc, words)?;
+        Sentence::of(alloc, &words)
+    }
+
+    pub(crate) fn as_bytes(&self) -> &[u8]
+        ensures value { result.now ≡ string_bytes self.now.text }
+        ensures sentence { IsSentence result.now }
+    {
+        self.text.as_bytes()
+    }
+}

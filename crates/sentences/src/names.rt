@@ -1,0 +1,75 @@
+//! Names of types, classes and entries.
+
+ghost use Rattle.std.specs.Prelude.{◌≡◌, IfOk};
+ghost use Rattle.std.specs.Option.{is_some};
+ghost use Rattle.std.specs.FinMap as finite;
+
+use crate::lines::ShownText;
+use crate::shown::named;
+use schema::{Conf, ObjectClass, Path, TypeId};
+use std::alloc::{AllocError, Global};
+use tree::Tree;
+
+/// The name that a type is printed by.
+pub(crate) fn type_name(alloc: Global, conf: &Conf, t: TypeId) -> Result<ShownText, AllocError> {
+    match conf.types().get(t.number() as usize) {
+        Some(found) => named(alloc, found.printed_name()),
+        None => ShownText::fixed(alloc, "an attribute type"),
+    }
+}
+
+/// The first name of a class, or its OID where it has none.
+fn name_of_class(class: &ObjectClass) -> &[u8] {
+    match class.names.as_slice() {
+        [first, ..] => first.as_slice(),
+        [] => class.oid.as_slice(),
+    }
+}
+
+/// The name of the class with this number.
+pub(crate) fn class_name(
+    alloc: Global,
+    conf: &Conf,
+    class: usize,
+) -> Result<ShownText, AllocError> {
+    match conf.classes().get(class) {
+        Some(found) => named(alloc, name_of_class(found)),
+        None => ShownText::fixed(alloc, "a class"),
+    }
+}
+
+/// Whether an entry is at a path.
+pub(crate) fn is_there(tree: &Tree, path: &Path) -> bool
+    ensures { result ≡ finite.contains_key tree.now.entries path.now }
+{
+    tree.get(path).is_some()
+}
+
+/// The name of the entry at a path as it is spelled, if there is one.
+pub(crate) fn entry_name(
+    alloc: Global,
+    conf: &Conf,
+    tree: &Tree,
+    path: &Path,
+) -> Result<Option<ShownText>, AllocError>
+    requires { tree.now.conf ≡ conf.now }
+    ensures { IfOk result (λ name. is_some name ≡ finite.contains_key tree.now.entries path.now) }
+{
+    if !is_there(tree, path) {
+        return Ok(None);
+    }
+    let name = tree.name_of(alloc, conf, path)?;
+    Ok(Some(named(alloc, name.as_slice())?))
+}
+
+/// What stands behind the first RDN of a name (RFC 4514): the name of the entry above.
+pub(crate) fn parent_text(name: &[u8]) -> &[u8] {
+    let mut escaped = false;
+    for (at, byte) in name.iter().enumerate() {
+        if *byte == b',' && !escaped {
+            return &name[at + 1..];
+        }
+        escaped = *byte == b'\\' && !escaped;
+    }
+    &[]
+}

@@ -1,0 +1,79 @@
+//! What a record says.
+
+use ldif::{Attr, Control, Mod, Record};
+
+/// The name of the entry that it is about.
+pub(crate) fn name_in<'a>(asked: &'a Record<'_>) -> &'a [u8] {
+    match asked {
+        Record::Empty => &[],
+        Record::Content { dn, .. } => dn.as_slice(),
+        Record::Add { dn, .. } => dn.as_slice(),
+        Record::Delete { dn, .. } => dn.as_slice(),
+        Record::Modify { dn, .. } => dn.as_slice(),
+        Record::ModRdn { dn, .. } => dn.as_slice(),
+    }
+}
+
+/// The name of the entry that it is to add, if it is to add one.
+pub(crate) fn added_name_in<'a>(asked: &'a Record<'_>) -> Option<&'a [u8]> {
+    match asked {
+        Record::Content { dn, .. } => Some(dn.as_slice()),
+        Record::Add { dn, .. } => Some(dn.as_slice()),
+        _ => None,
+    }
+}
+
+pub(crate) fn controls_in<'a>(asked: &'a Record<'_>) -> &'a [Control] {
+    match asked {
+        Record::Empty | Record::Content { .. } => &[],
+        Record::Add { controls, .. } => controls.as_slice(),
+        Record::Delete { controls, .. } => controls.as_slice(),
+        Record::Modify { controls, .. } => controls.as_slice(),
+        Record::ModRdn { controls, .. } => controls.as_slice(),
+    }
+}
+
+/// The lines of an add.
+pub(crate) fn lines_in<'a, 'b>(asked: &'a Record<'b>) -> &'a [Attr<'b>] {
+    match asked {
+        Record::Content { attrs, .. } => attrs.as_slice(),
+        Record::Add { attrs, .. } => attrs.as_slice(),
+        _ => &[],
+    }
+}
+
+/// The blocks of a modify.
+pub(crate) fn blocks_in<'a>(asked: &'a Record<'_>) -> &'a [Mod] {
+    match asked {
+        Record::Modify { mods, .. } => mods.as_slice(),
+        _ => &[],
+    }
+}
+
+/// The new RDN of a modify DN.
+pub(crate) fn new_rdn_in<'a>(asked: &'a Record<'_>) -> &'a [u8] {
+    match asked {
+        Record::ModRdn { newrdn, .. } => newrdn.as_slice(),
+        _ => &[],
+    }
+}
+
+/// The text whose first RDN gives the entry values: the name of an add, or the new RDN of a modify DN.
+pub(crate) fn naming_text_in<'a>(asked: &'a Record<'_>) -> &'a [u8] {
+    match asked {
+        Record::Content { dn, .. } => dn.as_slice(),
+        Record::Add { dn, .. } => dn.as_slice(),
+        _ => new_rdn_in(asked),
+    }
+}
+
+/// The name of its new superior, if it has one.
+pub(crate) fn new_superior_in<'a>(asked: &'a Record<'_>) -> Option<&'a [u8]> {
+    match asked {
+        Record::ModRdn {
+            new_superior: Some(name),
+            ..
+        } => Some(name.as_slice()),
+        _ => None,
+    }
+}

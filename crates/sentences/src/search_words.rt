@@ -1,0 +1,114 @@
+//! Sentences for searches that find nothing, or too much.
+
+ghost use Rattle.std.specs.Prelude.{◌≡◌};
+
+use crate::lines::{Sentence, ShownText};
+use crate::missing::RefusedAdds;
+use crate::name_words::NameText;
+use crate::shown::{named, quoted};
+use base::{Bytes, Sequence};
+use filter_text::{FilterFault, FilterFaultKind};
+use ldif::{Mode, Record};
+use reasons::{NameReason, Reason, explain};
+use schema::{Conf, PathFault};
+use std::alloc::{AllocError, Global};
+use tree::Tree;
+
+/// What stands in a filter where it can't be read (RFC 4515).
+fn filter_words(alloc: Global, text: &[u8], fault: &FilterFault) -> Result<ShownText, AllocError> {
+    match fault {
+        FilterFault::At {
+            kind: FilterFaultKind::Deep,
+            ..
+        } => ShownText::fixed(alloc, "at most 512 parentheses may be open at once"),
+        FilterFault::At { at, .. } => match text.get(*at..) {
+            Some(rest) if !rest.is_empty() => {
+                let rest = quoted(alloc, rest)?;
+                ShownText::of(format!(in alloc;
+                    "there stands {rest}, which goes on with no filter"
+                ))
+            }
+            _ => ShownText::fixed(alloc, "it ends too early"),
+        },
+        FilterFault::OutOfMemory => Err(AllocError),
+    }
+}
+
+/// The same as a sentence.
+pub(crate) fn filter_sentence(
+    alloc: Global,
+    text: &[u8],
+    fault: &FilterFault,
+) -> Result<Sentence, AllocError> {
+    let words = filter_words(alloc, text, fault)?;
+    Sentence::of(alloc, &words)
+}
+
+/// That no entry has this name.
+fn no_entry(alloc: Global, conf: &Conf, tree: &Tree, text: &[u8]) -> Result<ShownText, AllocError>
+    requires { tree.now.conf ≡ conf.now }
+{
+    let shown = named(alloc, text)?;
+    match conf.path_of_text(alloc, text) {
+        Ok(path) => RefusedAdds::new(alloc).looked_up(alloc, conf, tree, &shown, &path),
+        Err(PathFault::Code(_)) => ShownText::of(format!(in alloc; "no entry {shown}")),
+        Err(PathFault::OutOfMemory) => Err(AllocError),
+    }
+}
+
+/// What is wrong with a name.
+fn name_words(
+    alloc: Global,
+    conf: &Conf,
+    text: &[u8],
+    why: NameReason,
+) -> Result<ShownText, AllocError> {
+    let name = NameText {
+        alloc,
+        conf,
+        what: "the name",
+        text,
+    };
+    name.words(why)
+}
+
+/// What is wrong with the name of a base, or that no entry has it: what a delete of that entry would be refused for.
+fn base_words(alloc: Global, conf: &Conf, tree: &Tree, text: &[u8]) -> Result<ShownText, AllocError>
+    requires { tree.now.conf ≡ conf.now }
+{
+    let asked = Record::Delete {
+        dn: Bytes::from_slice(alloc, text)?,
+        controls: Sequence::new(alloc),
+    };
+    match explain(alloc, tree, conf, &asked, Mode::Content) {
+        Ok(Some(Reason::Name(why))) => name_words(alloc, conf, text, why),
+        Ok(_) => no_entry(alloc, conf, tree, text),
+        Err(_) => Err(AllocError),
+    }
+}
+
+/// The same as a sentence.
+pub(crate) fn base_sentence(
+    alloc: Global,
+    conf: &Conf,
+    tree: &Tree,
+    text: &[u8],
+) -> Result<Sentence, AllocError>
+    requires { tree.now.conf ≡ conf.now }
+{
+    let words = base_words(alloc, conf, tree, text)?;
+    Sentence::of(alloc, &words)
+}
+
+/// That more entries match than are printed.
+pub(crate) fn limit_sentence(alloc: Global, limit: Option<u32>) -> Result<Sentence, AllocError> {
+    match limit {
+        Some(limit) => {
+            let words = ShownText::of(format!(in alloc;
+                "more than {limit} match, and no more are printed"
+            ))?;
+            Sentence::of(alloc, &words)
+        }
+        None => Err(AllocError),
+    }
+}

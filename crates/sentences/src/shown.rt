@@ -1,0 +1,135 @@
+//! Bytes as they are shown to people.
+
+ghost use Rattle.std.specs.Prelude.{◌≡◌, ◌<◌, ◌≤◌, ◌≢◌, true};
+ghost use Rattle.std.specs.Bool.{IsTrue};
+ghost use Rattle.std.specs.Option.{IfNone};
+ghost use Rattle.sentences.specs.Sentence.{is_shown};
+
+use crate::lines::ShownText;
+use std::alloc::{AllocError, Global};
+
+/// The most bytes that are shown of a value.
+const VALUE_LIMIT: usize = 40;
+
+/// The most bytes that are shown of a name.
+const NAME_LIMIT: usize = 160;
+
+/// How bytes are shown.
+#[derive(Clone, Copy)]
+pub(crate) enum Form {
+    /// In quotation marks.
+    Quoted,
+    /// By itself.
+    Bare,
+}
+
+/// Whether a byte of ASCII stands for itself: it is printed, and can't be taken for the quotation mark at the end or for an escape.
+fn is_plain(byte: u8, form: Form) -> bool
+    ensures printed { IsTrue result → 32 ≤ byte }
+    ensures no_delete { IsTrue result → byte ≢ 127 }
+{
+    match form {
+        Form::Quoted => byte >= b' ' && byte != 127 && byte != b'"' && byte != b'\\',
+        Form::Bare => byte >= b' ' && byte != 127,
+    }
+}
+
+fn is_first_of_char(byte: u8) -> bool {
+    byte & 0xC0 != 0x80
+}
+
+/// The first bytes, at most so many, that end with a whole character where they are text.
+fn cut(bytes: &[u8], most: usize) -> &[u8] {
+    if bytes.len() <= most {
+        return bytes;
+    }
+    for back in 0..4 {
+        if back <= most && is_first_of_char(bytes[most - back]) {
+            return &bytes[..most - back];
+        }
+    }
+    &bytes[..most]
+}
+
+/// A hexadecimal digit.
+fn digit(value: u8) -> char
+    requires { value < 16 }
+    ensures printed { 32 ≤ result }
+    ensures ascii { result < 127 }
+{
+    if value < 10 {
+        char::from(b'0' + value)
+    } else {
+        char::from(b'A' + (value - 10))
+    }
+}
+
+fn push_byte(out: &mut ShownText, byte: u8) -> Result<(), AllocError> {
+    out.push('\\')?;
+    out.push(digit(byte / 16))?;
+    out.push(digit(byte % 16))
+}
+
+/// The byte whose digits a character is shown by; none where it is shown as it is.
+fn escaped(c: char, form: Form) -> Option<u8>
+    ensures printed { IfNone result (32 ≤ c) }
+    ensures no_delete { IfNone result (c ≢ 127) }
+{
+    match u8::try_from(c) {
+        Ok(byte) if byte < 128 && !is_plain(byte, form) => Some(byte),
+        Ok(byte) if byte >= 128 && byte < 160 => Some(byte),
+        _ => None,
+    }
+}
+
+pub(crate) fn push_char(out: &mut ShownText, c: char, form: Form) -> Result<(), AllocError> {
+    match escaped(c, form) {
+        Some(byte) => push_byte(out, byte),
+        None => out.push(c),
+    }
+}
+
+fn push_text(out: &mut ShownText, text: &str, form: Form) -> Result<(), AllocError> {
+    for c in text.chars() {
+        push_char(out, c, form)?;
+    }
+    Ok(())
+}
+
+/// Bytes that are no text.
+fn push_bytes(out: &mut ShownText, bytes: &[u8], form: Form) -> Result<(), AllocError> {
+    for byte in bytes {
+        if *byte < 128 && is_plain(*byte, form) {
+            out.push(char::from(*byte))?;
+        } else {
+            push_byte(out, *byte)?;
+        }
+    }
+    Ok(())
+}
+
+/// Bytes on one line: text as it is, and what can't be printed as a backslash and two hexadecimal digits. Of more than `most` bytes the first are
+/// shown, and two dots behind them.
+fn shown(alloc: Global, bytes: &[u8], most: usize, form: Form) -> Result<ShownText, AllocError> {
+    let front = cut(bytes, most);
+    let mut out = ShownText::new(alloc);
+    match str::from_utf8(front) {
+        Ok(text) => push_text(&mut out, text, form)?,
+        Err(_) => push_bytes(&mut out, front, form)?,
+    }
+    if front.len() < bytes.len() {
+        out.push_str("..")?;
+    }
+    Ok(out)
+}
+
+/// A value in quotation marks; such marks and backslashes in it are shown by their digits, too.
+pub(crate) fn quoted(alloc: Global, bytes: &[u8]) -> Result<ShownText, AllocError> {
+    let value = shown(alloc, bytes, VALUE_LIMIT, Form::Quoted)?;
+    ShownText::of(format!(in alloc; "\"{value}\""))
+}
+
+/// A name of an entry, a type or a class, as it is written.
+pub(crate) fn named(alloc: Global, bytes: &[u8]) -> Result<ShownText, AllocError> {
+    shown(alloc, bytes, NAME_LIMIT, Form::Bare)
+}
