@@ -170,6 +170,9 @@ pub trait Folder {
     /// the same.
     fn settle(&self, name: &str);
 
+    /// What the system said where a call failed last, if it said something.
+    fn last_failure(&self) -> Option<ErrorKind>;
+
     /// Whether a draft that is published under one name takes the place of what has the other.
     fn is_one_place(&self, name: &str, other: &str) -> bool
         ensures { name.now ≡ other.now → result ≡ true };

@@ -3,12 +3,14 @@
 
 mod drafts;
 mod folder;
+mod last_failure;
 mod paths;
 mod placeholders;
 mod system_files;
 mod uninterrupted;
 
 pub use folder::{Drafted, FileText, Folder, FolderFault, LockFault, Unpublished};
+pub use last_failure::LastFailure;
 pub use placeholders::Placeholders;
 pub use system_files::{SystemDraft, SystemFiles};
 pub use uninterrupted::Uninterrupted;

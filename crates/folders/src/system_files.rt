@@ -3,6 +3,7 @@ ghost use Rattle.std.specs.Prelude.{◌≡◌, ⊤, false, None, IfOk, is_some, 
 
 use crate::drafts::{Draft, clear_left, is_same, make_draft, open_to_lock};
 use crate::folder::{Drafted, FileText, Folder, FolderFault, LockFault, Unpublished};
+use crate::last_failure::LastFailure;
 use crate::paths::parted;
 use crate::uninterrupted::Uninterrupted;
 use device::{OfRead, OfWrite};
@@ -22,6 +23,7 @@ struct Locked {
 #[derive(Drop)]
 pub struct SystemFiles<'r, R> {
     rt: &'r R,
+    failure: &'r LastFailure,
     locked: Option<Locked>,
 }
 
@@ -40,11 +42,15 @@ fn names_open_file(name: &str) -> bool {
 }
 
 impl<'r, R: Files<File = File> + AllocGlobal + Clone + Drop> SystemFiles<'r, R> {
-    /// No lock is held.
-    pub fn new(rt: &'r R) -> SystemFiles<'r, R>
+    /// No lock is held. `failure` keeps what the system says where a call fails.
+    pub fn new(rt: &'r R, failure: &'r LastFailure) -> SystemFiles<'r, R>
         ensures { is_some result.locked ≡ false }
     {
-        SystemFiles { rt, locked: None }
+        SystemFiles {
+            rt,
+            failure,
+            locked: None,
+        }
     }
 
     /// Whether something has this name, be it a link that leads nowhere.
@@ -64,8 +70,8 @@ impl<'r, R: Files<File = File> + AllocGlobal + Clone + Drop> SystemFiles<'r, R> 
     fn open_locked(&self, name: &str) -> Result<Option<File>, FolderFault> {
         match &self.locked {
             Some(locked) if locked.name.as_str() == name => {
-                let mut file = OpenFile::try_clone(&locked.file)?;
-                file.rewind()?;
+                let mut file = self.failure.noted(OpenFile::try_clone(&locked.file))?;
+                self.failure.noted(file.rewind())?;
                 Ok(Some(file))
             }
             _ => Ok(None),
@@ -75,8 +81,9 @@ impl<'r, R: Files<File = File> + AllocGlobal + Clone + Drop> SystemFiles<'r, R> 
     fn write_in_place<T: FileText>(&self, name: &str, text: &T) -> Result<T::Answer, FolderFault>
         ensures { IfOk result (T.answers text.now) }
     {
-        let file = fs::create(self.rt, name)?;
-        let answer = text.write(self.rt.alloc(), &mut OfWrite::new(Uninterrupted::new(file)))?;
+        let file = self.failure.noted(fs::create(self.rt, name))?;
+        let mut sink = OfWrite::new(Uninterrupted::new(file, self.failure));
+        let answer = text.write(self.rt.alloc(), &mut sink)?;
         Ok(answer)
     }
 
@@ -91,18 +98,21 @@ impl<'r, R: Files<File = File> + AllocGlobal + Clone + Drop> SystemFiles<'r, R> 
         let alloc = self.rt.alloc();
         let _ = clear_left(self.rt, alloc, name);
         let old = fs::metadata(self.rt, name).ok();
-        let mut draft = make_draft(self.rt, alloc, name, old.is_none())?;
+        let made = make_draft(self.rt, alloc, name, old.is_none());
+        let mut draft = self.failure.noted(made)?;
         if let Some(old) = old {
             draft.follow(&old);
         }
-        let answer = text.write(alloc, &mut OfWrite::new(Uninterrupted::new(draft.file())))?;
-        draft.sync()?;
+        let mut sink = OfWrite::new(Uninterrupted::new(draft.file(), self.failure));
+        let answer = text.write(alloc, &mut sink)?;
+        drop(sink);
+        self.failure.noted(draft.sync())?;
         Ok(Drafted { draft, answer })
     }
 }
 
 impl<'r, R: Files<File = File> + AllocGlobal + Clone + Drop> Folder for SystemFiles<'r, R> {
-    type In = OfRead<Uninterrupted<File>>;
+    type In = OfRead<Uninterrupted<'r, File>>;
 
     type Draft = SystemDraft<'r, R>;
 
@@ -117,28 +127,33 @@ impl<'r, R: Files<File = File> + AllocGlobal + Clone + Drop> Folder for SystemFi
     /// The lock is the system's (flock) on the file as it stands under the name now. The end of the process gives it back, however it ends.
     /// It is not taken of a pipe, which would never end while it is open here.
     fn lock(&mut self, name: &str) -> Result<(), LockFault> {
+        self.failure.clear();
         if self.is_special(name) {
             return Err(LockFault::Device);
         }
         let path = String::from_str(self.rt.alloc(), name)?;
-        let file = open_to_lock(self.rt, name)?;
+        let file = self.failure.noted(open_to_lock(self.rt, name))?;
         match file.try_lock() {
             Ok(()) => {
                 self.locked = Some(Locked { name: path, file });
                 Ok(())
             }
             Err(TryLockError::WouldBlock) => Err(LockFault::InUse),
-            Err(TryLockError::Error(error)) => Err(LockFault::from(error)),
+            Err(TryLockError::Error(error)) => {
+                self.failure.keep(error.kind());
+                Err(LockFault::from(error))
+            }
         }
     }
 
     /// A locked file is read by the handle that has its lock.
-    fn open(&self, name: &str) -> Result<Option<OfRead<Uninterrupted<File>>>, FolderFault> {
+    fn open(&self, name: &str) -> Result<Option<OfRead<Uninterrupted<'r, File>>>, FolderFault> {
+        self.failure.clear();
         if let Some(file) = self.open_locked(name)? {
-            return Ok(Some(OfRead::new(Uninterrupted::new(file))));
+            return Ok(Some(OfRead::new(Uninterrupted::new(file, self.failure))));
         }
-        match fs::open(self.rt, name) {
-            Ok(file) => Ok(Some(OfRead::new(Uninterrupted::new(file)))),
+        match self.failure.noted(fs::open(self.rt, name)) {
+            Ok(file) => Ok(Some(OfRead::new(Uninterrupted::new(file, self.failure)))),
             Err(error) if error.kind() == ErrorKind::NotFound && !self.is_there(name) => Ok(None),
             Err(error) => Err(FolderFault::from(error)),
         }
@@ -150,6 +165,7 @@ impl<'r, R: Files<File = File> + AllocGlobal + Clone + Drop> Folder for SystemFi
         name: &str,
         text: &T,
     ) -> Result<Drafted<SystemDraft<'r, R>, T::Answer>, FolderFault> {
+        self.failure.clear();
         let path = String::from_str(self.rt.alloc(), name)?;
         if self.is_special(name) {
             let answer = self.write_in_place(name, text)?;
@@ -171,7 +187,7 @@ impl<'r, R: Files<File = File> + AllocGlobal + Clone + Drop> Folder for SystemFi
     fn publish(&mut self, draft: SystemDraft<'r, R>) -> Result<(), Unpublished> {
         let SystemDraft { name, draft } = draft;
         match draft {
-            Some(mut draft) => match draft.publish(name.as_str()) {
+            Some(mut draft) => match self.failure.noted(draft.publish(name.as_str())) {
                 Ok(()) => Ok(()),
                 Err(_) => Err(Unpublished { name }),
             },
@@ -187,7 +203,12 @@ impl<'r, R: Files<File = File> + AllocGlobal + Clone + Drop> Folder for SystemFi
         }
     }
 
+    fn last_failure(&self) -> Option<ErrorKind> {
+        self.failure.kind()
+    }
+
     fn is_one_place(&self, name: &str, other: &str) -> bool {
+        self.failure.clear();
         if name == other {
             return true;
         }
