@@ -12,9 +12,25 @@ FAULTS = {
 CONTROL = re.compile(rb"[0-9.]+(?: +(true|false))? *(:.*)?", re.DOTALL | re.IGNORECASE)
 
 
+CONTROL_OID = re.compile(rb"[0-9.]+")
+
+
 class Fault(Exception):
-    def __init__(self, code):
+    """What is wrong with a record: at the line that was looked at last, or at its end."""
+    def __init__(self, code, at_end=False):
         super().__init__(f"{code} {FAULTS[code]}")
+        self.code, self.at = code, None if at_end else Line.last
+
+
+class Line(bytes):
+    """A line of a record, which knows its place there. The one that was looked at last is kept."""
+    last = None
+
+    @staticmethod
+    def of(place, text):
+        line = Line(text)
+        line.place = place
+        return line
 
 
 def lines_of(text):
@@ -26,14 +42,20 @@ def lines_of(text):
 
 
 def records(text):
+    """-> [(number of its first line, is it the first record, its lines)]"""
+    return [(numbers[0], first, lines) for numbers, first, lines in numbered_records(text)]
+
+
+def numbered_records(text):
     """Records stand between empty lines. A comment is dropped with its continuation; any other continuation is joined to
     the line before, or stays as it is where there is none.
-    -> [(number of its first line, is it the first record, its lines)]"""
+    -> [(the number of each line of the text that a line of it begins on, is it the first record, its lines)]"""
     found, kept, in_comment = [], [], False
     for number, line in enumerate(lines_of(text) + [b""], 1):
         if not line:
             if kept:
-                found.append((kept[0][0], not found, [b"".join(pieces) for _, pieces in kept]))
+                lines = [Line.of(place, b"".join(pieces)) for place, (_, pieces) in enumerate(kept)]
+                found.append(([first for first, _ in kept], not found, lines))
             kept, in_comment = [], False
         elif line.startswith(b"#"):
             in_comment = True
@@ -60,6 +82,7 @@ def base64_value(text):
 
 def value_line(line):
     """-> (name, value)"""
+    Line.last = getattr(line, "place", None)
     if line.startswith(b" "):
         raise Fault("L2")
     name, colon, rest = line.partition(b":")
@@ -110,7 +133,7 @@ def read_content(first, lines):
 class Change:
     """What a record wants done: an add has the attributes as `what`, a modify its blocks, a modrdn a Rename, a delete nothing."""
     dn: bytes
-    is_critical: bool       # does a control say so?
+    critical: object        # the first control that is critical: its place and its OID
     kind: str
     what: object
 
@@ -137,7 +160,7 @@ def read_change(first, lines, add_default):
     if found is None:
         return None
     dn, lines = found
-    is_critical = False
+    critical = None
     for at, line in enumerate(lines):
         name, value = value_line(line)
         if name.lower() == b"changetype":
@@ -145,15 +168,16 @@ def read_change(first, lines, add_default):
             if kind not in CHANGES:
                 raise Fault("L7")
             kind, read = CHANGES[kind]
-            return Change(dn, is_critical, kind, read(lines[at + 1:]))
+            return Change(dn, critical, kind, read(lines[at + 1:]))
         if name.lower() != b"control":
             if not add_default:
                 raise Fault("L11")
-            return Change(dn, is_critical, "add", read_attributes(lines[at:]))
-        is_critical |= control_is_critical(value)
+            return Change(dn, critical, "add", read_attributes(lines[at:]))
+        if control_is_critical(value) and critical is None:
+            critical = at, CONTROL_OID.match(value)[0]
     if not add_default:
-        raise Fault("L11")
-    return Change(dn, is_critical, "add", [])
+        raise Fault("L11", at_end=True)
+    return Change(dn, critical, "add", [])
 
 
 def control_is_critical(text):
@@ -210,7 +234,7 @@ def read_rename(lines):
                 raise Fault("L13")
         values.append(value)
     if len(values) < 2:
-        raise Fault("L9")
+        raise Fault("L9", at_end=True)
     for line in lines[3:]:
         value_line(line)
         raise Fault("L10")

@@ -7,6 +7,7 @@ import filters
 import indexes
 import ldif
 import schema
+import sentences
 
 # RFC 4511, appendix A
 CODES = {
@@ -28,23 +29,32 @@ SCOPES = {
 
 
 class Refused(Exception):
-    """A record that has no place in the directory."""
-    def __init__(self, code):
+    """A record that has no place in the directory. `why` is said with `-v`, of a part of the record, if of one by itself."""
+    def __init__(self, code, why="", part=None):
         super().__init__(f"{code} {CODES[code]}")
+        self.code, self.why, self.part = code, why, part
 
 
 class Ended(Exception):
-    """A command that ends before its work."""
-    def __init__(self, status, message):
+    """A command that ends before its work. `why` is said with `-v`."""
+    def __init__(self, status, message, why=""):
         super().__init__(message)
-        self.status, self.messages = status, f"{message}\n".encode()
+        self.status, self.messages, self.why = status, f"{message}\n".encode(), why
+
+    def told(self, verbose):
+        """The message, and with `-v` the sentence behind it."""
+        return self.messages + self.why.encode() * verbose
+
+
+def fixed(name):
+    return f"{sentences.name(name)}: users can't change it (NO-USER-MODIFICATION)"
 
 
 class Attributes:
     """The values of an entry, by type in the order of coming: {type: {normal form: value}}. No type is without values."""
 
     def __init__(self, conf, values=()):
-        self.conf, self.values = conf, dict(values)
+        self.conf, self.values, self.said, self.is_added = conf, dict(values), {}, False
 
     def copy(self):
         return Attributes(self.conf, {number: dict(values) for number, values in self.values.items()})
@@ -72,11 +82,41 @@ class Attributes:
     def check(self):
         """What holds of each entry as a whole: it has a class, what its classes ask for, and one value of each type that takes
         no more."""
-        if OBJECT_CLASS not in self.values or \
-                not self.conf.fits_classes(self.values[OBJECT_CLASS].values(), self.values.keys()):
-            raise Refused(65)
-        if any(self.conf.types[number].is_single and len(values) > 1 for number, values in self.values.items()):
-            raise Refused(19)
+        if OBJECT_CLASS not in self.values:
+            raise Refused(65, "the entry has no objectClass")
+        if not self.conf.fits_classes(self.values[OBJECT_CLASS].values(), self.values.keys()):
+            raise Refused(65, self.class_words())
+        single = [number for number, values in self.values.items() if self.conf.types[number].is_single and len(values) > 1]
+        if single:
+            raise Refused(19, [f"{self.printed(number)} is SINGLE-VALUE, and the entry would have more values" for number in single])
+
+    def printed(self, number):
+        return sentences.name(self.conf.types[number].printed())
+
+    def lacked_types(self, numbers):
+        """How types that a class requires are named: of an add all of them, at most three by their names; else any one."""
+        printed = [self.printed(number) for number in numbers]
+        if not self.is_added or not printed:
+            return printed
+        more = f" and {sentences.grouped(len(printed) - 3)} more" if len(printed) > 3 else ""
+        return [", ".join(printed[:3]) + more]
+
+    def class_words(self):
+        """Each way to say what is wrong with the classes of an entry, where several types or classes are."""
+        conf, names = self.conf, list(self.values[OBJECT_CLASS].values())
+        unknown = [self.said.get((OBJECT_CLASS, conf.normal(OBJECT_CLASS, name)), name) for name in names if conf.class_of(name) is None]
+        if unknown:
+            return [f"objectClass: {sentences.value(name)} is no object class of dir.conf" for name in unknown]
+        lacked = []
+        for named in map(conf.class_of, names):
+            numbers = [number for number in conf.required_in_order(named) if number not in self.values]
+            lacked += [f"{sentences.name(conf.printed_class(named))} requires {types}" for types in self.lacked_types(numbers)]
+        if lacked:
+            return lacked
+        belongs = conf.with_superclasses([conf.class_of(name) for name in names])
+        allowed = {number for one in belongs for number in conf.classes[one].must + conf.classes[one].may}
+        return [f"none of its object classes allows {self.printed(number)}" for number in self.values
+                if number != 0 and not conf.types[number].is_operational and number not in allowed]
 
 
 class Directory:
@@ -84,27 +124,51 @@ class Directory:
 
     def __init__(self, conf):
         self.conf, self.entries = conf, {}
+        # the lines of records that were to add entries, by their paths
+        self.refused = {}
 
-    def located(self, dn):
+    def located(self, dn, what="the name", part=None):
         """-> (the AVAs of a name, its RDNs as they compare, from the suffix down)"""
         name = schema.read_name(dn)
         if name is None:
-            raise Refused(34)
+            raise Refused(34, sentences.unreadable(what, dn), part)
         try:
             pairs = self.conf.pairs_of(name)
         except schema.BadName as bad:
-            raise Refused(bad.args[0]) from None
+            raise Refused(bad.args[0], self.ava_words(what, *bad.args), part) from None
         steps, suffix = self.conf.steps(pairs), self.conf.steps(self.conf.suffix)
         depth = len(steps) - len(suffix)
         if depth < 0 or steps[depth:] != suffix:
-            raise Refused(32)
+            above = sentences.name(self.conf.written_name(self.conf.suffix))
+            raise Refused(32, f"{what} {sentences.name(dn)} doesn't end with the suffix {above}", part)
         return pairs, tuple(tuple(step) for step in reversed(steps[:depth]))
+
+    def ava_words(self, what, code, kind, value, flaw):
+        name = sentences.name(kind)
+        if flaw == "value":
+            return f"{what}: {sentences.no_value(self.conf, self.conf.type_of(kind), value)}"
+        return f"{what} has {name}" + {
+            "type": ", which is no attribute type of dir.conf", "syntax": ", whose values are names themselves",
+            "rule": ", which has no equality rule", "twice": " twice in one RDN"}[flaw]
+
+    def no_entry(self, dn, path):
+        """That no entry has this name, which leads to this path."""
+        refused = f" (refused at line {self.refused[path]})" if path in self.refused else ""
+        depth = next((n for n in range(len(path) - 1, -1, -1) if path[:n] in self.entries), None)
+        nearest = ""
+        if depth is not None and depth < len(path) - 1:
+            nearest = f"; the nearest above it is {self.spelled(path[:depth])}"
+        return f"no entry {sentences.name(dn)}{refused}{nearest}"
+
+    def spelled(self, path):
+        rdns = [self.entries[path[:depth]][0] for depth in range(len(path), 0, -1)] + self.conf.suffix
+        return sentences.name(self.conf.written_name(rdns))
 
     def found(self, dn):
         """-> (the path of an entry that is there, its RDN, its attributes)"""
         path = self.located(dn)[1]
         if path not in self.entries:
-            raise Refused(32)
+            raise Refused(32, self.no_entry(dn, path))
         return path, *self.entries[path]
 
     def has_child(self, path):
@@ -113,8 +177,9 @@ class Directory:
     def change(self, change):
         """Does what a change says, or changes nothing and raises the code of the first rule that it breaks. No control is
         known here (RFC 4511, 4.1.11)."""
-        if change.is_critical:
-            raise Refused(12)
+        if change.critical is not None:
+            number, oid = change.critical
+            raise Refused(12, f"control {sentences.name(oid)} is critical, and no control is known", ("control", number))
         if change.kind == "add":
             self.add(change.dn, change.what, True)
         elif change.kind == "delete":
@@ -128,12 +193,16 @@ class Directory:
         """Adds an entry, or changes nothing and raises the code of the first rule that it breaks (RFC 4511, 4.7)."""
         pairs, path = self.located(dn)
         if path in self.entries:
-            raise Refused(68)
+            raise Refused(68, f"there already, as {self.spelled(path)}")
         if path and path[:-1] not in self.entries:
-            raise Refused(32)
+            raise Refused(32, self.no_entry(sentences.parent(dn), path[:-1]))
         attributes = self.attributes_of(lines, by_user)
         # the entry of the suffix is named as dir.conf writes it
         rdn = pairs[0] if path else self.conf.suffix[0]
+        # what is wrong is told of what the record says
+        attributes.is_added = True
+        attributes.said = {(number, self.conf.normal(number, value)): value
+                           for number, value in pairs[0] if not attributes.has(number, value)}
         for pair in rdn:
             if not attributes.has(*pair):
                 attributes.add(*pair)
@@ -142,75 +211,96 @@ class Directory:
 
     def attributes_of(self, lines, by_user):
         """slapadd takes lines of types that users don't change, too: it loads what servers wrote."""
-        attributes = Attributes(self.conf)
-        for name, value in lines:
-            number = self.conf.type_of(name)
+        attributes, places = Attributes(self.conf), {}
+        for place, (name, value) in enumerate(lines):
+            number, part = self.conf.type_of(name), ("attribute", place)
             if number is None:
-                raise Refused(17)
+                raise Refused(17, self.no_type(name), part)
             if by_user and self.conf.types[number].is_fixed:
-                raise Refused(19)
+                raise Refused(19, fixed(name), part)
             if not self.conf.is_valid(number, value):
-                raise Refused(21)
-            if attributes.has(number, value):
-                raise Refused(20)
+                raise Refused(21, sentences.no_value(self.conf, number, value), part)
+            key = number, self.conf.normal(number, value)
+            if key in places:
+                other = sentences.value(lines[places[key]][1])
+                raise Refused(20, (f"{sentences.name(name)}: {sentences.value(value)} equals {other}", ("attribute", places[key])), part)
             attributes.add(number, value)
+            places[key] = place
         return attributes
+
+    @staticmethod
+    def no_type(name):
+        if name.lower() == b"dn":
+            return "a dn: line within a record; an empty line is missing before it"
+        if b";" in name:
+            return f"{sentences.name(name)}: attribute options aren't kept"
+        return f"{sentences.name(name)} is no attribute type of dir.conf"
 
     def delete(self, dn):
         """An entry with entries below it stays (RFC 4511, 4.8)."""
         path, _, _ = self.found(dn)
         if self.has_child(path):
-            raise Refused(66)
+            below = sum(other[:len(path)] == path for other in self.entries) - 1
+            raise Refused(66, "an entry is below it: delete that first" if below == 1 else
+                          f"{sentences.grouped(below)} entries are below it: delete those first")
         del self.entries[path]
 
     def modify(self, dn, blocks):
         """Each block sees what those before it made; the entry is looked at as a whole behind the last (RFC 4511, 4.6)."""
         path, rdn, attributes = self.found(dn)
         attributes = attributes.copy()
-        for block in blocks:
-            self.modify_one(attributes, block)
-        if not all(attributes.has(*pair) for pair in rdn):
-            raise Refused(67)
+        for place, block in enumerate(blocks):
+            self.modify_one(attributes, block, place, self.entries[path][1])
+        gone = [pair for pair in rdn if not attributes.has(*pair)]
+        if gone:
+            raise Refused(67, [f"{attributes.printed(number)}: {sentences.value(value)} is in its RDN, so it has to stay"
+                               for number, value in gone])
         attributes.check()
         self.entries[path] = rdn, attributes
 
-    def modify_one(self, attributes, block):
-        number = self.conf.type_of(block.name)
+    def modify_one(self, attributes, block, place=0, before=None):
+        """`before` are the attributes of the entry as it is there."""
+        before = attributes if before is None else before
+        number, part, name = self.conf.type_of(block.name), ("block", place), sentences.name(block.name)
         if number is None:
-            raise Refused(17)
+            raise Refused(17, self.no_type(block.name), part)
         kind, is_there = self.conf.types[number], number in attributes.values
         if kind.is_fixed:
-            raise Refused(19)
+            raise Refused(19, fixed(block.name), part)
         if block.word == "add" and not block.values:
-            raise Refused(2)
+            raise Refused(2, f"add: {name} has no values to add", part)
         # without a rule no value can be looked for among those that are there (RFC 4512, 2.5.1)
         if kind.family is None and (block.word == "add" and is_there or block.word == "delete" and block.values):
-            raise Refused(18)
+            raise Refused(18, f"{block.word}: {name} has no equality rule, so its values can't be compared; replace them", part)
         if block.word == "delete" and not is_there:
-            raise Refused(16)
+            raise Refused(16, f"delete: the entry has no {name}", part)
         if block.word == "add":
-            self.add_values(attributes, number, block.values)
+            self.add_values(attributes, number, block, place, before)
         elif block.word == "delete" and block.values:
-            self.delete_values(attributes, number, block.values)
+            self.delete_values(attributes, number, block, place)
         else:
             # a delete without values takes all of them
-            self.add_values(Attributes(self.conf), number, block.values)
+            self.add_values(Attributes(self.conf), number, block, place, before)
             attributes.replace(number, block.values)
 
-    def add_values(self, attributes, number, values):
-        for value in values:
+    def add_values(self, attributes, number, block, place, before):
+        name = sentences.name(block.name)
+        for at, value in enumerate(block.values):
             if not self.conf.is_valid(number, value):
-                raise Refused(21)
+                raise Refused(21, sentences.no_value(self.conf, number, value), ("value", place, at))
             if attributes.has(number, value):
-                raise Refused(20)
+                # as the entry has it, or else the block
+                there = before.values.get(number, {}).get(self.conf.normal(number, value))
+                equal = "stands twice in the block" if there is None else f"is there already, as {sentences.value(there)}"
+                raise Refused(20, f"{name}: {sentences.value(value)} {equal}", ("value", place, at))
             attributes.add(number, value)
 
-    def delete_values(self, attributes, number, values):
-        for value in values:
+    def delete_values(self, attributes, number, block, place):
+        for at, value in enumerate(block.values):
             if not self.conf.is_valid(number, value):
-                raise Refused(21)
+                raise Refused(21, sentences.no_value(self.conf, number, value), ("value", place, at))
             if not attributes.has(number, value):
-                raise Refused(16)
+                raise Refused(16, f"{sentences.name(block.name)}: {sentences.value(value)} isn't there", ("value", place, at))
             attributes.remove(number, value)
 
     def rename(self, dn, rename):
@@ -218,16 +308,16 @@ class Directory:
         before the old ones go."""
         path, old, attributes = self.found(dn)
         if not path:
-            raise Refused(53)
+            raise Refused(53, "the entry of the suffix keeps its name and its place")
         new = self.read_rdn(rename.rdn)
-        parent = path[:-1] if rename.superior is None else self.located(rename.superior)[1]
+        parent = path[:-1] if rename.superior is None else self.located(rename.superior, "newsuperior", ("newsuperior",))[1]
         if parent[:len(path)] == path:
-            raise Refused(53)
+            raise Refused(53, "it can't be moved below itself")
         if parent not in self.entries:
-            raise Refused(32)
+            raise Refused(32, self.no_entry(sentences.parent(dn) if rename.superior is None else rename.superior, parent))
         moved = parent + (tuple(self.conf.steps([new])[0]),)
         if moved != path and moved in self.entries:
-            raise Refused(68)
+            raise Refused(68, "another entry has the new name")
         attributes = attributes.copy()
         for pair in new:
             if not attributes.has(*pair):
@@ -244,19 +334,21 @@ class Directory:
 
     def read_rdn(self, text):
         """-> the AVAs of a name of one RDN"""
-        name = schema.read_name(text)
-        if name is None or len(name) != 1:
-            raise Refused(34)
+        name, part = schema.read_name(text), ("newrdn",)
+        if name is None:
+            raise Refused(34, sentences.unreadable("newrdn", text), part)
+        if len(name) != 1:
+            raise Refused(34, f"newrdn {sentences.value(text)} is not one RDN", part)
         try:
             return self.conf.pairs_of_rdn(name[0])
         except schema.BadName as bad:
-            raise Refused(bad.args[0]) from None
+            raise Refused(bad.args[0], self.ava_words("newrdn", *bad.args), part) from None
 
     def base(self, name):
         """The path of the entry with this name, by default of the suffix, where it is there."""
         path = () if name is None else self.located(name)[1]
         if path not in self.entries:
-            raise Refused(32)
+            raise Refused(32, "the directory has no entry" if name is None else self.no_entry(name, path))
         return path
 
     def matching(self, scope, base, steps, rows=None):
@@ -280,10 +372,12 @@ class Directory:
         return b"".join(out) + b"\n"
 
 
-def run(directory, text, go_on, changes=False, add_default=False):
-    """Adds the records of the text, or carries them out where they are changes. -> the refused ones, as report lines"""
-    report = []
-    for number, first, lines in ldif.records(text):
+def run(directory, text, go_on, changes=False, add_default=False, told=None):
+    """Adds the records of the text, or carries them out where they are changes. -> the refused ones, as report lines. `told` gets a Told of
+    each, and how many records were accepted."""
+    report, accepted = [], 0
+    for numbers, first, lines in ldif.numbered_records(text):
+        change = None
         try:
             if changes:
                 change = ldif.read_change(first, lines, add_default)
@@ -291,82 +385,121 @@ def run(directory, text, go_on, changes=False, add_default=False):
                     directory.change(change)
             else:
                 content = ldif.read_content(first, lines)
+                change = content and ldif.Change(content[0], None, "add", content[1])
                 if content is not None:
                     directory.add(*content)
+            accepted += change is not None
         except (ldif.Fault, Refused) as refusal:
-            report.append(f"line {number}: {refusal}\n")
+            report.append(f"line {numbers[0]}: {refusal}\n")
+            if told is not None:
+                told.refusals.append((str(refusal), sentences_of(refusal, change, numbers, first, lines, changes)))
+                keep_refused(directory, change, numbers[0])
             if not go_on:
                 break
+    if told is not None:
+        told.accepted = accepted
     return "".join(report)
+
+
+class Told:
+    """What is told with `-v` of a run: its refusals, each with what may stand behind it, and how many records were accepted."""
+
+    def __init__(self):
+        self.refusals, self.accepted = [], 0
+
+    def messages(self, report, done, is_stored):
+        """Each report line with the first sentence that may stand behind it, and the summary."""
+        lines = [line + ways[0] for line, (_, ways) in zip(report.splitlines(keepends=True), self.refusals)]
+        return "".join(lines) + sentences.summary(self.accepted, [refusal for refusal, _ in self.refusals], done, is_stored)
+
+
+def sentences_of(refusal, change, numbers, first, lines, changes):
+    """Each sentence that may be told: one, but where several types or classes are at fault."""
+    if isinstance(refusal, ldif.Fault):
+        return [sentences.of_fault(refusal, numbers, lines)]
+    whys = refusal.why if isinstance(refusal.why, list) else [refusal.why]
+    return [sentences.of_refusal(Refused(refusal.code, why, refusal.part), change.dn, numbers, first, lines, changes) for why in whys]
+
+
+def keep_refused(directory, change, line):
+    """A refused add is remembered, by the path of its name."""
+    if change is not None and change.kind == "add":
+        try:
+            directory.refused.setdefault(directory.located(change.dn)[1], line)
+        except Refused:
+            pass
 
 
 def load(conf_text, data, folder):
     """The directory of a folder, where None stands for a file that isn't there."""
     if conf_text is None:
-        raise Ended(3, f"{folder}/dir.conf: cannot read")
+        raise Ended(3, f"{folder}/dir.conf: cannot read", "  no such file or folder\n")
     try:
         directory = Directory(schema.read_conf(conf_text))
     except schema.Fault as fault:
-        raise Ended(2, fault) from None
-    report = run(directory, data or b"", False)
+        raise Ended(2, fault, fault.why) from None
+    told = Told()
+    report = run(directory, data or b"", False, told=told)
     if report:
-        raise Ended(3, "data.ldif " + report.rstrip("\n"))
+        raise Ended(3, "data.ldif " + report.rstrip("\n"), told.refusals[0][1][0])
     return directory
 
 
-def run_and_store(conf_text, data, text, dry_run, folder, source, *how):
+def run_and_store(conf_text, data, text, dry_run, folder, source, go_on, changes=False, add_default=False, verbose=False):
     """A text of None can't be read. -> (status, messages, {name: text} of the files as stored)"""
     try:
         directory = load(conf_text, data, folder)
         if text is None:
-            raise Ended(3, f"{source}: cannot read")
+            raise Ended(3, f"{source}: cannot read", "  no such file or folder\n")
     except Ended as end:
-        return end.status, end.messages, {}
-    report = run(directory, text, *how)
+        return end.status, end.told(verbose), {}
+    told = Told()
+    report = run(directory, text, go_on, changes, add_default, told)
     dump = directory.dump()
     stored = {"data.ldif": dump, "index.txt": indexes.index_text(directory.conf, dump)}
-    return (1 if report else 0), report.encode(), {} if dry_run else stored
+    messages = told.messages(report, "carried out" if changes else "added", not dry_run) if verbose else report
+    return (1 if report else 0), messages.encode(), {} if dry_run else stored
 
 
-def slapadd(conf_text, data, text, go_on, dry_run, folder, source):
-    return run_and_store(conf_text, data, text, dry_run, folder, source, go_on)
+def slapadd(conf_text, data, text, go_on, dry_run, folder, source, verbose=False):
+    return run_and_store(conf_text, data, text, dry_run, folder, source, go_on, verbose=verbose)
 
 
-def ldapmodify(conf_text, data, text, add_default, go_on, dry_run, folder, source):
-    return run_and_store(conf_text, data, text, dry_run, folder, source, go_on, True, add_default)
+def ldapmodify(conf_text, data, text, add_default, go_on, dry_run, folder, source, verbose=False):
+    return run_and_store(conf_text, data, text, dry_run, folder, source, go_on, True, add_default, verbose)
 
 
-def slapindex(conf_text, data, folder):
+def slapindex(conf_text, data, folder, verbose=False):
     """-> (status, messages, {name: text} of the files as stored)"""
     try:
         directory = load(conf_text, data, folder)
         return 0, b"", {"index.txt": indexes.index_text(directory.conf, directory.dump())}
     except Ended as end:
-        return end.status, end.messages, {}
+        return end.status, end.told(verbose), {}
 
 
 def read_filter(text):
     try:
         return filters.read_filter(text)
     except filters.Fault as fault:
-        raise Ended(2, f"filter: {fault}") from None
+        raise Ended(2, f"filter: {fault}", sentences.of_filter(text, str(fault))) from None
 
 
 def base_of(directory, name, command):
     try:
         return directory.base(name)
     except Refused as refused:
-        raise Ended(1, f"{command}: {refused}") from None
+        raise Ended(1, f"{command}: {refused}", f"  {refused.why}\n") from None
 
 
-def slapcat(conf_text, data, folder, filter_text=None, below=None):
+def slapcat(conf_text, data, folder, filter_text=None, below=None, verbose=False):
     """All entries, or those for which a filter is True, or those at and below a name. -> (status, output, messages)"""
     try:
         steps = read_filter(b"(&)" if filter_text is None else filter_text)
         directory = load(conf_text, data, folder)
         base = () if below is None else base_of(directory, below, "slapcat")
     except Ended as end:
-        return end.status, b"", end.messages
+        return end.status, b"", end.told(verbose)
     paths = directory.matching(SCOPES[b"sub"], base, filters.prepared(directory.conf, steps))
     return 0, b"".join(directory.printed(path) for path in paths), b""
 
@@ -406,7 +539,7 @@ def index_rows(directory, index):
         return None, f"index.txt: {fault}\n".encode()
 
 
-def search(conf_text, data, folder, words, name=None, scope_word=None, limit_word=None, index=None):
+def search(conf_text, data, folder, words, name=None, scope_word=None, limit_word=None, index=None, verbose=False):
     """Of the words the first one may be a filter, the others are attributes. -> (status, output, messages, or None where they are
     those of the library that reads words)"""
     scope = SCOPES.get(b"sub" if scope_word is None else scope_word)
@@ -420,13 +553,16 @@ def search(conf_text, data, folder, words, name=None, scope_word=None, limit_wor
         directory = load(conf_text, data, folder)
         rows, warning = index_rows(directory, index)
     except Ended as end:
-        return end.status, b"", end.messages
+        return end.status, b"", end.told(verbose)
     try:
         base = base_of(directory, name, "search")
     except Ended as end:
-        return end.status, b"", warning + end.messages
+        return end.status, b"", warning + end.told(verbose)
     paths = directory.matching(scope, base, filters.prepared(directory.conf, steps), rows)
     is_selected = selection(directory.conf, words)
     shown = paths[:limit] if limit else paths
     output = b"".join(directory.printed(path, is_selected) for path in shown)
-    return (1, output, warning + f"search: {Refused(4)}\n".encode()) if len(shown) < len(paths) else (0, output, warning)
+    if len(shown) == len(paths):
+        return 0, output, warning
+    past = Ended(1, f"search: {Refused(4)}", f"  more than {limit} match, and no more are printed\n")
+    return 1, output, warning + past.told(verbose)

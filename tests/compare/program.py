@@ -10,8 +10,8 @@ import model
 
 # the options of each command: the one that names a file, those that have another value, and those that stand alone
 OPTIONS = {
-    "slapadd": ("-l", [], ["-c", "-u"]), "ldapmodify": ("-f", [], ["-a", "-c", "-n"]), "slapindex": (None, [], []),
-    "search": (None, ["-b", "-s", "-z"], []), "slapcat": ("-l", ["-a", "-s"], []),
+    "slapadd": ("-l", [], ["-c", "-u", "-v"]), "ldapmodify": ("-f", [], ["-a", "-c", "-n", "-v"]), "slapindex": (None, [], ["-v"]),
+    "search": (None, ["-b", "-s", "-z"], ["-v"]), "slapcat": ("-l", ["-a", "-s"], ["-v"]),
 }
 
 
@@ -82,9 +82,9 @@ def change(words):
     text, source = (read(words.file), words.file) if words.file is not None else (sys.stdin.buffer.read(), "input")
     files = read(f"{words.db}/dir.conf"), read(f"{words.db}/data.ldif"), text
     if words.command == "slapadd":
-        status, messages, stored = model.slapadd(*files, words.c, words.u, words.db, source)
+        status, messages, stored = model.slapadd(*files, words.c, words.u, words.db, source, words.v)
     else:
-        status, messages, stored = model.ldapmodify(*files, words.a, words.c, words.n, words.db, source)
+        status, messages, stored = model.ldapmodify(*files, words.a, words.c, words.n, words.db, source, words.v)
     store(words.db, stored)
     return status, b"", messages
 
@@ -97,7 +97,7 @@ def store(folder, files):
 def slapindex(words):
     if is_in_use(words.db):
         return in_use(words.db)
-    status, messages, stored = model.slapindex(read(f"{words.db}/dir.conf"), read(f"{words.db}/data.ldif"), words.db)
+    status, messages, stored = model.slapindex(read(f"{words.db}/dir.conf"), read(f"{words.db}/data.ldif"), words.db, words.v)
     store(words.db, stored)
     return status, b"", messages
 
@@ -114,7 +114,7 @@ def is_own_file(folder, path):
 
 def slapcat(words):
     files = read(f"{words.db}/dir.conf"), read(f"{words.db}/data.ldif")
-    status, output, messages = model.slapcat(*files, words.db, encoded(words.a), encoded(words.s))
+    status, output, messages = model.slapcat(*files, words.db, encoded(words.a), encoded(words.s), words.v)
     if words.file is None or status != 0:
         return status, output, messages
     if is_own_file(words.db, words.file):
@@ -126,7 +126,7 @@ def slapcat(words):
 def search(words, parser):
     files = read(f"{words.db}/dir.conf"), read(f"{words.db}/data.ldif")
     asked = [encoded(word) for word in words.words], encoded(words.b), encoded(words.s), encoded(words.z)
-    status, output, messages = model.search(*files, words.db, *asked, index=read(f"{words.db}/index.txt"))
+    status, output, messages = model.search(*files, words.db, *asked, index=read(f"{words.db}/index.txt"), verbose=words.v)
     if messages is None:
         parser.error("no scope, or no limit")
     return status, output, messages

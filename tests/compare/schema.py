@@ -10,6 +10,7 @@ from typing import Optional
 
 import indexes
 import ldif
+import sentences
 import values
 
 FAULTS = {
@@ -49,17 +50,24 @@ CLASS_KINDS = (b"abstract", b"structural", b"auxiliary")
 
 
 class Fault(Exception):
-    """What is wrong, where the line is known."""
-    def __init__(self, line, code):
+    """What is wrong, where the line is known; `why` is said with `-v`."""
+    def __init__(self, line, code, why="", word_line=0):
         super().__init__(f"dir.conf line {line}: {code} {FAULTS[code]}")
+        self.why = f"  line {word_line}: {why}\n" if word_line else f"  {why}\n"
 
 
 class Wrong(Exception):
-    """What is wrong with a line."""
+    """What is wrong with a line: its code, what is said of it with `-v`, and the word that this is of, behind a keyword or for the second time."""
+    def __init__(self, code, why="", word=None, keyword=None, is_second=False):
+        super().__init__(code)
+        self.why, self.word, self.keyword, self.is_second = why, word, keyword, is_second
+
+    def at(self, text, line):
+        return Fault(line, str(self), self.why, sentences.word_line(text, line, self.keyword, self.word, self.is_second))
 
 
 class BadName(Exception):
-    """34 or 64 of an AVA of a name."""
+    """34 or 64 of an AVA of a name, its type, its value, and what is wrong with it."""
 
 
 @dataclass
@@ -88,6 +96,7 @@ class Class:
     above: list
     must: list
     may: list
+    name: bytes     # its first name, or its OID
 
 
 # definitions as text
@@ -264,7 +273,7 @@ class Conf:
     """The types and classes by their numbers, their names and OIDs, and the suffix, each of its RDNs as [(number, value)]."""
     types: list = field(default_factory=lambda: [Type(b"2.5.4.0", [b"objectClass"], "oid", "oid")])
     numbers: dict = field(default_factory=lambda: {b"objectclass": 0, b"2.5.4.0": 0})
-    classes: list = field(default_factory=lambda: [Class([], [0], []), Class([TOP], [], [])])
+    classes: list = field(default_factory=lambda: [Class([], [0], [], b"top"), Class([TOP], [], [], b"extensibleObject")])
     class_numbers: dict = field(default_factory=lambda: {
         b"top": TOP, b"2.5.6.0": TOP, b"extensibleobject": EXTENSIBLE_OBJECT, BUILT_IN[2]: EXTENSIBLE_OBJECT})
     suffix: Optional[list] = None
@@ -309,18 +318,19 @@ class Conf:
                          for rdn in name)
 
     def add_type(self, text):
-        oid, fields = read_type(text)
+        oid, fields = told_form(read_type, text, TYPE_FIELDS)
         if oid in BUILT_IN:
             return
-        if len(self.types) >= MOST_TYPES:
-            raise Wrong("C10")
         names = fields.get(b"name", [])
+        of = sentences.name((names or [oid])[0])
+        if len(self.types) >= MOST_TYPES:
+            raise Wrong("C10", f"{of}: 65,535 attribute types stand above")
         keys = new_keys(oid, names, self.numbers)
         if b"collective" in fields:
-            raise Wrong("C9")
-        kind, family, substrings, ordering = self.inherited(fields)
+            raise Wrong("C9", f"{of}: collective attributes aren't kept", keyword=b"COLLECTIVE")
+        kind, family, substrings, ordering = self.inherited(fields, of)
         if values.KIND_OF_FAMILY.get(family, kind) != kind:
-            raise Wrong("C6")
+            raise Wrong("C6", f"{of}: {sentences.RULES[family]}", keyword=b"EQUALITY")
         self.numbers.update((key, len(self.types)) for key in keys)
         # a rule for other values than those of the equality rule is none
         has_substrings, has_order = (rule is not None and rule == family for rule in (substrings, ordering))
@@ -328,7 +338,7 @@ class Conf:
         self.types.append(Type(oid, names, kind, family, has_substrings, has_order, b"single-value" in fields,
                                b"no-user-modification" in fields, is_operational, self.type_of(fields.get(b"sup", b""))))
 
-    def inherited(self, fields):
+    def inherited(self, fields, of):
         """-> (kind, family, what its substring and ordering rules go with) of a type, its own or those of the type above it"""
         kind = values.kind_of(fields[b"syntax"]) if b"syntax" in fields else None
         family = values.FAMILIES.get(fields.get(b"equality", b"").lower())
@@ -337,30 +347,37 @@ class Conf:
         if b"sup" not in fields:
             return kind, family, substrings, ordering
         number = self.type_of(fields[b"sup"])
+        named = fields[b"sup"]
         if number is None:
-            raise Wrong("C4")
+            raise Wrong("C4", f"{of}'s SUP: {sentences.name(named)} isn't defined above", named, b"SUP")
         above = self.types[number]
         if family and above.family and family != above.family or kind and kind != above.kind:
-            raise Wrong("C5")
+            raise Wrong("C5", f"{of} has another syntax or equality rule than its SUP {sentences.name(named)}", named, b"SUP")
         substrings = substrings or (above.family if above.has_substrings else None)
         ordering = ordering or (above.family if above.has_order else None)
         return above.kind, family or above.family, substrings, ordering
 
     def add_class(self, text):
-        oid, fields = read_class(text)
+        oid, fields = told_form(read_class, text, CLASS_FIELDS)
         if oid in BUILT_IN:
             return
         keys = new_keys(oid, fields.get(b"name", []), self.class_numbers)
         above = [self.class_of(name) for name in fields.get(b"sup", [])]
         must, may = ([self.type_of(name) for name in fields.get(kind, [])] for kind in (b"must", b"may"))
-        if None in above + must + may:
-            raise Wrong("C4")
+        of = sentences.name((fields.get(b"name") or [oid])[0])
+        for field, found in (b"sup", above), (b"must", must), (b"may", may):
+            if None in found:
+                word = fields[field][found.index(None)]
+                raise Wrong("C4", f"{of}'s {field.decode().upper()}: {sentences.name(word)} isn't defined above", word, field)
         self.class_numbers.update((key, len(self.classes)) for key in keys)
-        self.classes.append(Class(above, must, may))
+        self.classes.append(Class(above, must, may, (fields.get(b"name") or [oid])[0]))
 
     def class_of(self, text):
         """The number of the class that a name, in any case, or an OID says."""
         return self.class_numbers.get(text.lower())
+
+    def printed_class(self, number):
+        return self.classes[number].name
 
     def with_superclasses(self, numbers):
         """These classes and all that they are derived from (RFC 4512, 2.4)."""
@@ -371,6 +388,13 @@ class Conf:
                 found.add(number)
                 left += self.classes[number].above
         return found
+
+    def required_in_order(self, number):
+        """The types that a class requires: those that it names itself, in this order, then those of each superclass, each once."""
+        types = list(self.classes[number].must)
+        for above in self.classes[number].above:
+            types += self.required_in_order(above)
+        return list(dict.fromkeys(types))
 
     def fits_classes(self, names, types):
         """May an entry that names these classes have these types, and no others? All will do where no class is defined."""
@@ -391,23 +415,35 @@ class Conf:
         if len(text) >= 2 and text.startswith(b'"') and text.endswith(b'"'):
             text = text[1:-1]
         name = read_name(text)
-        if self.suffix is not None or not name:
-            raise Wrong("C7")
-        try:
-            self.suffix = self.pairs_of(name)
-        except BadName:
-            raise Wrong("C7") from None
+        if self.suffix is not None:
+            raise Wrong("C7", "a suffix stands above; one is kept")
+        if not name:
+            raise Wrong("C7", f"{sentences.value(text)} is no name of attribute types that are defined")
+        for rdn in name:
+            try:
+                self.pairs_of_rdn(rdn)
+            except BadName:
+                # the first RDN that isn't one, as it is written
+                part = b"+".join(kind + b"=" + written_value(value) for kind, value in rdn)
+                raise Wrong("C7", f"{sentences.value(part)} is no name of attribute types that are defined") from None
+        self.suffix = self.pairs_of(name)
 
     def add_index(self, text):
         """An index line: a list of types, and a list of kinds."""
         lists = [word.split(b",") for word in WORD.findall(text)]
         if len(lists) != 2 or b"" in lists[0] or b"" in lists[1]:
-            raise Wrong("C2")
+            raise Wrong("C2", "an index line has a list of types and a list of kinds, each without spaces")
         numbers = [self.type_of(name) for name in lists[0]]
         if None in numbers:
-            raise Wrong("C4")
-        if not all(self.types[number].takes_index(kind) for number in numbers for kind in lists[1]):
-            raise Wrong("C8")
+            word = lists[0][numbers.index(None)]
+            raise Wrong("C4", f"index: {sentences.name(word)} isn't defined", word)
+        for kind in lists[1]:
+            if kind not in (b"eq", b"pres", b"sub"):
+                raise Wrong("C8", f"index: {sentences.name(kind)} is no kind; eq, pres and sub are", kind)
+        for kind in lists[1]:
+            for name, number in zip(lists[0], numbers):
+                if not self.types[number].takes_index(kind):
+                    raise Wrong("C8", f"index: {sentences.name(name)} has no {sentences.LACKING[kind]}", name)
         self.slots.update((number, indexes.KINDS.index(kind)) for number in numbers for kind in lists[1])
 
     def pairs_of(self, name):
@@ -418,14 +454,16 @@ class Conf:
         pairs = []
         for kind, value in rdn:
             number = self.type_of(kind)
-            if number is None or self.types[number].kind == "name":
-                raise BadName(34)
+            if number is None:
+                raise BadName(34, kind, value, "type")
+            if self.types[number].kind == "name":
+                raise BadName(34, kind, value, "syntax")
             if self.types[number].family is None:
-                raise BadName(64)
+                raise BadName(64, kind, value, "rule")
             if not self.is_valid(number, value):
-                raise BadName(34)
+                raise BadName(34, kind, value, "value")
             if number in [number for number, _ in pairs]:
-                raise BadName(64)
+                raise BadName(64, kind, value, "twice")
             pairs.append((number, value))
         return pairs
 
@@ -436,10 +474,32 @@ class Conf:
 
 def new_keys(oid, names, there):
     """The OID and the names without case, where none is there twice."""
-    keys = [oid] + [name.lower() for name in names]
-    if len(set(keys)) < len(keys) or any(key in there for key in keys):
-        raise Wrong("C3")
+    keys, words = [oid] + [name.lower() for name in names], [oid] + names
+    taken = [word for at, word in enumerate(words) if keys[at] in there or keys[at] in keys[:at]]
+    if taken:
+        raise Wrong("C3", f"{sentences.name((names or [oid])[0])}: {sentences.name(taken[0])} is taken already", taken[0])
     return keys
+
+
+def told_form(read, text, forms):
+    """Reads a definition; where it hasn't its form, says what can't be read."""
+    try:
+        return read(text)
+    except Wrong:
+        pass
+    why, word = sentences.unread(text, forms, lambda field, part: has_form(read, field, part))
+    of = sentences.defined_name(text)
+    raise Wrong("C2", why if of is None else f"{sentences.name(of)}: {why}", word, is_second=why.endswith("stands twice"))
+
+
+def has_form(read, field, part):
+    """Whether a field by itself can be read."""
+    more = b"" if read is read_class else b" SUP a" if field == b"syntax" else b" SYNTAX 0"
+    try:
+        read(b"( 0 " + part.replace(b"\n", b" ") + more + b" )")
+        return True
+    except Wrong:
+        return False
 
 
 def joined_lines(text):
@@ -464,14 +524,13 @@ def read_conf(text):
         if line == b"" or line.startswith(b"#"):
             continue
         word, rest = re.fullmatch(rb"([^ \t]*)[ \t]*(.*)", line).groups()
-        word = word.lower()
-        if word in (b"suffix", b"index"):
-            later.append((number, word, rest))
+        if word.lower() in (b"suffix", b"index"):
+            later.append((number, word.lower(), rest))
             continue
         try:
             first_pass(conf, word, rest)
         except Wrong as wrong:
-            raise Fault(number, str(wrong)) from None
+            raise wrong.at(text, number) from None
     for number, word, rest in later:
         try:
             if word == b"index":
@@ -479,17 +538,20 @@ def read_conf(text):
             else:
                 conf.add_suffix(rest)
         except Wrong as wrong:
-            raise Fault(number, str(wrong)) from None
+            raise wrong.at(text, number) from None
     if conf.suffix is None:
-        raise Fault(0, "C7")
+        raise Fault(0, "C7", "no suffix line; the suffix is the name of the first entry")
     return conf
 
 
-def first_pass(conf, word, rest):
+def first_pass(conf, spelled, rest):
+    word = spelled.lower()
     if word == b"attributetype":
         conf.add_type(rest)
     elif word == b"objectclass":
         conf.add_class(rest)
     else:
         # a line that goes on with none has no first word
-        raise Wrong("C1" if word else "C2")
+        if not word:
+            raise Wrong("C2", "a line that begins with a space continues the one before, and here is none")
+        raise Wrong("C1", f"{sentences.value(spelled)} is no keyword; suffix, index, attributetype and objectclass are")

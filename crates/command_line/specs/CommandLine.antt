@@ -42,6 +42,10 @@ other_words = record (new_rule (codes "words")) {
   action = Some Append;
 }
 
+-- `-v`, which each command has
+abbrev pub verbose_option : Rule
+verbose_option = flag (codes "verbose") 118
+
 -- ---- commands
 
 abbrev pub command : Text → List Rule → Shape
@@ -58,32 +62,33 @@ rule OtherWords = other_words
 abbrev pub shape : Tool → Shape
 shape tool = command tool.name.now (map rule tool.options.now)
 
--- slapadd --db DIR [-l FILE] [-c] [-u]
+-- slapadd --db DIR [-l FILE] [-c] [-u] [-v]
 abbrev pub slapadd : Shape
 slapadd = command (codes "slapadd")
-    (folder_option ∷ file_option 108 ∷ flag (codes "go_on") 99 ∷ flag (codes "dry_run") 117 ∷ [])
+    (folder_option ∷ file_option 108 ∷ flag (codes "go_on") 99 ∷ flag (codes "dry_run") 117
+    ∷ verbose_option ∷ [])
 
--- ldapmodify --db DIR [-f FILE] [-a] [-c] [-n]
+-- ldapmodify --db DIR [-f FILE] [-a] [-c] [-n] [-v]
 abbrev pub ldapmodify : Shape
 ldapmodify = command (codes "ldapmodify")
     (folder_option ∷ file_option 102 ∷ flag (codes "add") 97 ∷ flag (codes "go_on") 99
-    ∷ flag (codes "dry_run") 110 ∷ [])
+    ∷ flag (codes "dry_run") 110 ∷ verbose_option ∷ [])
 
--- slapindex --db DIR
+-- slapindex --db DIR [-v]
 abbrev pub slapindex : Shape
-slapindex = command (codes "slapindex") (folder_option ∷ [])
+slapindex = command (codes "slapindex") (folder_option ∷ verbose_option ∷ [])
 
--- search --db DIR [-b NAME] [-s SCOPE] [-z N] [WORD..]
+-- search --db DIR [-b NAME] [-s SCOPE] [-z N] [-v] [WORD..]
 abbrev pub search : Shape
 search = command (codes "search")
     (folder_option ∷ value_option (codes "base") 98 ∷ value_option (codes "scope") 115
-    ∷ value_option (codes "limit") 122 ∷ other_words ∷ [])
+    ∷ value_option (codes "limit") 122 ∷ verbose_option ∷ other_words ∷ [])
 
--- slapcat --db DIR [-l FILE] [-a FILTER] [-s NAME]
+-- slapcat --db DIR [-l FILE] [-a FILTER] [-s NAME] [-v]
 abbrev pub slapcat : Shape
 slapcat = command (codes "slapcat")
     (folder_option ∷ file_option 108 ∷ value_option (codes "filter") 97
-    ∷ value_option (codes "base") 115 ∷ [])
+    ∷ value_option (codes "base") 115 ∷ verbose_option ∷ [])
 
 -- one of them has to be named
 abbrev pub slaptools : App

@@ -89,6 +89,7 @@ pub record IsAdd (rows : List Row) (asked : AddOptions) : Type 0 where
   pub file_is : option_copied asked.file ≡ text_of (codes "file") rows
   pub go_on_is : asked.go_on ≡ is_given (codes "go_on") rows
   pub dry_run_is : asked.dry_run ≡ is_given (codes "dry_run") rows
+  pub verbose_is : asked.verbose ≡ is_given (codes "verbose") rows
 
 pub record IsModify (rows : List Row) (asked : ModifyOptions) : Type 0 where
   pub db_is : text_of (codes "db") rows ≡ Some asked.db.now
@@ -96,9 +97,11 @@ pub record IsModify (rows : List Row) (asked : ModifyOptions) : Type 0 where
   pub add_is : asked.add ≡ is_given (codes "add") rows
   pub go_on_is : asked.go_on ≡ is_given (codes "go_on") rows
   pub dry_run_is : asked.dry_run ≡ is_given (codes "dry_run") rows
+  pub verbose_is : asked.verbose ≡ is_given (codes "verbose") rows
 
 pub record IsIndex (rows : List Row) (asked : IndexOptions) : Type 0 where
   pub db_is : text_of (codes "db") rows ≡ Some asked.db.now
+  pub verbose_is : asked.verbose ≡ is_given (codes "verbose") rows
 
 pub record IsSearch (rows : List Row) (asked : SearchOptions) : Type 0 where
   pub db_is : text_of (codes "db") rows ≡ Some asked.db.now
@@ -107,12 +110,14 @@ pub record IsSearch (rows : List Row) (asked : SearchOptions) : Type 0 where
   pub limit_is : IsLimit (text_of (codes "limit") rows) asked.limit
   pub filter_is : option_copied asked.filter ≡ filter_of (words_of rows)
   pub attributes_are : map (λ word. word.now) asked.attributes.items ≡ attributes_of (words_of rows)
+  pub verbose_is : asked.verbose ≡ is_given (codes "verbose") rows
 
 pub record IsCat (rows : List Row) (asked : CatOptions) : Type 0 where
   pub db_is : text_of (codes "db") rows ≡ Some asked.db.now
   pub file_is : option_copied asked.file ≡ text_of (codes "file") rows
   pub filter_is : option_copied asked.filter ≡ text_of (codes "filter") rows
   pub base_is : option_copied asked.base ≡ text_of (codes "base") rows
+  pub verbose_is : asked.verbose ≡ is_given (codes "verbose") rows
 
 -- ---- what a command and its rows ask for
 

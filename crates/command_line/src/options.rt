@@ -29,6 +29,8 @@ const FILTER_HELP: &str = "Prints the entries that it is true of";
 
 const SUBTREE_HELP: &str = "Prints this entry and those below it";
 
+const VERBOSE_HELP: &str = "Says why, behind each line that reports a fault or a refusal";
+
 /// An option of a command.
 #[derive(Clone, Copy)]
 enum CommandOption<'a> {
@@ -147,6 +149,7 @@ fn slapadd() -> Tool<'static>
             CommandOption::File('l', INPUT_HELP),
             CommandOption::Flag("go_on", 'c', GO_ON_HELP),
             CommandOption::Flag("dry_run", 'u', DRY_RUN_HELP),
+            CommandOption::Flag("verbose", 'v', VERBOSE_HELP),
         ],
     }
 }
@@ -163,6 +166,7 @@ fn ldapmodify() -> Tool<'static>
             CommandOption::Flag("add", 'a', ADD_HELP),
             CommandOption::Flag("go_on", 'c', GO_ON_HELP),
             CommandOption::Flag("dry_run", 'n', DRY_RUN_HELP),
+            CommandOption::Flag("verbose", 'v', VERBOSE_HELP),
         ],
     }
 }
@@ -173,7 +177,10 @@ fn slapindex() -> Tool<'static>
     Tool {
         name: "slapindex",
         about: "Writes the index of the directory anew",
-        options: &[CommandOption::Folder],
+        options: &[
+            CommandOption::Folder,
+            CommandOption::Flag("verbose", 'v', VERBOSE_HELP),
+        ],
     }
 }
 
@@ -188,6 +195,7 @@ fn search() -> Tool<'static>
             CommandOption::Value("base", 'b', "NAME", BASE_HELP),
             CommandOption::Value("scope", 's', "SCOPE", SCOPE_HELP),
             CommandOption::Value("limit", 'z', "N", LIMIT_HELP),
+            CommandOption::Flag("verbose", 'v', VERBOSE_HELP),
             CommandOption::OtherWords,
         ],
     }
@@ -204,6 +212,7 @@ fn slapcat() -> Tool<'static>
             CommandOption::File('l', OUTPUT_HELP),
             CommandOption::Value("filter", 'a', "FILTER", FILTER_HELP),
             CommandOption::Value("base", 's', "NAME", SUBTREE_HELP),
+            CommandOption::Flag("verbose", 'v', VERBOSE_HELP),
         ],
     }
 }

@@ -59,6 +59,7 @@ fn add_options<'a>(found: &ArgMatches<'a>) -> AddOptions<'a>
         file: text_of(found, "file"),
         go_on: is_given(found, "go_on"),
         dry_run: is_given(found, "dry_run"),
+        verbose: is_given(found, "verbose"),
     }
 }
 
@@ -72,6 +73,7 @@ fn modify_options<'a>(found: &ArgMatches<'a>) -> ModifyOptions<'a>
         add: is_given(found, "add"),
         go_on: is_given(found, "go_on"),
         dry_run: is_given(found, "dry_run"),
+        verbose: is_given(found, "verbose"),
     }
 }
 
@@ -81,6 +83,7 @@ fn index_options<'a>(found: &ArgMatches<'a>) -> IndexOptions<'a>
 {
     IndexOptions {
         db: folder_of(found),
+        verbose: is_given(found, "verbose"),
     }
 }
 
@@ -93,6 +96,7 @@ fn cat_options<'a>(found: &ArgMatches<'a>) -> CatOptions<'a>
         file: text_of(found, "file"),
         filter: text_of(found, "filter"),
         base: text_of(found, "base"),
+        verbose: is_given(found, "verbose"),
     }
 }
 
@@ -179,6 +183,7 @@ fn search_options<'a>(
         limit,
         filter,
         attributes,
+        verbose: is_given(found, "verbose"),
     })
 }
 

@@ -16,6 +16,8 @@ pub struct AddOptions<'a> {
     pub go_on: bool,
     /// Whether no file is written.
     pub dry_run: bool,
+    /// Whether each report is followed by a sentence that says why.
+    pub verbose: bool,
 }
 
 /// What ldapmodify is asked for.
@@ -31,6 +33,8 @@ pub struct ModifyOptions<'a> {
     pub go_on: bool,
     /// Whether no file is written.
     pub dry_run: bool,
+    /// Whether each report is followed by a sentence that says why.
+    pub verbose: bool,
 }
 
 /// What slapindex is asked for.
@@ -38,6 +42,8 @@ pub struct ModifyOptions<'a> {
 pub struct IndexOptions<'a> {
     /// The folder of the directory.
     pub db: &'a str,
+    /// Whether each report is followed by a sentence that says why.
+    pub verbose: bool,
 }
 
 /// What search is asked for (RFC 4511, 4.5.1).
@@ -55,6 +61,8 @@ pub struct SearchOptions<'a> {
     pub filter: Option<&'a str>,
     /// The attributes that are printed, by name.
     pub attributes: Vec<&'a str>,
+    /// Whether each report is followed by a sentence that says why.
+    pub verbose: bool,
 }
 
 /// What slapcat is asked for.
@@ -68,6 +76,8 @@ pub struct CatOptions<'a> {
     pub filter: Option<&'a str>,
     /// The name of the entry that is printed with those below it, or none for all.
     pub base: Option<&'a str>,
+    /// Whether each report is followed by a sentence that says why.
+    pub verbose: bool,
 }
 
 /// What a command line asks for.

@@ -65,13 +65,16 @@ writes_in (Ok (Search asked)) = None
 writes_in (Ok (Cat asked)) = None
 writes_in (Err fault) = None
 
--- The words, the first of which is the program's name, asked for this, or this is wrong with them: it was done, under a lock where a directory
--- is written, or the command stopped, and this is the number of its status.
+-- What was asked for was done, under a lock where a directory is written, or the command stopped, and this is the number of its status.
+pub record RequestEnds (asked : Result Request UsageFault) (w w' : World) (number : ℕ) : Type 0 where
+  pub status : Status
+  pub ends : EndsUnder (writes_in asked) (RequestGoesThrough asked) (RequestStops asked) w w' status
+  pub number_is : number ≡ status_number status
+
+-- The words, the first of which is the program's name, asked for this, or this is wrong with them; and so it ended.
 pub record CommandEnds (words : List (List ℕ)) (w w' : World) (number : ℕ) : Type 0 where
   pub asked : Result Request UsageFault
   pub asks : IfOk asked (AskFor words)
   pub faulty : IfErr asked (IsFaultOf words)
   pub help : length words ≤ 1 → AsksForHelp asked
-  pub status : Status
-  pub ends : EndsUnder (writes_in asked) (RequestGoesThrough asked) (RequestStops asked) w w' status
-  pub number_is : number ≡ status_number status
+  pub ended : RequestEnds asked w w' number

@@ -10,8 +10,9 @@ ghost use Rattle.commands.specs.inner.Stopped.{CanReport, HasStopped, HasEnded, 
 use crate::database::{load_database, lock, open_present};
 use crate::messages::{CommandFault, Status, Stop};
 use crate::storing::store_database;
+use crate::telling::CommandTeller;
 use command_line::{AddOptions, ModifyOptions};
-use databases::{Database, RunFault, Tally, run};
+use databases::{Database, RunFault, Tally, run_telling};
 use device::{Sink, Source};
 use folders::Folder;
 use ldif::Mode;
@@ -75,13 +76,14 @@ fn stop_of(alloc: Global, fault: RunFault, name: &str) -> Stop
 }
 
 /// Runs the records of a source that has this name, and answers how many were accepted and refused, or why the command stops.
-fn run_source<S: Source, E: Sink>(
+fn run_source<S: Source, E: Sink, T: CommandTeller>(
     alloc: Global,
     task: &Task<'_>,
     database: &mut Database,
     source: &mut S,
     name: &str,
     err: &mut E,
+    teller: &mut T,
 ) -> Result<Tally, Stop>
     requires source { (S.seen source.old).failed < 2 ^ 64 - 1 }
     requires err { (E.written err.old).failed < 2 ^ 64 - 1 }
@@ -96,20 +98,21 @@ fn run_source<S: Source, E: Sink>(
         (run_world w S.seen E.written source.new err.new))) }
     ensures can_report { IfErr result (λ why. CanReport why (E.written err.new).failed) }
 {
-    match run(alloc, database, source, err, task.mode, task.go_on) {
+    match run_telling(alloc, database, source, err, teller, task.mode, task.go_on) {
         Ok(tally) => Ok(tally),
         Err(fault) => Err(stop_of(alloc, fault, name)),
     }
 }
 
 /// Runs the records of the source that is asked for over the directory of the folder, likewise.
-fn run_records<F: Folder, S: Source, E: Sink>(
+fn run_records<F: Folder, S: Source, E: Sink, T: CommandTeller>(
     alloc: Global,
     task: &Task<'_>,
     database: &mut Database,
     folder: &F,
     input: &mut S,
     err: &mut E,
+    teller: &mut T,
 ) -> Result<Tally, Stop>
     requires input { (S.seen input.old).failed < 2 ^ 64 - 1 }
     requires err { (E.written err.old).failed < 2 ^ 64 - 1 }
@@ -125,22 +128,23 @@ fn run_records<F: Folder, S: Source, E: Sink>(
     ensures can_report { IfErr result (λ why. CanReport why (E.written err.new).failed) }
 {
     let Some(name) = task.file else {
-        return run_source(alloc, task, database, input, "input", err);
+        return run_source(alloc, task, database, input, "input", err, teller);
     };
     match open_present(alloc, folder, name) {
-        Ok(mut source) => run_source(alloc, task, database, &mut source, name, err),
+        Ok(mut source) => run_source(alloc, task, database, &mut source, name, err, teller),
         Err(fault) => Err(Stop::Fault(fault)),
     }
 }
 
 /// Runs the records, and stores what they leave.
-fn run_and_store<F: Folder, S: Source, E: Sink>(
+fn run_and_store<F: Folder, S: Source, E: Sink, T: CommandTeller>(
     alloc: Global,
     task: &Task<'_>,
     database: &mut Database,
     folder: &mut F,
     input: &mut S,
     err: &mut E,
+    teller: &mut T,
 ) -> Result<Status, Stop>
     requires input { (S.seen input.old).failed < 2 ^ 64 - 1 }
     requires err { (E.written err.old).failed < 2 ^ 64 - 1 }
@@ -151,23 +155,28 @@ fn run_and_store<F: Folder, S: Source, E: Sink>(
     ensures locking { F.locking folder.new ≡ F.locking folder.old }
     ensures can_report { IfErr result (λ why. CanReport why (E.written err.new).failed) }
 {
-    let tally = run_records(alloc, task, database, folder, input, err)?;
+    let tally = run_records(alloc, task, database, folder, input, err, teller)?;
     if task.dry_run {
+        teller.tell_tally(alloc, tally, task.mode, false);
         return Ok(Status::of_tally(tally));
     }
     match store_database(alloc, folder, task.db, database) {
-        Ok(()) => Ok(Status::of_tally(tally)),
+        Ok(()) => {
+            teller.tell_tally(alloc, tally, task.mode, true);
+            Ok(Status::of_tally(tally))
+        }
         Err(fault) => Err(Stop::Fault(fault)),
     }
 }
 
 /// Loads the directory, runs the records, and stores what they leave.
-fn load_and_run<F: Folder, S: Source, E: Sink>(
+fn load_and_run<F: Folder, S: Source, E: Sink, T: CommandTeller>(
     alloc: Global,
     task: &Task<'_>,
     folder: &mut F,
     input: &mut S,
     err: &mut E,
+    teller: &mut T,
 ) -> Result<Status, Stop>
     requires input { (S.seen input.old).failed < 2 ^ 64 - 1 }
     requires err { (E.written err.old).failed < 2 ^ 64 - 1 }
@@ -177,9 +186,9 @@ fn load_and_run<F: Folder, S: Source, E: Sink>(
     ensures locking { F.locking folder.new ≡ F.locking folder.old }
     ensures can_report { IfErr result (λ why. CanReport why (E.written err.new).failed) }
 {
-    match load_database(alloc, folder, task.db) {
+    match load_database(alloc, folder, task.db, teller) {
         Ok(mut database) => {
-            let ended = run_and_store(alloc, task, &mut database, folder, input, err);
+            let ended = run_and_store(alloc, task, &mut database, folder, input, err, teller);
             // The program ends with its command, and that frees the entries at once.
             mem::forget(database);
             ended
@@ -192,12 +201,13 @@ fn load_and_run<F: Folder, S: Source, E: Sink>(
 /// stores the directory. All of this is done under the directory's lock, but in a dry run, which stores nothing and takes no lock. It ends as
 /// `Refused` where a record was refused, and else as `Done`. It stops where the lock can't be taken, the directory can't be loaded, a device
 /// or memory fails, or a file can't be stored.
-pub fn change<F: Folder, S: Source, E: Sink>(
+pub fn change<F: Folder, S: Source, E: Sink, T: CommandTeller>(
     alloc: Global,
     task: &Task<'_>,
     folder: &mut F,
     input: &mut S,
     err: &mut E,
+    teller: &mut T,
 ) -> Result<Status, Stop>
     requires input { (S.seen input.old).failed < 2 ^ 64 - 1 }
     requires err { (E.written err.old).failed < 2 ^ 64 - 1 }
@@ -209,9 +219,9 @@ pub fn change<F: Folder, S: Source, E: Sink>(
 {
     if !task.dry_run {
         return match lock(alloc, folder, task.db) {
-            Ok(()) => load_and_run(alloc, task, folder, input, err),
+            Ok(()) => load_and_run(alloc, task, folder, input, err, teller),
             Err(fault) => Err(Stop::Fault(fault)),
         };
     }
-    load_and_run(alloc, task, folder, input, err)
+    load_and_run(alloc, task, folder, input, err, teller)
 }

@@ -9,6 +9,7 @@ ghost use Rattle.commands.specs.Loaded.{IsConfigured, IsLoaded, LoadFails};
 ghost use Rattle.commands.specs.Failures.{FailsToRead};
 
 use crate::messages::CommandFault;
+use crate::telling::CommandTeller;
 use databases::Database;
 use device::{Device, Source};
 use dir_conf::{ConfFault, read_conf};
@@ -89,7 +90,12 @@ fn contents<S: Source>(alloc: Global, source: &mut S, name: &str) -> Result<Vec<
 }
 
 /// The configuration that the dir.conf in the folder `db` says, which has to be there.
-fn read_configuration<F: Folder>(alloc: Global, folder: &F, db: &str) -> Result<Conf, CommandFault>
+fn read_configuration<F: Folder, T: CommandTeller>(
+    alloc: Global,
+    folder: &F,
+    db: &str,
+    teller: &mut T,
+) -> Result<Conf, CommandFault>
     ensures ok { IfOk result (IsConfigured (F.files folder.now) (conf_name db.now)) }
     ensures err { IfErr result (LoadFails (F.files folder.now) db.now) }
 {
@@ -98,17 +104,21 @@ fn read_configuration<F: Folder>(alloc: Global, folder: &F, db: &str) -> Result<
     let text = contents(alloc, &mut source, name.as_str())?;
     match read_conf(alloc, &text) {
         Ok(conf) => Ok(conf),
-        Err(ConfFault::Line { line, kind }) => Err(CommandFault::Configuration { line, kind }),
+        Err(ConfFault::Line { line, kind }) => {
+            teller.note_configuration(alloc, &text);
+            Err(CommandFault::Configuration { line, kind })
+        }
         Err(ConfFault::OutOfMemory) => Err(CommandFault::OutOfMemory),
     }
 }
 
 /// The entries in the data.ldif of the folder `db`, under the configuration that its dir.conf says. Where there is no such file, there is none.
-fn load_entries<F: Folder>(
+fn load_entries<F: Folder, T: CommandTeller>(
     alloc: Global,
     folder: &F,
     db: &str,
     conf: Conf,
+    teller: &mut T,
 ) -> Result<Database, CommandFault>
     requires { IsConfigured (F.files folder.now) (conf_name db.now) conf }
     ensures loaded { IfOk result (λ d. IsLoaded (F.files folder.now) db.now d.conf d.entries) }
@@ -116,7 +126,7 @@ fn load_entries<F: Folder>(
 {
     let name = path(alloc, db, "data.ldif")?;
     match open(alloc, folder, name.as_str())? {
-        Some(mut source) => match Database::load(alloc, conf, &mut source) {
+        Some(mut source) => match Database::load_telling(alloc, conf, &mut source, teller) {
             Ok(database) => Ok(database),
             Err(fault) => Err(CommandFault::of_load(alloc, name.as_str(), fault)),
         },
@@ -125,14 +135,15 @@ fn load_entries<F: Folder>(
 }
 
 /// The configuration and the entries in the folder `db`.
-pub fn load_database<F: Folder>(
+pub fn load_database<F: Folder, T: CommandTeller>(
     alloc: Global,
     folder: &F,
     db: &str,
+    teller: &mut T,
 ) -> Result<Database, CommandFault>
     ensures loaded { IfOk result (λ d. IsLoaded (F.files folder.now) db.now d.conf d.entries) }
     ensures err { IfErr result (LoadFails (F.files folder.now) db.now) }
 {
-    let conf = read_configuration(alloc, folder, db)?;
-    load_entries(alloc, folder, db, conf)
+    let conf = read_configuration(alloc, folder, db, teller)?;
+    load_entries(alloc, folder, db, conf, teller)
 }

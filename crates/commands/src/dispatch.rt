@@ -1,7 +1,7 @@
 //! One command, from its words to its status.
 ghost use Rattle.std.specs.Prelude.{◌<◌, ◌≤◌, ◌-◌, ◌^◌, IfErr, map};
 ghost use Rattle.commands.specs.Worlds.{World, printed_world, world_of};
-ghost use Rattle.commands.specs.Commands.{HelpGoesThrough, HelpStops, RequestGoesThrough, RequestStops, writes_in, CommandEnds};
+ghost use Rattle.commands.specs.Commands.{HelpGoesThrough, HelpStops, RequestGoesThrough, RequestStops, writes_in, RequestEnds, CommandEnds};
 ghost use Rattle.commands.specs.inner.Stopped.{CanReport, HasEnded, HasEndedUnder};
 
 use crate::changes::{Task, change};
@@ -9,9 +9,12 @@ use crate::messages::{CommandFault, Status, Stop, report_stop};
 use crate::searching::search;
 use crate::slapcat::slapcat;
 use crate::slapindex::slapindex;
+use crate::telling::CommandTeller;
 use command_line::{Request, UsageFault, read};
-use device::{Device, Sink, Source, push_all};
+use databases::Silent;
+use device::{Device, Nowhere, Sink, Source, push_all};
 use folders::Folder;
+use sentences::Explainer;
 use std::alloc::Global;
 use std::convert::AsStr;
 
@@ -28,13 +31,14 @@ fn print_help<O: Sink>(alloc: Global, text: &str, out: &mut O) -> Result<Status,
 }
 
 /// Carries out what the words of a command asked for, and answers how it ends, or why it stops.
-fn carry_out<F: Folder, S: Source, O: Sink, E: Sink>(
+fn carry_out<F: Folder, S: Source, O: Sink, E: Sink, T: CommandTeller>(
     alloc: Global,
     asked: Result<Request<'_>, UsageFault>,
     folder: &mut F,
     input: &mut S,
     out: &mut O,
     err: &mut E,
+    teller: &mut T,
 ) -> Result<Status, Stop>
     requires input { (S.seen input.old).failed < 2 ^ 64 - 1 }
     requires out { (O.written out.old).failed < 2 ^ 64 - 1 }
@@ -47,14 +51,85 @@ fn carry_out<F: Folder, S: Source, O: Sink, E: Sink>(
 {
     match asked {
         Ok(Request::Help(text)) => print_help(alloc, text.as_str(), out),
-        Ok(Request::Add(asked)) => change(alloc, &Task::from(asked), folder, input, err),
-        Ok(Request::Modify(asked)) => change(alloc, &Task::from(asked), folder, input, err),
-        Ok(Request::Index(asked)) => slapindex(alloc, &asked, folder),
-        Ok(Request::Search(asked)) => search(alloc, &asked, folder, out, err),
-        Ok(Request::Cat(asked)) => slapcat(alloc, &asked, folder, out),
+        Ok(Request::Add(asked)) => { change(alloc, &Task::from(asked), folder, input, err, teller) }
+        Ok(Request::Modify(asked)) => {
+            change(alloc, &Task::from(asked), folder, input, err, teller)
+        }
+        Ok(Request::Index(asked)) => slapindex(alloc, &asked, folder, teller),
+        Ok(Request::Search(asked)) => search(alloc, &asked, folder, out, err, teller),
+        Ok(Request::Cat(asked)) => slapcat(alloc, &asked, folder, out, teller),
         Err(UsageFault::Words(text)) => Err(Stop::Usage(text)),
         Err(UsageFault::OutOfMemory) => Err(Stop::Fault(CommandFault::OutOfMemory)),
     }
+}
+
+/// Carries out what the words of a command asked for, reports why it stops where it does, and answers its exit status.
+fn end_command<F: Folder, S: Source, O: Sink, E: Sink, T: CommandTeller>(
+    alloc: Global,
+    asked: Result<Request<'_>, UsageFault>,
+    folder: &mut F,
+    input: &mut S,
+    out: &mut O,
+    err: &mut E,
+    teller: &mut T,
+) -> u8
+    requires input { (S.seen input.old).failed < 2 ^ 64 - 1 }
+    requires out { (O.written out.old).failed < 2 ^ 64 - 1 }
+    requires err { (E.written err.old).failed < 2 ^ 64 - 1 }
+    ensures range { result ≤ 3 }
+    ensures ends { RequestEnds asked.entry
+        (world_of F.files F.locking S.seen O.written E.written folder.old input.old out.old err.old)
+        (world_of F.files F.locking S.seen O.written E.written folder.new input.new out.new err.new)
+        result }
+{
+    match carry_out(alloc, asked, folder, input, out, err, teller) {
+        Ok(status) => status.number(),
+        Err(stop) => {
+            let status = report_stop(alloc, err, &stop);
+            teller.tell_stop(alloc, &stop, folder.last_failure());
+            status.number()
+        }
+    }
+}
+
+/// Whether the words ask for a sentence behind each report.
+fn is_verbose(asked: &Result<Request<'_>, UsageFault>) -> bool {
+    match asked {
+        Ok(Request::Add(asked)) => asked.verbose,
+        Ok(Request::Modify(asked)) => asked.verbose,
+        Ok(Request::Index(asked)) => asked.verbose,
+        Ok(Request::Search(asked)) => asked.verbose,
+        Ok(Request::Cat(asked)) => asked.verbose,
+        Ok(Request::Help(_)) | Err(_) => false,
+    }
+}
+
+/// The same as `command`. Where the words have `-v`, a sentence behind each report says why, on a stream of its own, which may lead to the same
+/// place as `err`.
+pub fn command_telling<W: AsStr, F: Folder, S: Source, O: Sink, E: Sink, V: Sink>(
+    alloc: Global,
+    words: &[W],
+    folder: &mut F,
+    input: &mut S,
+    out: &mut O,
+    err: &mut E,
+    told: &mut V,
+) -> u8
+    requires input { (S.seen input.old).failed < 2 ^ 64 - 1 }
+    requires out { (O.written out.old).failed < 2 ^ 64 - 1 }
+    requires err { (E.written err.old).failed < 2 ^ 64 - 1 }
+    ensures range { result ≤ 3 }
+    ensures ends { CommandEnds (map W.text words.now)
+        (world_of F.files F.locking S.seen O.written E.written folder.old input.old out.old err.old)
+        (world_of F.files F.locking S.seen O.written E.written folder.new input.new out.new err.new)
+        result }
+{
+    let asked = read(alloc, words);
+    if is_verbose(&asked) {
+        let mut explainer = Explainer::new(alloc, told);
+        return end_command(alloc, asked, folder, input, out, err, &mut explainer);
+    }
+    end_command(alloc, asked, folder, input, out, err, &mut Silent)
 }
 
 /// Carries out the command that the words spell, the first being the program's name, and answers its exit status: 0, or 1
@@ -78,9 +153,5 @@ pub fn command<W: AsStr, F: Folder, S: Source, O: Sink, E: Sink>(
         (world_of F.files F.locking S.seen O.written E.written folder.new input.new out.new err.new)
         result }
 {
-    let asked = read(alloc, words);
-    match carry_out(alloc, asked, folder, input, out, err) {
-        Ok(status) => status.number(),
-        Err(stop) => report_stop(alloc, err, &stop).number(),
-    }
+    command_telling(alloc, words, folder, input, out, err, &mut Nowhere::new())
 }

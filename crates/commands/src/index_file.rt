@@ -18,6 +18,7 @@ ghost use Rattle.commands.specs.inner.Stopped.{CanReport};
 
 use crate::database::{open, path};
 use crate::messages::{CommandFault, Stop};
+use crate::telling::CommandTeller;
 use candidates::asked_keys;
 use databases::{Database, Stamp, index_texts_reflect_dumps, kept_index_texts_are_read};
 use device::{Sink, Source, push_all};
@@ -141,6 +142,29 @@ pub fn read_index<F: Folder>(
         return Err(CommandFault::OutOfMemory);
     };
     read_named(alloc, folder, name.as_str(), database, filter)
+}
+
+/// Has a teller take note of what is wrong with index.txt in the folder `db`, if anything is. The file is read once more for this.
+pub fn note_index<F: Folder, T: CommandTeller>(
+    alloc: Global,
+    folder: &F,
+    db: &str,
+    database: &Database,
+    file: &IndexFile,
+    teller: &mut T,
+) {
+    let IndexFile::Faulty(_) = file else {
+        return;
+    };
+    if !teller.is_heard() {
+        return;
+    }
+    if let (Ok(name), Ok(stamp)) = (path(alloc, db, "index.txt"), database.stamp(alloc)) {
+        if let Ok(Some(mut source)) = open(alloc, folder, name.as_str()) {
+            let entries = database.tree().len();
+            teller.note_index(alloc, &mut source, database.conf(), &stamp, entries);
+        }
+    }
 }
 
 fn line_of_fault(alloc: Global, fault: IndexFaultKind) -> Result<String, AllocError>

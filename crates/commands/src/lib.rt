@@ -13,6 +13,7 @@ mod searching;
 mod slapcat;
 mod slapindex;
 mod storing;
+mod telling;
 
-pub use dispatch::command;
+pub use dispatch::{command, command_telling};
 pub use messages::{CommandFault, Status, report_fault};

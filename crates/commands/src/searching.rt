@@ -19,9 +19,10 @@ ghost use Rattle.commands.specs.declared.messages.Status.TheVariants.{Refused};
 
 use crate::database::load_database;
 use crate::finding::{filter_of, path_of, refused};
-use crate::index_file::{IndexFile, read_index, report_index};
+use crate::index_file::{IndexFile, note_index, read_index, report_index};
 use crate::messages::{CommandFault, Status, Stop, report_fault};
 use crate::query::Query;
+use crate::telling::CommandTeller;
 use command_line::SearchOptions;
 use databases::{Database, Selection, scan, search_with};
 use device::Sink;
@@ -153,7 +154,7 @@ fn print_found<O: Sink>(
 }
 
 /// Reports what is wrong with index.txt, and prints what is found.
-fn search_by<O: Sink, E: Sink>(
+fn search_by<O: Sink, E: Sink, T: CommandTeller>(
     alloc: Global,
     asked: &SearchOptions<'_>,
     filter: Prepared,
@@ -161,6 +162,7 @@ fn search_by<O: Sink, E: Sink>(
     file: &IndexFile,
     out: &mut O,
     err: &mut E,
+    teller: &mut T,
 ) -> Result<Status, Stop>
     requires out { (O.written out.old).failed < 2 ^ 64 - 1 }
     requires err { (E.written err.old).failed < 2 ^ 64 - 1 }
@@ -172,16 +174,21 @@ fn search_by<O: Sink, E: Sink>(
     ensures can_report { IfErr result (λ why. CanReport why (E.written err.new).failed) }
 {
     report_index(alloc, err, file)?;
+    teller.tell();
     let query = query_of(alloc, asked, filter, database.conf())?;
     match print_found(alloc, &query, database, file, out) {
         Ok(false) => Ok(Status::Done),
-        Ok(true) => Ok(report_past_limit(alloc, err)),
+        Ok(true) => {
+            let status = report_past_limit(alloc, err);
+            teller.tell_limit(alloc, asked.limit);
+            Ok(status)
+        }
         Err(fault) => Err(Stop::Fault(fault)),
     }
 }
 
 /// Reads index.txt of a directory that is loaded, as far as the filter asks for it, and searches by it.
-fn search_directory<F: Folder, O: Sink, E: Sink>(
+fn search_directory<F: Folder, O: Sink, E: Sink, T: CommandTeller>(
     alloc: Global,
     asked: &SearchOptions<'_>,
     filter: &Filter,
@@ -189,6 +196,7 @@ fn search_directory<F: Folder, O: Sink, E: Sink>(
     folder: &F,
     out: &mut O,
     err: &mut E,
+    teller: &mut T,
 ) -> Result<Status, Stop>
     requires out { (O.written out.old).failed < 2 ^ 64 - 1 }
     requires err { (E.written err.old).failed < 2 ^ 64 - 1 }
@@ -201,7 +209,8 @@ fn search_directory<F: Folder, O: Sink, E: Sink>(
 {
     let prepared = prepare(alloc, filter, database.conf())?;
     let file = read_index(alloc, folder, asked.db, database, &prepared)?;
-    let ended = search_by(alloc, asked, prepared, database, &file, out, err);
+    note_index(alloc, folder, asked.db, database, &file, teller);
+    let ended = search_by(alloc, asked, prepared, database, &file, out, err, teller);
     // The program ends with its command, and that frees the index at once.
     mem::forget(file);
     ended
@@ -212,12 +221,13 @@ fn search_directory<F: Folder, O: Sink, E: Sink>(
 /// each entry in scope; if it is there and has a fault, that is reported on `err` first. Where more than the limit match, the first ones are
 /// printed, the code 4 sizeLimitExceeded is reported on `err`, and it ends as `Refused`. It stops where the text is no filter, the directory
 /// can't be loaded, index.txt can't be read, the base isn't there (its code is 32 noSuchObject then), or `out`, `err` or memory fails.
-pub fn search<F: Folder, O: Sink, E: Sink>(
+pub fn search<F: Folder, O: Sink, E: Sink, T: CommandTeller>(
     alloc: Global,
     asked: &SearchOptions<'_>,
     folder: &F,
     out: &mut O,
     err: &mut E,
+    teller: &mut T,
 ) -> Result<Status, Stop>
     requires out { (O.written out.old).failed < 2 ^ 64 - 1 }
     requires err { (E.written err.old).failed < 2 ^ 64 - 1 }
@@ -226,9 +236,11 @@ pub fn search<F: Folder, O: Sink, E: Sink>(
         (search_world w F.files O.written E.written folder.now out.new err.new) result }
     ensures can_report { IfErr result (λ why. CanReport why (E.written err.new).failed) }
 {
+    teller.note_filter(alloc, asked.filter);
     let filter = filter_of(alloc, asked.filter)?;
-    let database = load_database(alloc, folder, asked.db)?;
-    let ended = search_directory(alloc, asked, &filter, &database, folder, out, err);
+    let database = load_database(alloc, folder, asked.db, teller)?;
+    teller.note_base(alloc, database.conf(), database.tree(), asked.base);
+    let ended = search_directory(alloc, asked, &filter, &database, folder, out, err, teller);
     // The program ends with its command, and that frees the entries at once.
     mem::forget(database);
     ended

@@ -21,6 +21,7 @@ use crate::finding::{filter_of, path_of};
 use crate::messages::{CommandFault, Status, Stop};
 use crate::query::Query;
 use crate::storing::{Dump, store};
+use crate::telling::CommandTeller;
 use command_line::CatOptions;
 use databases::Database;
 use device::Sink;
@@ -203,11 +204,12 @@ fn put_entries<F: Folder, O: Sink>(
 /// Writes the directory in a folder to the file, or to `out`: all entries, or those at the base and below it that the filter is True of. It
 /// stops where the text is no filter, the directory can't be loaded, the base isn't there (its code is 32 noSuchObject then), the file is one
 /// of the directory's own, or what it writes to or memory fails.
-pub fn slapcat<F: Folder, O: Sink>(
+pub fn slapcat<F: Folder, O: Sink, T: CommandTeller>(
     alloc: Global,
     asked: &CatOptions<'_>,
     folder: &mut F,
     out: &mut O,
+    teller: &mut T,
 ) -> Result<Status, Stop>
     requires { (O.written out.old).failed < 2 ^ 64 - 1 }
     ensures ends { (w : World) → HasEnded (CatGoesThrough asked.now) (CatStops asked.now)
@@ -215,8 +217,10 @@ pub fn slapcat<F: Folder, O: Sink>(
         (put_world w F.files O.written folder.new out.new) result }
     ensures locking { F.locking folder.new ≡ F.locking folder.old }
 {
+    teller.note_filter(alloc, asked.filter);
     let filter = filter_of(alloc, asked.filter)?;
-    let database = load_database(alloc, folder, asked.db)?;
+    let database = load_database(alloc, folder, asked.db, teller)?;
+    teller.note_base(alloc, database.conf(), database.tree(), asked.base);
     let done = put_entries(alloc, asked, &filter, &database, folder, out);
     // The program ends with its command, and that frees the entries at once.
     mem::forget(database);

@@ -60,6 +60,8 @@ pub struct Step {
     status: Option<u8>,
     pub output: Wanted,
     pub messages: Wanted,
+    /// What it tells behind its messages.
+    pub told: Wanted,
     /// All files that are there afterwards.
     pub files: MemoryFiles,
 }
@@ -91,6 +93,7 @@ impl Step {
             status: None,
             output: Wanted::Bytes(Vec::new(alloc)),
             messages: Wanted::Bytes(Vec::new(alloc)),
+            told: Wanted::Bytes(Vec::new(alloc)),
             files,
         })
     }
@@ -118,6 +121,7 @@ impl Step {
             Mark::Input => put_lines(self.alloc, text, &mut self.input),
             Mark::Output => self.output.add_lines(self.alloc, text),
             Mark::Message => self.messages.add_lines(self.alloc, text),
+            Mark::Told => self.told.add_lines(self.alloc, text),
             Mark::Status => self.set_status(text),
             Mark::Trouble => self.troubles.add(text),
             _ => Err(CaseFault::Place),

@@ -21,6 +21,8 @@ pub enum Mark {
     Output,
     /// `!`: a line of its messages.
     Message,
+    /// `:`: a line that it tells behind its messages, with `-v`.
+    Told,
     /// `?`: its exit status.
     Status,
     /// `*`: what fails while it runs, or is in use.
@@ -40,6 +42,7 @@ impl Mark {
             "<" => Some(Mark::Input),
             ">" => Some(Mark::Output),
             "!" => Some(Mark::Message),
+            ":" => Some(Mark::Told),
             "?" => Some(Mark::Status),
             "*" => Some(Mark::Trouble),
             _ => None,

@@ -16,6 +16,7 @@ struct Answer {
     status: u8,
     output: TrySink,
     messages: TrySink,
+    told: TrySink,
 }
 
 fn answer_of(alloc: Global, step: &Step, folder: &mut MemoryFolder<'_>) -> Answer {
@@ -23,6 +24,7 @@ fn answer_of(alloc: Global, step: &Step, folder: &mut MemoryFolder<'_>) -> Answe
     let mut input = TrySource::new(step.input.as_slice(), PIECE, troubles.input);
     let mut output = TrySink::new(alloc, PIECE, troubles.output);
     let mut messages = TrySink::new(alloc, PIECE, troubles.messages);
+    let mut told = TrySink::new(alloc, PIECE, None);
     let status = match &step.words {
         Some(words) => run_command(
             alloc,
@@ -31,6 +33,7 @@ fn answer_of(alloc: Global, step: &Step, folder: &mut MemoryFolder<'_>) -> Answe
             &mut input,
             &mut output,
             &mut messages,
+            &mut told,
         ),
         None => report_fault(alloc, &mut messages, &CommandFault::Words).number(),
     };
@@ -38,6 +41,7 @@ fn answer_of(alloc: Global, step: &Step, folder: &mut MemoryFolder<'_>) -> Answe
         status,
         output,
         messages,
+        told,
     }
 }
 
@@ -55,7 +59,9 @@ fn put_answer(
     let output = answer.output.bytes();
     put_stream(alloc, "standard output", '>', output, &step.output, into)?;
     let messages = answer.messages.bytes();
-    put_stream(alloc, "standard error", '!', messages, &step.messages, into)
+    put_stream(alloc, "standard error", '!', messages, &step.messages, into)?;
+    let told = answer.told.bytes();
+    put_stream(alloc, "sentences", ':', told, &step.told, into)
 }
 
 /// Runs a command over a folder, and answers what is otherwise than the case says, or nothing.

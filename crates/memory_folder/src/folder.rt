@@ -14,6 +14,7 @@ use crate::files::MemoryFiles;
 use device::OfRead;
 use folders::{Drafted, FileText, Folder, FolderFault, LockFault, Unpublished};
 use std::alloc::Global;
+use std::io::ErrorKind;
 use try_device::TrySink;
 
 /// How many bytes of a file are stored at a time: few, so that most texts go in several pieces.
@@ -249,6 +250,10 @@ impl<'t> Folder for MemoryFolder<'t> {
     }
 
     fn settle(&self, _name: &str) {}
+
+    fn last_failure(&self) -> Option<ErrorKind> {
+        None
+    }
 
     fn is_one_place(&self, name: &str, other: &str) -> bool {
         name == other

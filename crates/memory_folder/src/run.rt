@@ -5,12 +5,13 @@ ghost use Rattle.commands.specs.Commands.{CommandEnds};
 ghost use Rattle.memory_folder.specs.Memory.{world_of};
 
 use crate::folder::MemoryFolder;
-use commands::command;
+use commands::command_telling;
 use std::alloc::Global;
 use std::convert::AsStr;
 use try_device::{TrySink, TrySource};
 
-/// Carries out the command that the words spell over a folder and streams in memory, and answers its exit status, as `command` does.
+/// Carries out the command that the words spell over a folder and streams in memory, and answers its exit status, as `command_telling`
+/// does.
 pub fn run_command<W: AsStr>(
     alloc: Global,
     words: &[W],
@@ -18,6 +19,7 @@ pub fn run_command<W: AsStr>(
     input: &mut TrySource<'_>,
     out: &mut TrySink,
     err: &mut TrySink,
+    told: &mut TrySink,
 ) -> u8
     requires input { (source_seen input.old).failed < 2 ^ 64 - 1 }
     requires out { (sink_written out.old).failed < 2 ^ 64 - 1 }
@@ -26,5 +28,5 @@ pub fn run_command<W: AsStr>(
     ensures { CommandEnds (map W.text words.now)
         (world_of folder.old input.old out.old err.old) (world_of folder.new input.new out.new err.new) result }
 {
-    command(alloc, words, folder, input, out, err)
+    command_telling(alloc, words, folder, input, out, err, told)
 }

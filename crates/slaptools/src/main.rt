@@ -1,9 +1,9 @@
 //! Tools for an LDAP directory that is kept as LDIF, without a server.
 #![tactic(auto)]
 
-use commands::{CommandFault, command, report_fault};
+use commands::{CommandFault, command_telling, report_fault};
 use device::{OfRead, OfWrite};
-use folders::{Placeholders, SystemFiles, Uninterrupted};
+use folders::{LastFailure, Placeholders, SystemFiles, Uninterrupted};
 use std::env;
 use std::io::{self, ErrorKind};
 use std::process::ExitCode;
@@ -45,20 +45,23 @@ fn start_of(rt: &HostRuntime) -> Result<Start, CommandFault> {
 }
 
 fn main(rt: HostRuntime) -> ExitCode {
-    let mut err = OfWrite::new(Uninterrupted::new(rt.stderr()));
+    let failure = LastFailure::new();
+    let mut err = OfWrite::new(Uninterrupted::new(rt.stderr(), &failure));
     let start = match start_of(&rt) {
         Ok(start) => start,
         Err(fault) => return ExitCode::from(report_fault(rt.alloc(), &mut err, &fault).number()),
     };
-    let mut folder = SystemFiles::new(&rt);
-    let mut input = OfRead::new(Uninterrupted::new(rt.stdin()));
-    let mut out = OfWrite::new(Uninterrupted::new(rt.stdout()));
-    ExitCode::from(command(
+    let mut folder = SystemFiles::new(&rt, &failure);
+    let mut input = OfRead::new(Uninterrupted::new(rt.stdin(), &failure));
+    let mut out = OfWrite::new(Uninterrupted::new(rt.stdout(), &failure));
+    let mut told = OfWrite::new(Uninterrupted::new(rt.stderr(), &failure));
+    ExitCode::from(command_telling(
         rt.alloc(),
         start.words.as_slice(),
         &mut folder,
         &mut input,
         &mut out,
         &mut err,
+        &mut told,
     ))
 }

@@ -33,7 +33,7 @@ pub returns-in-Ok-true-clause-ends : goal.returns-in-Ok-true-clause-ends
 returns-in-Ok-true-clause-ends g c = λ w h.
     found_more c.args.asked.now (record w { output = g.O.Sink.written c.args.out.now; messages = g.E.Sink.written c.args.err.now }) c.args.filter c.args.database.now c.args.file.now h _
     (c.in_ok-report_index.ensures.reports c.args.filter h.index.said h.index.kept.says) c.in_ok-query.query _ c.conf.ensures c.in_ok-query.ensures.found
-    _ _ _ _ c.in-Ok-true.field-0-test (c.in-Ok-true.ensures h.index.said (subst (λ (f : Made). Keeps c.args.database.now f c.args.file.now h.index.said) (sym c.in_ok-query.ensures.found.filter) h.index.kept)) c.report_past_limit.ensures
+    _ _ _ _ c.in-Ok-true.field-0-test (c.in-Ok-true.ensures h.index.said (subst (λ (f : Made). Keeps c.args.database.now f c.args.file.now h.index.said) (sym c.in_ok-query.ensures.found.filter) h.index.kept)) c.report_past_limit-status.ensures
 
 pub returns-clause-ends : goal.returns-clause-ends
 returns-clause-ends g c = λ w h.
