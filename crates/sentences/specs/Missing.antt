@@ -10,3 +10,7 @@ pub record IsNearestAbove (entries : Entries) (path above : Path) : Type 0 where
   pub begins : above ≡ take (length above) path
   pub there : finite.contains_key entries above ≡ true
   pub nearest : (k : ℕ) → length above < k → k < length path → finite.contains_key entries (take k path) ≡ false
+
+-- no entry is above the path
+abbrev pub NoneAbove : Entries → Path → Type 0
+NoneAbove entries path = (k : ℕ) → k < length path → finite.contains_key entries (take k path) ≡ false

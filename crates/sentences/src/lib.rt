@@ -1,7 +1,8 @@
 //! Why a record or a file is refused, in sentences that a person can act on.
 //!
-//! Which check of a record fails is told by `reasons`, whose contract ties it to the record; what stands here is text. Each sentence is one line,
-//! of two spaces and at most some 400 bytes: values and names are cut, and what can't be printed in them is escaped.
+//! Which check of a record fails is told by `reasons`, whose contract ties it to the record; what stands here is text. Each sentence is one line
+//! behind two spaces: values and names are cut, and what can't be printed in them is escaped. That no control character is in a line, and that a line
+//! feed ends it, is kept by the types of `lines`.
 #![tactic(auto, using(crate::proofs::Pieces::shown_both, crate::proofs::Pieces::shown_decimal))]
 
 mod conf_words;

@@ -1,9 +1,9 @@
 //! Entries that aren't there, and the records that were to make them.
 
 ghost use Rattle.std.specs.Prelude.{◌≡◌, false, IfOk};
-ghost use Rattle.std.specs.Option.{IfSome};
+ghost use Rattle.std.specs.Option.{IfNone, IfSome};
 ghost use Rattle.std.specs.FinMap as finite;
-ghost use Rattle.sentences.specs.Missing.{IsNearestAbove};
+ghost use Rattle.sentences.specs.Missing.{IsNearestAbove, NoneAbove};
 
 use crate::lines::ShownText;
 use crate::names::is_there;
@@ -119,7 +119,8 @@ impl RefusedAdds {
 
 /// The path of the nearest entry above a path; none where no entry is above it.
 fn nearest_above(alloc: Global, tree: &Tree, path: &Path) -> Result<Option<Path>, AllocError>
-    ensures { IfOk result (λ found. IfSome found (λ above. IsNearestAbove tree.now.entries path.now above)) }
+    ensures nearest { IfOk result (λ found. IfSome found (λ above. IsNearestAbove tree.now.entries path.now above)) }
+    ensures none { IfOk result (λ found. IfNone found (NoneAbove tree.now.entries path.now)) }
 {
     let mut above = path.copy(alloc)?;
     'up: for _step in 0..path.len() {

@@ -11,7 +11,7 @@ fn tell<V: Sink>(told: &mut V, text: &[u8])
     ensures { Tells (V.written told.old) (V.written told.new) text.now }
 {
     if told.failures() == 0 {
-        let _pushed = push_all(told, text);
+        let _ = push_all(told, text);
     }
 }
 
