@@ -60,7 +60,11 @@ KEY = re.compile(rb"(-|(?:[0-9a-f]{2})+)((?: %b)+)" % NUMBER)
 
 
 class Fault(Exception):
-    """The first thing wrong with a text."""
+    """The first thing wrong with a text, and the line on which it is, with its number."""
+
+    def at(self, number, line):
+        self.number, self.line = number, line
+        return self
 
 
 class Reader:
@@ -113,17 +117,20 @@ def read(conf, dump, text):
     first, end, rest = text.partition(b"\n")
     header = HEADER.fullmatch(first)
     if header is None or not end:
-        raise Fault("I1 header")
+        raise Fault("I1 header").at(1, first)
     entries = len(list(ldif.records(dump)))
     if int(header[1]) != entries or header[2] != hashlib.sha256(dump).hexdigest().encode():
-        raise Fault("I2 stale")
+        raise Fault("I2 stale").at(1, first)
     reader = Reader(conf, entries)
-    lines = rest.split(b"\n")
-    for line in lines[:-1]:
-        reader.line(line)
+    *lines, behind = rest.split(b"\n")
+    for number, line in enumerate(lines, 2):
+        try:
+            reader.line(line)
+        except Fault as fault:
+            raise fault.at(number, line) from None
     # what stands behind the last LF is no line
-    if lines[-1] or not reader.is_over:
-        raise Fault("I3 form")
+    if behind or not reader.is_over:
+        raise Fault("I3 form").at(len(lines) + 2, behind)
     return reader.rows
 
 

@@ -531,12 +531,13 @@ def bad_option(scope, scope_word, limit_word):
     return 2, b"", b"error: invalid value '%s' for '%s': it has to be %s\n" % (word, option, wanted)
 
 
-def index_rows(directory, index):
-    """-> what index.txt says of a directory, None where it isn't used; and the line that is said of it"""
+def index_rows(directory, index, verbose):
+    """-> what index.txt says of a directory, None where it isn't used; and the lines that are said of it"""
     try:
         return (None if index is None else indexes.read(directory.conf, directory.dump(), index)), b""
     except indexes.Fault as fault:
-        return None, f"index.txt: {fault}\n".encode()
+        said = sentences.index_line(fault.number, fault.line, str(fault)) if verbose else ""
+        return None, f"index.txt: {fault}\n{said}".encode()
 
 
 def search(conf_text, data, folder, words, name=None, scope_word=None, limit_word=None, index=None, verbose=False):
@@ -551,7 +552,7 @@ def search(conf_text, data, folder, words, name=None, scope_word=None, limit_wor
     try:
         steps = read_filter(text)
         directory = load(conf_text, data, folder)
-        rows, warning = index_rows(directory, index)
+        rows, warning = index_rows(directory, index, verbose)
     except Ended as end:
         return end.status, b"", end.told(verbose)
     try:

@@ -271,3 +271,14 @@ def word_line(text, line, keyword, word, is_second):
             return line
         at = found[3] + len(wanted)
     return line + whole.count(b"\n", 0, at)
+
+
+INDEX_FAULTS = {
+    "I1": "the first line is slapindex 1, a number of entries and a stamp", "I2": "it was written for other entries",
+    "I3": "no such line is due here, or it can't be read", "I4": "it doesn't come after the line before it", "I5": "no entry has a rank that stands there",
+}
+
+
+def index_line(number, line, fault):
+    """The sentence behind a fault of index.txt."""
+    return f"  line {number}: {value(line)}: {INDEX_FAULTS[fault.split()[0]]}; slapindex writes it anew\n"

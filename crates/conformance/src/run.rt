@@ -61,7 +61,7 @@ fn put_answer(
     let messages = answer.messages.bytes();
     put_stream(alloc, "standard error", '!', messages, &step.messages, into)?;
     let told = answer.told.bytes();
-    put_stream(alloc, "sentences", ':', told, &step.told, into)
+    put_stream(alloc, "what -v tells", ':', told, &step.told, into)
 }
 
 /// Runs a command over a folder, and answers what is otherwise than the case says, or nothing.
