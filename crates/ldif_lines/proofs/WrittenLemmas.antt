@@ -11,7 +11,7 @@ use Rattle.std.proofs.lemmas.List.Elements.{All-from_recursion, All-get_or}
 use Rattle.base.specs.Ends.{begins_with}
 use Rattle.ldif_lines.specs.Records.{Body, is_blank, is_kept, number_of, bytes_of, continuation, joined, joined_block, body_of, body_of_block, with_first, records_from, records}
 use Rattle.ldif_lines.proofs.PartLemmas.{is_feed, IsCons, split_cons}
-use Rattle.ldif_lines.specs.Folding.{folded, written_blocks, is_line_byte, IsWritable, AreWritable, raw_lines, raw_block, with_first_flag}
+use Rattle.ldif_lines.specs.Folding.{folded, written_blocks, is_line_byte, IsWritable, AreWritable, IsComment, CommentedBlock, IsWritableComment, all_lines_of, record_lines, written_commented, raw_lines, raw_block, with_first_flag}
 
 -- ---- lines
 
@@ -126,14 +126,9 @@ pieces_folded (suc room) (b ∷ bs) h = onto b (pieces_at room bs) bs h.0 (piece
 
 -- ---- one record
 
--- a line that can be written: it begins with neither a space nor `#`, and isn't empty
+-- a line or a comment that can be written: it doesn't begin with a space, and isn't empty
 record IsStart (b : ℕ) : Type 0 where
   space : eqb b 32 ≡ false
-  hash : eqb b 35 ≡ false
-
-abbrev Starts : List ℕ → Type 0
-Starts [] = ⊥
-Starts (b ∷ bs) = IsStart b
 
 record CanStand (l : List ℕ) : Type 0 where
   bytes : AreLineBytes l
@@ -242,38 +237,49 @@ block_joined k (l ∷ ls) h =
     ∙ ap (λ (n : ℕ). (k, l) ∷ joined (enumerate_from n (cut ls))) (sym (later_is k l p))
     ∙ ap (λ (x : List (ℕ × List ℕ)). (k, l) ∷ x) (all_joined (later k (pieces_at 76 l)) ls h.1)
 
-no_hash : (l : List ℕ) → CanStand l → begins_with 35 l ≡ false
-no_hash l h = ap (begins_with 35) h.start.2 ∙ h.start.3.hash
+-- the lines that are no comments
+abbrev kept : List (List ℕ) → List (List ℕ)
+kept ls = filter (λ l. not (begins_with 35 l)) ls
 
-all_kept : (k : ℕ) (ls : List (List ℕ)) → AllByRecursion CanStand ls → filter is_kept (numbered k ls) ≡ numbered k ls
+kept_numbered : (k : ℕ) (ls : List (List ℕ)) → map bytes_of (filter is_kept (numbered k ls)) ≡ kept ls
 unfolding numbered
-all_kept k [] h = refl
-all_kept k (l ∷ ls) h =
-    ap (λ t. cond (not t) ((k, l) ∷ filter is_kept (numbered (later k (pieces_at 76 l)) ls)) (filter is_kept (numbered (later k (pieces_at 76 l)) ls))) (no_hash l h.0)
-    ∙ ap (λ (x : List (ℕ × List ℕ)). (k, l) ∷ x) (all_kept (later k (pieces_at 76 l)) ls h.1)
+kept_numbered k [] = refl
+kept_numbered k (l ∷ ls) = by (begins_with 35 l) (filter is_kept (numbered (later k (pieces_at 76 l)) ls)) (kept_numbered (later k (pieces_at 76 l)) ls)
+  where
+    by : (hash : Bool) (more : List (ℕ × List ℕ)) → map bytes_of more ≡ kept ls → map bytes_of (cond (not hash) ((k, l) ∷ more) more) ≡ cond (not hash) (l ∷ kept ls) (kept ls)
+    by true more h = h
+    by false more h = ap (λ (x : List (List ℕ)). l ∷ x) h
 
-unnumbered : (k : ℕ) (ls : List (List ℕ)) → map bytes_of (numbered k ls) ≡ ls
-unfolding numbered
-unnumbered k [] = refl
-unnumbered k (l ∷ ls) = ap (λ (x : List (List ℕ)). l ∷ x) (unnumbered (later k (pieces_at 76 l)) ls)
+abbrev lines_in : Body → List (List ℕ)
+lines_in b = b.lines
+
+-- the body that lines make where one is left of them
+record HasBody (ls : List (ℕ × List ℕ)) (said : List (List ℕ)) : Type 0 where
+  body : Body
+  body_is : body_of ls ≡ Some body
+  lines_are : body.lines ≡ said
+
+some_body : (ls : List (ℕ × List ℕ)) (first : List ℕ) (more : List (List ℕ)) → map bytes_of ls ≡ first ∷ more → HasBody ls (first ∷ more)
+unfolding body_of
+some_body [] first more h = cc
+some_body (l ∷ ls) first more h = record { body = record { line = l.0; lines = l.1 ∷ map bytes_of ls; numbers = l.0 ∷ map number_of ls }; body_is = refl; lines_are = h }
 
 -- the block that a record's lines make
-block_is : (k : ℕ) (l : List ℕ) (ls : List (List ℕ)) → AllByRecursion CanStand (l ∷ ls) → body_of_block (enumerate_from k (cut (l ∷ ls)))
-    ≡ Some (record { line = k; lines = l ∷ ls; numbers = k ∷ map number_of (numbered (later k (pieces_at 76 l)) ls) })
-unfolding body_of_block body_of numbered
-block_is k l ls h =
-    ap (λ (x : List (ℕ × List ℕ)). body_of (filter is_kept x)) (block_joined k (l ∷ ls) h)
-    ∙ ap body_of (all_kept k (l ∷ ls) h)
-    ∙ ap (λ (x : List (List ℕ)). Some (record { line = k; lines = l ∷ x; numbers = k ∷ map number_of (numbered (later k (pieces_at 76 l)) ls) })) (unnumbered (later k (pieces_at 76 l)) ls)
+block_is : (k : ℕ) (ls : List (List ℕ)) (first : List ℕ) (more : List (List ℕ)) → AllByRecursion CanStand ls → kept ls ≡ first ∷ more
+    → (b : Body) × (body_of_block (enumerate_from k (cut ls)) ≡ Some b) × (b.lines ≡ first ∷ more)
+unfolding body_of_block
+block_is k ls first more h is =
+    let b = some_body (filter is_kept (numbered k ls)) first more (kept_numbered k ls ∙ is) in
+    (b.body, ap (λ (x : List (ℕ × List ℕ)). body_of (filter is_kept x)) (block_joined k ls h) ∙ b.body_is, b.lines_are)
 
 -- ---- all records
 
--- a record has a line at least
+-- a record has a line at least that is no comment
 record CanStandAll (ls : List (List ℕ)) : Type 0 where
   first : List ℕ
   more : List (List ℕ)
-  lines_are : ls ≡ first ∷ more
-  all : AllByRecursion CanStand (first ∷ more)
+  lines_are : kept ls ≡ first ∷ more
+  all : AllByRecursion CanStand ls
 
 -- the first block goes up to the first empty line
 blocks_at : (k : ℕ) (xs ys : List (List ℕ)) → AllByRecursion (λ x. eqb (length x) 0 ≡ false) xs → slice_split is_blank (enumerate_from k (xs ++ [] ∷ ys)) ≡ enumerate_from k xs ∷ slice_split is_blank (enumerate_from (later k xs + 1) ys)
@@ -317,28 +323,24 @@ block_lines ls = cut ls ++ [] ∷ []
 abbrev text_of : List (List ℕ) → List ℕ
 text_of ls = flat_map end_line (block_lines ls)
 
-abbrev lines_in : Body → List (List ℕ)
-lines_in b = b.lines
-
 -- the lines of each record that is read
-bodies : (k : ℕ) (rs : List (List (List ℕ))) → AllByRecursion CanStandAll rs → map lines_in (filter_map body_of_block (slice_split is_blank (enumerate_from k (flat_map block_lines rs)))) ≡ rs
+bodies : (k : ℕ) (rs : List (List (List ℕ))) → AllByRecursion CanStandAll rs
+    → map lines_in (filter_map body_of_block (slice_split is_blank (enumerate_from k (flat_map block_lines rs)))) ≡ map kept rs
 unfolding body_of_block body_of joined_block
 bodies k [] h = refl
 bodies k (r ∷ rs) h =
-    let all : AllByRecursion CanStand r = subst (AllByRecursion CanStand) (sym h.0.lines_are) h.0.all in
     let rest : List Body = filter_map body_of_block (slice_split is_blank (enumerate_from (later k (cut r) + 1) (flat_map block_lines rs))) in
+    let b = block_is k r h.0.first h.0.more h.0.all h.0.lines_are in
     ap (λ (x : List (List ℕ)). map lines_in (filter_map body_of_block (slice_split is_blank (enumerate_from k x)))) (append_assoc (cut r) ([] ∷ []) (flat_map block_lines rs))
-    ∙ ap (λ (x : List (List (ℕ × List ℕ))). map lines_in (filter_map body_of_block x)) (blocks_at k (cut r) (flat_map block_lines rs) (cut_some r all))
-    ∙ ap (λ (x : List (List ℕ)). map lines_in (cons_option (body_of_block (enumerate_from k (cut x))) rest)) h.0.lines_are
-    ∙ ap (λ (o : Option Body). map lines_in (cons_option o rest)) (block_is k h.0.first h.0.more h.0.all)
-    ∙ ap (λ (x : List (List (List ℕ))). (h.0.first ∷ h.0.more) ∷ x) (bodies (later k (cut r) + 1) rs h.1)
-    ∙ ap (λ (x : List (List ℕ)). x ∷ rs) (sym h.0.lines_are)
+    ∙ ap (λ (x : List (List (ℕ × List ℕ))). map lines_in (filter_map body_of_block x)) (blocks_at k (cut r) (flat_map block_lines rs) (cut_some r h.0.all))
+    ∙ ap (λ (o : Option Body). map lines_in (cons_option o rest)) b.1
+    ∙ ap (λ (x : List (List (List ℕ))). b.0.lines ∷ x) (bodies (later k (cut r) + 1) rs h.1)
+    ∙ ap (λ (x : List (List ℕ)). x ∷ map kept rs) (b.2 ∙ sym h.0.lines_are)
 
 whole_bytes : (rs : List (List (List ℕ))) → AllByRecursion CanStandAll rs → AllByRecursion AreLineBytes (flat_map block_lines rs)
 whole_bytes [] h = tt
 whole_bytes (r ∷ rs) h =
-    let all : AllByRecursion CanStand r = subst (AllByRecursion CanStand) (sym h.0.lines_are) h.0.all in
-    all_append AreLineBytes (block_lines r) (flat_map block_lines rs) (all_append AreLineBytes (cut r) ([] ∷ []) (cut_bytes r all) (tt, tt)) (whole_bytes rs h.1)
+    all_append AreLineBytes (block_lines r) (flat_map block_lines rs) (all_append AreLineBytes (cut r) ([] ∷ []) (cut_bytes r h.0.all) (tt, tt)) (whole_bytes rs h.1)
 
 joined_text : (rs : List (List (List ℕ))) → flat_map text_of rs ≡ flat_map end_line (flat_map block_lines rs)
 joined_text [] = refl
@@ -368,7 +370,10 @@ line_bytes [] h = tt
 line_bytes (b ∷ bs) h = let both = and_parts (is_line_byte b) (list_all is_line_byte bs) h in (line_byte b both.0, line_bytes bs both.1)
 
 start_byte : (b : ℕ) → not (eqb b 32) && not (eqb b 35) ≡ true → IsStart b
-start_byte b h = record { space = grind (arith, nat_tests); hash = grind (arith, nat_tests) }
+start_byte b h = record { space = grind (arith, nat_tests) }
+
+hash_byte : (b : ℕ) → not (eqb b 32) && not (eqb b 35) ≡ true → not (eqb b 35) ≡ true
+hash_byte b h = grind (arith, nat_tests)
 
 stands : (l : List ℕ) → IsWritable l → CanStand l
 stands [] h = let e : false ≡ true = h.begins in (cc)
@@ -378,13 +383,63 @@ stand : (ls : List (List ℕ)) → AllByRecursion IsWritable ls → AllByRecursi
 stand [] h = tt
 stand (l ∷ ls) h = (stands l h.0, stand ls h.1)
 
+no_hash : (l : List ℕ) → IsWritable l → not (begins_with 35 l) ≡ true
+no_hash [] h = let e : false ≡ true = h.begins in (cc)
+no_hash (b ∷ bs) h = hash_byte b h.begins
+
+all_kept : (ls : List (List ℕ)) → AllByRecursion IsWritable ls → kept ls ≡ ls
+all_kept [] h = refl
+all_kept (l ∷ ls) h = ap (λ (b : Bool). cond b (l ∷ kept ls) (kept ls)) (no_hash l h.0) ∙ ap (λ (x : List (List ℕ)). l ∷ x) (all_kept ls h.1)
+
 block_stands : (ls : List (List ℕ)) → AreWritable ls → CanStandAll ls
 block_stands [] h = absurd h
-block_stands (l ∷ ls) h = record { first = l; more = ls; lines_are = refl; all = stand (l ∷ ls) h }
+block_stands (l ∷ ls) h = record { first = l; more = ls; lines_are = all_kept (l ∷ ls) h; all = stand (l ∷ ls) h }
 
 all_stand : (rs : List (List (List ℕ))) → AllByRecursion AreWritable rs → AllByRecursion CanStandAll rs
 all_stand [] h = tt
 all_stand (r ∷ rs) h = (block_stands r h.0, all_stand rs h.1)
+
+block_kept : (ls : List (List ℕ)) → AreWritable ls → kept ls ≡ ls
+block_kept [] h = absurd h
+block_kept (l ∷ ls) h = all_kept (l ∷ ls) h
+
+blocks_kept : (rs : List (List (List ℕ))) → AllByRecursion AreWritable rs → map kept rs ≡ rs
+blocks_kept [] h = refl
+blocks_kept (r ∷ rs) h = λ i. block_kept r h.0 i ∷ blocks_kept rs h.1 i
+
+-- ---- with a comment in front
+
+comment_stands : (l : List ℕ) → IsComment l → CanStand l
+comment_stands [] h = let e : false ≡ true = h.begins in (cc)
+comment_stands (b ∷ bs) h = record { bytes = line_bytes (b ∷ bs) h.bytes; start = (b, bs, refl, record { space = hash_start b h.begins }) }
+  where
+    hash_start : (b : ℕ) → eqb b 35 ≡ true → eqb b 32 ≡ false
+    hash_start b h = grind (arith, nat_tests)
+
+commented_kept : (b : CommentedBlock) → IsWritableComment b → kept (b.comment ∷ b.lines) ≡ b.lines
+commented_kept b h = ap (λ (t : Bool). cond (not t) (b.comment ∷ kept b.lines) (kept b.lines)) h.comment.begins ∙ block_kept b.lines h.lines
+
+commented_stands : (b : CommentedBlock) → IsWritableComment b → CanStandAll (b.comment ∷ b.lines)
+commented_stands b h =
+    let below = block_stands b.lines h.lines in
+    record {
+      first = below.first;
+      more = below.more;
+      lines_are = commented_kept b h ∙ sym (block_kept b.lines h.lines) ∙ below.lines_are;
+      all = (comment_stands b.comment h.comment, below.all);
+    }
+
+all_commented_stand : (bs : List CommentedBlock) → AllByRecursion IsWritableComment bs → AllByRecursion CanStandAll (map all_lines_of bs)
+all_commented_stand [] h = tt
+all_commented_stand (b ∷ bs) h = (commented_stands b h.0, all_commented_stand bs h.1)
+
+comments_gone : (bs : List CommentedBlock) → AllByRecursion IsWritableComment bs → map kept (map all_lines_of bs) ≡ map record_lines bs
+comments_gone [] h = refl
+comments_gone (b ∷ bs) h = λ i. commented_kept b h.0 i ∷ comments_gone bs h.1 i
+
+commented_text : (bs : List CommentedBlock) → flat_map written_commented bs ≡ written_blocks (map all_lines_of bs)
+commented_text [] = refl
+commented_text (b ∷ bs) = ap (λ (x : List ℕ). written_commented b ++ x) (commented_text bs)
 
 -- ---- what is read
 
@@ -413,10 +468,20 @@ lines_read rs h =
     ap (map raw_lines) (written_records rs (all_stand rs h))
     ∙ unflagged true (bodies_in (flat_map block_lines rs))
     ∙ bodies 1 rs (all_stand rs h)
+    ∙ blocks_kept rs h
 
 pub blocks_read : (rs : List (List (List ℕ))) → AllByRecursion AreWritable rs → map raw_block (records (written_blocks rs)) ≡ with_first_flag true rs
 unfolding bodies_in
 blocks_read rs h =
     ap (map raw_block) (written_records rs (all_stand rs h))
     ∙ flagged true (bodies_in (flat_map block_lines rs))
-    ∙ ap (with_first_flag true) (bodies 1 rs (all_stand rs h))
+    ∙ ap (with_first_flag true) (bodies 1 rs (all_stand rs h) ∙ blocks_kept rs h)
+
+pub commented_read : (bs : List CommentedBlock) → AllByRecursion IsWritableComment bs → map raw_block (records (flat_map written_commented bs)) ≡ with_first_flag true (map record_lines bs)
+unfolding bodies_in
+commented_read bs h =
+    let all = all_commented_stand bs h in
+    ap (λ (x : List ℕ). map raw_block (records x)) (commented_text bs)
+    ∙ ap (map raw_block) (written_records (map all_lines_of bs) all)
+    ∙ flagged true (bodies_in (flat_map block_lines (map all_lines_of bs)))
+    ∙ ap (with_first_flag true) (bodies 1 (map all_lines_of bs) all ∙ comments_gone bs h)

@@ -2,6 +2,7 @@
 use Rattle.std.specs.Prelude.{◌≡◌, ℕ, zero, suc, Bool, true, false, not, ◌&&◌, ◌==◌, List, [], ◌∷◌, ◌++◌}
 use Rattle.std.specs.List.{flat_map, list_all, AllByRecursion}
 use Rattle.base.specs.Ascii.{line_feed, carriage_return, space, number_sign}
+use Rattle.base.specs.Ends.{begins_with}
 use Rattle.ldif_lines.specs.Records.{RawRecord}
 
 -- a line that is folded, with room for so many bytes before the first fold: each further piece is a space and at most 75 bytes
@@ -34,6 +35,30 @@ pub record IsWritable (line : List ℕ) : Type 0 where
 abbrev pub AreWritable : List (List ℕ) → Type 0
 AreWritable [] = ⊥
 AreWritable (l ∷ ls) = AllByRecursion IsWritable (l ∷ ls)
+
+-- ---- with a comment in front of each record
+
+-- a comment that can be written (RFC 2849, note 5)
+pub record IsComment (line : List ℕ) : Type 0 where
+  pub begins : begins_with number_sign line ≡ true
+  pub bytes : list_all is_line_byte line ≡ true
+
+pub record CommentedBlock : Type 0 where
+  pub comment : List ℕ
+  pub lines : List (List ℕ)
+
+abbrev pub record_lines : CommentedBlock → List (List ℕ)
+record_lines b = b.lines
+
+abbrev pub all_lines_of : CommentedBlock → List (List ℕ)
+all_lines_of b = b.comment ∷ b.lines
+
+abbrev pub written_commented : CommentedBlock → List ℕ
+written_commented b = written_block (all_lines_of b)
+
+pub record IsWritableComment (b : CommentedBlock) : Type 0 where
+  pub comment : IsComment b.comment
+  pub lines : AreWritable b.lines
 
 -- ---- what is read of them: records up to the numbers of their lines
 

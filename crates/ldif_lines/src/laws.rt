@@ -1,14 +1,20 @@
 //! Laws of what is written and read, and of texts that go on.
 
 ghost use Rattle.std.specs.Prelude.{◌≡◌, ℕ, List, ◌++◌, map, true};
-ghost use Rattle.std.specs.List.{AllByRecursion};
+ghost use Rattle.std.specs.List.{AllByRecursion, flat_map};
 ghost use Rattle.ldif_lines.specs.Records.{RawRecord, IsNumbered, records, closed_records};
-ghost use Rattle.ldif_lines.specs.Folding.{AreWritable, written_blocks, raw_lines, raw_block, with_first_flag};
+ghost use Rattle.ldif_lines.specs.Folding.{AreWritable, CommentedBlock, IsWritableComment, written_blocks, written_commented, record_lines, raw_lines, raw_block, with_first_flag};
 
 /// Records that are written are read back: as many as there were, with the same lines, the first of them marked as the first.
 pub fn written_blocks_are_read()
     ensures lines { (blocks : List (List (List ℕ))) → AllByRecursion AreWritable blocks → map raw_lines (records (written_blocks blocks)) ≡ blocks }
     ensures first { (blocks : List (List (List ℕ))) → AllByRecursion AreWritable blocks → map raw_block (records (written_blocks blocks)) ≡ with_first_flag true blocks }
+{}
+
+/// Records that are written with a comment in front of each are read back without the comments.
+pub fn commented_blocks_are_read()
+    ensures { (blocks : List CommentedBlock) → AllByRecursion IsWritableComment blocks
+        → map raw_block (records (flat_map written_commented blocks)) ≡ with_first_flag true (map record_lines blocks) }
 {}
 
 /// The records whose closing empty line stands in a text are the first records of each text that begins with it.
