@@ -7,6 +7,7 @@ pub mod Ends
 pub mod Folds
 pub mod WrittenLines
 pub mod WrittenContents
+pub mod WrittenChanges
 pub mod Inverted
 pub mod Spaces
 pub mod DecodedBytes

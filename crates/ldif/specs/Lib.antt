@@ -17,3 +17,4 @@ pub mod Dues
 pub mod FaultPlaces
 pub mod Parts
 pub mod PartLines
+pub mod Changes

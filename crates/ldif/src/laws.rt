@@ -7,7 +7,7 @@ ghost use Rattle.ldif_lines.specs.Folding.{IsWritable};
 ghost use Rattle.ldif.specs.declared.fault.LdifFaultKind.{LdifFaultKind};
 ghost use Rattle.ldif.specs.Attrs.{Attr};
 ghost use Rattle.ldif.specs.declared.record.Mode.{Mode};
-ghost use Rattle.ldif.specs.declared.record.Mode.TheVariants.{Content};
+ghost use Rattle.ldif.specs.declared.record.Mode.TheVariants.{Changes, Content};
 ghost use Rattle.ldif.specs.declared.record.Record.{Record};
 ghost use Rattle.ldif.specs.LineFaults.{IsLineFault};
 ghost use Rattle.ldif.specs.Forms.{IsValueLine, IsRecord};
@@ -16,6 +16,7 @@ ghost use Rattle.ldif.specs.RecordFaults.{IsFaultHere, IsRecordFault};
 ghost use Rattle.ldif.specs.Reading.{reading};
 ghost use Rattle.ldif.specs.Line.{value_line};
 ghost use Rattle.ldif.specs.Writing.{line_text};
+ghost use Rattle.ldif.specs.Changes.{CommentedChange, IsWritableComment, write_change, change_of, read_as_itself};
 ghost use Rattle.ldif.specs.Contents.{is_byte, IsName, ContentRecord, IsWritableContent, write_content, readings, reading_of, as_record};
 
 /// The line of a name and a value can be written.
@@ -33,6 +34,14 @@ pub fn written_contents_are_read()
     ensures { (cs : List ContentRecord) → AllByRecursion IsWritableContent cs → map reading_of (readings Content (flat_map write_content cs)) ≡ map as_record cs }
 {
     ldif_lines::written_blocks_are_read();
+}
+
+/// Change records without controls that are written one after another, a comment before each, are read back, one for each.
+pub fn written_changes_are_read()
+    ensures { (add : Bool) (cs : List CommentedChange) → AllByRecursion IsWritableComment cs
+        → map reading_of (readings (Changes add) (flat_map write_change cs)) ≡ map read_as_itself (map change_of cs) }
+{
+    ldif_lines::commented_blocks_are_read();
 }
 
 /// A line is read exactly where it has the form of a value line, and as the name and the value of that form.
