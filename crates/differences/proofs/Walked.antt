@@ -53,8 +53,16 @@ module _ (conf : Conf) (a b : Entries) where
   pub ahead_is : (items : List (Path × Entry)) → seen_entries items ≡ finite.entries b → changes_ahead conf a b ≡ all_changes_of conf a b items
   ahead_is items are = ap (flat_map (λ y. changes_at conf a b y.0 (finite.get a y.0) y.1)) (sym are) ∙ sym (changes_are items)
 
-  pub text_of_next : (e : Path × Entry) (es : List (Path × Entry)) → changes_text (all_changes_of conf a b (e ∷ es)) ≡ changes_text (changes_of conf a b e) ++ changes_text (all_changes_of conf a b es)
-  text_of_next e es = flat_map-append change_text (changes_of conf a b e) (all_changes_of conf a b es)
+  -- the text of the first that is left, behind a text, and of none
+  pub text_next : (text : List ℕ) (es : List (Path × Entry)) (e : Path × Entry) (rest : List (Path × Entry)) → es ≡ e ∷ rest
+      → text ++ changes_text (all_changes_of conf a b es) ≡ (text ++ changes_text (changes_of conf a b e)) ++ changes_text (all_changes_of conf a b rest)
+  text_next text es e rest steps =
+      ap (λ (xs : List (Path × Entry)). text ++ changes_text (all_changes_of conf a b xs)) steps
+      ∙ ap (λ (t : List ℕ). text ++ t) (flat_map-append change_text (changes_of conf a b e) (all_changes_of conf a b rest))
+      ∙ sym (append_assoc text (changes_text (changes_of conf a b e)) (changes_text (all_changes_of conf a b rest)))
+
+  pub text_end : (text : List ℕ) (es : List (Path × Entry)) → es ≡ [] → text ++ changes_text (all_changes_of conf a b es) ≡ text
+  text_end text es none = ap (λ (xs : List (Path × Entry)). text ++ changes_text (all_changes_of conf a b xs)) none ∙ append-nil text
 
 pub some_of_both : (xs ys : List Record) → is_some_change (xs ++ ys) ≡ is_some_change xs || is_some_change ys
 some_of_both [] ys = refl
@@ -126,9 +134,14 @@ between_is : (conf : Conf) (a b : Entries) → changes_between conf a b ≡ remo
 unfolding changes_between
 between_is conf a b = ap (λ (rs : List Record). rs ++ changes_ahead conf a b) (removals_are conf a (reverse (only_in a b)) ∙ ap (map (removing conf a)) (map_reverse path_of (only_in a b)))
 
-pub difference_is : (conf : Conf) (a b : Entries) → difference conf a b ≡ changes_text (removals conf a (paths_gone a b)) ++ changes_text (changes_ahead conf a b)
+difference_is : (conf : Conf) (a b : Entries) → difference conf a b ≡ changes_text (removals conf a (paths_gone a b)) ++ changes_text (changes_ahead conf a b)
 unfolding difference
 difference_is conf a b = ap changes_text (between_is conf a b) ∙ flat_map-append change_text (removals conf a (paths_gone a b)) (changes_ahead conf a b)
+
+-- the removals of paths that are lent, behind nothing, and what is ahead
+pub whole_is : (conf : Conf) (a b : Entries) (nothing : List ℕ) (ps : List (Bor Path)) → nothing ≡ [] → lent_paths ps ≡ paths_gone a b
+    → difference conf a b ≡ (nothing ++ changes_text (removals conf a (lent_paths ps))) ++ changes_text (changes_ahead conf a b)
+whole_is conf a b nothing ps none gone = difference_is conf a b ∙ sym (λ i. (none i ++ changes_text (removals conf a (gone i))) ++ changes_text (changes_ahead conf a b))
 
 some_is : (rs : List Record) → is_some_change rs ≡ not (length rs == 0)
 some_is [] = refl

@@ -5,3 +5,4 @@ pub mod LentBlocks
 pub mod BlockTexts
 pub mod RecordTexts
 pub mod Walks
+pub mod Examples

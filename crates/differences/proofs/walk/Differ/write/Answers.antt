@@ -10,7 +10,7 @@ use Rattle.paths.specs.Paths.{Path}
 use Rattle.databases.proofs.Pieces as pieces
 use Rattle.differences.specs.Texts.{difference}
 use Rattle.differences.specs.inner.Walks.{changes_text, changes_ahead, paths_gone, removals, lent_paths}
-use Rattle.differences.proofs.Walked.{wants_memory_end, paths_there, difference_is, differs_is}
+use Rattle.differences.proofs.Walked.{wants_memory_end, paths_there, whole_is, differs_is}
 use Rattle.differences.proofs.walk.Differ.write.Goals as goal
 
 pub returns-in_err-gone-clause-writes : goal.returns-in_err-gone-clause-writes
@@ -30,8 +30,7 @@ returns-in_err-write_removals-clause-writes g c =
     let gone : lent_paths c.as_slice.result.now ≡ paths_gone a b = ap lent_paths c.as_slice.ensures.value ∙ c.in_ok-gone.ensures in
     let ahead : List ℕ = changes_text (changes_ahead conf a b) in
     let first : List ℕ = c.new-text.result.items ++ changes_text (removals conf a (lent_paths c.as_slice.result.now)) in
-    let whole : difference conf a b ≡ first ++ ahead =
-    difference_is conf a b ∙ sym (λ i. (c.new-text.ensures.items i ++ changes_text (removals conf a (gone i))) ++ ahead) in
+    let whole = whole_is conf a b c.new-text.result.items c.as_slice.result.now c.new-text.ensures.items gone in
     let start = g.W.Sink.written c.args.sink.now in
     rw (p.1, p.2) (pieces.stops start start _ (difference conf a b) (difference conf a b) (pieces.begins start (difference conf a b))
     c.in_err-write_removals.field-0.0 first ahead whole c.in_err-write_removals.ensures)
@@ -45,8 +44,7 @@ returns-in_err-some-clause-writes g c =
     let gone : lent_paths c.as_slice.result.now ≡ paths_gone a b = ap lent_paths c.as_slice.ensures.value ∙ c.in_ok-gone.ensures in
     let ahead : List ℕ = changes_text (changes_ahead conf a b) in
     let first : List ℕ = c.new-text.result.items ++ changes_text (removals conf a (lent_paths c.as_slice.result.now)) in
-    let whole : difference conf a b ≡ first ++ ahead =
-    difference_is conf a b ∙ sym (λ i. (c.new-text.ensures.items i ++ changes_text (removals conf a (gone i))) ++ ahead) in
+    let whole = whole_is conf a b c.new-text.result.items c.as_slice.result.now c.new-text.ensures.items gone in
     let start = g.W.Sink.written c.args.sink.now in
     let mid = g.W.Sink.written c.write_removals.new.sink in
     let text : List ℕ = c.write_removals.new.text.items in
@@ -63,8 +61,7 @@ returns-clause-writes g c =
     let gone : lent_paths c.as_slice.result.now ≡ paths_gone a b = ap lent_paths c.as_slice.ensures.value ∙ c.in_ok-gone.ensures in
     let ahead : List ℕ = changes_text (changes_ahead conf a b) in
     let first : List ℕ = c.new-text.result.items ++ changes_text (removals conf a (lent_paths c.as_slice.result.now)) in
-    let whole : difference conf a b ≡ first ++ ahead =
-    difference_is conf a b ∙ sym (λ i. (c.new-text.ensures.items i ++ changes_text (removals conf a (gone i))) ++ ahead) in
+    let whole = whole_is conf a b c.new-text.result.items c.as_slice.result.now c.new-text.ensures.items gone in
     let start = g.W.Sink.written c.args.sink.now in
     let mid = g.W.Sink.written c.write_removals.new.sink in
     let text : List ℕ = c.write_removals.new.text.items in

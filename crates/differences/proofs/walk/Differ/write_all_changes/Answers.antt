@@ -1,4 +1,4 @@
-use Rattle.std.proofs.Common.{◌≡◌, ◌++◌, [], ◌∷◌, List, ℕ, refl, sym, ap, ◌∙◌, subst, append_assoc}
+use Rattle.std.proofs.Common.{◌≡◌, ◌++◌, [], ◌∷◌, List, ℕ, refl, sym, ap, ◌∙◌, subst}
 use Rattle.std.specs.Prelude.{◌||◌, Ok}
 use Rattle.std.specs.List.{AllByRecursion}
 use Rattle.std.specs.FinMap as finite
@@ -13,7 +13,7 @@ use Rattle.databases.specs.inner.Dumps.{IsThere}
 use Rattle.databases.proofs.Pieces as pieces
 use Rattle.differences.specs.Differences.{is_some_change}
 use Rattle.differences.specs.inner.Walks.{changes_text, changes_of, all_changes_of, changes_ahead}
-use Rattle.differences.proofs.Walked.{all_seen, lent_there, ahead_is, text_of_next, some_so_far}
+use Rattle.differences.proofs.Walked.{all_seen, lent_there, ahead_is, text_next, text_end, some_so_far}
 use Rattle.differences.proofs.walk.Differ.write_all_changes.Goals as goal
 
 pub loop-found-init : goal.loop-found-init
@@ -43,10 +43,7 @@ loop-found-preserved g c =
     let found : Path × Entry = (c.in-Some.found.0.now, c.in-Some.found.1.now) in
     let steps : c.loop-found.found-iterator ≡ found ∷ left = c.in-Some.ensures.steps in
     let rs : List Record = changes_of conf a b found in
-    let next : text ++ changes_text (all_changes_of conf a b c.loop-found.found-iterator) ≡ (text ++ changes_text rs) ++ changes_text (all_changes_of conf a b left) =
-    ap (λ (es : List (Path × Entry)). text ++ changes_text (all_changes_of conf a b es)) steps
-    ∙ ap (λ (t : List ℕ). text ++ t) (text_of_next conf a b found left)
-    ∙ sym (append_assoc text (changes_text rs) (changes_text (all_changes_of conf a b left))) in
+    let next = text_next conf a b text c.loop-found.found-iterator found left steps in
     record {
       failures = c.in_ok-some.ensures.writes.written.failed ∙ c.loop-found.invariant.failures;
       names = c.in_ok-some.ensures.names ∙ c.loop-found.invariant.names;
@@ -69,10 +66,7 @@ returns-in_err-some-clause-writes g c =
     let found : Path × Entry = (c.in-Some.found.0.now, c.in-Some.found.1.now) in
     let steps : c.loop-found.found-iterator ≡ found ∷ left = c.in-Some.ensures.steps in
     let rs : List Record = changes_of conf a b found in
-    let next : text ++ changes_text (all_changes_of conf a b c.loop-found.found-iterator) ≡ (text ++ changes_text rs) ++ changes_text (all_changes_of conf a b left) =
-    ap (λ (es : List (Path × Entry)). text ++ changes_text (all_changes_of conf a b es)) steps
-    ∙ ap (λ (t : List ℕ). text ++ t) (text_of_next conf a b found left)
-    ∙ sym (append_assoc text (changes_text rs) (changes_text (all_changes_of conf a b left))) in
+    let next = text_next conf a b text c.loop-found.found-iterator found left steps in
     rw (p.1, p.2) (pieces.stops (g.W.Sink.written c.args.sink.now) (g.W.Sink.written c.loop-found.sink) _
     (c.args.text.now.items ++ changes_text (changes_ahead conf a b)) (text ++ changes_text (all_changes_of conf a b c.loop-found.found-iterator)) c.loop-found.invariant.so_far
     c.in_err-some.field-0.0 (text ++ changes_text rs) (changes_text (all_changes_of conf a b left)) next c.in_err-some.ensures.writes)
@@ -84,8 +78,7 @@ returns-in_err-pass_on-clause-writes g c =
     let a = c.args.self.now.before.now.entries in
     let b = c.args.self.now.after.now.entries in
     let text : List ℕ = c.loop-found.text.items in
-    let none : text ++ changes_text (all_changes_of conf a b c.loop-found.found-iterator) ≡ text =
-    ap (λ (es : List (Path × Entry)). text ++ changes_text (all_changes_of conf a b es)) c.in-None.ensures.steps.0 ∙ append-nil text in
+    let none = text_end conf a b text c.loop-found.found-iterator c.in-None.ensures.steps.0 in
     rw (p.1, p.2) (pieces.stops (g.W.Sink.written c.args.sink.now) (g.W.Sink.written c.loop-found.sink) _
     (c.args.text.now.items ++ changes_text (changes_ahead conf a b)) text
     (subst (SoFar (g.W.Sink.written c.args.sink.now) (g.W.Sink.written c.loop-found.sink) (c.args.text.now.items ++ changes_text (changes_ahead conf a b))) none c.loop-found.invariant.so_far)
@@ -97,8 +90,7 @@ returns-clause-writes g c =
     let a = c.args.self.now.before.now.entries in
     let b = c.args.self.now.after.now.entries in
     let text : List ℕ = c.loop-found.text.items in
-    let none : text ++ changes_text (all_changes_of conf a b c.loop-found.found-iterator) ≡ text =
-    ap (λ (es : List (Path × Entry)). text ++ changes_text (all_changes_of conf a b es)) c.in-None.ensures.steps.0 ∙ append-nil text in
+    let none = text_end conf a b text c.loop-found.found-iterator c.in-None.ensures.steps.0 in
     pieces.ends (g.W.Sink.written c.args.sink.now) (g.W.Sink.written c.loop-found.sink) (g.W.Sink.written c.pass_on.new.sink)
     (c.args.text.now.items ++ changes_text (changes_ahead conf a b)) text
     (subst (SoFar (g.W.Sink.written c.args.sink.now) (g.W.Sink.written c.loop-found.sink) (c.args.text.now.items ++ changes_text (changes_ahead conf a b))) none c.loop-found.invariant.so_far)
