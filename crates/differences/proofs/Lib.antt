@@ -8,7 +8,7 @@ pub mod PathMaps
 pub mod Gone
 pub mod Led
 pub mod Agreed
-pub mod Alike
+pub mod NothingBetween
 pub mod CommentLines
 pub mod Writables
 pub mod Runs

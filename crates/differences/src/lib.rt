@@ -3,6 +3,7 @@
 //! The functions of `laws` do nothing: a call of one is made for what it states alone.
 #![tactic(auto)]
 
+mod alike;
 mod attributes;
 mod blocks;
 mod comments;

@@ -13,6 +13,7 @@ ghost use Rattle.differences.specs.inner.LentAttributes.{AreStoredKnown};
 ghost use Rattle.differences.specs.inner.LentBlocks.{AreBlocksKnown, lent_mods};
 ghost use Rattle.differences.specs.inner.Walks.{changes_text, respellings_at, modifies_at, changes_of, changes_ahead, paths_gone, removals, lent_paths};
 
+use crate::alike::have_same_attributes;
 use crate::attributes::users_of;
 use crate::blocks::{Block, blocks_between};
 use crate::counts::{Counts, Difference};
@@ -115,6 +116,9 @@ impl<'a> Differ<'a> {
         ensures text { OnOk result (out.new.items ≡ out.old.items
             ++ changes_text (modifies_at self.now.conf.now self.now.after.now.entries path.now before.now after.now)) }
     {
+        if have_same_attributes(before, after) {
+            return Ok(false);
+        }
         self.before.entries_are_a_directory();
         self.after.entries_are_a_directory();
         let blocks = self.blocks(before, after)?;

@@ -1,5 +1,5 @@
 -- What goes and what comes, in small, by computation.
-use Rattle.std.specs.Prelude.{◌≡◌, ℕ, List, [], ◌∷◌, drop, codes, refl}
+use Rattle.std.specs.Prelude.{◌≡◌, ℕ, List, [], ◌∷◌, codes, refl}
 use Rattle.std.specs.Fmt.{digits}
 use Rattle.ldif.specs.Writing.{is_plain, line_text}
 use Rattle.ldif.specs.declared.record.Mod.{Mod}
