@@ -13,11 +13,9 @@ use std::rt::Files;
 /// How many drafts of a file may stand beside it at once.
 const MOST_DRAFTS: u32 = 1000;
 
-/// Permission to read and write for the owner: what a draft has until it has those of the file that it follows.
+/// Permission to read and write for the owner: what a draft has until it has those of the file that it follows, and keeps where it follows none.
+/// What is stored holds passwords.
 const OWNER_ALONE: u32 = 0o600;
-
-/// Permission to read and write for everyone, less what the process may not give (umask).
-const EVERYONE: u32 = 0o666;
 
 /// The next contents of a file, under a name of their own. They are taken away where they aren't published.
 pub struct Draft<'r, R: Files> {
@@ -113,10 +111,10 @@ pub fn open_to_lock<R: Files<File = File>>(rt: &R, path: &str) -> io::Result<Fil
 }
 
 /// Makes a file that nobody else has, whose lock is held. `None` where something has its name, or who clears away what was left has its lock.
-/// On a file system without locks it is made all the same, and nobody can clear it away.
-fn make_locked<R: Files<File = File>>(rt: &R, path: &str, mode: u32) -> io::Result<Option<File>> {
+/// On a file system without locks it is made all the same, and nobody can clear it away. It is for its owner alone.
+fn make_locked<R: Files<File = File>>(rt: &R, path: &str) -> io::Result<Option<File>> {
     let mut how = OpenOptions::new();
-    how.write(true).create_new(true).mode(mode);
+    how.write(true).create_new(true).mode(OWNER_ALONE);
     let file = match how.open(rt, path) {
         Ok(file) => file,
         Err(error) if error.kind() == ErrorKind::AlreadyExists => return Ok(None),
@@ -129,20 +127,18 @@ fn make_locked<R: Files<File = File>>(rt: &R, path: &str, mode: u32) -> io::Resu
     Ok(if is_free { Some(file) } else { None })
 }
 
-/// Makes a draft of the file of this name, with the first number that is free. It is for its owner alone, or, where no such file is there, has
-/// the permissions of a new file at once.
+/// Makes a draft of the file of this name, with the first number that is free. It is for its owner alone, whatever the process may give others
+/// (umask).
 pub fn make_draft<'r, R: Files<File = File>>(
     rt: &'r R,
     alloc: Global,
     name: &str,
-    is_new: bool,
 ) -> io::Result<Draft<'r, R>> {
     let (folder, file) = parted(name);
     let stem = draft_stem(alloc, file)?;
-    let mode = if is_new { EVERYONE } else { OWNER_ALONE };
     for number in 0..MOST_DRAFTS {
         let path = format!(in alloc; "{folder}/{stem}{number}")?;
-        if let Some(file) = make_locked(rt, path.as_str(), mode)? {
+        if let Some(file) = make_locked(rt, path.as_str())? {
             return Ok(Draft {
                 rt,
                 path,

@@ -97,10 +97,8 @@ impl<'r, R: Files<File = File> + AllocGlobal + Clone + Drop> SystemFiles<'r, R> 
     {
         let alloc = self.rt.alloc();
         let _ = clear_left(self.rt, alloc, name);
-        let old = fs::metadata(self.rt, name).ok();
-        let made = make_draft(self.rt, alloc, name, old.is_none());
-        let mut draft = self.failure.noted(made)?;
-        if let Some(old) = old {
+        let mut draft = self.failure.noted(make_draft(self.rt, alloc, name))?;
+        if let Ok(old) = fs::metadata(self.rt, name) {
             draft.follow(&old);
         }
         let mut sink = OfWrite::new(Uninterrupted::new(draft.file(), self.failure));
