@@ -17,6 +17,7 @@ OPTIONS = {
 
 def parser_of_words():
     parser = argparse.ArgumentParser(prog="slaptools", allow_abbrev=False)
+    parser.add_argument("-V", "--version", action="version", version="slaptools, as it is read a second time")
     commands = parser.add_subparsers(dest="command", required=True)
     parsers = {name: commands.add_parser(name, allow_abbrev=False) for name in OPTIONS}
     for name, (file, others, flags) in OPTIONS.items():

@@ -9,7 +9,7 @@ use Rattle.command_line.specs.declared.request.Request.TheVariants.{Help, Add, M
 use Rattle.command_line.specs.declared.request.UsageFault.{UsageFault}
 use Rattle.command_line.specs.declared.request.UsageFault.TheVariants.{Words, OutOfMemory}
 use Rattle.command_line.specs.CommandLine.{slaptools}
-use Rattle.command_line.specs.Requests.{AskFor, IsAnswer, IsFaultOf, IsFaultOfCommand}
+use Rattle.command_line.specs.Requests.{AskFor, IsAnswer, IsAskedFor, IsFaultOf, IsFaultOfCommand}
 
 -- clap's contract speaks of each parse of slaptools
 pub simple : is_simple slaptools ≡ true
@@ -43,11 +43,14 @@ among : (said : ErrorKind) (kinds : List ErrorKind) → ¬ (said ≡ kind.OutOfM
 among said kinds other (inl e) = absurd (other e)
 among said kinds other (inr h) = h
 
+not_memory : (said : ErrorKind) → IsAskedFor said → ¬ (said ≡ kind.OutOfMemory)
+not_memory said (inl is) = λ e. let bad : kind.DisplayHelp ≡ kind.OutOfMemory = sym is ∙ e in cc
+not_memory said (inr is) = λ e. let bad : kind.DisplayVersion ≡ kind.OutOfMemory = sym is ∙ e in cc
+
 pub answer_asked : (words : List Text) (said : ErrorKind) (r : Result Request UsageFault)
     → (said ≡ kind.OutOfMemory) ⊎ IsAmong said (fault_of slaptools words) → IsAnswer said r → IfOk r (AskFor words)
 answer_asked words said (Ok (Help text)) kinds is =
-    let other : ¬ (said ≡ kind.OutOfMemory) = λ e. let bad : kind.DisplayHelp ≡ kind.OutOfMemory = sym is ∙ e in cc in
-    inl (tt, inr (subst (λ k. IsAmong k (fault_of slaptools words)) is (among said (fault_of slaptools words) other kinds)))
+    inl (tt, inr (said, is, among said (fault_of slaptools words) (not_memory said is) kinds))
 answer_asked words said (Ok (Add asked)) kinds is = absurd is
 answer_asked words said (Ok (Modify asked)) kinds is = absurd is
 answer_asked words said (Ok (Index asked)) kinds is = absurd is

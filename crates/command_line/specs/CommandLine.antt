@@ -90,9 +90,9 @@ slapcat = command (codes "slapcat")
     (folder_option ∷ file_option 108 ∷ value_option (codes "filter") 97
     ∷ value_option (codes "base") 115 ∷ verbose_option ∷ [])
 
--- one of them has to be named
+-- one of them has to be named, or else `--help` or `--version`
 abbrev pub slaptools : App
 slaptools = record {
-  top = record (new_shape (codes "slaptools")) { is_leaf = false; subcommand_required = true };
+  top = record (new_shape (codes "slaptools")) { is_leaf = false; has_version = true; subcommand_required = true };
   subs = slapadd ∷ ldapmodify ∷ slapindex ∷ search ∷ slapcat ∷ [];
 }

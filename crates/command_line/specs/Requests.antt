@@ -140,9 +140,14 @@ HasFaultyOption rows = (scope_of (text_of (codes "scope") rows) ≡ None)
 
 -- ---- what words ask for
 
--- for help: they are the program's name alone, or clap finds a call for help in them
+-- clap says a text that is asked for, and no fault: the help, or the version
+abbrev pub IsAskedFor : ErrorKind → Type 0
+IsAskedFor said = (said ≡ kind.DisplayHelp) ⊎ (said ≡ kind.DisplayVersion)
+
+-- for help: they are the program's name alone, or clap finds a call for help, or for the version, in them
 abbrev pub AskForHelp : List Text → Type 0
-AskForHelp words = (length words ≤ 1) ⊎ IsAmong kind.DisplayHelp (fault_of slaptools words)
+AskForHelp words = (length words ≤ 1)
+    ⊎ ((said : ErrorKind) × IsAskedFor said × IsAmong said (fault_of slaptools words))
 
 abbrev pub IsHelp : Request → Type 0
 IsHelp (Help text) = ⊤
@@ -155,7 +160,7 @@ AskFor words asked = (IsHelp asked × AskForHelp words)
 
 -- clap finds a fault in the words, or the scope or the limit of a search is none
 abbrev pub AreFaulty : List Text → Type 0
-AreFaulty words = ((fault : ErrorKind) × (fault ≢ kind.DisplayHelp)
+AreFaulty words = ((fault : ErrorKind) × (¬ (IsAskedFor fault))
     × IsAmong fault (fault_of slaptools words))
     ⊎ IsCommand (subcommand_of slaptools words) (codes "search") HasFaultyOption
 
@@ -184,7 +189,7 @@ IsFaultOfCommand met OutOfMemory = ⊤
 
 -- what is answered where clap gives an error of this kind in place of matches
 abbrev pub IsAnswer : ErrorKind → Result Request UsageFault → Type 0
-IsAnswer said (Ok (Help text)) = said ≡ kind.DisplayHelp
+IsAnswer said (Ok (Help text)) = IsAskedFor said
 IsAnswer said (Ok _) = ⊥
-IsAnswer said (Err (Words text)) = (said ≢ kind.DisplayHelp) × (said ≢ kind.OutOfMemory)
+IsAnswer said (Err (Words text)) = (¬ (IsAskedFor said)) × (said ≢ kind.OutOfMemory)
 IsAnswer said (Err OutOfMemory) = ⊤

@@ -228,12 +228,13 @@ fn with_tool<'a>(
     command.subcommand(command_of(alloc, tool)?)
 }
 
-/// The commands of slaptools, of which one has to be named.
-pub(crate) fn slaptools<'a>(alloc: Global) -> Result<Command<'a>, AllocError>
+/// The commands of slaptools, of which one has to be named. `version` is what `--version` says behind the program's name.
+pub(crate) fn slaptools<'a>(alloc: Global, version: &'a str) -> Result<Command<'a>, AllocError>
     ensures { IfOk result (λ c. app_of c ≡ commands.slaptools) }
 {
     let mut command = Command::new(alloc, "slaptools")
         .about("Tools for an LDAP directory that is kept as LDIF, without a server")
+        .version(version)
         .subcommand_required(true);
     for tool in &[slapadd(), ldapmodify(), slapindex(), search(), slapcat()] {
         command = with_tool(alloc, command, *tool)?;

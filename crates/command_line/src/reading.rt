@@ -229,40 +229,51 @@ fn requested<'a>(alloc: Global, matches: &ArgMatches<'a>) -> Result<Request<'a>,
 }
 
 /// The text of the help.
-fn help(alloc: Global) -> Result<String, AllocError> {
-    slaptools(alloc)?.render_help()
+fn help(alloc: Global, version: &str) -> Result<String, AllocError> {
+    slaptools(alloc, version)?.render_help()
 }
 
-/// What clap says in place of matches: what is wrong, or the help that the words ask for.
+/// What clap says in place of matches: what is wrong, or the help or the version that the words ask for.
 fn answer_of<'a>(alloc: Global, said: &Error) -> Result<Request<'a>, UsageFault>
     ensures { asks.IsAnswer (kind_of said.now) result }
 {
     match said.kind() {
         ErrorKind::OutOfMemory => Err(UsageFault::OutOfMemory),
-        ErrorKind::DisplayHelp => Ok(Request::Help(said.to_string(alloc)?)),
+        ErrorKind::DisplayHelp | ErrorKind::DisplayVersion => {
+            Ok(Request::Help(said.to_string(alloc)?))
+        }
         _ => Err(UsageFault::Words(said.to_string(alloc)?)),
     }
 }
 
 /// What words that are more than the program's name ask for.
-fn parsed<'a, W: AsStr>(alloc: Global, words: &'a [W]) -> Result<Request<'a>, UsageFault>
+fn parsed<'a, W: AsStr>(
+    alloc: Global,
+    words: &'a [W],
+    version: &'a str,
+) -> Result<Request<'a>, UsageFault>
     ensures asked { IfOk result (asks.AskFor (map W.text words.now)) }
     ensures faulty { IfErr result (asks.IsFaultOf (map W.text words.now)) }
 {
-    match slaptools(alloc)?.try_get_matches_from(words) {
+    match slaptools(alloc, version)?.try_get_matches_from(words) {
         Ok(matches) => requested(alloc, &matches),
         Err(said) => answer_of(alloc, &said),
     }
 }
 
-/// What the words ask for, the first being the program's name. Where it stands alone, that is the help.
-pub fn read<'a, W: AsStr>(alloc: Global, words: &'a [W]) -> Result<Request<'a>, UsageFault>
+/// What the words ask for, the first being the program's name. Where it stands alone, that is the help. `version` is what `--version` says
+/// behind the program's name.
+pub fn read<'a, W: AsStr>(
+    alloc: Global,
+    words: &'a [W],
+    version: &'a str,
+) -> Result<Request<'a>, UsageFault>
     ensures help { length (map W.text words.now) ≤ 1 → AsksForHelp result }
     ensures asked { IfOk result (asks.AskFor (map W.text words.now)) }
     ensures faulty { IfErr result (asks.IsFaultOf (map W.text words.now)) }
 {
     if words.len() <= 1 {
-        return Ok(Request::Help(help(alloc)?));
+        return Ok(Request::Help(help(alloc, version)?));
     }
-    parsed(alloc, words)
+    parsed(alloc, words, version)
 }

@@ -83,7 +83,7 @@ pub struct CatOptions<'a> {
 /// What a command line asks for.
 #[derive(Drop)]
 pub enum Request<'a> {
-    /// This text, for standard output.
+    /// The help, or the version: this text, for standard output.
     Help(String),
     Add(AddOptions<'a>),
     Modify(ModifyOptions<'a>),

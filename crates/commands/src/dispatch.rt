@@ -104,11 +104,15 @@ fn is_verbose(asked: &Result<Request<'_>, UsageFault>) -> bool {
     }
 }
 
-/// The same as `command`. Where the words have `-v`, a sentence behind each report says why, on a stream of its own, which may lead to the same
-/// place as `err`.
+/// What `--version` says where no program tells its own.
+const NO_PROGRAM: &str = "as a library";
+
+/// The same as `command`. `version` is what `--version` says behind the program's name. Where the words have `-v`, a sentence behind each report
+/// says why, on a stream of its own, which may lead to the same place as `err`.
 pub fn command_telling<W: AsStr, F: Folder, S: Source, O: Sink, E: Sink, V: Sink>(
     alloc: Global,
     words: &[W],
+    version: &str,
     folder: &mut F,
     input: &mut S,
     out: &mut O,
@@ -124,7 +128,7 @@ pub fn command_telling<W: AsStr, F: Folder, S: Source, O: Sink, E: Sink, V: Sink
         (world_of F.files F.locking S.seen O.written E.written folder.new input.new out.new err.new)
         result }
 {
-    let asked = read(alloc, words);
+    let asked = read(alloc, words, version);
     if is_verbose(&asked) {
         let mut explainer = Explainer::new(alloc, told);
         return end_command(alloc, asked, folder, input, out, err, &mut explainer);
@@ -153,5 +157,6 @@ pub fn command<W: AsStr, F: Folder, S: Source, O: Sink, E: Sink>(
         (world_of F.files F.locking S.seen O.written E.written folder.new input.new out.new err.new)
         result }
 {
-    command_telling(alloc, words, folder, input, out, err, &mut Nowhere::new())
+    let nowhere = &mut Nowhere::new();
+    command_telling(alloc, words, NO_PROGRAM, folder, input, out, err, nowhere)
 }

@@ -28,5 +28,5 @@ pub fn run_command<W: AsStr>(
     ensures { CommandEnds (map W.text words.now)
         (world_of folder.old input.old out.old err.old) (world_of folder.new input.new out.new err.new) result }
 {
-    command_telling(alloc, words, folder, input, out, err, told)
+    command_telling(alloc, words, "in memory", folder, input, out, err, told)
 }

@@ -1,9 +1,12 @@
 //! Tools for an LDAP directory that is kept as LDIF, without a server.
 #![tactic(auto)]
 
+mod origin;
+
 use commands::{CommandFault, command_telling, report_fault};
 use device::{OfRead, OfWrite};
 use folders::{LastFailure, Placeholders, SystemFiles, Uninterrupted};
+use origin::VERSION;
 use std::env;
 use std::io::{self, ErrorKind};
 use std::process::ExitCode;
@@ -58,6 +61,7 @@ fn main(rt: HostRuntime) -> ExitCode {
     ExitCode::from(command_telling(
         rt.alloc(),
         start.words.as_slice(),
+        VERSION,
         &mut folder,
         &mut input,
         &mut out,

@@ -14,7 +14,9 @@ with_all command tools = fold with_subcommand command (map shape tools)
 pub loop-tool-init : goal.loop-tool-init
 loop-tool-init c =
     let required : App → App = on_top (λ s. record s { subcommand_required = true }) in
-    let start = ap app_of_fields c.subcommand_required-command.ensures ∙ ap required (ap app_of_fields c.about.ensures ∙ c.new.ensures.app) in
+    let versioned : App → App = on_top (λ s. record s { has_version = true }) in
+    let told = ap app_of_fields c.version.ensures ∙ ap versioned (ap app_of_fields c.about.ensures ∙ c.new.ensures.app) in
+    let start = ap app_of_fields c.subcommand_required-command.ensures ∙ ap required told in
     let ours : _ ≡ _ ∷ _ ∷ _ ∷ _ ∷ _ ∷ [] = ap₂ (λ x xs. x ∷ xs) c.slapadd.ensures (ap₂ (λ x xs. x ∷ xs) c.ldapmodify.ensures (ap₂ (λ x xs. x ∷ xs) c.slapindex.ensures
     (ap₂ (λ x xs. x ∷ xs) c.search.ensures (ap (λ x. x ∷ []) c.slapcat.ensures)))) in
     ap₂ (fold with_subcommand) start ours
