@@ -31,6 +31,38 @@ const SUBTREE_HELP: &str = "Prints this entry and those below it";
 
 const VERBOSE_HELP: &str = "Says why, behind each line that reports a fault or a refusal";
 
+const BESIDE_SLAPADD: &str = "In place of options of OpenLDAP's slapadd:
+  -b, -f, -F, -g, -n  --db DIR, as a folder keeps one directory
+  -d                  -v
+  -s                  a dir.conf without objectclass lines
+  -j, -o, -q, -S, -w  nothing";
+
+const BESIDE_LDAPMODIFY: &str = "In place of options of OpenLDAP's ldapmodify:
+  -h, -H, -p                      --db DIR, as no server is asked
+  -D, -I, -Q, -U, -w, -W, -x, -y  nothing, as nobody has to say who he is
+  -S                              standard error, which names each refused record
+  -d                              -v
+  -e, -E, -M, -o, -P, -Z          nothing";
+
+const BESIDE_SLAPINDEX: &str = "In place of options of OpenLDAP's slapindex:
+  -b, -f, -F, -g, -n        --db DIR, as a folder keeps one directory
+  -d                        -v
+  -c, -o, -q, -t, or types  nothing, as the whole index is written";
+
+const BESIDE_SEARCH: &str = "In place of options of OpenLDAP's ldapsearch:
+  -h, -H, -p                      --db DIR, as no server is asked
+  -D, -I, -Q, -U, -w, -W, -x, -y  nothing, as nobody has to say who he is
+  -L, -LL, -LLL                   nothing, as LDIF is printed without comments
+  -s onelevel, -s subtree         -s one, -s sub
+  -d                              -v
+  -a, -A, -l, -S, -t, -u, -Z      nothing";
+
+const BESIDE_SLAPCAT: &str = "In place of options of OpenLDAP's slapcat:
+  -b, -f, -F, -g, -n  --db DIR, as a folder keeps one directory
+  -H                  -s NAME and -a FILTER
+  -d                  -v
+  -c, -o              nothing";
+
 /// An option of a command.
 #[derive(Clone, Copy)]
 enum CommandOption<'a> {
@@ -52,6 +84,8 @@ struct Tool<'a> {
     name: &'a str,
     about: &'a str,
     options: &'a [CommandOption<'a>],
+    /// What stands for options that OpenLDAP's tool has beside: the end of its help.
+    beside: &'a str,
 }
 
 fn folder_option<'a>(alloc: Global) -> Arg<'a>
@@ -131,7 +165,9 @@ fn arg_of<'a>(alloc: Global, option: CommandOption<'a>) -> Arg<'a>
 fn command_of<'a>(alloc: Global, tool: Tool<'a>) -> Result<Command<'a>, AllocError>
     ensures { IfOk result (λ c. shape_of c ≡ commands.shape tool.entry) }
 {
-    let mut command = Command::new(alloc, tool.name).about(tool.about);
+    let mut command = Command::new(alloc, tool.name)
+        .about(tool.about)
+        .after_help(tool.beside);
     for option in tool.options {
         command = command.arg(arg_of(alloc, *option))?;
     }
@@ -151,6 +187,7 @@ fn slapadd() -> Tool<'static>
             CommandOption::Flag("dry_run", 'u', DRY_RUN_HELP),
             CommandOption::Flag("verbose", 'v', VERBOSE_HELP),
         ],
+        beside: BESIDE_SLAPADD,
     }
 }
 
@@ -168,6 +205,7 @@ fn ldapmodify() -> Tool<'static>
             CommandOption::Flag("dry_run", 'n', DRY_RUN_HELP),
             CommandOption::Flag("verbose", 'v', VERBOSE_HELP),
         ],
+        beside: BESIDE_LDAPMODIFY,
     }
 }
 
@@ -181,6 +219,7 @@ fn slapindex() -> Tool<'static>
             CommandOption::Folder,
             CommandOption::Flag("verbose", 'v', VERBOSE_HELP),
         ],
+        beside: BESIDE_SLAPINDEX,
     }
 }
 
@@ -198,6 +237,7 @@ fn search() -> Tool<'static>
             CommandOption::Flag("verbose", 'v', VERBOSE_HELP),
             CommandOption::OtherWords,
         ],
+        beside: BESIDE_SEARCH,
     }
 }
 
@@ -214,6 +254,7 @@ fn slapcat() -> Tool<'static>
             CommandOption::Value("base", 's', "NAME", SUBTREE_HELP),
             CommandOption::Flag("verbose", 'v', VERBOSE_HELP),
         ],
+        beside: BESIDE_SLAPCAT,
     }
 }
 

@@ -14,7 +14,7 @@ with_all command options = fold with_option command (map rule options)
 
 pub loop-option-init : goal.loop-option-init
 loop-option-init c =
-    let start = ap (λ (a : App). a.top) (ap app_of_fields c.about-command.ensures ∙ c.new.ensures.app) in
+    let start = ap (λ (a : App). a.top) (ap app_of_fields c.after_help-command.ensures ∙ ap app_of_fields c.about.ensures ∙ c.new.ensures.app) in
     ap (λ s. with_all s c.args.tool.options.now) start ∙ all_options _ (map rule c.args.tool.options.now)
 
 pub loop-option-preserved : goal.loop-option-preserved
