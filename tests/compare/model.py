@@ -526,8 +526,14 @@ def bad_option(scope, scope_word, limit_word):
     words, and the message is the library's."""
     if limit_word is not None and limit_word.startswith(b"-"):
         return 2, b"", None
-    word, option, wanted = (scope_word, b"-s <SCOPE>", b"one of base, one, sub and children") if scope is None else \
-        (limit_word, b"-z <N>", b"a number from 0 to %d" % MOST_ENTRIES)
+    return bad_value(scope_word, b"-s <SCOPE>", b"one of base, one, sub and children") if scope is None else bad_number(limit_word, b"-z <N>")
+
+
+def bad_number(word, option):
+    return bad_value(word, option, b"a number from 0 to %d" % MOST_ENTRIES)
+
+
+def bad_value(word, option, wanted):
     return 2, b"", b"error: invalid value '%s' for '%s': it has to be %s\n" % (word, option, wanted)
 
 

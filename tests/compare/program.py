@@ -4,13 +4,15 @@ import argparse
 import fcntl
 import os
 import sys
+import time
 
 import model
 
 
 # the options of each command: the one that names a file, those that have another value, and those that stand alone
 OPTIONS = {
-    "slapadd": ("-l", [], ["-c", "-u", "-v"]), "ldapmodify": ("-f", [], ["-a", "-c", "-n", "-v"]), "slapindex": (None, [], ["-v"]),
+    "slapadd": ("-l", ["--wait"], ["-c", "-u", "-v"]), "ldapmodify": ("-f", ["--wait"], ["-a", "-c", "-n", "-v"]),
+    "slapindex": (None, ["--wait"], ["-v"]),
     "search": (None, ["-b", "-s", "-z"], ["-v"]), "slapcat": ("-l", ["-a", "-s"], ["-v"]),
 }
 
@@ -54,16 +56,26 @@ def read(path):
 LOCKED = []     # open files, whose locks are held to the end
 
 
-def is_in_use(folder):
-    """Takes the lock of the directory in this folder. -> whether another process holds it"""
-    try:
-        LOCKED.append(open(f"{folder}/dir.conf", "rb"))
-        fcntl.flock(LOCKED[-1], fcntl.LOCK_EX | fcntl.LOCK_NB)
-    except BlockingIOError:
-        return True
-    except OSError:
-        pass        # it can't be read, either
-    return False
+def is_in_use(folder, seconds):
+    """Takes the lock of the directory in this folder, and tries for so long. -> whether another process holds it"""
+    end = time.monotonic() + seconds
+    while True:
+        try:
+            LOCKED.append(open(f"{folder}/dir.conf", "rb"))
+            fcntl.flock(LOCKED[-1], fcntl.LOCK_EX | fcntl.LOCK_NB)
+        except BlockingIOError:
+            if time.monotonic() >= end:
+                return True
+            time.sleep(0.05)
+            continue
+        except OSError:
+            pass        # it can't be read, either
+        return False
+
+
+def seconds_of(words):
+    """-> the seconds that a command is to wait; None where they are none"""
+    return model.limit_of(b"0" if words.wait is None else encoded(words.wait))
 
 
 def in_use(folder):
@@ -78,7 +90,7 @@ def write(path, text):
 def change(words):
     """slapadd or ldapmodify"""
     is_dry = words.u if words.command == "slapadd" else words.n
-    if not is_dry and is_in_use(words.db):
+    if not is_dry and is_in_use(words.db, seconds_of(words)):
         return in_use(words.db)
     text, source = (read(words.file), words.file) if words.file is not None else (sys.stdin.buffer.read(), "input")
     files = read(f"{words.db}/dir.conf"), read(f"{words.db}/data.ldif"), text
@@ -96,7 +108,7 @@ def store(folder, files):
 
 
 def slapindex(words):
-    if is_in_use(words.db):
+    if is_in_use(words.db, seconds_of(words)):
         return in_use(words.db)
     status, messages, stored = model.slapindex(read(f"{words.db}/dir.conf"), read(f"{words.db}/data.ldif"), words.db, words.v)
     store(words.db, stored)
@@ -151,7 +163,9 @@ def main():
     if words.command == "help":
         parsers.get(words.of, parser).print_help()
         return 0
-    if words.command == "search":
+    if "wait" in words and seconds_of(words) is None:
+        status, output, messages = model.bad_number(encoded(words.wait), b"--wait <SECONDS>")
+    elif words.command == "search":
         status, output, messages = search(words, parsers["search"])
     else:
         run = {"slapcat": slapcat, "slapindex": slapindex}.get(words.command, change)

@@ -5,19 +5,22 @@ use Rattle.clap.specs.Words.{App, Rule, Shape, Text, new_rule}
 use Rattle.clap.specs.Simple.{new_shape}
 use Rattle.clap.specs.declared.builder.action.ArgAction.TheVariants.{Set, SetTrue, Append}
 use Rattle.command_line.specs.declared.options.CommandOption.{CommandOption}
-use Rattle.command_line.specs.declared.options.CommandOption.TheVariants.{Folder, File, Value, Flag, OtherWords}
+use Rattle.command_line.specs.declared.options.CommandOption.TheVariants.{Folder, Wait, File, Value, Flag, OtherWords}
 use Rattle.command_line.specs.declared.options.Tool.{Tool}
 
 -- ---- options
 
+-- an option with a name and a value, as `--db DIR`
+abbrev pub long_option : Text → Rule
+long_option id = record (new_rule id) { long = Some id; value_names = 1; action = Some Set }
+
 -- `--db DIR`, which each command needs
 abbrev pub folder_option : Rule
-folder_option = record (new_rule (codes "db")) {
-  long = Some (codes "db");
-  value_names = 1;
-  required = true;
-  action = Some Set;
-}
+folder_option = record (long_option (codes "db")) { required = true }
+
+-- `--wait SECONDS`, which each command that writes the directory takes
+abbrev pub wait_option : Rule
+wait_option = long_option (codes "wait")
 
 -- an option with a value, as `-l FILE`; `short` is its letter
 abbrev pub value_option : Text → ℕ → Rule
@@ -54,6 +57,7 @@ command name options = record (new_shape name) { rules = options }
 -- what clap is told of an option, and of a command
 abbrev pub rule : CommandOption → Rule
 rule Folder = folder_option
+rule Wait = wait_option
 rule (File short help) = file_option short
 rule (Value id short value_name help) = value_option id.now short
 rule (Flag id short help) = flag id.now short
@@ -62,21 +66,21 @@ rule OtherWords = other_words
 abbrev pub shape : Tool → Shape
 shape tool = command tool.name.now (map rule tool.options.now)
 
--- slapadd --db DIR [-l FILE] [-c] [-u] [-v]
+-- slapadd --db DIR [-l FILE] [-c] [-u] [--wait SECONDS] [-v]
 abbrev pub slapadd : Shape
 slapadd = command (codes "slapadd")
     (folder_option ∷ file_option 108 ∷ flag (codes "go_on") 99 ∷ flag (codes "dry_run") 117
-    ∷ verbose_option ∷ [])
+    ∷ wait_option ∷ verbose_option ∷ [])
 
--- ldapmodify --db DIR [-f FILE] [-a] [-c] [-n] [-v]
+-- ldapmodify --db DIR [-f FILE] [-a] [-c] [-n] [--wait SECONDS] [-v]
 abbrev pub ldapmodify : Shape
 ldapmodify = command (codes "ldapmodify")
     (folder_option ∷ file_option 102 ∷ flag (codes "add") 97 ∷ flag (codes "go_on") 99
-    ∷ flag (codes "dry_run") 110 ∷ verbose_option ∷ [])
+    ∷ flag (codes "dry_run") 110 ∷ wait_option ∷ verbose_option ∷ [])
 
--- slapindex --db DIR [-v]
+-- slapindex --db DIR [--wait SECONDS] [-v]
 abbrev pub slapindex : Shape
-slapindex = command (codes "slapindex") (folder_option ∷ verbose_option ∷ [])
+slapindex = command (codes "slapindex") (folder_option ∷ wait_option ∷ verbose_option ∷ [])
 
 -- search --db DIR [-b NAME] [-s SCOPE] [-z N] [-v] [WORD..]
 abbrev pub search : Shape

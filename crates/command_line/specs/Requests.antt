@@ -38,15 +38,25 @@ scope_of (Some word) = if bytes_eq word (codes "sub") then Some Sub
     else (if bytes_eq word (codes "one") then Some One
     else (if bytes_eq word (codes "children") then Some Children else None)))
 
--- the word spells a number that can be a limit: decimal digits, at most 4294967295
+-- the word spells a number that can be a limit, or so many seconds: decimal digits, at most 4294967295
 abbrev pub IsNumber : Text → Type 0
 IsNumber word = IsNumeral 10 word × (digits_value 10 word < 2 ^ 32)
+
+-- the number that a word spells, or none
+abbrev pub IsNumberOf : Text → Option ℕ → Type 0
+IsNumberOf word None = ¬ (IsNumber word)
+IsNumberOf word (Some number) = IsNumber word × (number ≡ digits_value 10 word)
 
 -- the limit that a word spells; 0 is none, and so is no word
 abbrev pub IsLimit : Option Text → Option ℕ → Type 0
 IsLimit None limit = limit ≡ None
 IsLimit (Some word) limit = IsNumber word
     × (limit ≡ (if digits_value 10 word == 0 then None else Some (digits_value 10 word)))
+
+-- the seconds that a word spells; without one, none
+abbrev pub IsWait : Option Text → ℕ → Type 0
+IsWait None seconds = seconds ≡ 0
+IsWait (Some word) seconds = IsNumber word × (seconds ≡ digits_value 10 word)
 
 -- a word that begins with `(` or holds `=` is a filter, and not the name of an attribute
 abbrev pub is_filter : Text → Bool
@@ -89,6 +99,7 @@ pub record IsAdd (rows : List Row) (asked : AddOptions) : Type 0 where
   pub file_is : option_copied asked.file ≡ text_of (codes "file") rows
   pub go_on_is : asked.go_on ≡ is_given (codes "go_on") rows
   pub dry_run_is : asked.dry_run ≡ is_given (codes "dry_run") rows
+  pub wait_is : IsWait (text_of (codes "wait") rows) asked.wait
   pub verbose_is : asked.verbose ≡ is_given (codes "verbose") rows
 
 pub record IsModify (rows : List Row) (asked : ModifyOptions) : Type 0 where
@@ -97,10 +108,12 @@ pub record IsModify (rows : List Row) (asked : ModifyOptions) : Type 0 where
   pub add_is : asked.add ≡ is_given (codes "add") rows
   pub go_on_is : asked.go_on ≡ is_given (codes "go_on") rows
   pub dry_run_is : asked.dry_run ≡ is_given (codes "dry_run") rows
+  pub wait_is : IsWait (text_of (codes "wait") rows) asked.wait
   pub verbose_is : asked.verbose ≡ is_given (codes "verbose") rows
 
 pub record IsIndex (rows : List Row) (asked : IndexOptions) : Type 0 where
   pub db_is : text_of (codes "db") rows ≡ Some asked.db.now
+  pub wait_is : IsWait (text_of (codes "wait") rows) asked.wait
   pub verbose_is : asked.verbose ≡ is_given (codes "verbose") rows
 
 pub record IsSearch (rows : List Row) (asked : SearchOptions) : Type 0 where
@@ -133,10 +146,18 @@ IsRequest met (Index asked) = IsCommand met (codes "slapindex") (λ rows. IsInde
 IsRequest met (Search asked) = IsCommand met (codes "search") (λ rows. IsSearch rows asked)
 IsRequest met (Cat asked) = IsCommand met (codes "slapcat") (λ rows. IsCat rows asked)
 
--- the scope or the limit of a search is none
+-- the option has a text that is no number
+abbrev pub HasNoNumber : Text → List Row → Type 0
+HasNoNumber id rows = IsSomeAnd (text_of id rows) (λ word. ¬ (IsNumber word))
+
+-- the scope of a search is none, or its limit, or the seconds that a command is to wait
 abbrev pub HasFaultyOption : List Row → Type 0
 HasFaultyOption rows = (scope_of (text_of (codes "scope") rows) ≡ None)
-    ⊎ IsSomeAnd (text_of (codes "limit") rows) (λ word. ¬ (IsNumber word))
+    ⊎ (HasNoNumber (codes "limit") rows ⊎ HasNoNumber (codes "wait") rows)
+
+-- the words name a command with such an option
+abbrev pub HasFaultyCommand : Option (Text × List Row) → Type 0
+HasFaultyCommand met = IsSomeAnd met (λ command. HasFaultyOption command.1)
 
 -- ---- what words ask for
 
@@ -158,11 +179,11 @@ abbrev pub AskFor : List Text → Request → Type 0
 AskFor words asked = (IsHelp asked × AskForHelp words)
     ⊎ ((fault_of slaptools words ≡ []) × IsRequest (subcommand_of slaptools words) asked)
 
--- clap finds a fault in the words, or the scope or the limit of a search is none
+-- clap finds a fault in the words, or an option of the command has one
 abbrev pub AreFaulty : List Text → Type 0
 AreFaulty words = ((fault : ErrorKind) × (¬ (IsAskedFor fault))
     × IsAmong fault (fault_of slaptools words))
-    ⊎ IsCommand (subcommand_of slaptools words) (codes "search") HasFaultyOption
+    ⊎ HasFaultyCommand (subcommand_of slaptools words)
 
 -- a fault of the words comes only of faulty ones
 abbrev pub IsFaultOf : List Text → UsageFault → Type 0
@@ -177,14 +198,13 @@ IsWhole met = IsSomeAnd met (λ command.
     (list_any (λ s. bytes_eq s.name command.0) slaptools.subs ≡ true)
     × HasFolder command.1)
 
--- a fault of the words of a search comes of its scope or its limit
-abbrev pub IsFaultOfSearch : List Row → UsageFault → Type 0
-IsFaultOfSearch rows (Words text) = HasFaultyOption rows
-IsFaultOfSearch rows OutOfMemory = ⊤
+-- a fault of the words of a command comes of such an option
+abbrev pub IsFaultOfOptions : List Row → UsageFault → Type 0
+IsFaultOfOptions rows (Words text) = HasFaultyOption rows
+IsFaultOfOptions rows OutOfMemory = ⊤
 
--- and no other command has such faults
 abbrev pub IsFaultOfCommand : Option (Text × List Row) → UsageFault → Type 0
-IsFaultOfCommand met (Words text) = IsCommand met (codes "search") HasFaultyOption
+IsFaultOfCommand met (Words text) = HasFaultyCommand met
 IsFaultOfCommand met OutOfMemory = ⊤
 
 -- what is answered where clap gives an error of this kind in place of matches

@@ -12,6 +12,8 @@ const GO_ON_HELP: &str = "Goes on after a refused record";
 
 const DRY_RUN_HELP: &str = "Writes no file";
 
+const WAIT_HELP: &str = "Where the directory is in use, tries again for so long";
+
 const ADD_HELP: &str = "Adds the entries of records without changetype";
 
 const OUTPUT_HELP: &str = "The file that is written, in place of standard output";
@@ -68,6 +70,8 @@ const BESIDE_SLAPCAT: &str = "In place of options of OpenLDAP's slapcat:
 enum CommandOption<'a> {
     /// `--db DIR`, which each command needs.
     Folder,
+    /// `--wait SECONDS`, which each command that writes the directory takes.
+    Wait,
     /// One with a file: its letter and its help.
     File(char, &'a str),
     /// One with a value: its id, its letter, the name of the value and its help.
@@ -88,16 +92,22 @@ struct Tool<'a> {
     beside: &'a str,
 }
 
+fn long_option<'a>(alloc: Global, id: &'a str, value_name: &'a str, help: &'a str) -> Arg<'a>
+    ensures rule { rule_of result ≡ commands.long_option id.entry.now }
+    ensures local { result.global ≡ false }
+{
+    Arg::new(alloc, id)
+        .long(id)
+        .value_name(value_name)
+        .action(ArgAction::Set)
+        .help(help)
+}
+
 fn folder_option<'a>(alloc: Global) -> Arg<'a>
     ensures rule { rule_of result ≡ commands.folder_option }
     ensures local { result.global ≡ false }
 {
-    Arg::new(alloc, "db")
-        .long("db")
-        .value_name("DIR")
-        .required(true)
-        .action(ArgAction::Set)
-        .help("The folder of the directory")
+    long_option(alloc, "db", "DIR", "The folder of the directory").required(true)
 }
 
 fn value_option<'a>(
@@ -152,6 +162,7 @@ fn arg_of<'a>(alloc: Global, option: CommandOption<'a>) -> Arg<'a>
 {
     match option {
         CommandOption::Folder => folder_option(alloc),
+        CommandOption::Wait => long_option(alloc, "wait", "SECONDS", WAIT_HELP),
         CommandOption::File(short, help) => file_option(alloc, short, help),
         CommandOption::Value(id, short, value_name, help) => {
             value_option(alloc, id, short, value_name, help)
@@ -185,6 +196,7 @@ fn slapadd() -> Tool<'static>
             CommandOption::File('l', INPUT_HELP),
             CommandOption::Flag("go_on", 'c', GO_ON_HELP),
             CommandOption::Flag("dry_run", 'u', DRY_RUN_HELP),
+            CommandOption::Wait,
             CommandOption::Flag("verbose", 'v', VERBOSE_HELP),
         ],
         beside: BESIDE_SLAPADD,
@@ -203,6 +215,7 @@ fn ldapmodify() -> Tool<'static>
             CommandOption::Flag("add", 'a', ADD_HELP),
             CommandOption::Flag("go_on", 'c', GO_ON_HELP),
             CommandOption::Flag("dry_run", 'n', DRY_RUN_HELP),
+            CommandOption::Wait,
             CommandOption::Flag("verbose", 'v', VERBOSE_HELP),
         ],
         beside: BESIDE_LDAPMODIFY,
@@ -217,6 +230,7 @@ fn slapindex() -> Tool<'static>
         about: "Writes the index of the directory anew",
         options: &[
             CommandOption::Folder,
+            CommandOption::Wait,
             CommandOption::Flag("verbose", 'v', VERBOSE_HELP),
         ],
         beside: BESIDE_SLAPINDEX,

@@ -16,6 +16,9 @@ use paths::Scope;
 use std::alloc::{AllocError, Global};
 use std::convert::AsStr;
 
+/// What a number has to be.
+const NUMBERS: &str = "a number from 0 to 4294967295";
+
 /// The text given for an option.
 fn text_of<'a>(found: &ArgMatches<'a>, id: &str) -> Option<&'a str>
     ensures { option_copied result ≡ asks.text_of id.now (rows_of (found_of found.now)) }
@@ -50,41 +53,86 @@ fn folder_of<'a>(found: &ArgMatches<'a>) -> &'a str
     }
 }
 
-fn add_options<'a>(found: &ArgMatches<'a>) -> AddOptions<'a>
-    requires { asks.HasFolder (rows_of (found_of found.now)) }
-    ensures { asks.IsAdd (rows_of (found_of found.now)) result }
+fn invalid(alloc: Global, text: &str, option: &str, wanted: &str) -> UsageFault {
+    match format!(in alloc;
+        "error: invalid value '{text}' for '{option}': it has to be {wanted}\n"
+    ) {
+        Ok(text) => UsageFault::Words(text),
+        Err(_) => UsageFault::OutOfMemory,
+    }
+}
+
+/// The number that a word spells in decimal digits, if it does.
+fn number_of(word: &str) -> Option<u32>
+    ensures { asks.IsNumberOf word.now result }
 {
-    AddOptions {
+    match word.parse::<u32>() {
+        Ok(number) if !word.starts_with('+') => Some(number),
+        _ => None,
+    }
+}
+
+/// The seconds that a word spells in decimal digits; none without a word.
+fn wait_of(alloc: Global, word: Option<&str>) -> Result<u32, UsageFault>
+    ensures { MatchResult result (asks.IsWait (option_copied word.entry))
+        (λ _. IsSomeAnd word.entry (λ text. ¬ (asks.IsNumber text.now))) }
+{
+    let Some(word) = word else {
+        return Ok(0);
+    };
+    match number_of(word) {
+        Some(number) => Ok(number),
+        None => Err(invalid(alloc, word, "--wait <SECONDS>", NUMBERS)),
+    }
+}
+
+fn add_options<'a>(alloc: Global, found: &ArgMatches<'a>) -> Result<AddOptions<'a>, UsageFault>
+    requires { asks.HasFolder (rows_of (found_of found.now)) }
+    ensures asked { IfOk result (asks.IsAdd (rows_of (found_of found.now))) }
+    ensures faulty { IfErr result (asks.IsFaultOfOptions (rows_of (found_of found.now))) }
+{
+    let wait = wait_of(alloc, text_of(found, "wait"))?;
+    Ok(AddOptions {
         db: folder_of(found),
         file: text_of(found, "file"),
         go_on: is_given(found, "go_on"),
         dry_run: is_given(found, "dry_run"),
+        wait,
         verbose: is_given(found, "verbose"),
-    }
+    })
 }
 
-fn modify_options<'a>(found: &ArgMatches<'a>) -> ModifyOptions<'a>
+fn modify_options<'a>(
+    alloc: Global,
+    found: &ArgMatches<'a>,
+) -> Result<ModifyOptions<'a>, UsageFault>
     requires { asks.HasFolder (rows_of (found_of found.now)) }
-    ensures { asks.IsModify (rows_of (found_of found.now)) result }
+    ensures asked { IfOk result (asks.IsModify (rows_of (found_of found.now))) }
+    ensures faulty { IfErr result (asks.IsFaultOfOptions (rows_of (found_of found.now))) }
 {
-    ModifyOptions {
+    let wait = wait_of(alloc, text_of(found, "wait"))?;
+    Ok(ModifyOptions {
         db: folder_of(found),
         file: text_of(found, "file"),
         add: is_given(found, "add"),
         go_on: is_given(found, "go_on"),
         dry_run: is_given(found, "dry_run"),
+        wait,
         verbose: is_given(found, "verbose"),
-    }
+    })
 }
 
-fn index_options<'a>(found: &ArgMatches<'a>) -> IndexOptions<'a>
+fn index_options<'a>(alloc: Global, found: &ArgMatches<'a>) -> Result<IndexOptions<'a>, UsageFault>
     requires { asks.HasFolder (rows_of (found_of found.now)) }
-    ensures { asks.IsIndex (rows_of (found_of found.now)) result }
+    ensures asked { IfOk result (asks.IsIndex (rows_of (found_of found.now))) }
+    ensures faulty { IfErr result (asks.IsFaultOfOptions (rows_of (found_of found.now))) }
 {
-    IndexOptions {
+    let wait = wait_of(alloc, text_of(found, "wait"))?;
+    Ok(IndexOptions {
         db: folder_of(found),
+        wait,
         verbose: is_given(found, "verbose"),
-    }
+    })
 }
 
 fn cat_options<'a>(found: &ArgMatches<'a>) -> CatOptions<'a>
@@ -97,15 +145,6 @@ fn cat_options<'a>(found: &ArgMatches<'a>) -> CatOptions<'a>
         filter: text_of(found, "filter"),
         base: text_of(found, "base"),
         verbose: is_given(found, "verbose"),
-    }
-}
-
-fn invalid(alloc: Global, text: &str, option: &str, wanted: &str) -> UsageFault {
-    match format!(in alloc;
-        "error: invalid value '{text}' for '{option}': it has to be {wanted}\n"
-    ) {
-        Ok(text) => UsageFault::Words(text),
-        Err(_) => UsageFault::OutOfMemory,
     }
 }
 
@@ -128,7 +167,7 @@ fn scope_of(alloc: Global, word: Option<&str>) -> Result<Scope, UsageFault>
     }
 }
 
-/// The number that a word spells in decimal digits; none for 0, and without a word.
+/// The limit that a word spells in decimal digits; none for 0, and without a word.
 fn limit_of(alloc: Global, word: Option<&str>) -> Result<Option<u32>, UsageFault>
     ensures { MatchResult result (asks.IsLimit (option_copied word.entry))
         (λ _. IsSomeAnd word.entry (λ text. ¬ (asks.IsNumber text.now))) }
@@ -136,11 +175,10 @@ fn limit_of(alloc: Global, word: Option<&str>) -> Result<Option<u32>, UsageFault
     let Some(word) = word else {
         return Ok(None);
     };
-    match word.parse::<u32>() {
-        Ok(number) if !word.starts_with('+') => {
-            Ok(if number == 0 { None } else { Some(number) })
-        }
-        _ => Err(invalid(alloc, word, "-z <N>", "a number from 0 to 4294967295")),
+    match number_of(word) {
+        Some(0) => Ok(None),
+        Some(number) => Ok(Some(number)),
+        None => Err(invalid(alloc, word, "-z <N>", NUMBERS)),
     }
 }
 
@@ -169,7 +207,7 @@ fn search_options<'a>(
 ) -> Result<SearchOptions<'a>, UsageFault>
     requires { asks.HasFolder (rows_of (found_of found.now)) }
     ensures asked { IfOk result (asks.IsSearch (rows_of (found_of found.now))) }
-    ensures faulty { IfErr result (asks.IsFaultOfSearch (rows_of (found_of found.now))) }
+    ensures faulty { IfErr result (asks.IsFaultOfOptions (rows_of (found_of found.now))) }
 {
     let scope = scope_of(alloc, text_of(found, "scope"))?;
     let limit = limit_of(alloc, text_of(found, "limit"))?;
@@ -207,9 +245,9 @@ fn request_of<'a>(
         (asks.IsFaultOfCommand (Some (name.now, rows_of (found_of found.now)))) }
 {
     match name {
-        "slapadd" => Ok(Request::Add(add_options(found))),
-        "ldapmodify" => Ok(Request::Modify(modify_options(found))),
-        "slapindex" => Ok(Request::Index(index_options(found))),
+        "slapadd" => Ok(Request::Add(add_options(alloc, found)?)),
+        "ldapmodify" => Ok(Request::Modify(modify_options(alloc, found)?)),
+        "slapindex" => Ok(Request::Index(index_options(alloc, found)?)),
         "search" => Ok(Request::Search(search_options(alloc, found)?)),
         "slapcat" => Ok(Request::Cat(cat_options(found))),
         _ => unreachable!(),

@@ -16,6 +16,8 @@ pub struct AddOptions<'a> {
     pub go_on: bool,
     /// Whether no file is written.
     pub dry_run: bool,
+    /// For how many seconds it waits where the directory is in use.
+    pub wait: u32,
     /// Whether each report is followed by a sentence that says why.
     pub verbose: bool,
 }
@@ -33,6 +35,8 @@ pub struct ModifyOptions<'a> {
     pub go_on: bool,
     /// Whether no file is written.
     pub dry_run: bool,
+    /// For how many seconds it waits where the directory is in use.
+    pub wait: u32,
     /// Whether each report is followed by a sentence that says why.
     pub verbose: bool,
 }
@@ -42,6 +46,8 @@ pub struct ModifyOptions<'a> {
 pub struct IndexOptions<'a> {
     /// The folder of the directory.
     pub db: &'a str,
+    /// For how many seconds it waits where the directory is in use.
+    pub wait: u32,
     /// Whether each report is followed by a sentence that says why.
     pub verbose: bool,
 }

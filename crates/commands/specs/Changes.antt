@@ -30,10 +30,10 @@ use Rattle.commands.specs.declared.messages.Stop.TheVariants as stops
 -- ---- which records are to run over which directory, and how
 
 abbrev pub add_task : AddOptions → Task
-add_task asked = record { db = asked.db; file = asked.file; mode = modes.Content; go_on = asked.go_on; dry_run = asked.dry_run }
+add_task asked = record { db = asked.db; file = asked.file; mode = modes.Content; go_on = asked.go_on; dry_run = asked.dry_run; wait = asked.wait }
 
 abbrev pub modify_task : ModifyOptions → Task
-modify_task asked = record { db = asked.db; file = asked.file; mode = modes.Changes asked.add; go_on = asked.go_on; dry_run = asked.dry_run }
+modify_task asked = record { db = asked.db; file = asked.file; mode = modes.Changes asked.add; go_on = asked.go_on; dry_run = asked.dry_run; wait = asked.wait }
 
 -- the folder whose directory they write; in a dry run they write none
 abbrev pub written_by : Task → Option (List ℕ)

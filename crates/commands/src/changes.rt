@@ -28,6 +28,8 @@ pub struct Task<'a> {
     mode: Mode,
     go_on: bool,
     dry_run: bool,
+    // for how many seconds it waits where the directory is in use
+    wait: u32,
 }
 
 impl<'a> From<AddOptions<'a>> for Task<'a> {
@@ -43,6 +45,7 @@ impl<'a> From<AddOptions<'a>> for Task<'a> {
             mode: Mode::Content,
             go_on: asked.go_on,
             dry_run: asked.dry_run,
+            wait: asked.wait,
         }
     }
 }
@@ -60,6 +63,7 @@ impl<'a> From<ModifyOptions<'a>> for Task<'a> {
             mode: Mode::Changes { add: asked.add },
             go_on: asked.go_on,
             dry_run: asked.dry_run,
+            wait: asked.wait,
         }
     }
 }
@@ -218,7 +222,7 @@ pub fn change<F: Folder, S: Source, E: Sink, T: CommandTeller>(
     ensures can_report { IfErr result (λ why. CanReport why (E.written err.new).failed) }
 {
     if !task.dry_run {
-        return match lock(alloc, folder, task.db) {
+        return match lock(alloc, folder, task.db, task.wait) {
             Ok(()) => load_and_run(alloc, task, folder, input, err, teller),
             Err(fault) => Err(Stop::Fault(fault)),
         };

@@ -53,10 +53,15 @@ pub fn open_present<F: Folder>(alloc: Global, folder: &F, name: &str) -> Result<
     }
 }
 
-/// Takes the lock of the directory in the folder `db`, which is that of its dir.conf. The fault is `InUse` where another process holds it,
-/// `CannotRead` where dir.conf can't be opened or locked, and else `OutOfMemory`.
+/// Takes the lock of the directory in the folder `db`, which is that of its dir.conf; where another process holds it, it may wait for so many
+/// seconds. The fault is `InUse` where one holds it still, `CannotRead` where dir.conf can't be opened or locked, and else `OutOfMemory`.
 #[tactic(auto, using(crate::proofs::Locked::memory_locks, crate::proofs::Locked::unlocked, crate::proofs::Locked::used))]
-pub fn lock<F: Folder>(alloc: Global, folder: &mut F, db: &str) -> Result<(), CommandFault>
+pub fn lock<F: Folder>(
+    alloc: Global,
+    folder: &mut F,
+    db: &str,
+    wait: u32,
+) -> Result<(), CommandFault>
     ensures ok { OnOk result (Takes (conf_name db.now)
         (F.files folder.old) (F.files folder.new) (F.locking folder.old) (F.locking folder.new)) }
     ensures same_files { OnErr result (F.files folder.new ≡ F.files folder.old) }
@@ -64,7 +69,7 @@ pub fn lock<F: Folder>(alloc: Global, folder: &mut F, db: &str) -> Result<(), Co
     ensures err { IfErr result (LockFails (F.files folder.old) (F.locking folder.old).others db.now) }
 {
     let name = path(alloc, db, "dir.conf")?;
-    match folder.lock(name.as_str()) {
+    match folder.lock(name.as_str(), wait) {
         Ok(()) => Ok(()),
         Err(LockFault::InUse) => Err(CommandFault::in_use(alloc, db)),
         Err(LockFault::Device) => Err(CommandFault::cannot_read(alloc, name.as_str())),

@@ -50,7 +50,7 @@ pub fn slapindex<F: Folder, T: CommandTeller>(
         (locked_world w F.files F.locking folder.old)
         (locked_world w F.files F.locking folder.new) result }
 {
-    match lock(alloc, folder, asked.db) {
+    match lock(alloc, folder, asked.db, asked.wait) {
         Ok(()) => make_index(alloc, asked, folder, teller),
         Err(fault) => Err(Stop::Fault(fault)),
     }

@@ -138,8 +138,8 @@ pub trait Folder {
 
     /// Takes the lock of the file of this name, which one process at most holds at a time, and holds it for good: no call gives it back. Other
     /// processes may have written files until then, and where they write under this lock, they write none from then on. On a fault all stays
-    /// as it was.
-    fn lock(&mut self, name: &str) -> Result<(), LockFault>
+    /// as it was. Where another process holds it, the folder may try for so many seconds until that gives it back.
+    fn lock(&mut self, name: &str, seconds: u32) -> Result<(), LockFault>
         ensures ok { OnOk result (Takes name.now (files self.old) (files self.new) (locking self.old) (locking self.new)) }
         ensures err { IfErr result (IsNotTaken (files self.old) (locking self.old).others name.now) }
         ensures same_files { OnErr result (files self.new ≡ files self.old) }

@@ -10,7 +10,12 @@ use device::{OfRead, OfWrite};
 use std::alloc::Global;
 use std::fs::{self, File, OpenFile, TryLockError};
 use std::io::{ErrorKind, Seek};
-use std::rt::Files;
+use std::rt::{Clock, Files};
+use std::thread;
+use std::time::Duration;
+
+/// How often a second a lock is tried that another process holds.
+const TRIES_A_SECOND: u64 = 10;
 
 /// A file whose lock is held for as long as it is open.
 #[derive(Drop)]
@@ -41,7 +46,7 @@ fn names_open_file(name: &str) -> bool {
     name == "/dev/stdout" || name == "/dev/stderr" || name.starts_with("/dev/fd/")
 }
 
-impl<'r, R: Files<File = File> + AllocGlobal + Clone + Drop> SystemFiles<'r, R> {
+impl<'r, R: Files<File = File> + Clock + AllocGlobal + Clone + Drop> SystemFiles<'r, R> {
     /// No lock is held. `failure` keeps what the system says where a call fails.
     pub fn new(rt: &'r R, failure: &'r LastFailure) -> SystemFiles<'r, R>
         ensures { is_some result.locked ≡ false }
@@ -78,6 +83,36 @@ impl<'r, R: Files<File = File> + AllocGlobal + Clone + Drop> SystemFiles<'r, R> 
         }
     }
 
+    /// Takes the lock of the file that stands under this name now. The end of the process gives it back, however it ends. It is not taken of a
+    /// pipe, which would never end while it is open here.
+    fn try_lock(&self, name: &str) -> Result<Locked, LockFault> {
+        if self.is_special(name) {
+            return Err(LockFault::Device);
+        }
+        let path = String::from_str(self.rt.alloc(), name)?;
+        let file = self.failure.noted(open_to_lock(self.rt, name))?;
+        match file.try_lock() {
+            Ok(()) => Ok(Locked { name: path, file }),
+            Err(TryLockError::WouldBlock) => Err(LockFault::InUse),
+            Err(TryLockError::Error(error)) => {
+                self.failure.keep(error.kind());
+                Err(LockFault::from(error))
+            }
+        }
+    }
+
+    /// Tries that until another process gives the lock back, for so many seconds.
+    fn wait_for_lock(&self, name: &str, seconds: u32) -> Result<Locked, LockFault> {
+        let pause = Duration::from_millis(1000 / TRIES_A_SECOND);
+        for _ in 0..u64::from(seconds) * TRIES_A_SECOND {
+            match self.try_lock(name) {
+                Err(LockFault::InUse) => thread::sleep(self.rt, pause),
+                answer => return answer,
+            }
+        }
+        self.try_lock(name)
+    }
+
     fn write_in_place<T: FileText>(&self, name: &str, text: &T) -> Result<T::Answer, FolderFault>
         ensures { IfOk result (T.answers text.now) }
     {
@@ -109,7 +144,7 @@ impl<'r, R: Files<File = File> + AllocGlobal + Clone + Drop> SystemFiles<'r, R> 
     }
 }
 
-impl<'r, R: Files<File = File> + AllocGlobal + Clone + Drop> Folder for SystemFiles<'r, R> {
+impl<'r, R: Files<File = File> + Clock + AllocGlobal + Clone + Drop> Folder for SystemFiles<'r, R> {
     type In = OfRead<Uninterrupted<'r, File>>;
 
     type Draft = SystemDraft<'r, R>;
@@ -122,26 +157,12 @@ impl<'r, R: Files<File = File> + AllocGlobal + Clone + Drop> Folder for SystemFi
 
     ghost is_draft = { λ d name _. string_bytes d.name ≡ name };
 
-    /// The lock is the system's (flock) on the file as it stands under the name now. The end of the process gives it back, however it ends.
-    /// It is not taken of a pipe, which would never end while it is open here.
-    fn lock(&mut self, name: &str) -> Result<(), LockFault> {
+    /// The lock is the system's (flock), of the file that stands under the name when it is taken.
+    fn lock(&mut self, name: &str, seconds: u32) -> Result<(), LockFault> {
         self.failure.clear();
-        if self.is_special(name) {
-            return Err(LockFault::Device);
-        }
-        let path = String::from_str(self.rt.alloc(), name)?;
-        let file = self.failure.noted(open_to_lock(self.rt, name))?;
-        match file.try_lock() {
-            Ok(()) => {
-                self.locked = Some(Locked { name: path, file });
-                Ok(())
-            }
-            Err(TryLockError::WouldBlock) => Err(LockFault::InUse),
-            Err(TryLockError::Error(error)) => {
-                self.failure.keep(error.kind());
-                Err(LockFault::from(error))
-            }
-        }
+        let locked = self.wait_for_lock(name, seconds)?;
+        self.locked = Some(locked);
+        Ok(())
     }
 
     /// A locked file is read by the handle that has its lock.

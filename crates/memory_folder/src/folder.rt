@@ -165,7 +165,7 @@ impl<'t> Folder for MemoryFolder<'t> {
 
     ghost locking = { folder_locking };
 
-    fn lock(&mut self, name: &str) -> Result<(), LockFault>
+    fn lock(&mut self, name: &str, _seconds: u32) -> Result<(), LockFault>
         ensures ok { OnOk result (Takes name.now (Some (folder_files self.old)) (Some (folder_files self.new)) (folder_locking self.old) (folder_locking self.new)) }
         ensures err { IfErr result (IsNotTaken (Some (folder_files self.old)) (folder_locking self.old).others name.now) }
         ensures same_files { OnErr result (Some (folder_files self.new) ≡ Some (folder_files self.old)) }
