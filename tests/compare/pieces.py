@@ -177,7 +177,9 @@ ODD_LINES = {
 }
 # and lines that don't belong at the beginning of one
 FIRST_LINES = {
-    "L1": [b"dn : dc=ex", b"ndn: dc=ex", b"control: 1.1", b"cn: a", b"version: 1"],
+    "L1": [
+        b"dn : dc=ex", b"ndn: dc=ex", b"control: 1.1", b"cn: a", b"version: 1", b"\xef\xbb\xbfdn: dc=ex", b"\xef\xbb\xbfversion: 1",
+        b"\xff\xfed\0n\0:\0", b"\0d\0n\0:", b"d\0n\0:\0", b"\x1f\x8b\x08:"],
     "L2": [b" ", b" x", b"  ", b" dn: dc=ex", b" -", b" #", b" :", b" cn:< x"],
     "L3": [
         b"version: 2", b"version:", b"version: 1 ", b"version:: MSA=", b"version:1  ", b"version: 001",

@@ -26,6 +26,13 @@ DUE = {
     "L13": "deleteoldrdn is 0 or 1; a control is an OID and then true or false",
 }
 
+# how texts begin that are no LDIF as a whole
+NO_LDIF = [
+    (rb"\xef\xbb\xbf", "the text begins with a byte order mark; take it away"),
+    (rb"(?s)\xff\xfe|\xfe\xff|\x00.\x00|.\x00.\x00", "the text is UTF-16; LDIF is UTF-8"),
+    (rb"\x1f\x8b", "the text is compressed (gzip); unpack it"),
+]
+
 
 def is_utf8(text):
     try:
@@ -107,7 +114,9 @@ def of_refusal(refused, dn, numbers, first, lines, changes):
 def of_fault(fault, numbers, lines):
     if fault.at is None:
         return f"  behind line {numbers[-1]}: {DUE[fault.code]}\n"
-    return f"  line {numbers[fault.at]}: {value(lines[fault.at])}: {DUE[fault.code]}\n"
+    number, line = numbers[fault.at], lines[fault.at]
+    whole = next((why for beginning, why in NO_LDIF if number == 1 and re.match(beginning, line)), None)
+    return f"  line {number}: {value(line)}: {whole or DUE[fault.code]}\n"
 
 
 def summary(accepted, refusals, done, is_stored):

@@ -1,5 +1,6 @@
 //! Sentences for records whose lines are no record (RFC 2849).
 
+ghost use Rattle.std.specs.Prelude.{IfSome};
 ghost use Rattle.sentences.specs.Sentence.{IsShown};
 
 use crate::lines::{Sentence, ShownText};
@@ -32,6 +33,30 @@ fn fault_words(kind: LdifFaultKind) -> &'static str
     }
 }
 
+/// What is wrong with a text that begins so, where it is no LDIF as a whole.
+fn text_words(beginning: &[u8]) -> Option<&'static str>
+    ensures { IfSome result (λ words. IsShown words.now) }
+{
+    match beginning {
+        [0xEF, 0xBB, 0xBF, ..] => Some("the text begins with a byte order mark; take it away"),
+        [0xFF, 0xFE, ..] | [0xFE, 0xFF, ..] | [0, _, 0, ..] | [_, 0, _, 0, ..] => {
+            Some("the text is UTF-16; LDIF is UTF-8")
+        }
+        [0x1F, 0x8B, ..] => Some("the text is compressed (gzip); unpack it"),
+        _ => None,
+    }
+}
+
+/// What is wrong with the line of this number: with the text as a whole, or with the line.
+fn line_words(number: u64, line: &[u8], kind: LdifFaultKind) -> &'static str
+    ensures { IsShown result.now }
+{
+    match text_words(line) {
+        Some(words) if number == 1 => words,
+        _ => fault_words(kind),
+    }
+}
+
 /// The line of a record that has this index; nothing where it has none.
 fn line_at<'a>(raw: &'a RawRecord, index: usize) -> Option<&'a [u8]> {
     let mut rest = raw.lines.all();
@@ -50,14 +75,15 @@ fn words_at(
     index: usize,
     kind: LdifFaultKind,
 ) -> Result<ShownText, AllocError> {
-    let words = fault_words(kind);
     match line_at(raw, index) {
         Some(line) => {
             let number = raw.number_of(index).unwrap_or(raw.line);
+            let words = line_words(number, line, kind);
             let line = quoted(alloc, line)?;
             ShownText::of(format!(in alloc; "line {number}: {line}: {words}"))
         }
         None => {
+            let words = fault_words(kind);
             let number = raw.numbers.last().copied().unwrap_or(raw.line);
             ShownText::of(format!(in alloc; "behind line {number}: {words}"))
         }
