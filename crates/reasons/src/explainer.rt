@@ -33,6 +33,13 @@ pub(crate) struct Explainer<'a> {
     ghost same_conf: { tree.now.conf ≡ conf.now },
 }
 
+/// Why a record is refused, and where its name stands, if that was looked up and is well.
+#[derive(Drop)]
+pub struct Explanation {
+    pub reason: Option<Reason>,
+    pub place: Option<Located>,
+}
+
 // the index of the first control that is critical
 fn critical(asked: &[Control]) -> Option<usize>
     ensures some { IfSome result (λ index. (c : controls.Control) × (slice_get asked.now index ≡ Some c) × (c.critical ≡ true)) }
@@ -125,34 +132,77 @@ impl Explainer<'_> {
     }
 
     // what a record is refused for, by this name and what stands there
-    fn named_reason(&self, dn: &[u8]) -> Result<Option<Reason>, AllocError>
+    fn named(&self, dn: &[u8]) -> Result<Explanation, AllocError>
         requires { dn.now ≡ name_of_record self.now.asked.now }
-        ensures { IfOk result (Finds self.now.conf.now self.now.mode self.now.tree.now.entries self.now.asked.now (map Name (place_checks (name_of_record self.now.asked.now)) ++ later_checks self.now.asked.now)) }
+        ensures finds { IfOk result (λ e. Finds self.now.conf.now self.now.mode self.now.tree.now.entries self.now.asked.now (map Name (place_checks (name_of_record self.now.asked.now)) ++ later_checks self.now.asked.now) e.reason) }
+        ensures place { IfOk result (λ e. IfSome e.place (λ place. IsAt self.now.conf.now self.now.asked.now place.path)) }
     {
         match self.place(dn)? {
-            Ok(place) => self.placed_reason(&place),
-            Err(why) => Ok(Some(Reason::Name(why))),
+            Ok(place) => {
+                let reason = self.placed_reason(&place)?;
+                Ok(Explanation {
+                    reason,
+                    place: Some(place),
+                })
+            }
+            Err(why) => Ok(Explanation {
+                reason: Some(Reason::Name(why)),
+                place: None,
+            }),
         }
     }
 
     // what a record without a critical control is refused for
-    fn reason(&self) -> Result<Option<Reason>, AllocError>
+    fn explanation(&self) -> Result<Explanation, AllocError>
         requires { has_critical (controls_of self.now.asked.now) ≡ false }
-        ensures { IfOk result (Finds self.now.conf.now self.now.mode self.now.tree.now.entries self.now.asked.now (checks_of self.now.asked.now)) }
+        ensures finds { IfOk result (λ e. Finds self.now.conf.now self.now.mode self.now.tree.now.entries self.now.asked.now (checks_of self.now.asked.now) e.reason) }
+        ensures place { IfOk result (λ e. IfSome e.place (λ place. IsAt self.now.conf.now self.now.asked.now place.path)) }
     {
         match self.asked {
-            Record::Empty => Ok(None),
-            Record::Content { dn, .. } => self.named_reason(dn.as_slice()),
-            Record::Add { dn, .. } => self.named_reason(dn.as_slice()),
-            Record::Delete { dn, .. } => self.named_reason(dn.as_slice()),
-            Record::Modify { dn, .. } => self.named_reason(dn.as_slice()),
-            Record::ModRdn { dn, .. } => self.named_reason(dn.as_slice()),
+            Record::Empty => Ok(Explanation {
+                reason: None,
+                place: None,
+            }),
+            Record::Content { dn, .. } => self.named(dn.as_slice()),
+            Record::Add { dn, .. } => self.named(dn.as_slice()),
+            Record::Delete { dn, .. } => self.named(dn.as_slice()),
+            Record::Modify { dn, .. } => self.named(dn.as_slice()),
+            Record::ModRdn { dn, .. } => self.named(dn.as_slice()),
         }
     }
 }
 
-/// Why a record is refused: its first flaw (RFC 4511, 4.6 to 4.9), and what that is of; None where it isn't refused. `conf` is the
-/// configuration that the tree was made with.
+/// Why a record is refused: its first flaw (RFC 4511, 4.6 to 4.9), and what that is of; None where it isn't refused. With it comes where the
+/// record's name stands. `conf` is the configuration that the tree was made with.
+pub fn explain_in_place(
+    alloc: Global,
+    tree: &Tree,
+    conf: &Conf,
+    asked: &Record<'_>,
+    mode: Mode,
+) -> Result<Explanation, AllocError>
+    requires made { tree.now.conf ≡ conf.now }
+    ensures explains { IfOk result (λ e. Explains conf.now mode tree.now.entries asked.now e.reason) }
+    ensures place { IfOk result (λ e. IfSome e.place (λ place. IsAt conf.now asked.now place.path)) }
+{
+    a_refusal_is_of_the_first_flaw();
+    if let Some(control) = critical(controls_of(asked)) {
+        return Ok(Explanation {
+            reason: Some(Reason::CriticalControl { control }),
+            place: None,
+        });
+    }
+    let explainer = Explainer {
+        alloc,
+        tree,
+        conf,
+        mode,
+        asked,
+    };
+    explainer.explanation()
+}
+
+/// The same without the place.
 pub fn explain(
     alloc: Global,
     tree: &Tree,
@@ -163,16 +213,6 @@ pub fn explain(
     requires made { tree.now.conf ≡ conf.now }
     ensures { IfOk result (Explains conf.now mode tree.now.entries asked.now) }
 {
-    a_refusal_is_of_the_first_flaw();
-    if let Some(control) = critical(controls_of(asked)) {
-        return Ok(Some(Reason::CriticalControl { control }));
-    }
-    let explainer = Explainer {
-        alloc,
-        tree,
-        conf,
-        mode,
-        asked,
-    };
-    explainer.reason()
+    let explanation = explain_in_place(alloc, tree, conf, asked, mode)?;
+    Ok(explanation.reason)
 }

@@ -16,7 +16,7 @@ mod laws;
 mod reason;
 mod renamed_attributes;
 
-pub use explainer::explain;
+pub use explainer::{Explanation, explain, explain_in_place};
 pub use laws::{a_change_has_no_flaw, a_refusal_is_of_the_first_flaw};
 pub use reason::{
     AvaReason, BlockReason, EntryReason, LineReason, NameReason, Reason, ValueReason,

@@ -2,23 +2,22 @@ use Rattle.std.proofs.Common.{◌++◌, map}
 use Rattle.reasons.specs.Asked.{name_of_record}
 use Rattle.reasons.specs.NameFlaws.{place_checks}
 use Rattle.reasons.specs.Flaws.{Name}
-use Rattle.reasons.specs.inner.Found.{Finds, later_checks}
-use Rattle.reasons.proofs.RecordFound.{ok_map, name_found, name_passed, found_behind, stands_there, refused_there}
-use Rattle.reasons.proofs.explainer.Explainer.named_reason.Goals as goal
+use Rattle.reasons.specs.inner.Found.{later_checks}
+use Rattle.reasons.proofs.RecordFound.{name_found, name_passed, found_behind, stands_there, refused_there}
+use Rattle.reasons.proofs.explainer.Explainer.named.Goals as goal
 
-pub returns-in-Ok : goal.returns-in-Ok
-returns-in-Ok c =
+pub returns-in_ok-reason-in-Ok-clause-finds : goal.returns-in_ok-reason-in-Ok-clause-finds
+returns-in_ok-reason-in-Ok-clause-finds c =
     let conf = c.args.self.now.conf.now in
     let mode = c.args.self.now.mode in
     let d = c.args.self.now.tree.now.entries in
     let r = c.args.self.now.asked.now in
     let names = map Name (place_checks (name_of_record r)) in
     let stands = stands_there conf c.args.dn.now (name_of_record r) c.in_ok-place.field-0 c.in-Ok.place c.requires c.in-Ok.is c.in_ok-place.ensures in
-    ok_map (Finds conf mode d r (later_checks r)) (Finds conf mode d r (names ++ later_checks r))
-    (λ found is. found_behind conf mode d r names (later_checks r) found (name_passed conf mode d r c.in-Ok.place.path c.in-Ok.place.rdn stands.0) is) c.placed_reason.result c.placed_reason.ensures
+    found_behind conf mode d r names (later_checks r) c.in_ok-reason-in-Ok.reason (name_passed conf mode d r c.in-Ok.place.path c.in-Ok.place.rdn stands.0) c.in_ok-reason-in-Ok.ensures
 
-pub returns-in-Err : goal.returns-in-Err
-returns-in-Err c =
+pub returns-in-Err-clause-finds : goal.returns-in-Err-clause-finds
+returns-in-Err-clause-finds c =
     let conf = c.args.self.now.conf.now in
     let r = c.args.self.now.asked.now in
     name_found conf c.args.self.now.mode c.args.self.now.tree.now.entries r c.in-Err.why
