@@ -2,7 +2,7 @@
 
 use crate::lines::ShownText;
 use crate::names::{class_name, type_name};
-use crate::record_parts::{added_name_in, lines_in, naming_text_in};
+use crate::record_parts::{is_add, lines_in, naming_text_in};
 use crate::record_words::Refused;
 use crate::shown::quoted;
 use crate::summary::grouped;
@@ -113,12 +113,9 @@ impl Refused<'_> {
                 given.push(t)?;
             }
         }
-        let Some(name) = self.naming_name()? else {
-            return Ok(given);
-        };
-        for ava in first_avas(&name) {
-            if let Some(t) = self.conf.type_of(ava.type_text()) {
-                given.push(t)?;
+        if let Some(place) = self.place {
+            for (t, _) in place.rdn.avas() {
+                given.push(*t)?;
             }
         }
         Ok(given)
@@ -158,7 +155,7 @@ impl Refused<'_> {
 
     /// The names of the types that a class lacks: of an add all, else the one that was found.
     fn lacked_names(&self, class: usize, needed: TypeId) -> Result<ShownText, AllocError> {
-        if added_name_in(self.asked).is_some() {
+        if is_add(self.asked) {
             let lacked = self.lacked_types(class)?;
             if !lacked.is_empty() {
                 return self.names_of(lacked.as_slice());
@@ -168,8 +165,10 @@ impl Refused<'_> {
     }
 
     fn lacks_type(&self, class: usize, needed: TypeId) -> Result<ShownText, AllocError> {
+        let mut words = class_name(self.alloc, self.conf, class)?;
+        words.push_str(" requires ")?;
         let names = self.lacked_names(class, needed)?;
-        let class = class_name(self.alloc, self.conf, class)?;
-        ShownText::of(format!(in self.alloc; "{class} requires {names}"))
+        words.push_str(names.as_str())?;
+        Ok(words)
     }
 }

@@ -10,7 +10,7 @@ use crate::index_words::index_sentence;
 use crate::ldif_words::fault_sentence;
 use crate::lines::Sentence;
 use crate::missing::RefusedAdds;
-use crate::record_parts::added_name_in;
+use crate::record_parts::{is_add, name_in};
 use crate::record_words::Refused;
 use crate::search_words::{base_sentence, filter_sentence, limit_sentence};
 use crate::summary::Summary;
@@ -18,9 +18,9 @@ use crate::telling::{tell_line, tell_sentence};
 use databases::{NotedRecord, RecordRefusal, Tally, Teller};
 use device::Sink;
 use filter_text::FilterFault;
-use ldif::{Mode, RawRecord, Record};
-use reasons::{Reason, explain};
-use schema::{Code, Conf};
+use ldif::Record;
+use reasons::{Explanation, explain_in_place};
+use schema::{Conf, Located, PathFault};
 use std::alloc::{AllocError, Global};
 use std::io::ErrorKind;
 use stored_index::FaultLine;
@@ -142,111 +142,89 @@ impl<'a, V: Sink> Explainer<'a, V> {
     }
 }
 
-/// The sentence of a record that is refused for this reason.
-fn reason_sentence(
+/// A record that is refused, with the entries and the configuration that it was refused under.
+#[derive(Drop)]
+struct Refusal<'a> {
     alloc: Global,
-    conf: &Conf,
-    tree: &Tree,
-    raw: &RawRecord,
-    asked: &Record<'_>,
-    adds: &RefusedAdds,
-    reason: Reason,
-) -> Result<Option<Sentence>, AllocError>
-    requires { tree.now.conf ≡ conf.now }
-{
-    let refused = Refused {
-        alloc,
-        conf,
-        tree,
-        raw,
-        asked,
-        adds,
-    };
-    Ok(Some(refused.sentence(reason)?))
+    conf: &'a Conf,
+    tree: &'a Tree,
+    refused: &'a NotedRecord<'a>,
+    ghost same_conf: { tree.now.conf ≡ conf.now },
 }
 
-/// The sentence of a refused record that can be read.
-fn record_sentence(
-    alloc: Global,
-    conf: &Conf,
-    tree: &Tree,
-    raw: &RawRecord,
-    asked: &Record<'_>,
-    mode: Mode,
-    adds: &RefusedAdds,
-) -> Result<Option<Sentence>, AllocError>
-    requires { tree.now.conf ≡ conf.now }
-{
-    match explain(alloc, tree, conf, asked, mode) {
-        Ok(Some(reason)) => reason_sentence(alloc, conf, tree, raw, asked, adds, reason),
-        Ok(None) => Ok(None),
-        Err(_) => Err(AllocError),
+impl Refusal<'_> {
+    /// The sentence of a record that can be read, for why it is refused.
+    fn reason_sentence(
+        &self,
+        asked: &Record<'_>,
+        explanation: &Explanation,
+        adds: &RefusedAdds,
+    ) -> Result<Option<Sentence>, AllocError> {
+        let Some(reason) = explanation.reason else {
+            return Ok(None);
+        };
+        let refused = Refused {
+            alloc: self.alloc,
+            conf: self.conf,
+            tree: self.tree,
+            raw: self.refused.raw,
+            asked,
+            place: explanation.place.as_ref(),
+            adds,
+        };
+        Ok(Some(refused.sentence(reason)?))
     }
-}
 
-/// The same, with the record kept if it is an add.
-fn add_sentence(
-    alloc: Global,
-    conf: &Conf,
-    tree: &Tree,
-    raw: &RawRecord,
-    asked: &Record<'_>,
-    mode: Mode,
-    adds: &mut RefusedAdds,
-) -> Result<Option<Sentence>, AllocError>
-    requires { tree.now.conf ≡ conf.now }
-{
-    let sentence = record_sentence(alloc, conf, tree, raw, asked, mode, adds)?;
-    if let Some(name) = added_name_in(asked) {
-        adds.keep(alloc, name, raw.line)?;
+    /// The sentence of a record that can be read. If that is an add, it is kept.
+    fn record_sentence(
+        &self,
+        asked: &Record<'_>,
+        adds: &mut RefusedAdds,
+    ) -> Result<Option<Sentence>, AllocError> {
+        let mode = self.refused.mode;
+        let explanation = explain_in_place(self.alloc, self.tree, self.conf, asked, mode)?;
+        let sentence = self.reason_sentence(asked, &explanation, adds)?;
+        if is_add(asked) {
+            self.keep_add(asked, explanation.place.as_ref(), adds)?;
+        }
+        Ok(sentence)
     }
-    Ok(sentence)
-}
 
-/// The sentence of a refused record.
-fn sentence_of(
-    alloc: Global,
-    conf: &Conf,
-    tree: &Tree,
-    refused: &NotedRecord<'_>,
-    adds: &mut RefusedAdds,
-) -> Result<Option<Sentence>, AllocError>
-    requires { tree.now.conf ≡ conf.now }
-{
-    let NotedRecord {
-        raw,
-        asked,
-        mode,
-        ..
-    } = refused;
-    match asked {
-        Some(asked) => add_sentence(alloc, conf, tree, raw, asked, *mode, adds),
-        None => match refused.refusal {
-            RecordRefusal::Fault(kind) => Ok(Some(fault_sentence(alloc, raw, *mode, kind)?)),
-            RecordRefusal::Code(_) => Ok(None),
-        },
+    /// Keeps where the entry of an add was to stand. One with a critical control is refused before its name is looked up.
+    fn keep_add(
+        &self,
+        asked: &Record<'_>,
+        place: Option<&Located>,
+        adds: &mut RefusedAdds,
+    ) -> Result<(), AllocError> {
+        let line = self.refused.raw.line;
+        match place {
+            Some(place) => adds.keep(self.alloc, &place.path, line),
+            None => match self.conf.path_of_text(self.alloc, name_in(asked)) {
+                Ok(path) => adds.keep(self.alloc, &path, line),
+                Err(PathFault::Code(_)) => Ok(()),
+                Err(PathFault::OutOfMemory) => Err(AllocError),
+            },
+        }
     }
-}
 
-/// The same, with the adds made ready where it is told of one that an entry isn't there.
-fn settled_sentence(
-    alloc: Global,
-    conf: &Conf,
-    tree: &Tree,
-    refused: &NotedRecord<'_>,
-    adds: &mut RefusedAdds,
-) -> Result<Option<Sentence>, AllocError>
-    requires { tree.now.conf ≡ conf.now }
-{
-    if is_missing(refused.refusal) {
-        adds.settle(alloc, conf)?;
+    fn sentence(&self, adds: &mut RefusedAdds) -> Result<Option<Sentence>, AllocError> {
+        let NotedRecord {
+            raw,
+            asked,
+            mode,
+            refusal,
+        } = self.refused;
+        match asked {
+            Some(asked) => self.record_sentence(asked, adds),
+            None => match refusal {
+                RecordRefusal::Fault(kind) => {
+                    Ok(Some(fault_sentence(self.alloc, raw, *mode, *kind)?))
+                }
+                RecordRefusal::Code(_) => Ok(None),
+            },
+        }
     }
-    sentence_of(alloc, conf, tree, refused, adds)
-}
-
-/// Whether an entry isn't there that is needed: then it is told which record was to add it.
-fn is_missing(refusal: RecordRefusal) -> bool {
-    matches!(refusal, RecordRefusal::Code(Code::NoSuchObject))
 }
 
 impl<V: Sink> Teller for Explainer<'_, V> {
@@ -255,7 +233,13 @@ impl<V: Sink> Teller for Explainer<'_, V> {
         ensures { V.written self.new.told.now ≡ V.written self.old.told.now }
     {
         let _ = self.summary.count(refused.refusal);
-        self.sentence = match settled_sentence(alloc, conf, tree, refused, &mut self.refused_adds) {
+        let refusal = Refusal {
+            alloc,
+            conf,
+            tree,
+            refused,
+        };
+        self.sentence = match refusal.sentence(&mut self.refused_adds) {
             Ok(sentence) => sentence,
             Err(_) => None,
         };

@@ -22,6 +22,13 @@ impl ShownText {
         }
     }
 
+    /// No words yet, and room for so many bytes.
+    pub(crate) fn with_capacity(alloc: Global, bytes: usize) -> Result<ShownText, AllocError> {
+        Ok(ShownText {
+            text: String::with_capacity(alloc, bytes)?,
+        })
+    }
+
     /// Words that were put together of shown ones.
     pub(crate) fn of(text: Result<String, AllocError>) -> Result<ShownText, AllocError>
         requires { IfOk text (λ made. IsShown (string_bytes made)) }
@@ -104,7 +111,10 @@ impl Line {
 impl Sentence {
     #[tactic(auto, using(crate::proofs::Pieces::sentence_is))]
     pub(crate) fn of(alloc: Global, words: &ShownText) -> Result<Sentence, AllocError> {
-        let text = format!(in alloc; "  {words}\n")?;
+        let mut text = String::with_capacity(alloc, words.as_str().len().saturating_add(3))?;
+        text.push_str("  ")?;
+        text.push_str(words.as_str())?;
+        text.push('\n')?;
         Ok(Sentence { text })
     }
 

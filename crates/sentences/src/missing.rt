@@ -7,77 +7,53 @@ ghost use Rattle.sentences.specs.Missing.{IsNearestAbove, NoneAbove};
 
 use crate::lines::ShownText;
 use crate::names::is_there;
-use crate::shown::named;
-use schema::{Conf, Path, PathFault};
+use crate::shown::push_name;
+use base::Bytes;
+use indexmap::IndexMap;
+use schema::{Conf, Path};
 use std::alloc::{AllocError, Global};
-use std::collections::BTreeMap;
-use std::mem;
 use tree::Tree;
-
-/// A name that was to be added, and the line on which its record begins.
-#[derive(Drop)]
-struct RefusedAdd {
-    name: Vec<u8>,
-    line: u64,
-}
 
 /// The entries that were to be added by records that are refused.
 #[derive(Drop)]
 pub(crate) struct RefusedAdds {
-    /// Those whose paths were asked for: where the first record stands that was to add an entry with this path.
-    lines: BTreeMap<Path, u64>,
-    /// The later ones, as long as no path is asked for.
-    waiting: Vec<RefusedAdd>,
+    /// By the bytes of its path, on which line the first record begins that was to add an entry.
+    lines: IndexMap<Bytes, u64>,
 }
 
 impl RefusedAdds {
     pub(crate) fn new(alloc: Global) -> RefusedAdds {
         RefusedAdds {
-            lines: BTreeMap::new(alloc),
-            waiting: Vec::new(alloc),
+            lines: IndexMap::new(alloc),
         }
     }
 
-    /// Keeps that a record was to add an entry with this name.
-    pub(crate) fn keep(&mut self, alloc: Global, name: &[u8], line: u64) -> Result<(), AllocError> {
-        let name = Vec::from_slice(alloc, name)?;
-        self.waiting.push(RefusedAdd { name, line })?;
+    /// Keeps that a record, which begins on this line, was to add an entry with this path.
+    pub(crate) fn keep(&mut self, alloc: Global, path: &Path, line: u64) -> Result<(), AllocError> {
+        let path = Bytes::from_slice(alloc, path.bytes())?;
+        self.lines.entry(path)?.or_insert(line);
         Ok(())
-    }
-
-    /// Makes the paths of what it keeps, so that they can be asked for.
-    pub(crate) fn settle(&mut self, alloc: Global, conf: &Conf) -> Result<(), AllocError> {
-        let waiting = mem::replace(&mut self.waiting, Vec::new(alloc));
-        for add in waiting.iter() {
-            match conf.path_of_text(alloc, add.name.as_slice()) {
-                Ok(path) => self.put(path, add.line)?,
-                Err(PathFault::Code(_)) => {}
-                Err(PathFault::OutOfMemory) => return Err(AllocError),
-            }
-        }
-        Ok(())
-    }
-
-    fn put(&mut self, path: Path, line: u64) -> Result<(), AllocError> {
-        if self.lines.contains_key(&path) {
-            return Ok(());
-        }
-        match self.lines.insert(path, line) {
-            Ok(_) => Ok(()),
-            Err(_) => Err(AllocError),
-        }
     }
 
     /// On which line a record begins that was to add an entry with this path.
-    fn line_of(&self, path: &Path) -> Option<u64> {
-        self.lines.get(path).copied()
+    fn line_of(&self, alloc: Global, path: &Path) -> Result<Option<u64>, AllocError> {
+        let path = Bytes::from_slice(alloc, path.bytes())?;
+        Ok(self.lines.get(&path).copied())
     }
 
-    /// Where the record stands that was to make an entry, in words.
-    fn refused_at(&self, alloc: Global, path: &Path) -> Result<ShownText, AllocError> {
-        match self.line_of(path) {
-            Some(line) => ShownText::of(format!(in alloc; " (refused at line {line})")),
-            None => Ok(ShownText::new(alloc)),
+    /// Puts where the record stands that was to make an entry behind words.
+    fn push_refused(
+        &self,
+        alloc: Global,
+        words: &mut ShownText,
+        path: &Path,
+    ) -> Result<(), AllocError> {
+        match self.line_of(alloc, path)? {
+            Some(line) => {
+                let at = ShownText::of(format!(in alloc; " (refused at line {line})"))?;
+                words.push_str(at.as_str())
+            }
+            None => Ok(()),
         }
     }
 
@@ -87,13 +63,16 @@ impl RefusedAdds {
         alloc: Global,
         conf: &Conf,
         tree: &Tree,
-        name: &ShownText,
+        name: &[u8],
         path: &Path,
     ) -> Result<ShownText, AllocError>
         requires { tree.now.conf ≡ conf.now }
     {
         if is_there(tree, path) {
-            return ShownText::of(format!(in alloc; "{name} is there"));
+            let mut words = ShownText::new(alloc);
+            push_name(&mut words, name)?;
+            words.push_str(" is there")?;
+            return Ok(words);
         }
         self.no_entry(alloc, conf, tree, name, path)
     }
@@ -105,15 +84,17 @@ impl RefusedAdds {
         alloc: Global,
         conf: &Conf,
         tree: &Tree,
-        name: &ShownText,
+        name: &[u8],
         path: &Path,
     ) -> Result<ShownText, AllocError>
         requires same_conf { tree.now.conf ≡ conf.now }
         requires missing { finite.contains_key tree.now.entries path.now ≡ false }
     {
-        let refused = self.refused_at(alloc, path)?;
-        let nearest = nearest(alloc, conf, tree, path)?;
-        ShownText::of(format!(in alloc; "no entry {name}{refused}{nearest}"))
+        let mut words = ShownText::fixed(alloc, "no entry ")?;
+        push_name(&mut words, name)?;
+        self.push_refused(alloc, &mut words, path)?;
+        push_nearest(alloc, &mut words, conf, tree, path)?;
+        Ok(words)
     }
 }
 
@@ -132,17 +113,23 @@ fn nearest_above(alloc: Global, tree: &Tree, path: &Path) -> Result<Option<Path>
     Ok(None)
 }
 
-/// The nearest entry above a path that is there, in words; nothing where the one right above is there, or none.
-fn nearest(alloc: Global, conf: &Conf, tree: &Tree, path: &Path) -> Result<ShownText, AllocError>
+/// Puts the nearest entry above a path that is there behind words; nothing where the one right above is there, or none.
+fn push_nearest(
+    alloc: Global,
+    words: &mut ShownText,
+    conf: &Conf,
+    tree: &Tree,
+    path: &Path,
+) -> Result<(), AllocError>
     requires { tree.now.conf ≡ conf.now }
 {
     let Some(above) = nearest_above(alloc, tree, path)? else {
-        return Ok(ShownText::new(alloc));
+        return Ok(());
     };
     if above.len() == path.len().saturating_sub(1) {
-        return Ok(ShownText::new(alloc));
+        return Ok(());
     }
     let name = tree.name_of(alloc, conf, &above)?;
-    let name = named(alloc, name.as_slice())?;
-    ShownText::of(format!(in alloc; "; the nearest above it is {name}"))
+    words.push_str("; the nearest above it is ")?;
+    push_name(words, name.as_slice())
 }

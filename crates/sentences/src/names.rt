@@ -1,7 +1,6 @@
 //! Names of types, classes and entries.
 
-ghost use Rattle.std.specs.Prelude.{◌≡◌, IfOk};
-ghost use Rattle.std.specs.Option.{is_some};
+ghost use Rattle.std.specs.Prelude.{◌≡◌};
 ghost use Rattle.std.specs.FinMap as finite;
 
 use crate::lines::ShownText;
@@ -43,23 +42,6 @@ pub(crate) fn is_there(tree: &Tree, path: &Path) -> bool
     ensures { result ≡ finite.contains_key tree.now.entries path.now }
 {
     tree.get(path).is_some()
-}
-
-/// The name of the entry at a path as it is spelled, if there is one.
-pub(crate) fn entry_name(
-    alloc: Global,
-    conf: &Conf,
-    tree: &Tree,
-    path: &Path,
-) -> Result<Option<ShownText>, AllocError>
-    requires { tree.now.conf ≡ conf.now }
-    ensures { IfOk result (λ name. is_some name ≡ finite.contains_key tree.now.entries path.now) }
-{
-    if !is_there(tree, path) {
-        return Ok(None);
-    }
-    let name = tree.name_of(alloc, conf, path)?;
-    Ok(Some(named(alloc, name.as_slice())?))
 }
 
 /// What stands behind the first RDN of a name (RFC 4514): the name of the entry above.

@@ -126,7 +126,7 @@ impl Refused<'_> {
     fn equal_there(&self, t: TypeId, value: &[u8]) -> Result<Option<ShownText>, AllocError>
         requires { t < length self.now.conf.now.types }
     {
-        let Some(path) = self.path_of(self.dn())? else {
+        let Some(path) = self.path() else {
             return Ok(None);
         };
         let wanted = match self.conf.make_value(self.alloc, t, value) {
@@ -134,7 +134,7 @@ impl Refused<'_> {
             Err(ValueFault::Invalid) => return Ok(None),
             Err(ValueFault::OutOfMemory) => return Err(AllocError),
         };
-        let Some(entry) = self.tree.get(&path) else {
+        let Some(entry) = self.tree.get(path) else {
             return Ok(None);
         };
         if let Some(values) = entry.values(t) {
@@ -209,10 +209,10 @@ impl Refused<'_> {
 
     /// Which value of the entry's RDN is to go.
     pub(crate) fn rdn_value_words(&self, ava: usize) -> Result<ShownText, AllocError> {
-        let Some(path) = self.path_of(self.dn())? else {
+        let Some(path) = self.path() else {
             return self.text("a value of its RDN is to go");
         };
-        let Some(entry) = self.tree.get(&path) else {
+        let Some(entry) = self.tree.get(path) else {
             return self.text("a value of its RDN is to go");
         };
         match entry.rdn().avas().get(ava) {

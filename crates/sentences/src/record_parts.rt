@@ -14,13 +14,9 @@ pub(crate) fn name_in<'a>(asked: &'a Record<'_>) -> &'a [u8] {
     }
 }
 
-/// The name of the entry that it is to add, if it is to add one.
-pub(crate) fn added_name_in<'a>(asked: &'a Record<'_>) -> Option<&'a [u8]> {
-    match asked {
-        Record::Content { dn, .. } => Some(dn.as_slice()),
-        Record::Add { dn, .. } => Some(dn.as_slice()),
-        _ => None,
-    }
+/// Whether it is to add an entry.
+pub(crate) fn is_add(asked: &Record<'_>) -> bool {
+    matches!(asked, Record::Content { .. } | Record::Add { .. })
 }
 
 pub(crate) fn controls_in<'a>(asked: &'a Record<'_>) -> &'a [Control] {

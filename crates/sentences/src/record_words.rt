@@ -6,16 +6,19 @@ ghost use Rattle.sentences.specs.Sentence.{IsShown};
 use crate::lines::{Sentence, ShownText};
 use crate::missing::RefusedAdds;
 use crate::name_words::NameText;
-use crate::names::{entry_name, parent_text};
+use crate::names::{is_there, parent_text};
 use crate::places::line_of;
 use crate::record_parts::{blocks_in, controls_in, name_in, new_rdn_in, new_superior_in};
-use crate::shown::named;
+use crate::shown::{named, push_name};
 use crate::summary::grouped;
 use ldif::{Control, Mod, Part, RawRecord, Record};
 use reasons::{NameReason, Reason};
-use schema::{Conf, Path, PathFault};
+use schema::{Conf, Located, Path, PathFault};
 use std::alloc::{AllocError, Global};
 use tree::Tree;
+
+/// As many bytes as most sentences take at most.
+const USUAL_LEN: usize = 160;
 
 /// A refused record, with the entries and the configuration that it was refused under.
 #[derive(Drop)]
@@ -25,6 +28,8 @@ pub(crate) struct Refused<'a> {
     pub(crate) tree: &'a Tree,
     pub(crate) raw: &'a RawRecord,
     pub(crate) asked: &'a Record<'a>,
+    /// Where its name stands, if it has a place.
+    pub(crate) place: Option<&'a Located>,
     /// The adds that were refused before it.
     pub(crate) adds: &'a RefusedAdds,
     ghost same_conf: { tree.now.conf ≡ conf.now },
@@ -76,8 +81,16 @@ impl Refused<'_> {
         ShownText::fixed(self.alloc, words)
     }
 
+    /// The path of its own name, if it has one.
+    pub(crate) fn path(&self) -> Option<&Path> {
+        match self.place {
+            Some(place) => Some(&place.path),
+            None => None,
+        }
+    }
+
     /// The path of a name, if it has one.
-    pub(crate) fn path_of(&self, name: &[u8]) -> Result<Option<Path>, AllocError> {
+    fn path_of(&self, name: &[u8]) -> Result<Option<Path>, AllocError> {
         match self.conf.path_of_text(self.alloc, name) {
             Ok(path) => Ok(Some(path)),
             Err(PathFault::Code(_)) => Ok(None),
@@ -100,16 +113,20 @@ impl Refused<'_> {
     /// The sentence: where in the text, of which entry, and what is wrong.
     pub(crate) fn sentence(&self, reason: Reason) -> Result<Sentence, AllocError> {
         let Words { part, text } = self.words(reason)?;
-        let name = named(self.alloc, self.dn())?;
-        let line = match part {
-            Some(part) => line_of(self.asked, self.raw, part),
-            None => None,
-        };
-        let words = match line {
-            Some(line) => ShownText::of(format!(in self.alloc; "line {line}, {name}: {text}"))?,
-            None => ShownText::of(format!(in self.alloc; "{name}: {text}"))?,
-        };
+        let mut words = ShownText::with_capacity(self.alloc, USUAL_LEN)?;
+        if let Some(line) = self.line_of(part) {
+            let at = ShownText::of(format!(in self.alloc; "line {line}, "))?;
+            words.push_str(at.as_str())?;
+        }
+        push_name(&mut words, self.dn())?;
+        words.push_str(": ")?;
+        words.push_str(text.as_str())?;
         Sentence::of(self.alloc, &words)
+    }
+
+    /// The number of the line of the text on which a part of it begins.
+    fn line_of(&self, part: Option<Part>) -> Option<u64> {
+        line_of(self.asked, self.raw, part?)
     }
 
     fn words(&self, reason: Reason) -> Result<Words, AllocError> {
@@ -164,47 +181,55 @@ impl Refused<'_> {
 
     /// That the name is there, as it is spelled there.
     fn there_words(&self) -> Result<ShownText, AllocError> {
-        let Some(path) = self.path_of(self.dn())? else {
-            return self.text("there already");
-        };
-        match entry_name(self.alloc, self.conf, self.tree, &path)? {
-            Some(name) => ShownText::of(format!(in self.alloc; "there already, as {name}")),
-            None => self.text("there already"),
+        let mut words = self.text("there already")?;
+        if let Some(path) = self.path() {
+            if is_there(self.tree, path) {
+                let name = self.tree.name_of(self.alloc, self.conf, path)?;
+                words.push_str(", as ")?;
+                push_name(&mut words, name.as_slice())?;
+            }
         }
+        Ok(words)
     }
 
-    fn missing_words(&self, name: &[u8]) -> Result<ShownText, AllocError> {
-        let shown = named(self.alloc, name)?;
-        match self.path_of(name)? {
+    fn missing_words(&self, name: &[u8], path: Option<&Path>) -> Result<ShownText, AllocError> {
+        match path {
             Some(path) => self
                 .adds
-                .looked_up(self.alloc, self.conf, self.tree, &shown, &path),
-            None => ShownText::of(format!(in self.alloc; "no entry {shown}")),
+                .looked_up(self.alloc, self.conf, self.tree, name, path),
+            None => {
+                let name = named(self.alloc, name)?;
+                ShownText::of(format!(in self.alloc; "no entry {name}"))
+            }
         }
     }
 
     fn no_parent_words(&self) -> Result<ShownText, AllocError> {
-        self.missing_words(parent_text(self.dn()))
+        let above = match self.path() {
+            Some(path) => Some(path.parent(self.alloc)?),
+            None => None,
+        };
+        self.missing_words(parent_text(self.dn()), above.as_ref())
     }
 
     fn no_entry_words(&self) -> Result<ShownText, AllocError> {
-        self.missing_words(self.dn())
+        self.missing_words(self.dn(), self.path())
     }
 
     fn no_superior_words(&self) -> Result<ShownText, AllocError> {
         match self.new_superior() {
-            Some(name) => self.missing_words(name),
-            None => self.missing_words(parent_text(self.dn())),
+            Some(name) => self.missing_words(name, self.path_of(name)?.as_ref()),
+            None => self.no_parent_words(),
         }
     }
 
     /// How many entries are below it.
     fn children_words(&self) -> Result<ShownText, AllocError> {
-        let Some(path) = self.path_of(self.dn())? else {
+        let Some(path) = self.path() else {
             return self.text("entries are below it");
         };
         let mut below: u64 = 0;
-        for _ in self.tree.range(&path) {
+        for _ in self.tree.range(path) {
             below = below.saturating_add(1);
         }
         let below = below.saturating_sub(1);

@@ -48,10 +48,12 @@ pub(crate) fn filter_sentence(
 fn no_entry(alloc: Global, conf: &Conf, tree: &Tree, text: &[u8]) -> Result<ShownText, AllocError>
     requires { tree.now.conf ≡ conf.now }
 {
-    let shown = named(alloc, text)?;
     match conf.path_of_text(alloc, text) {
-        Ok(path) => RefusedAdds::new(alloc).looked_up(alloc, conf, tree, &shown, &path),
-        Err(PathFault::Code(_)) => ShownText::of(format!(in alloc; "no entry {shown}")),
+        Ok(path) => RefusedAdds::new(alloc).looked_up(alloc, conf, tree, text, &path),
+        Err(PathFault::Code(_)) => {
+            let name = named(alloc, text)?;
+            ShownText::of(format!(in alloc; "no entry {name}"))
+        }
         Err(PathFault::OutOfMemory) => Err(AllocError),
     }
 }

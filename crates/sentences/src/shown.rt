@@ -3,7 +3,7 @@
 ghost use Rattle.std.specs.Prelude.{◌≡◌, ◌<◌, ◌≤◌, ◌≢◌, true};
 ghost use Rattle.std.specs.Bool.{IsTrue};
 ghost use Rattle.std.specs.Option.{IfNone};
-ghost use Rattle.sentences.specs.Sentence.{is_shown};
+ghost use Rattle.sentences.specs.Sentence.{IsShown, is_shown};
 
 use crate::lines::ShownText;
 use std::alloc::{AllocError, Global};
@@ -23,15 +23,26 @@ pub(crate) enum Form {
     Bare,
 }
 
-/// Whether a byte of ASCII stands for itself: it is printed, and can't be taken for the quotation mark at the end or for an escape.
+/// Whether a byte is a character of ASCII that stands for itself: it is printed, and can't be taken for the quotation mark at the end or for an
+/// escape.
 fn is_plain(byte: u8, form: Form) -> bool
-    ensures printed { IsTrue result → 32 ≤ byte }
-    ensures no_delete { IsTrue result → byte ≢ 127 }
+    ensures { IsTrue result → (32 ≤ byte) × (byte < 127) }
 {
     match form {
-        Form::Quoted => byte >= b' ' && byte != 127 && byte != b'"' && byte != b'\\',
-        Form::Bare => byte >= b' ' && byte != 127,
+        Form::Quoted => byte >= b' ' && byte < 127 && byte != b'"' && byte != b'\\',
+        Form::Bare => byte >= b' ' && byte < 127,
     }
+}
+
+/// Whether each byte stands for itself, as almost always.
+fn are_plain(bytes: &[u8], form: Form) -> bool
+    ensures { IsTrue result → IsShown bytes.now }
+{
+    let mut plain = true;
+    for byte in bytes {
+        plain &= is_plain(*byte, form);
+    }
+    plain
 }
 
 fn is_first_of_char(byte: u8) -> bool {
@@ -90,6 +101,9 @@ pub(crate) fn push_char(out: &mut ShownText, c: char, form: Form) -> Result<(), 
 }
 
 fn push_text(out: &mut ShownText, text: &str, form: Form) -> Result<(), AllocError> {
+    if are_plain(text.as_bytes(), form) {
+        return out.push_str(text);
+    }
     for c in text.chars() {
         push_char(out, c, form)?;
     }
@@ -99,7 +113,7 @@ fn push_text(out: &mut ShownText, text: &str, form: Form) -> Result<(), AllocErr
 /// Bytes that are no text.
 fn push_bytes(out: &mut ShownText, bytes: &[u8], form: Form) -> Result<(), AllocError> {
     for byte in bytes {
-        if *byte < 128 && is_plain(*byte, form) {
+        if is_plain(*byte, form) {
             out.push(char::from(*byte))?;
         } else {
             push_byte(out, *byte)?;
@@ -108,28 +122,42 @@ fn push_bytes(out: &mut ShownText, bytes: &[u8], form: Form) -> Result<(), Alloc
     Ok(())
 }
 
-/// Bytes on one line: text as it is, and what can't be printed as a backslash and two hexadecimal digits. Of more than `most` bytes the first are
-/// shown, and two dots behind them.
-fn shown(alloc: Global, bytes: &[u8], most: usize, form: Form) -> Result<ShownText, AllocError> {
+/// Puts bytes behind a text, on its line: text as it is, and what can't be printed as a backslash and two hexadecimal digits. Of more than `most`
+/// bytes the first are shown, and two dots behind them.
+fn push_shown(
+    out: &mut ShownText,
+    bytes: &[u8],
+    most: usize,
+    form: Form,
+) -> Result<(), AllocError> {
     let front = cut(bytes, most);
-    let mut out = ShownText::new(alloc);
     match str::from_utf8(front) {
-        Ok(text) => push_text(&mut out, text, form)?,
-        Err(_) => push_bytes(&mut out, front, form)?,
+        Ok(text) => push_text(out, text, form)?,
+        Err(_) => push_bytes(out, front, form)?,
     }
     if front.len() < bytes.len() {
         out.push_str("..")?;
     }
-    Ok(out)
+    Ok(())
 }
 
 /// A value in quotation marks; such marks and backslashes in it are shown by their digits, too.
 pub(crate) fn quoted(alloc: Global, bytes: &[u8]) -> Result<ShownText, AllocError> {
-    let value = shown(alloc, bytes, VALUE_LIMIT, Form::Quoted)?;
-    ShownText::of(format!(in alloc; "\"{value}\""))
+    let mut out = ShownText::with_capacity(alloc, bytes.len().min(VALUE_LIMIT) + 2)?;
+    out.push('"')?;
+    push_shown(&mut out, bytes, VALUE_LIMIT, Form::Quoted)?;
+    out.push('"')?;
+    Ok(out)
 }
 
-/// A name of an entry, a type or a class, as it is written.
-pub(crate) fn named(alloc: Global, bytes: &[u8]) -> Result<ShownText, AllocError> {
-    shown(alloc, bytes, NAME_LIMIT, Form::Bare)
+/// Puts a name of an entry, a type or a class behind a text, as it is written.
+pub(crate) fn push_name(out: &mut ShownText, name: &[u8]) -> Result<(), AllocError> {
+    push_shown(out, name, NAME_LIMIT, Form::Bare)
+}
+
+/// A name by itself.
+pub(crate) fn named(alloc: Global, name: &[u8]) -> Result<ShownText, AllocError> {
+    let mut out = ShownText::new(alloc);
+    push_name(&mut out, name)?;
+    Ok(out)
 }
