@@ -94,9 +94,13 @@ slapcat = command (codes "slapcat")
     (folder_option ∷ file_option 108 ∷ value_option (codes "filter") 97
     ∷ value_option (codes "base") 115 ∷ verbose_option ∷ [])
 
+-- ldifdiff --db DIR [-l FILE] [-v]
+abbrev pub ldifdiff : Shape
+ldifdiff = command (codes "ldifdiff") (folder_option ∷ file_option 108 ∷ verbose_option ∷ [])
+
 -- one of them has to be named, or else `--help` or `--version`
 abbrev pub slaptools : App
 slaptools = record {
   top = record (new_shape (codes "slaptools")) { is_leaf = false; has_version = true; subcommand_required = true };
-  subs = slapadd ∷ ldapmodify ∷ slapindex ∷ search ∷ slapcat ∷ [];
+  subs = slapadd ∷ ldapmodify ∷ slapindex ∷ search ∷ slapcat ∷ ldifdiff ∷ [];
 }

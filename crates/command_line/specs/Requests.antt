@@ -16,8 +16,9 @@ use Rattle.command_line.specs.declared.request.ModifyOptions.{ModifyOptions}
 use Rattle.command_line.specs.declared.request.IndexOptions.{IndexOptions}
 use Rattle.command_line.specs.declared.request.SearchOptions.{SearchOptions}
 use Rattle.command_line.specs.declared.request.CatOptions.{CatOptions}
+use Rattle.command_line.specs.declared.request.DiffOptions.{DiffOptions}
 use Rattle.command_line.specs.declared.request.Request.{Request}
-use Rattle.command_line.specs.declared.request.Request.TheVariants.{Help, Add, Modify, Index, Search, Cat}
+use Rattle.command_line.specs.declared.request.Request.TheVariants.{Help, Add, Modify, Index, Search, Cat, Diff}
 use Rattle.command_line.specs.declared.request.UsageFault.{UsageFault}
 use Rattle.command_line.specs.declared.request.UsageFault.TheVariants.{Words, OutOfMemory}
 use Rattle.command_line.specs.CommandLine.{slaptools}
@@ -132,6 +133,11 @@ pub record IsCat (rows : List Row) (asked : CatOptions) : Type 0 where
   pub base_is : option_copied asked.base ≡ text_of (codes "base") rows
   pub verbose_is : asked.verbose ≡ is_given (codes "verbose") rows
 
+pub record IsDiff (rows : List Row) (asked : DiffOptions) : Type 0 where
+  pub db_is : text_of (codes "db") rows ≡ Some asked.db.now
+  pub file_is : option_copied asked.file ≡ text_of (codes "file") rows
+  pub verbose_is : asked.verbose ≡ is_given (codes "verbose") rows
+
 -- ---- what a command and its rows ask for
 
 -- the command has this name, and its rows are such
@@ -145,6 +151,7 @@ IsRequest met (Modify asked) = IsCommand met (codes "ldapmodify") (λ rows. IsMo
 IsRequest met (Index asked) = IsCommand met (codes "slapindex") (λ rows. IsIndex rows asked)
 IsRequest met (Search asked) = IsCommand met (codes "search") (λ rows. IsSearch rows asked)
 IsRequest met (Cat asked) = IsCommand met (codes "slapcat") (λ rows. IsCat rows asked)
+IsRequest met (Diff asked) = IsCommand met (codes "ldifdiff") (λ rows. IsDiff rows asked)
 
 -- the option has a text that is no number
 abbrev pub HasNoNumber : Text → List Row → Type 0

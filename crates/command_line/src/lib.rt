@@ -7,5 +7,6 @@ mod request;
 
 pub use reading::read;
 pub use request::{
-    AddOptions, CatOptions, IndexOptions, ModifyOptions, Request, SearchOptions, UsageFault,
+    AddOptions, CatOptions, DiffOptions, IndexOptions, ModifyOptions, Request, SearchOptions,
+    UsageFault,
 };

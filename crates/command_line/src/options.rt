@@ -18,6 +18,8 @@ const ADD_HELP: &str = "Adds the entries of records without changetype";
 
 const OUTPUT_HELP: &str = "The file that is written, in place of standard output";
 
+const CONTENT_HELP: &str = "The content records of the other directory, in place of standard input";
+
 const BASE_HELP: &str = "The entry that the search begins at, in place of the suffix's";
 
 const SCOPE_HELP: &str = "What is searched: base, one, sub (the default) or children";
@@ -64,6 +66,9 @@ const BESIDE_SLAPCAT: &str = "In place of options of OpenLDAP's slapcat:
   -H                  -s NAME and -a FILTER
   -d                  -v
   -c, -o              nothing";
+
+const BESIDE_LDIFDIFF: &str =
+    "As of diff(1), the exit status is 0 where both are alike, and 1 where they differ.";
 
 /// An option of a command.
 #[derive(Clone, Copy)]
@@ -272,6 +277,21 @@ fn slapcat() -> Tool<'static>
     }
 }
 
+fn ldifdiff() -> Tool<'static>
+    ensures { commands.shape result ≡ commands.ldifdiff }
+{
+    Tool {
+        name: "ldifdiff",
+        about: "Prints the changes that make the directory another one",
+        options: &[
+            CommandOption::Folder,
+            CommandOption::File('l', CONTENT_HELP),
+            CommandOption::Flag("verbose", 'v', VERBOSE_HELP),
+        ],
+        beside: BESIDE_LDIFDIFF,
+    }
+}
+
 /// A command with one more below it.
 fn with_tool<'a>(
     alloc: Global,
@@ -291,7 +311,14 @@ pub(crate) fn slaptools<'a>(alloc: Global, version: &'a str) -> Result<Command<'
         .about("Tools for an LDAP directory that is kept as LDIF, without a server")
         .version(version)
         .subcommand_required(true);
-    for tool in &[slapadd(), ldapmodify(), slapindex(), search(), slapcat()] {
+    for tool in &[
+        slapadd(),
+        ldapmodify(),
+        slapindex(),
+        search(),
+        slapcat(),
+        ldifdiff(),
+    ] {
         command = with_tool(alloc, command, *tool)?;
     }
     Ok(command)

@@ -7,7 +7,8 @@ ghost use Rattle.command_line.specs.Requests as asks;
 
 use crate::options::slaptools;
 use crate::request::{
-    AddOptions, CatOptions, IndexOptions, ModifyOptions, Request, SearchOptions, UsageFault,
+    AddOptions, CatOptions, DiffOptions, IndexOptions, ModifyOptions, Request, SearchOptions,
+    UsageFault,
 };
 use clap::error::ErrorKind;
 use clap::parser::ValueSource;
@@ -148,6 +149,17 @@ fn cat_options<'a>(found: &ArgMatches<'a>) -> CatOptions<'a>
     }
 }
 
+fn diff_options<'a>(found: &ArgMatches<'a>) -> DiffOptions<'a>
+    requires { asks.HasFolder (rows_of (found_of found.now)) }
+    ensures { asks.IsDiff (rows_of (found_of found.now)) result }
+{
+    DiffOptions {
+        db: folder_of(found),
+        file: text_of(found, "file"),
+        verbose: is_given(found, "verbose"),
+    }
+}
+
 /// The scope that a word names; without one, the base and all below it.
 fn scope_of(alloc: Global, word: Option<&str>) -> Result<Scope, UsageFault>
     ensures { let named = asks.scope_of (option_copied word.entry) in
@@ -250,6 +262,7 @@ fn request_of<'a>(
         "slapindex" => Ok(Request::Index(index_options(alloc, found)?)),
         "search" => Ok(Request::Search(search_options(alloc, found)?)),
         "slapcat" => Ok(Request::Cat(cat_options(found))),
+        "ldifdiff" => Ok(Request::Diff(diff_options(found))),
         _ => unreachable!(),
     }
 }

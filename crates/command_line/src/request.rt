@@ -86,6 +86,17 @@ pub struct CatOptions<'a> {
     pub verbose: bool,
 }
 
+/// What ldifdiff is asked for.
+#[derive(Clone, Copy, Drop)]
+pub struct DiffOptions<'a> {
+    /// The folder of the directory that is to be changed.
+    pub db: &'a str,
+    /// The LDIF file with the content records of the other directory, or none for standard input.
+    pub file: Option<&'a str>,
+    /// Whether each report is followed by a sentence that says why, and a line at the end tells how much is changed.
+    pub verbose: bool,
+}
+
 /// What a command line asks for.
 #[derive(Drop)]
 pub enum Request<'a> {
@@ -96,6 +107,7 @@ pub enum Request<'a> {
     Index(IndexOptions<'a>),
     Search(SearchOptions<'a>),
     Cat(CatOptions<'a>),
+    Diff(DiffOptions<'a>),
 }
 
 /// Why a command line asks for nothing that can be done.

@@ -8,3 +8,4 @@ pub mod Stopping
 pub mod StoredFiles
 pub mod IndexTold
 pub mod Searched
+pub mod OtherLoaded

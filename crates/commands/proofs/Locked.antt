@@ -40,6 +40,7 @@ module _ (files : Option Files) (others : Option Others) (db : List ℕ) where
   used name (faults.Code by code) is holds h = absurd h
   used name (faults.Configuration line kind) is holds h = absurd h
   used name (faults.Data line why) is holds h = absurd h
+  used name (faults.Content file line why) is holds h = absurd h
   used name (faults.CannotRead n) is holds h = absurd h
   used name (faults.CannotWrite n) is holds h = absurd h
   used name (faults.InUse n) is holds h = (h, subst (IsInUse others) is holds)

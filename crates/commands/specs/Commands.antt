@@ -3,7 +3,7 @@ use Rattle.std.specs.Prelude.{◌≡◌, ℕ, ◌≤◌, List, length, Option, N
 use Rattle.device.specs.Device.{Broke}
 use Rattle.command_line.specs.Requests.{AsksForHelp, AskFor, IsFaultOf}
 use Rattle.command_line.specs.declared.request.Request.{Request}
-use Rattle.command_line.specs.declared.request.Request.TheVariants.{Help, Add, Modify, Index, Search, Cat}
+use Rattle.command_line.specs.declared.request.Request.TheVariants.{Help, Add, Modify, Index, Search, Cat, Diff}
 use Rattle.command_line.specs.declared.request.UsageFault.{UsageFault}
 use Rattle.command_line.specs.declared.request.UsageFault.TheVariants.{Words, OutOfMemory}
 use Rattle.commands.specs.Worlds.{World, IsPrinted}
@@ -13,6 +13,7 @@ use Rattle.commands.specs.Failures.{IsMemory, FailsToWrite}
 use Rattle.commands.specs.Changes.{add_task, modify_task, written_by, ChangeGoesThrough, ChangeStops}
 use Rattle.commands.specs.Indexing.{IndexGoesThrough, IndexStops}
 use Rattle.commands.specs.Prints.{CatGoesThrough, CatStops, SearchGoesThrough, SearchStops}
+use Rattle.commands.specs.Differences.{DiffGoesThrough, DiffStops}
 use Rattle.commands.specs.Statuses.{status_number}
 use Rattle.commands.specs.declared.messages.Status.{Status}
 use Rattle.commands.specs.declared.messages.Status.TheVariants.{Done}
@@ -44,6 +45,7 @@ RequestGoesThrough (Ok (Modify asked)) = ChangeGoesThrough (modify_task asked)
 RequestGoesThrough (Ok (Index asked)) = IndexGoesThrough asked
 RequestGoesThrough (Ok (Search asked)) = SearchGoesThrough asked
 RequestGoesThrough (Ok (Cat asked)) = CatGoesThrough asked
+RequestGoesThrough (Ok (Diff asked)) = DiffGoesThrough asked
 RequestGoesThrough (Err fault) = λ w w' s. ⊥
 
 abbrev pub RequestStops : Result Request UsageFault → World → StoppedAt → Type 0
@@ -53,6 +55,7 @@ RequestStops (Ok (Modify asked)) = ChangeStops (modify_task asked)
 RequestStops (Ok (Index asked)) = IndexStops asked
 RequestStops (Ok (Search asked)) = SearchStops asked
 RequestStops (Ok (Cat asked)) = CatStops asked
+RequestStops (Ok (Diff asked)) = DiffStops asked
 RequestStops (Err fault) = WordsStop fault
 
 -- the folder whose directory is to be written, if one is
@@ -63,6 +66,7 @@ writes_in (Ok (Modify asked)) = written_by (modify_task asked)
 writes_in (Ok (Index asked)) = Some asked.db.now
 writes_in (Ok (Search asked)) = None
 writes_in (Ok (Cat asked)) = None
+writes_in (Ok (Diff asked)) = None
 writes_in (Err fault) = None
 
 -- What was asked for was done, under a lock where a directory is written, or the command stopped, and this is the number of its status.

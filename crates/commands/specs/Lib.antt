@@ -14,5 +14,6 @@ pub mod IndexFiles
 pub mod Changes
 pub mod Indexing
 pub mod Prints
+pub mod Differences
 pub mod Commands
 pub mod inner

@@ -28,6 +28,7 @@ fault_text (faults.Filter fault) = codes "filter: " ++ filters.fault_report faul
 fault_text (faults.Code command code) = code_text command.now code
 fault_text (faults.Configuration line kind) = codes "dir.conf line " ++ (decimal line ++ (codes ": " ++ kind_report kind))
 fault_text (faults.Data line refusal) = codes "data.ldif line " ++ (decimal line ++ (codes ": " ++ refusal_report refusal))
+fault_text (faults.Content name line refusal) = string_bytes name ++ (codes " line " ++ (decimal line ++ (codes ": " ++ refusal_report refusal)))
 fault_text (faults.CannotRead name) = string_bytes name ++ codes ": cannot read"
 fault_text (faults.CannotWrite name) = string_bytes name ++ codes ": cannot write"
 fault_text (faults.InUse name) = string_bytes name ++ codes ": in use"

@@ -1,5 +1,5 @@
 -- How a command ends.
-use Rattle.std.specs.Prelude.{ℕ, zero, suc}
+use Rattle.std.specs.Prelude.{ℕ, zero, suc, Bool, true, false}
 use Rattle.databases.specs.declared.runs.Tally.{Tally}
 use Rattle.commands.specs.declared.messages.Status.{Status}
 use Rattle.commands.specs.declared.messages.Status.TheVariants as statuses
@@ -21,6 +21,11 @@ status_of_count (suc n) = statuses.Refused
 abbrev pub status_of_tally : Tally → Status
 status_of_tally t = status_of_count t.refused
 
+-- of a comparison: whether the directories differ
+abbrev pub status_of_difference : Bool → Status
+status_of_difference true = statuses.Refused
+status_of_difference false = statuses.Done
+
 -- a fault of the command line, of a filter or of the configuration is one of usage
 abbrev pub status_of_fault : CommandFault → Status
 status_of_fault faults.Words = statuses.Usage
@@ -28,6 +33,7 @@ status_of_fault (faults.Filter fault) = statuses.Usage
 status_of_fault (faults.Code command code) = statuses.Refused
 status_of_fault (faults.Configuration line kind) = statuses.Usage
 status_of_fault (faults.Data line refusal) = statuses.Failed
+status_of_fault (faults.Content name line refusal) = statuses.Failed
 status_of_fault (faults.CannotRead name) = statuses.Failed
 status_of_fault (faults.CannotWrite name) = statuses.Failed
 status_of_fault (faults.InUse name) = statuses.Failed

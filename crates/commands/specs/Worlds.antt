@@ -42,6 +42,14 @@ put_world w files output folder out = record w { files = files folder; output = 
 abbrev pub search_world : {F O E : Type 0} → World → (F → Option Files) → (O → Written) → (E → Written) → F → O → E → World
 search_world w files output messages folder out err = record w { files = files folder; output = output out; messages = messages err }
 
+-- with this folder's files, and this input
+abbrev pub source_world : {F S : Type 0} → World → (F → Option Files) → (S → Seen) → F → S → World
+source_world w files seen folder input = record w { files = files folder; input = seen input }
+
+-- with this output, too
+abbrev pub diff_world : {F S O : Type 0} → World → (F → Option Files) → (S → Seen) → (O → Written) → F → S → O → World
+diff_world w files seen output folder input out = record w { files = files folder; input = seen input; output = output out }
+
 -- with this folder's files
 abbrev pub stored_world : {F : Type 0} → World → (F → Option Files) → F → World
 stored_world w files folder = record w { files = files folder }

@@ -5,6 +5,7 @@ ghost use Rattle.commands.specs.Commands.{HelpGoesThrough, HelpStops, RequestGoe
 ghost use Rattle.commands.specs.inner.Stopped.{CanReport, HasEnded, HasEndedUnder};
 
 use crate::changes::{Task, change};
+use crate::ldifdiff::ldifdiff;
 use crate::messages::{CommandFault, Status, Stop, report_stop};
 use crate::searching::search;
 use crate::slapcat::slapcat;
@@ -58,6 +59,7 @@ fn carry_out<F: Folder, S: Source, O: Sink, E: Sink, T: CommandTeller>(
         Ok(Request::Index(asked)) => slapindex(alloc, &asked, folder, teller),
         Ok(Request::Search(asked)) => search(alloc, &asked, folder, out, err, teller),
         Ok(Request::Cat(asked)) => slapcat(alloc, &asked, folder, out, teller),
+        Ok(Request::Diff(asked)) => ldifdiff(alloc, &asked, folder, input, out, teller),
         Err(UsageFault::Words(text)) => Err(Stop::Usage(text)),
         Err(UsageFault::OutOfMemory) => Err(Stop::Fault(CommandFault::OutOfMemory)),
     }
@@ -100,6 +102,7 @@ fn is_verbose(asked: &Result<Request<'_>, UsageFault>) -> bool {
         Ok(Request::Index(asked)) => asked.verbose,
         Ok(Request::Search(asked)) => asked.verbose,
         Ok(Request::Cat(asked)) => asked.verbose,
+        Ok(Request::Diff(asked)) => asked.verbose,
         Ok(Request::Help(_)) | Err(_) => false,
     }
 }

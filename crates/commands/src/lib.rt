@@ -7,6 +7,7 @@ mod dispatch;
 mod excerpt;
 mod finding;
 mod index_file;
+mod ldifdiff;
 mod messages;
 mod query;
 mod searching;

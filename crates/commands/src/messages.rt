@@ -5,8 +5,9 @@ ghost use Rattle.commands.specs.declared.messages.Stop.TheVariants.{Fault};
 ghost use Rattle.commands.specs.Messages.{IsTextReported, IsReported, fault_text, line_of};
 ghost use Rattle.commands.specs.Endings.{ReportsStop};
 ghost use Rattle.commands.specs.Failures.{FailsToRead, FailsToWrite, TellsInUse};
-ghost use Rattle.commands.specs.Statuses.{status_number, status_of_fault, status_of_tally};
+ghost use Rattle.commands.specs.Statuses.{status_number, status_of_difference, status_of_fault, status_of_tally};
 ghost use Rattle.commands.specs.inner.LoadFaults.{TellsLoadFault};
+ghost use Rattle.commands.specs.Differences.{TellsRefusal, TellsContentFault};
 ghost use Rattle.commands.specs.inner.Stopped.{CanReport};
 ghost use Rattle.commands.specs.inner.WriteFaults.{TellsWriteFault};
 
@@ -23,7 +24,7 @@ use std::fmt;
 #[derive(Clone, Copy)]
 pub enum Status {
     Done,
-    /// A record was refused, or a search ended with a result code.
+    /// A record was refused, a search ended with a result code, or two directories differ.
     Refused,
     /// The command line, a filter or the configuration is at fault.
     Usage,
@@ -42,6 +43,17 @@ impl Status {
             Status::Refused => 1,
             Status::Usage => 2,
             Status::Failed => 3,
+        }
+    }
+
+    /// How a comparison of two directories ends: as `Refused` where they differ.
+    pub fn of_difference(differs: bool) -> Status
+        ensures { result ≡ status_of_difference differs }
+    {
+        if differs {
+            Status::Refused
+        } else {
+            Status::Done
         }
     }
 
@@ -65,11 +77,26 @@ pub enum CommandFault {
     /// A filter that can't be read.
     Filter(FilterFault),
     /// The result code that a search of this command ends with.
-    Code { command: &'static str, code: Code },
+    Code {
+        command: &'static str,
+        code: Code,
+    },
     /// The line of the configuration that is at fault, or 0 where a line is missing.
-    Configuration { line: u64, kind: ConfFaultKind },
+    Configuration {
+        line: u64,
+        kind: ConfFaultKind,
+    },
     /// The first record of the directory's file that is refused.
-    Data { line: u64, refusal: RecordRefusal },
+    Data {
+        line: u64,
+        refusal: RecordRefusal,
+    },
+    /// The first content record that is refused of the other directory, in the file or the stream of this name.
+    Content {
+        name: String,
+        line: u64,
+        refusal: RecordRefusal,
+    },
     /// The file or the stream of this name fails when it is read.
     CannotRead(String),
     /// The file or the stream of this name fails when it is written.
@@ -133,6 +160,33 @@ impl CommandFault {
         }
     }
 
+    /// The fault of a record that is refused in the file or the stream of this name.
+    fn of_refusal(alloc: Global, name: &str, line: u64, refusal: RecordRefusal) -> CommandFault
+        ensures { TellsRefusal name.now line refusal result }
+    {
+        match String::from_str(alloc, name) {
+            Ok(name) => CommandFault::Content {
+                name,
+                line,
+                refusal,
+            },
+            Err(_) => CommandFault::OutOfMemory,
+        }
+    }
+
+    /// The fault of loading another directory from the file or the stream of this name.
+    pub fn of_content(alloc: Global, name: &str, fault: LoadFault) -> CommandFault
+        ensures { TellsContentFault name.now fault result }
+    {
+        match fault {
+            LoadFault::Read => CommandFault::cannot_read(alloc, name),
+            LoadFault::OutOfMemory => CommandFault::OutOfMemory,
+            LoadFault::Refused { line, refusal } => {
+                CommandFault::of_refusal(alloc, name, line, refusal)
+            }
+        }
+    }
+
     /// The fault of a write to standard output.
     pub fn of_output(alloc: Global, fault: WriteFault) -> CommandFault
         ensures { TellsWriteFault fault result }
@@ -154,6 +208,11 @@ impl fmt::Display for CommandFault {
             CommandFault::Code { command, code } => write!(f, "{command}: {code}"),
             CommandFault::Configuration { line, kind } => write!(f, "dir.conf line {line}: {kind}"),
             CommandFault::Data { line, refusal } => write!(f, "data.ldif line {line}: {refusal}"),
+            CommandFault::Content {
+                name,
+                line,
+                refusal,
+            } => write!(f, "{name} line {line}: {refusal}"),
             CommandFault::CannotRead(name) => write!(f, "{name}: cannot read"),
             CommandFault::CannotWrite(name) => write!(f, "{name}: cannot write"),
             CommandFault::InUse(folder) => write!(f, "{folder}: in use"),

@@ -5,6 +5,7 @@ ghost use Rattle.std.specs.Prelude.{◌≡◌, ◌<◌, ◌-◌, ◌^◌};
 use crate::messages::{CommandFault, Stop};
 use databases::{Silent, Tally, Teller};
 use device::{Sink, Source};
+use differences::Counts;
 use ldif::Mode;
 use schema::Conf;
 use sentences::Explainer;
@@ -45,6 +46,9 @@ pub trait CommandTeller: Teller {
     /// Tells what became of the records of a run, and whether it was stored.
     fn tell_tally(&mut self, alloc: Global, tally: Tally, mode: Mode, stored: bool);
 
+    /// Tells how much is changed between two directories.
+    fn tell_difference(&mut self, alloc: Global, counts: &Counts);
+
     /// Tells why the command stopped, where the line that reported it doesn't. `failure` is what the system said where something failed last.
     fn tell_stop(&mut self, alloc: Global, stop: &Stop, failure: Option<ErrorKind>);
 }
@@ -72,6 +76,8 @@ impl CommandTeller for Silent {
     fn note_configuration(&mut self, _alloc: Global, _text: &[u8]) {}
 
     fn tell_tally(&mut self, _alloc: Global, _tally: Tally, _mode: Mode, _stored: bool) {}
+
+    fn tell_difference(&mut self, _alloc: Global, _counts: &Counts) {}
 
     fn tell_stop(&mut self, _alloc: Global, _stop: &Stop, _failure: Option<ErrorKind>) {}
 }
@@ -122,11 +128,19 @@ impl<V: Sink> CommandTeller for Explainer<'_, V> {
         self.tell_summary(alloc, tally, done_word(mode), stored);
     }
 
+    fn tell_difference(&mut self, alloc: Global, counts: &Counts) {
+        Explainer::tell_difference(self, alloc, counts);
+    }
+
     fn tell_stop(&mut self, alloc: Global, stop: &Stop, failure: Option<ErrorKind>) {
         match stop {
             Stop::Fault(CommandFault::Filter(fault)) => self.tell_filter(alloc, fault),
             Stop::Fault(CommandFault::Code { .. }) => self.tell_base(),
-            Stop::Fault(CommandFault::Configuration { .. } | CommandFault::Data { .. }) => {
+            Stop::Fault(
+                CommandFault::Configuration { .. }
+                | CommandFault::Data { .. }
+                | CommandFault::Content { .. },
+            ) => {
                 self.tell();
             }
             Stop::Fault(CommandFault::CannotRead(_) | CommandFault::CannotWrite(_)) => {

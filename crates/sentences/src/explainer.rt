@@ -5,6 +5,7 @@ ghost use Rattle.sentences.specs.Noted.{TellsNoted};
 ghost use Rattle.sentences.specs.Telling.{TellsLine, TellsSentence};
 
 use crate::conf_words::configuration_sentence;
+use crate::difference_words::difference_line;
 use crate::failure_words::failure_sentence;
 use crate::index_words::index_sentence;
 use crate::ldif_words::fault_sentence;
@@ -17,6 +18,7 @@ use crate::summary::Summary;
 use crate::telling::{tell_line, tell_sentence};
 use databases::{NotedRecord, RecordRefusal, Tally, Teller};
 use device::Sink;
+use differences::Counts;
 use filter_text::FilterFault;
 use ldif::Record;
 use reasons::{Explanation, explain_in_place};
@@ -137,6 +139,15 @@ impl<'a, V: Sink> Explainer<'a, V> {
         ensures { TellsLine (V.written self.old.told.now) (V.written self.new.told.now) }
     {
         if let Ok(line) = self.summary.line(alloc, tally, done, stored) {
+            tell_line(self.told, &line);
+        }
+    }
+
+    /// Tells how much is changed between two directories.
+    pub fn tell_difference(&mut self, alloc: Global, counts: &Counts)
+        ensures { TellsLine (V.written self.old.told.now) (V.written self.new.told.now) }
+    {
+        if let Ok(line) = difference_line(alloc, counts) {
             tell_line(self.told, &line);
         }
     }

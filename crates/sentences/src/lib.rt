@@ -6,6 +6,7 @@
 #![tactic(auto, using(crate::proofs::Pieces::shown_both, crate::proofs::Pieces::shown_decimal))]
 
 mod conf_words;
+mod difference_words;
 mod entry_words;
 mod explainer;
 mod failure_words;

@@ -17,14 +17,14 @@ loop-tool-init c =
     let versioned : App → App = on_top (λ s. record s { has_version = true }) in
     let told = ap app_of_fields c.version.ensures ∙ ap versioned (ap app_of_fields c.about.ensures ∙ c.new.ensures.app) in
     let start = ap app_of_fields c.subcommand_required-command.ensures ∙ ap required told in
-    let ours : _ ≡ _ ∷ _ ∷ _ ∷ _ ∷ _ ∷ [] = ap₂ (λ x xs. x ∷ xs) c.slapadd.ensures (ap₂ (λ x xs. x ∷ xs) c.ldapmodify.ensures (ap₂ (λ x xs. x ∷ xs) c.slapindex.ensures
-    (ap₂ (λ x xs. x ∷ xs) c.search.ensures (ap (λ x. x ∷ []) c.slapcat.ensures)))) in
+    let ours : _ ≡ _ ∷ _ ∷ _ ∷ _ ∷ _ ∷ _ ∷ [] = ap₂ (λ x xs. x ∷ xs) c.slapadd.ensures (ap₂ (λ x xs. x ∷ xs) c.ldapmodify.ensures (ap₂ (λ x xs. x ∷ xs) c.slapindex.ensures
+    (ap₂ (λ x xs. x ∷ xs) c.search.ensures (ap₂ (λ x xs. x ∷ xs) c.slapcat.ensures (ap (λ x. x ∷ []) c.ldifdiff.ensures))))) in
     ap₂ (fold with_subcommand) start ours
 
 pub loop-tool-preserved : goal.loop-tool-preserved
 loop-tool-preserved c =
     let at = c.loop-tool in
-    let tools = c.slapadd.result ∷ c.ldapmodify.result ∷ c.slapindex.result ∷ c.search.result ∷ c.slapcat.result ∷ [] in
+    let tools = c.slapadd.result ∷ c.ldapmodify.result ∷ c.slapindex.result ∷ c.search.result ∷ c.slapcat.result ∷ c.ldifdiff.result ∷ [] in
     ap (λ a. with_all a (drop (at.tool-index + 1) tools)) c.in_ok-command.ensures ∙ sym (at_drop_more (with_all (app_of at.command)) tools at.tool-index _ c.loop-tool-test.true) ∙ at.invariant
 
 pub returns : goal.returns
