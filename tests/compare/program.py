@@ -6,6 +6,7 @@ import os
 import sys
 import time
 
+import differences
 import model
 
 
@@ -14,6 +15,7 @@ OPTIONS = {
     "slapadd": ("-l", ["--wait"], ["-c", "-u", "-v"]), "ldapmodify": ("-f", ["--wait"], ["-a", "-c", "-n", "-v"]),
     "slapindex": (None, ["--wait"], ["-v"]),
     "search": (None, ["-b", "-s", "-z"], ["-v"]), "slapcat": ("-l", ["-a", "-s"], ["-v"]),
+    "ldifdiff": ("-l", ["-a", "-b"], ["--unordered", "-v"]),
 }
 
 
@@ -145,6 +147,12 @@ def search(words, parser):
     return status, output, messages
 
 
+def ldifdiff(words):
+    text, source = (read(words.file), words.file) if words.file is not None else (sys.stdin.buffer.read(), "input")
+    files = read(f"{words.db}/dir.conf"), read(f"{words.db}/data.ldif"), text
+    return differences.ldifdiff(*files, words.db, source, encoded(words.a), encoded(words.b), words.unordered, words.v)
+
+
 def is_utf_8(word):
     try:
         word.encode()
@@ -168,7 +176,7 @@ def main():
     elif words.command == "search":
         status, output, messages = search(words, parsers["search"])
     else:
-        run = {"slapcat": slapcat, "slapindex": slapindex}.get(words.command, change)
+        run = {"slapcat": slapcat, "slapindex": slapindex, "ldifdiff": ldifdiff}.get(words.command, change)
         status, output, messages = run(words)
     sys.stdout.buffer.write(output)
     sys.stderr.buffer.write(messages)
