@@ -163,6 +163,48 @@ def filters():
         yield f"{depth} deep", "(!" * (depth - 1) + "(cn=a)" + ")" * (depth - 1)
 
 
+def differing():
+    """-> (what it is, two texts of content records)"""
+    sn = [b"sn: value %d\n" % number for number in range(10000)]
+    members = [b"l: member %d\n" % number for number in range(10000)]
+    both = [
+        ("10,000 values in reverse order", sn, sn[::-1]), ("the first of 10,000 values goes to the end", sn, sn[1:] + sn[:1]),
+        ("the last of 10,000 values goes to the front", sn, sn[-1:] + sn[:-1]), ("10,000 values in another case", sn, [line.replace(b"v", b"V") for line in sn]),
+        ("10 of 10,000 values change", members, members[:5000] + members[5005:] + [b"l: new %d\n" % number for number in range(5)]),
+        ("half of 10,000 values go", sn, sn[::2]), ("one more than half of 10,001 values stay", sn + [b"sn: more\n"], sn[::2] + [b"sn: more\n"]),
+        ("a value over 64 KiB changes at its end", [b"sn: " + b"z" * 70000 + b"a\n"], [b"sn: " + b"z" * 70000 + b"b\n"]),
+        ("a value over 64 KiB in another case", [b"sn: " + b"z" * 70000 + b"\nsn: a\nsn: b\n"], [b"sn: a\nsn: b\nsn: " + b"Z" * 70000 + b"\n"])]
+    for what, one, other in both:
+        yield what, *(texts([SUFFIX, entry(b"cn=a,dc=ex", b"".join(lines))]) for lines in (one, other))
+    few, all_of_them = [SUFFIX], [SUFFIX] + [entry(b"cn=%d,dc=ex" % number) for number in range(5000)]
+    some = [entry(b"cn=%d,dc=ex" % number, b"sn: s\n" * (number % 3 == 0)) for number in range(5000) if number % 7]
+    yield "5,000 entries come", texts(few), texts(all_of_them)
+    yield "5,000 entries go", texts(all_of_them), texts(few)
+    yield "of 5,000 entries some go and some change", texts(all_of_them), texts([SUFFIX] + some)
+    names = list(chain(40, 3))
+    respelled = [b"dc=ex"]
+    for name in names:
+        rdn = name.partition(b",")[0].split(b"+")
+        respelled.append(b"+".join(rdn[::-1]) + b"," + respelled[-1])
+    yield "40 RDNs in another order", *(texts([SUFFIX] + [entry(name) for name in some_names]) for some_names in (names, respelled[1:]))
+    long = b"x" * 70000
+    yield "an RDN over 64 KiB in another case", *(texts([SUFFIX, entry(b"cn=" + name + b",dc=ex")]) for name in (long, long.upper()))
+    big = texts([SUFFIX] + [entry(b"cn=%d,dc=ex" % number, b"sn: " + b"z" * 70000 + b"\n") for number in range(20)])
+    yield "a text over 1 MiB with a fault at its end", texts(few), big + b"\nfoo\n"
+    yield "a text over 1 MiB that breaks off", big, big[:-35000]
+
+
+def types_that_differ():
+    """-> (what it is, a dir.conf, two texts): entries of 3,000 types, so that comments are long"""
+    numbers = range(3000)
+    conf = CONF + b"".join(b"attributetype ( 1.4.%d NAME 't%d' SUP cn )\n" % (number, number) for number in numbers)
+    lines = [b"t%d: v\n" % number for number in numbers]
+    for what, one, other in [
+            ("3,000 types in reverse order", lines, lines[::-1]), ("3,000 types go", lines, []), ("3,000 types come", [], lines),
+            ("every second of 3,000 types goes", lines, lines[::2]), ("3,000 types get a value", lines, [line + line.replace(b"v", b"w") for line in lines])]:
+        yield what, conf, *(texts([SUFFIX, entry(b"cn=a,dc=ex", b"".join(some))]) for some in (one, other))
+
+
 def runs():
     """-> (what it is, the files before, the words behind the folder's option)"""
     for what, text in content():
@@ -176,6 +218,8 @@ def runs():
         yield what, {"dir.conf": CONF, "data.ldif": text, "index.txt": b"old"}, "slapindex", []
     for what, files, text in index_texts():
         yield what, files, "search", [text, "1.1"]
+    for what, conf, one, other in [(what, CONF, *both) for what, *both in differing()] + list(types_that_differ()):
+        yield what, {"dir.conf": conf, "data.ldif": one, "in": other}, "ldifdiff", ["-v", "-l", "db/in"]
     data = texts([SUFFIX] + [entry(b"cn=%d,dc=ex" % number) for number in range(50)] + [entry(b"cn=" + b"a" * 70000 + b",dc=ex")])
     for what, text in filters():
         yield what, {"dir.conf": CONF, "data.ldif": data}, "slapcat", ["-a", text]

@@ -3,8 +3,8 @@
 reading: sweep.py PROGRAM [--all]
 
 Each beginning of a text, and each single byte changed into others (with --all: into all that it may be), is a dir.conf of its own, with no
-data.ldif; a data.ldif of its own; an index.txt of its own, by which a few entries are searched; an input of slapadd or ldapmodify of its own,
-over a few entries; or a filter of its own over such. What the commands answer, print, say and store must be what `model.py` says, byte for
+data.ldif; a data.ldif of its own; an index.txt of its own, by which a few entries are searched; an input of slapadd, ldapmodify or ldifdiff of its
+own, over a few entries; or a filter of its own over such. What the commands answer, print, say and store must be what `model.py` says, byte for
 byte: a configuration, a directory and its index, or numbered faults with their lines; entries or a fault at a place. Prints each difference and at the end the number of texts; the exit status
 is 0 where nothing differs, else 1.
 """
@@ -18,6 +18,7 @@ import sys
 import tempfile
 from pathlib import Path
 
+import differences
 import model
 
 CONF = b"""\
@@ -143,6 +144,28 @@ objectClass: person
 member: cn=a,dc=ex
 """
 
+OTHER = b"""\
+version: 1
+
+dn: dc=ex
+objectClass: domain
+dc: ex
+
+dn: cn=ABA,dc=ex
+# note
+objectClass: person
+cn: aba
+description: folded
+description:: w6Qg
+uidNumber: 8
+
+dn: cn=n\\2C,cn=aba,dc=ex
+objectClass: person
+member: cn=x,cn=a
+ ba,dc=ex
+cn: n,
+"""
+
 
 INDEX_OTHERS = b"\0\n\r -0129:Aafg\x80\xff"
 
@@ -210,6 +233,16 @@ ADD_ANSWERS = functools.partial(record_answers, "slapadd", model.slapadd)
 CHANGE_ANSWERS = functools.partial(record_answers, "ldapmodify", functools.partial(model.ldapmodify, add_default=False))
 
 
+def other_answers(program, home, text):
+    """-> (what ldifdiff answers to content records, what the second reading answers)"""
+    db = home / f"other{os.getpid()}"
+    db.mkdir(exist_ok=True)
+    (db / "dir.conf").write_bytes(ENTRIES_CONF)
+    (db / "data.ldif").write_bytes(DUMP)
+    done = subprocess.run([program, "ldifdiff", "--db", db], input=text, capture_output=True, timeout=10)
+    return (done.returncode, done.stdout, done.stderr), differences.ldifdiff(ENTRIES_CONF, DUMP, text, db, "input")
+
+
 def filter_answers(program, home, text):
     """-> (what the program answers to a filter, what the second reading answers)"""
     db = home / f"filter{os.getpid()}"
@@ -248,7 +281,7 @@ def main():
     sweeps = [
         (conf_answers, list(broken(CONF, all_bytes if words.all else [bytes([b]) for b in OTHERS]))),
         *((answers, list(broken(text, all_bytes if words.all else [bytes([b]) for b in RECORD_OTHERS])))
-          for answers, text in [(dump_answers, DUMP), (ADD_ANSWERS, ADDED), (CHANGE_ANSWERS, CHANGED)]),
+          for answers, text in [(dump_answers, DUMP), (ADD_ANSWERS, ADDED), (CHANGE_ANSWERS, CHANGED), (other_answers, OTHER)]),
         (index_answers, list(broken(index, all_bytes if words.all else [bytes([b]) for b in INDEX_OTHERS]))),
         (filter_answers, list(broken(FILTER, all_bytes[1:128] + FILTER_OTHERS[-2:] if words.all else FILTER_OTHERS))),
     ]
