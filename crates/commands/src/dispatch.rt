@@ -12,7 +12,7 @@ use crate::slapcat::slapcat;
 use crate::slapindex::slapindex;
 use crate::telling::CommandTeller;
 use command_line::{Request, UsageFault, read};
-use databases::Silent;
+use databases::{Gauge, NoGauge, Silent};
 use device::{Device, Nowhere, Sink, Source, push_all};
 use folders::Folder;
 use sentences::Explainer;
@@ -111,8 +111,8 @@ fn is_verbose(asked: &Result<Request<'_>, UsageFault>) -> bool {
 const NO_PROGRAM: &str = "as a library";
 
 /// The same as `command`. `version` is what `--version` says behind the program's name. Where the words have `-v`, a sentence behind each report
-/// says why, on a stream of its own, which may lead to the same place as `err`.
-pub fn command_telling<W: AsStr, F: Folder, S: Source, O: Sink, E: Sink, V: Sink>(
+/// says why, on a stream of its own, which may lead to the same place as `err`, and a gauge shows how far the command is.
+pub fn command_telling<W: AsStr, F: Folder, S: Source, O: Sink, E: Sink, V: Sink, G: Gauge>(
     alloc: Global,
     words: &[W],
     version: &str,
@@ -121,6 +121,7 @@ pub fn command_telling<W: AsStr, F: Folder, S: Source, O: Sink, E: Sink, V: Sink
     out: &mut O,
     err: &mut E,
     told: &mut V,
+    gauge: &G,
 ) -> u8
     requires input { (S.seen input.old).failed < 2 ^ 64 - 1 }
     requires out { (O.written out.old).failed < 2 ^ 64 - 1 }
@@ -133,7 +134,7 @@ pub fn command_telling<W: AsStr, F: Folder, S: Source, O: Sink, E: Sink, V: Sink
 {
     let asked = read(alloc, words, version);
     if is_verbose(&asked) {
-        let mut explainer = Explainer::new(alloc, told);
+        let mut explainer = Explainer::new(alloc, told, gauge);
         return end_command(alloc, asked, folder, input, out, err, &mut explainer);
     }
     end_command(alloc, asked, folder, input, out, err, &mut Silent)
@@ -160,6 +161,15 @@ pub fn command<W: AsStr, F: Folder, S: Source, O: Sink, E: Sink>(
         (world_of F.files F.locking S.seen O.written E.written folder.new input.new out.new err.new)
         result }
 {
-    let nowhere = &mut Nowhere::new();
-    command_telling(alloc, words, NO_PROGRAM, folder, input, out, err, nowhere)
+    command_telling(
+        alloc,
+        words,
+        NO_PROGRAM,
+        folder,
+        input,
+        out,
+        err,
+        &mut Nowhere::new(),
+        &NoGauge,
+    )
 }

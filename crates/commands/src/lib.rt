@@ -16,5 +16,6 @@ mod slapindex;
 mod storing;
 mod telling;
 
+pub use databases::{Gauge, NoGauge, Tally};
 pub use dispatch::{command, command_telling};
 pub use messages::{CommandFault, Status, report_fault};

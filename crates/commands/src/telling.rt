@@ -3,7 +3,7 @@
 ghost use Rattle.std.specs.Prelude.{◌≡◌, ◌<◌, ◌-◌, ◌^◌};
 
 use crate::messages::{CommandFault, Stop};
-use databases::{Silent, Tally, Teller};
+use databases::{Gauge, Silent, Tally, Teller};
 use device::{Sink, Source};
 use differences::Counts;
 use ldif::Mode;
@@ -90,7 +90,7 @@ fn done_word(mode: Mode) -> &'static str {
     }
 }
 
-impl<V: Sink> CommandTeller for Explainer<'_, V> {
+impl<V: Sink, G: Gauge> CommandTeller for Explainer<'_, V, G> {
     fn note_filter(&mut self, alloc: Global, text: Option<&str>) {
         Explainer::note_filter(self, alloc, text);
     }

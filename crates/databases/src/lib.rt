@@ -43,4 +43,4 @@ pub use searching::search_with;
 pub use selection::Selection;
 pub use stamps::{Stamp, stamp_of};
 pub use target::Target;
-pub use teller::{NotedRecord, Silent, Teller};
+pub use teller::{Gauge, NoGauge, NotedRecord, Silent, Teller};

@@ -13,7 +13,7 @@ ghost use Rattle.databases.specs.inner.Endings.{load_fault_of};
 
 use crate::applying::apply;
 use crate::refusal::{RecordRefusal, RefusedRecord};
-use crate::runs::{RunFault, run_to_ending};
+use crate::runs::{RunFault, Tally, run_to_ending};
 use crate::target::Target;
 use crate::teller::{NotedRecord, Silent, Teller};
 use device::{Nowhere, Source};
@@ -89,6 +89,10 @@ impl<T: Teller> Teller for NotesAlone<'_, T> {
     }
 
     fn tell(&mut self) {}
+
+    fn pass(&mut self, tally: Tally) {
+        self.teller.pass(tally);
+    }
 }
 
 // that a record is refused

@@ -102,6 +102,7 @@ fn report<W: Sink, T: Teller>(
     match write_report(alloc, sink, refused) {
         Ok(()) => {
             teller.tell();
+            teller.pass(tally);
             Ok(behind_report(refused, go_on))
         }
         Err(WriteFault::Device) => Err(RunFault::Write(tally)),
@@ -127,6 +128,7 @@ fn count<W: Sink, T: Teller>(
         Outcome::Nothing => Ok(Progress::GoesOn),
         Outcome::Accepted => {
             tally.accepted += 1;
+            teller.pass(*tally);
             Ok(Progress::GoesOn)
         }
         Outcome::Refused(refusal) => {

@@ -3,6 +3,7 @@
 ghost use Rattle.std.specs.Prelude.{◌≡◌};
 
 use crate::refusal::RecordRefusal;
+use crate::runs::Tally;
 use ldif::{Mode, RawRecord, Record};
 use schema::Conf;
 use std::alloc::Global;
@@ -25,6 +26,9 @@ pub trait Teller {
 
     /// Tells of the refusal that it took note of last, now that its line is reported.
     fn tell(&mut self);
+
+    /// Takes note that a record went by. So many were carried out and refused by now.
+    fn pass(&mut self, tally: Tally);
 }
 
 /// Tells nothing.
@@ -35,4 +39,20 @@ impl Teller for Silent {
     fn note(&mut self, _alloc: Global, _conf: &Conf, _tree: &Tree, _refused: &NotedRecord<'_>) {}
 
     fn tell(&mut self) {}
+
+    fn pass(&mut self, _tally: Tally) {}
+}
+
+/// Shows people how far a run is. Nothing that a command does depends on it.
+pub trait Gauge {
+    /// Shows that so many records were carried out and refused by now, if it is time to.
+    fn show(&self, tally: Tally);
+}
+
+/// Shows nothing.
+#[derive(Drop)]
+pub struct NoGauge;
+
+impl Gauge for NoGauge {
+    fn show(&self, _tally: Tally) {}
 }

@@ -6,11 +6,13 @@ mod folder;
 mod last_failure;
 mod paths;
 mod placeholders;
+mod reading;
 mod system_files;
 mod uninterrupted;
 
 pub use folder::{Drafted, FileText, Folder, FolderFault, LockFault, Unpublished};
 pub use last_failure::LastFailure;
 pub use placeholders::Placeholders;
+pub use reading::{Counted, Reading};
 pub use system_files::{SystemDraft, SystemFiles};
 pub use uninterrupted::Uninterrupted;

@@ -5,6 +5,7 @@ use crate::drafts::{Draft, clear_left, is_same, make_draft, open_to_lock};
 use crate::folder::{Drafted, FileText, Folder, FolderFault, LockFault, Unpublished};
 use crate::last_failure::LastFailure;
 use crate::paths::parted;
+use crate::reading::{Counted, Reading};
 use crate::uninterrupted::Uninterrupted;
 use device::{OfRead, OfWrite};
 use std::alloc::Global;
@@ -24,11 +25,15 @@ struct Locked {
     file: File,
 }
 
+/// A file of the system that is read.
+type CountedFile<'r> = Counted<'r, Uninterrupted<'r, File>>;
+
 /// The files of the system.
 #[derive(Drop)]
 pub struct SystemFiles<'r, R> {
     rt: &'r R,
     failure: &'r LastFailure,
+    reading: &'r Reading,
     locked: Option<Locked>,
 }
 
@@ -47,15 +52,21 @@ fn names_open_file(name: &str) -> bool {
 }
 
 impl<'r, R: Files<File = File> + Clock + AllocGlobal + Clone + Drop> SystemFiles<'r, R> {
-    /// No lock is held. `failure` keeps what the system says where a call fails.
-    pub fn new(rt: &'r R, failure: &'r LastFailure) -> SystemFiles<'r, R>
+    /// No lock is held. `failure` keeps what the system says where a call fails, and `reading` how much is read.
+    pub fn new(rt: &'r R, failure: &'r LastFailure, reading: &'r Reading) -> SystemFiles<'r, R>
         ensures { is_some result.locked ≡ false }
     {
         SystemFiles {
             rt,
             failure,
+            reading,
             locked: None,
         }
+    }
+
+    fn counted(&self, file: File) -> CountedFile<'r> {
+        let size = self.reading.size_of(&file);
+        Counted::new(Uninterrupted::new(file, self.failure), self.reading, size)
     }
 
     /// Whether something has this name, be it a link that leads nowhere.
@@ -145,7 +156,7 @@ impl<'r, R: Files<File = File> + Clock + AllocGlobal + Clone + Drop> SystemFiles
 }
 
 impl<'r, R: Files<File = File> + Clock + AllocGlobal + Clone + Drop> Folder for SystemFiles<'r, R> {
-    type In = OfRead<Uninterrupted<'r, File>>;
+    type In = OfRead<CountedFile<'r>>;
 
     type Draft = SystemDraft<'r, R>;
 
@@ -166,13 +177,13 @@ impl<'r, R: Files<File = File> + Clock + AllocGlobal + Clone + Drop> Folder for 
     }
 
     /// A locked file is read by the handle that has its lock.
-    fn open(&self, name: &str) -> Result<Option<OfRead<Uninterrupted<'r, File>>>, FolderFault> {
+    fn open(&self, name: &str) -> Result<Option<OfRead<CountedFile<'r>>>, FolderFault> {
         self.failure.clear();
         if let Some(file) = self.open_locked(name)? {
-            return Ok(Some(OfRead::new(Uninterrupted::new(file, self.failure))));
+            return Ok(Some(OfRead::new(self.counted(file))));
         }
         match self.failure.noted(fs::open(self.rt, name)) {
-            Ok(file) => Ok(Some(OfRead::new(Uninterrupted::new(file, self.failure)))),
+            Ok(file) => Ok(Some(OfRead::new(self.counted(file)))),
             Err(error) if error.kind() == ErrorKind::NotFound && !self.is_there(name) => Ok(None),
             Err(error) => Err(FolderFault::from(error)),
         }

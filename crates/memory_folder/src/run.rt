@@ -5,7 +5,7 @@ ghost use Rattle.commands.specs.Commands.{CommandEnds};
 ghost use Rattle.memory_folder.specs.Memory.{world_of};
 
 use crate::folder::MemoryFolder;
-use commands::command_telling;
+use commands::{NoGauge, command_telling};
 use std::alloc::Global;
 use std::convert::AsStr;
 use try_device::{TrySink, TrySource};
@@ -28,5 +28,15 @@ pub fn run_command<W: AsStr>(
     ensures { CommandEnds (map W.text words.now)
         (world_of folder.old input.old out.old err.old) (world_of folder.new input.new out.new err.new) result }
 {
-    command_telling(alloc, words, "in memory", folder, input, out, err, told)
+    command_telling(
+        alloc,
+        words,
+        "in memory",
+        folder,
+        input,
+        out,
+        err,
+        told,
+        &NoGauge,
+    )
 }

@@ -16,7 +16,7 @@ use crate::record_words::Refused;
 use crate::search_words::{base_sentence, filter_sentence, limit_sentence};
 use crate::summary::Summary;
 use crate::telling::{tell_line, tell_sentence};
-use databases::{NotedRecord, RecordRefusal, Tally, Teller};
+use databases::{Gauge, NotedRecord, RecordRefusal, Tally, Teller};
 use device::Sink;
 use differences::Counts;
 use filter_text::FilterFault;
@@ -29,10 +29,11 @@ use stored_index::FaultLine;
 use tree::Tree;
 
 /// Tells why records are refused, a sentence each, to a sink of its own. Where memory runs out it tells nothing of that record, and where the sink
-/// fails nothing more.
+/// fails nothing more. A gauge shows how far a run is.
 #[derive(Drop)]
-pub struct Explainer<'a, V> {
+pub struct Explainer<'a, V, G> {
     told: &'a mut V,
+    gauge: &'a G,
     /// The sentence of the refusal that it took note of last.
     sentence: Option<Sentence>,
     /// The text of the filter, where the words have one.
@@ -43,10 +44,11 @@ pub struct Explainer<'a, V> {
     summary: Summary,
 }
 
-impl<'a, V: Sink> Explainer<'a, V> {
-    pub fn new(alloc: Global, told: &'a mut V) -> Explainer<'a, V> {
+impl<'a, V: Sink, G: Gauge> Explainer<'a, V, G> {
+    pub fn new(alloc: Global, told: &'a mut V, gauge: &'a G) -> Explainer<'a, V, G> {
         Explainer {
             told,
+            gauge,
             sentence: None,
             filter: None,
             base: None,
@@ -238,7 +240,7 @@ impl Refusal<'_> {
     }
 }
 
-impl<V: Sink> Teller for Explainer<'_, V> {
+impl<V: Sink, G: Gauge> Teller for Explainer<'_, V, G> {
     fn note(&mut self, alloc: Global, conf: &Conf, tree: &Tree, refused: &NotedRecord<'_>)
         requires { tree.now.conf ≡ conf.now }
         ensures { V.written self.new.told.now ≡ V.written self.old.told.now }
@@ -263,5 +265,11 @@ impl<V: Sink> Teller for Explainer<'_, V> {
         if let Some(sentence) = self.sentence.take() {
             tell_sentence(self.told, &sentence);
         }
+    }
+
+    fn pass(&mut self, tally: Tally)
+        ensures { V.written self.new.told.now ≡ V.written self.old.told.now }
+    {
+        self.gauge.show(tally);
     }
 }
