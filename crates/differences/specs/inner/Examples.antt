@@ -6,7 +6,9 @@ use Rattle.ldif.specs.declared.record.Mod.{Mod}
 use Rattle.ldif.specs.declared.record.Op.{Op}
 use Rattle.ldif.specs.declared.record.Op.TheVariants as ops
 use Rattle.differences.specs.Comments.{modified}
-use Rattle.differences.specs.EntryChanges.{Values, values_between}
+use Rattle.values.specs.declared.types.AttributeType.{AttributeType}
+use Rattle.entries.specs.Entries.{Attributes}
+use Rattle.differences.specs.EntryChanges.{Values, values_between, Block, block_of, blocks_between}
 
 -- which values go, and which come
 abbrev cut : Values → Values → Values × Values → Type 0
@@ -45,6 +47,30 @@ turned = refl
 spelled : cut (codes "Ann" ∷ []) (a ∷ []) (codes "Ann" ∷ [], a ∷ [])
 unfolding values_between a
 spelled = refl
+
+-- ---- attributes, by the numbers of their types
+
+-- which blocks there are, whatever the types
+abbrev blocks : Attributes → Attributes → List Block → Type 0
+blocks before after said = (types : List AttributeType) → blocks_between types before after ≡ said
+
+-- a type in the middle goes, and those around it stay
+type_goes : blocks ((0, a ∷ []) ∷ (1, b ∷ []) ∷ (2, c ∷ []) ∷ []) ((0, a ∷ []) ∷ (2, c ∷ []) ∷ []) (block_of 1 ops.Delete [] ∷ [])
+unfolding values_between blocks_between a b c
+type_goes types = refl
+
+-- a type that comes is put last, with all its values
+type_comes : blocks ((0, a ∷ []) ∷ []) ((0, a ∷ []) ∷ (1, b ∷ c ∷ []) ∷ []) (block_of 1 ops.Add (b ∷ c ∷ []) ∷ [])
+unfolding values_between blocks_between a b c
+type_comes types = refl
+
+-- one is new in front: the one behind it goes, and comes again
+type_in_front : blocks ((0, a ∷ []) ∷ []) ((1, b ∷ []) ∷ (0, a ∷ []) ∷ [])
+    (block_of 0 ops.Delete [] ∷ block_of 1 ops.Add (b ∷ []) ∷ block_of 0 ops.Add (a ∷ []) ∷ [])
+unfolding values_between blocks_between a b c
+type_in_front types = refl
+
+-- ---- the comment
 
 change : Op → List ℕ → Values → Mod
 change op name values = record { op = op; attr = name; values = values }
