@@ -27,9 +27,9 @@ TINY = [b"", b" ", b"(", b")", b"()", b"a", b"=", b"a=", b"=a", b"&", b"|", b"!"
         b"!(a=b)", b"!(!(a=b))", b"&(a=b) x", b" (&) ", b"( &)", b"(& )", b"(!(&)(&))", b"(&(&)(|))x", b"(a=b", b"((a=b))", b"(a=(b))",
         b"\\28a=b)", b"(a\\3db)", b"(&\t)", b"(objectClass=*)"]
 SCOPES = [None] * 4 + [b"base", b"one", b"sub", b"sub", b"children", b"children"]
-BAD_SCOPES = [b"", b"SUB", b"subtree", b"onelevel", b"base ", b"0", b"s"]
+BAD_SCOPES = [b"", b"SUB", b"subtree", b"onelevel", b"subordinate", b"base ", b"0", b"s"]
 LIMITS = [b"0", b"1", b"1", b"1", b"2", b"2", b"3", b"4", b"5", b"10", b"007", b"000", b"4294967295", b"04294967295"]
-BAD_LIMITS = [b"", b"+5", b"-1", b"4294967296", b"99999999999999999999", b"1.0", b"0x1", b" 1", b"1 ", b"none", b"\xd9\xa3", b"1_0"]
+BAD_LIMITS = [b"", b"+5", b"-1", b"4294967296", b"99999999999999999999", b"1.0", b"0x1", b" 1", b"1 ", b"none", b"max", b"\xd9\xa3", b"1_0"]
 ODD_WORDS = [b"no", b"", b"$T;x", b"1.1", b"*", b"+", b"**", b" $T", b"$T ", b" (cn", b"*+", b"top", b"$T,$T", b"2.5.4.0"]
 
 

@@ -236,7 +236,7 @@ def is_headed(tokens):
 
 def unread(text, forms, is_form):
     """What can't be read of a definition, and the word that this is of. `is_form` tells whether a field by itself has its form."""
-    tokens, seen, at = loose_tokens(text), [], 2
+    tokens, seen, last, at = loose_tokens(text), [], None, 2
     if not is_headed(tokens):
         return "it begins with ( and a numeric OID", None
     while at < len(tokens) and tokens[at][2] is not None:
@@ -259,8 +259,9 @@ def unread(text, forms, is_form):
             if not is_form(low, field):
                 return f"what stands behind {name(word)} can't be read, or is not allowed", word
         seen.append(low)
+        last = word
     if at < len(tokens) and tokens[at][0] != b")":
-        return (f"what stands behind {name(seen[-1])} can't be read, or is not allowed", seen[-1]) if seen else ("it begins with ( and a numeric OID", None)
+        return (f"what stands behind {name(last)} can't be read, or is not allowed", last) if seen else ("it begins with ( and a numeric OID", None)
     if at == len(tokens) - 1 and b"usage" in forms and LOOSE.match(text, tokens[at][3] + 1) is None and not text[tokens[at][3] + 1:].strip():
         return "an attribute type has SYNTAX or SUP", None
     return "it ends with ), and nothing stands behind that", None
