@@ -11,14 +11,42 @@ import sentences
 REPLACE, ADD, DELETE = "replace", "add", "delete"
 
 
-def changes(before, after, is_unordered=False, is_chosen=lambda path: True):
-    """The changes that make the directory `before` the directory `after` at the chosen paths: children go before their parents, and come
-    behind them."""
-    found = [ldif.Change(name_of(before, path), None, "delete", None)
-             for path in sorted(before.entries, reverse=True) if path not in after.entries and is_chosen(path)]
-    for path in sorted(after.entries):
+# where the changes lead
+
+def goal(before, after, is_unordered=False, is_chosen=lambda path: True):
+    """The directory that the changes lead to, but for what users can't change: at the chosen paths that of `after`, elsewhere that of `before`."""
+    wanted = model.Directory(before.conf)
+    for path in sorted(before.entries.keys() | after.entries.keys()):
+        entry = old = before.entries.get(path)
         if is_chosen(path):
-            found += changes_at(before, after, path, is_unordered)
+            entry = after.entries.get(path)
+            if old is not None and entry is not None and is_unordered:
+                entry = old[0], as_it_stands(old[1], entry[1])
+        if entry is not None:
+            wanted.entries[path] = entry
+    return wanted
+
+
+def as_it_stands(old, new):
+    """The types and values of `new`, as sets, in the order and the spelling of `old`; what that hasn't stands behind."""
+    wanted = model.Attributes(new.conf)
+    shared = [number for number in old.values if number in new.values]
+    for number in dict.fromkeys([*shared, *new.values]):
+        there, coming = old.values.get(number, {}), new.values[number]
+        stay = {form: value for form, value in there.items() if form in coming}
+        wanted.values[number] = stay | {form: value for form, value in coming.items() if form not in there}
+    return wanted
+
+
+# the changes
+
+def changes(before, after, wanted):
+    """The changes that make the directory `before` the directory `wanted`, with the names that `after` has for what comes and is changed: children
+    go before their parents, and come behind them."""
+    found = [ldif.Change(name_of(before, path), None, "delete", None)
+             for path in sorted(before.entries, reverse=True) if path not in wanted.entries]
+    for path in sorted(wanted.entries):
+        found += changes_at(before, after, wanted, path)
     return found
 
 
@@ -27,20 +55,20 @@ def name_of(directory, path):
     return directory.conf.written_name(rdns + directory.conf.suffix)
 
 
-def changes_at(before, after, path, is_unordered):
-    """The changes at a path at which `after` has an entry: an add, or perhaps a modrdn, and perhaps a modify."""
-    conf, name = after.conf, name_of(after, path)
-    rdn, attributes = after.entries[path]
+def changes_at(before, after, wanted, path):
+    """The changes at a path at which `wanted` has an entry: an add, or perhaps a modrdn, and perhaps a modify."""
+    conf = before.conf
+    rdn, attributes = wanted.entries[path]
     if path not in before.entries:
         lines = [(conf.types[number].printed(), value) for number, values in changeable(attributes) for value in values]
-        return [ldif.Change(name, None, "add", lines)]
+        return [ldif.Change(name_of(after, path), None, "add", lines)]
     old_rdn, old = before.entries[path]
     found = []
-    if rdn != old_rdn and not is_unordered:
+    if rdn != old_rdn:
         found.append(ldif.Change(name_of(before, path), None, "modrdn", ldif.Rename(conf.written_name([rdn]), False)))
-    blocks = (unordered_blocks if is_unordered else ordered_blocks)(conf, changeable(old), changeable(attributes))
+    blocks = blocks_between(conf, changeable(old), changeable(attributes))
     if blocks:
-        found.append(ldif.Change(name, None, "modify", blocks))
+        found.append(ldif.Change(name_of(after, path), None, "modify", blocks))
     return found
 
 
@@ -50,14 +78,14 @@ def changeable(attributes):
     return [(number, list(values.values())) for number, values in attributes.values.items() if not conf.types[number].is_fixed]
 
 
-def ordered_blocks(conf, old, new):
+def blocks_between(conf, old, new):
     """The types of `new` that stand in `old` in this order stay in their places, from the first on; all others go, or come at the end."""
     blocks, at, coming = [], 0, 0
     places = {number: place for place, (number, _) in enumerate(old)}
     while at < len(old) and coming < len(new) and places.get(new[coming][0], -1) >= at:
         number, values = old[at]
         if number == new[coming][0]:
-            gone, come = ordered_values(values, new[coming][1])
+            gone, come = values_between(values, new[coming][1])
             blocks += value_blocks(conf, number, gone, come, new[coming][1])
             coming += 1
         else:
@@ -67,7 +95,7 @@ def ordered_blocks(conf, old, new):
     return blocks + [block(conf, ADD, number, values) for number, values in new[coming:]]
 
 
-def ordered_values(old, new):
+def values_between(old, new):
     """-> (values that go, values that come), byte for byte. Those that stay are a part of the old ones in their order, and the first of the new."""
     gone, at, coming = [], 0, 0
     places = {value: place for place, value in enumerate(old)}
@@ -78,25 +106,6 @@ def ordered_values(old, new):
             gone.append(old[at])
         at += 1
     return gone + old[at:], new[coming:]
-
-
-def unordered_blocks(conf, old, new):
-    """Types and values as sets, by their equality rules."""
-    wanted, blocks = dict(new), []
-    for number, values in old:
-        if number in wanted:
-            gone, come = unequal(conf, number, values, wanted[number]), unequal(conf, number, wanted[number], values)
-            blocks += value_blocks(conf, number, gone, come, wanted[number])
-        else:
-            blocks.append(block(conf, DELETE, number))
-    there = dict(old)
-    return blocks + [block(conf, ADD, number, values) for number, values in new if number not in there]
-
-
-def unequal(conf, number, values, others):
-    """The values that equal none of the others."""
-    forms = {conf.normal(number, other) for other in others}
-    return [value for value in values if conf.normal(number, value) not in forms]
 
 
 def value_blocks(conf, number, gone, come, new):
@@ -158,18 +167,34 @@ def summary(found):
             f"{counted(whole, 'attribute')} deleted, {sentences.grouped(replaced)} replaced\n")
 
 
-# what users can't change
+# what can't be carried out
 
-def warnings(before, after, is_chosen=lambda path: True):
-    """Of each chosen entry that the changes would leave without what its classes ask for, or with what they don't allow: the line about it.
-    -> [(its path, the line)]"""
-    lines = ((path, warning(before, after, path)) for path in sorted(after.entries) if is_chosen(path))
+ABOVE, BELOW = "no entry above it", "entries below it stay"
+
+
+def warnings(before, after, wanted):
+    """Of each entry that the changes can't make what it is to be, since a record of theirs is refused: the line about it. First those that go, and
+    then the others, as the changes come, each in the order of paths. -> [(its path, the line)]"""
+    above = {path[:depth] for path in wanted.entries for depth in range(len(path))}
+    paths = sorted(before.entries.keys() | wanted.entries.keys(), key=lambda path: (path in wanted.entries, path))
+    lines = ((path, warning(before, after, wanted, path, above)) for path in paths)
     return [(path, line) for path, line in lines if line]
 
 
-def warning(before, after, path):
-    conf, types = after.conf, left_types(before, after, path)
-    names = [value for value in after.entries[path][1].values[0].values()]
+def warning(before, after, wanted, path, above):
+    """It comes, and nothing is to be above it (32); or it goes, and what is below it is to stay (66), so that it is one of those `above` an entry;
+    or what users can't change breaks its classes (65)."""
+    if path not in wanted.entries:
+        return f"{sentences.name(name_of(before, path))}: {BELOW}\n" if path in above else ""
+    if path not in before.entries and path != () and path[:-1] not in wanted.entries:
+        return f"{sentences.name(name_of(after, path))}: {ABOVE}\n"
+    return class_warning(before, after, wanted, path)
+
+
+def class_warning(before, after, wanted, path):
+    """Whether the changes leave an entry without what its classes ask for, or with what they don't allow."""
+    conf, types = wanted.conf, left_types(before, wanted, path)
+    names = list(wanted.entries[path][1].values[0].values())
     if conf.fits_classes(names, types):
         return ""
     named, name = [conf.class_of(one) for one in names], sentences.name(name_of(after, path))
@@ -182,10 +207,10 @@ def warning(before, after, path):
     return f"{name}: its classes don't allow {conf.types[barred[0]].printed().decode()} that users can't delete\n"
 
 
-def left_types(before, after, path):
+def left_types(before, wanted, path):
     """The types of the entry behind the changes, as the keys of a dictionary."""
-    conf = after.conf
-    rdn, attributes = after.entries[path]
+    conf = wanted.conf
+    rdn, attributes = wanted.entries[path]
     fixed = before.entries[path][1].values if path in before.entries else [number for number, _ in rdn]
     stays = [number for number in fixed if conf.types[number].is_fixed]
     return dict.fromkeys(stays + [number for number, _ in changeable(attributes)]).keys()
@@ -203,8 +228,9 @@ def ldifdiff(conf_text, data, text, folder, source, filter_text=None, below=None
         is_chosen = choice(before, after, steps, below)
     except model.Ended as end:
         return end.status, b"", end.told(verbose)
-    found = changes(before, after, is_unordered, is_chosen)
-    messages = "".join(line for _, line in warnings(before, after, is_chosen)) + summary(found) * verbose
+    wanted = goal(before, after, is_unordered, is_chosen)
+    found = changes(before, after, wanted)
+    messages = "".join(line for _, line in warnings(before, after, wanted)) + summary(found) * verbose
     return (1 if found else 0), b"".join(map(printed, found)), messages.encode()
 
 

@@ -194,6 +194,21 @@ def differing():
     yield "a text over 1 MiB that breaks off", big, big[:-35000]
 
 
+def parts():
+    """-> (what it is, two texts of content records, the options of a part)"""
+    names = list(chain(40))
+    tree, top = texts([SUFFIX] + [entry(name) for name in names]), texts([SUFFIX])
+    yield "a branch of 20 RDNs comes without what is above it", top, tree, ["-b", names[20]]
+    yield "a branch of 20 RDNs goes", tree, top, ["-b", names[20]]
+    yield "40 RDNs go but for the last one", tree, top, ["-a", b"(!(" + names[-1].partition(b",")[0] + b"))"]
+    numbers = range(5000)
+    old, new = (texts([SUFFIX] + [entry(b"cn=%d,dc=ex" % number, b"sn: %d\n" % (number % most)) for number in numbers]) for most in (7, 5))
+    yield "one of 5,000 entries", old, new, ["-b", "cn=4999,dc=ex"]
+    yield "a part of 5,000 entries", old, new, ["-a", "(sn=6)"]
+    yield "a part of 5,000 entries, as sets", old, new, ["-a", "(!(sn=4))", "--unordered"]
+    yield "a name over 64 KiB", old, new, ["-b", b"cn=" + b"x" * 70000 + b",dc=ex"]
+
+
 def types_that_differ():
     """-> (what it is, a dir.conf, two texts): entries of 3,000 types, so that comments are long"""
     numbers = range(3000)
@@ -219,11 +234,15 @@ def runs():
     for what, files, text in index_texts():
         yield what, files, "search", [text, "1.1"]
     for what, conf, one, other in [(what, CONF, *both) for what, *both in differing()] + list(types_that_differ()):
-        yield what, {"dir.conf": conf, "data.ldif": one, "in": other}, "ldifdiff", ["-v", "-l", "db/in"]
+        for options in ([], ["--unordered"]):
+            yield what, {"dir.conf": conf, "data.ldif": one, "in": other}, "ldifdiff", ["-v", "-l", "db/in", *options]
+    for what, one, other, options in parts():
+        yield what, {"dir.conf": CONF, "data.ldif": one, "in": other}, "ldifdiff", ["-v", "-l", "db/in", *options]
     data = texts([SUFFIX] + [entry(b"cn=%d,dc=ex" % number) for number in range(50)] + [entry(b"cn=" + b"a" * 70000 + b",dc=ex")])
     for what, text in filters():
         yield what, {"dir.conf": CONF, "data.ldif": data}, "slapcat", ["-a", text]
         yield what, {"dir.conf": CONF, "data.ldif": data}, "search", [text]
+        yield what, {"dir.conf": CONF, "data.ldif": data, "in": SUFFIX}, "ldifdiff", ["-l", "db/in", "-a", text]
 
 
 def outcome(program, home, files, command, words):

@@ -2,10 +2,11 @@
 """Sees that the changes of ldifdiff lead where they are to lead: leads.py PROGRAM COUNT SEED .. [--unordered] [--parts] [--warnings]
 
 For each SEED, COUNT random pairs of directories. What the second reading prints (`differences.py`) is carried out by its own ldapmodify
-(`model.py`): no record is refused, but for 65 where a warning stands, and 32 for what is new below such an entry; each entry is left as it is
-to be, and nothing is left to do. PROGRAM prints the same, byte for byte; its own ldapmodify carries that out with the same answers, with -c and
-without, and its slapcat prints what is left. With --unordered, --parts (-b and -a) and --warnings some pairs have that, too. With - as PROGRAM only
-the second reading is looked at. Prints what differs, and at the end how often what came up; the exit status is 0 where nothing differs, else 1."""
+(`model.py`): a record is refused only where a warning says so, and for the reason that it says, or it is of an entry below one that was refused;
+each other entry is left as it is to be, and behind changes of which none is refused nothing is left to do. PROGRAM prints the same, byte for byte;
+its own ldapmodify carries that out with the same answers, with -c and without, and its slapcat prints what is left. With --unordered and --parts
+(-b and -a) some pairs have that, too; with --warnings, those with a warning aren't left out. With - as PROGRAM only the second reading is looked at.
+Prints what differs, and at the end how often what came up; the exit status is 0 where nothing differs, else 1."""
 import argparse
 import collections
 import os
@@ -48,32 +49,45 @@ def as_sets(conf, lists):
     return {number: {conf.normal(number, text) for text in texts} for number, texts in lists}
 
 
-def wanted_paths(before, after, is_chosen):
-    """Where entries are to be at the end."""
-    return {path for path in before.entries.keys() | after.entries.keys() if path in (after if is_chosen(path) else before).entries}
+def check_goal(before, after, wanted, is_unordered, is_chosen):
+    """Whether the changes are to lead to what the second directory has, where it is chosen: in its words and its order, or as sets in the words
+    and the order of the first one."""
+    conf = before.conf
+    for path in before.entries.keys() | after.entries.keys():
+        there, old, new = (one.entries.get(path) for one in (wanted, before, after))
+        if not is_chosen(path):
+            is_right = there is old
+        elif old is None or new is None or not is_unordered:
+            is_right = there is new
+        else:
+            (users, _), (olds, _), (news, _) = parted(there[1]), parted(old[1]), parted(new[1])
+            is_right = there[0] == old[0] and as_sets(conf, users) == as_sets(conf, news) and keeps_words(conf, olds, users)
+        if not is_right:
+            raise Wrong(f"to lead to {there} at {path}, from {old} to {new}")
 
 
-def is_left_right(before, after, left, path, is_unordered, is_chosen):
+def keeps_words(conf, old, wanted):
+    """Whether what both have begins `wanted`, as `old` has it: the types, and the values of each."""
+    olds, wanteds = dict(old), dict(wanted)
+    stay = [number for number, _ in old if number in wanteds]
+    if list(wanteds)[:len(stay)] != stay:
+        return False
+    forms = as_sets(conf, wanted)
+    kept = [[text for text in olds[number] if conf.normal(number, text) in forms[number]] for number in stay]
+    return all(wanteds[number][:len(texts)] == texts for number, texts in zip(stay, kept))
+
+
+def is_left_right(before, wanted, left, path):
     """Whether the changes leave at a path what they are to leave there, where none is refused."""
-    conf, there, old, new = left.conf, left.entries.get(path), before.entries.get(path), after.entries.get(path)
-    if not is_chosen(path):
-        return there is old if there is None or old is None else there == old or same_entry(there, old)
-    if new is None or there is None:
-        return new is there
-    (users, fixed), (new_users, _) = parted(there[1]), parted(new[1])
-    if old is None:
-        came = [(number, [text]) for number, text in new[0] if conf.types[number].is_fixed]
-        return there[0] == new[0] and users_alike(conf, users, new_users, is_unordered) and fixed == came
-    rdn = old[0] if is_unordered else new[0]
-    return there[0] == rdn and users_alike(conf, users, new_users, is_unordered) and fixed == parted(old[1])[1]
-
-
-def same_entry(one, other):
-    return one[0] == other[0] and parted(one[1]) == parted(other[1])
-
-
-def users_alike(conf, there, wanted, is_unordered):
-    return as_sets(conf, there) == as_sets(conf, wanted) if is_unordered else there == wanted
+    there, old, entry = (one.entries.get(path) for one in (left, before, wanted))
+    if entry is None or there is None:
+        return entry is there
+    (users, fixed), (wanted_users, wanted_fixed) = parted(there[1]), parted(entry[1])
+    if old is not None:
+        wanted_fixed = parted(old[1])[1]
+    else:
+        wanted_fixed = [(number, [text]) for number, text in entry[0] if left.conf.types[number].is_fixed]
+    return there[0] == entry[0] and users == wanted_users and fixed == wanted_fixed
 
 
 def refused_paths(left, text):
@@ -88,48 +102,69 @@ def refused_paths(left, text):
     return found
 
 
+CODES = {differences.ABOVE: 32, differences.BELOW: 66}      # of what a warning ends with; else 65
+
+
+def check_refusals(before, warned, refused):
+    """Whether each refusal is one that a line warns of, or below an entry that was to come and was refused; and each line warns of one."""
+    codes = {path: CODES.get(line.rpartition(": ")[2].rstrip("\n"), 65) for path, line in warned.items()}
+    for path, found in refused.items():
+        is_below = path not in before.entries and path != () and path[:-1] in refused and path[:-1] not in before.entries
+        if found != [codes.get(path)] and not (is_below and found == [32]):
+            raise Wrong(f"refused {found} at {path}, warned of {warned}")
+    if warned.keys() - refused.keys():
+        raise Wrong(f"refused {dict(refused)}, warned of {warned}")
+
+
 def check_reading(before, after, case, is_chosen, counts):
     """The changes of the second reading, carried out by its own ldapmodify."""
-    found = differences.changes(before, after, case.unordered, is_chosen)
+    wanted = differences.goal(before, after, case.unordered, is_chosen)
+    check_goal(before, after, wanted, case.unordered, is_chosen)
+    found = differences.changes(before, after, wanted)
     text = b"".join(map(differences.printed, found))
     read = [ldif.read_change(first, lines, False) for _, first, lines in ldif.records(text)]
     if read != found:
         raise Wrong(f"read back as {read}, was {found}")
-    warned = {path for path, _ in differences.warnings(before, after, is_chosen)}
-    left = copied(before)
+    warned, left = dict(differences.warnings(before, after, wanted)), copied(before)
     refused = refused_paths(left, text)
-    paths = wanted_paths(before, after, is_chosen)
-    is_closed = all(path == () or path[:-1] in paths for path in paths)
-    at_fault = {path for path in warned if refused.get(path) == [65]}
-    # an entry above which one is warned of can be refused for want of that one
-    below = {path for path, codes in refused.items()
-             if codes == [32] and path not in before.entries and any(path[:n] in warned for n in range(len(path)))}
-    if is_closed and (set(refused) != at_fault | below or warned - at_fault - below):
-        raise Wrong(f"refused {dict(refused)}, warned of {warned}")
-    if not is_closed and any(set(codes) - {65, 32, 66} for codes in refused.values()):
-        raise Wrong(f"refused {dict(refused)}")
+    check_refusals(before, warned, refused)
     for path in before.entries.keys() | after.entries.keys():
-        if path not in refused and not is_left_right(before, after, left, path, case.unordered, is_chosen):
-            raise Wrong(f"at {path} {left.entries.get(path)}, {after.entries.get(path)}")
-    if not refused and differences.changes(left, after, case.unordered, is_chosen):
-        raise Wrong("something is left to do")
-    is_whole = case.filter is None and case.base is None
-    if not refused and not case.unordered and is_whole and not any(kind.is_fixed for kind in before.conf.types):
-        if left.dump() != after.dump():
-            raise Wrong("another dump is left")
-        counts["the very dump"] += 1
-    for path in before.entries:
-        if differences.changes_at(before, before, path, case.unordered):
-            raise Wrong("changes between alike ones")
-    count(counts, found, refused, warned, is_closed)
+        if path not in refused and not is_left_right(before, wanted, left, path):
+            raise Wrong(f"at {path} {left.entries.get(path)}, wanted {wanted.entries.get(path)}")
+    if not refused:
+        check_rest(before, after, left, case, is_chosen, counts)
+    if differences.changes(before, before, differences.goal(before, before, case.unordered)):
+        raise Wrong("changes between alike ones")
+    count(counts, case, found, refused, warned)
     return text, left
 
 
-def count(counts, found, refused, warned, is_closed):
+def check_rest(before, after, left, case, is_chosen, counts):
+    """Behind changes of which none was refused nothing is left to do, in the same part, and in what is that part by now."""
+    choices = [is_chosen]
+    try:
+        choices.append(differences.choice(left, after, model.read_filter(b"(&)" if case.filter is None else case.filter), case.base))
+    except model.Ended:
+        counts["whose base is gone"] += 1
+    for chosen in choices:
+        if differences.changes(left, after, differences.goal(left, after, case.unordered, chosen)):
+            raise Wrong("something is left to do")
+    is_whole = case.filter is None and case.base is None
+    if not case.unordered and is_whole and not any(kind.is_fixed for kind in before.conf.types):
+        if left.dump() != after.dump():
+            raise Wrong("another dump is left")
+        counts["the very dump"] += 1
+
+
+def count(counts, case, found, refused, warned):
     counts["pairs that are alike" if not found else "pairs that differ"] += 1
-    counts["with entries warned of"] += bool(warned)
-    counts["whose part isn't closed"] += not is_closed
-    counts["with 32 below an entry warned of"] += is_closed and any(32 in codes for codes in refused.values())
+    counts["with -a"] += case.filter is not None
+    counts["with -b"] += case.base is not None
+    counts["with --unordered"] += case.unordered
+    counts["with warnings"] += bool(warned)
+    for line in warned.values():
+        counts[f"warnings: {[word for word in (*CODES, 'ask for', 'allow') if word in line][-1]}"] += 1
+    counts["refused below one that is refused"] += len(refused.keys() - warned.keys())
     for change in found:
         counts[f"records: {change.kind}"] += 1
         for one in change.what if change.kind == "modify" else ():
@@ -201,7 +236,11 @@ def directories(case):
 
 
 def refusals(case, runner):
-    """All that may be said with -v of the first record that is refused, in data.ldif or else in the text."""
+    """All that may be said with -v of the first record that is refused, in data.ldif or else in the text; nothing where dir.conf is at fault."""
+    try:
+        model.load(case.conf, None, "")
+    except model.Ended:
+        return set()
     source = runner.file if case.by_file else "input"
     for name, text in (("data.ldif", case.data), (source, case.text)):
         told = model.Told()
@@ -215,10 +254,10 @@ def check(case, runner, warnings, counts):
     found, text = directories(case), None
     if found is None:
         counts["pairs at fault"] += 1
-    elif not warnings and differences.warnings(*found):
-        return
     else:
         before, after, is_chosen = found
+        if not warnings and differences.warnings(before, after, differences.goal(before, after, case.unordered, is_chosen)):
+            return
         text, _ = check_reading(before, after, case, is_chosen, counts)
     if runner is not None:
         seen, wanted = runner.ldifdiff(case)

@@ -54,7 +54,7 @@ class Attributes:
     """The values of an entry, by type in the order of coming: {type: {normal form: value}}. No type is without values."""
 
     def __init__(self, conf, values=()):
-        self.conf, self.values, self.said, self.is_added = conf, dict(values), {}, False
+        self.conf, self.values, self.said = conf, dict(values), {}
 
     def copy(self):
         return Attributes(self.conf, {number: dict(values) for number, values in self.values.items()})
@@ -88,18 +88,16 @@ class Attributes:
             raise Refused(65, self.class_words())
         single = [number for number, values in self.values.items() if self.conf.types[number].is_single and len(values) > 1]
         if single:
-            raise Refused(19, [f"{self.printed(number)} is SINGLE-VALUE, and the entry would have more values" for number in single])
+            raise Refused(19, [f"{self.printed(number)} is SINGLE-VALUE, and the entry would have {sentences.grouped(len(self.values[number]))} values"
+                               for number in single])
 
     def printed(self, number):
         return sentences.name(self.conf.types[number].printed())
 
-    def lacked_types(self, numbers):
-        """How types that a class requires are named: of an add all of them, at most three by their names; else any one."""
-        printed = [self.printed(number) for number in numbers]
-        if not self.is_added or not printed:
-            return printed
-        more = f" and {sentences.grouped(len(printed) - 3)} more" if len(printed) > 3 else ""
-        return [", ".join(printed[:3]) + more]
+    def named_types(self, numbers):
+        """How types that a class requires are named: at most three by their names, and how many more there are."""
+        more = f" and {sentences.grouped(len(numbers) - 3)} more" if len(numbers) > 3 else ""
+        return ", ".join(self.printed(number) for number in numbers[:3]) + more
 
     def class_words(self):
         """Each way to say what is wrong with the classes of an entry, where several types or classes are."""
@@ -110,7 +108,7 @@ class Attributes:
         lacked = []
         for named in map(conf.class_of, names):
             numbers = [number for number in conf.required_in_order(named) if number not in self.values]
-            lacked += [f"{sentences.name(conf.printed_class(named))} requires {types}" for types in self.lacked_types(numbers)]
+            lacked += [f"{sentences.name(conf.printed_class(named))} requires {self.named_types(numbers)}"] * bool(numbers)
         if lacked:
             return lacked
         belongs = conf.with_superclasses([conf.class_of(name) for name in names])
@@ -200,7 +198,6 @@ class Directory:
         # the entry of the suffix is named as dir.conf writes it
         rdn = pairs[0] if path else self.conf.suffix[0]
         # what is wrong is told of what the record says
-        attributes.is_added = True
         attributes.said = {(number, self.conf.normal(number, value)): value
                            for number, value in pairs[0] if not attributes.has(number, value)}
         for pair in rdn:
@@ -393,7 +390,8 @@ def run(directory, text, go_on, changes=False, add_default=False, told=None):
             report.append(f"line {numbers[0]}: {refusal}\n")
             if told is not None:
                 told.refusals.append((str(refusal), sentences_of(refusal, change, numbers, first, lines, changes)))
-                keep_refused(directory, change, numbers[0])
+                if refusal.code != 68:
+                    keep_refused(directory, change, numbers[0])
             if not go_on:
                 break
     if told is not None:
@@ -422,7 +420,7 @@ def sentences_of(refusal, change, numbers, first, lines, changes):
 
 
 def keep_refused(directory, change, line):
-    """A refused add is remembered, by the path of its name."""
+    """A refused add of an entry that isn't there is remembered, by the path of its name."""
     if change is not None and change.kind == "add":
         try:
             directory.refused.setdefault(directory.located(change.dn)[1], line)
@@ -533,8 +531,14 @@ def bad_number(word, option):
     return bad_value(word, option, b"a number from 0 to %d" % MOST_ENTRIES)
 
 
+# values that OpenLDAP's ldapsearch takes for an option, and what is meant
+MEANT = {b"-s onelevel": b"-s one", b"-s subtree": b"-s sub", b"-s subordinate": b"-s children", b"-z none": b"-z 0", b"-z max": b"-z 0"}
+
+
 def bad_value(word, option, wanted):
-    return 2, b"", b"error: invalid value '%s' for '%s': it has to be %s\n" % (word, option, wanted)
+    written = b"%s %s" % (option.split()[0], word)
+    meant = b"  here %s is %s\n" % (written, MEANT[written]) if written in MEANT else b""
+    return 2, b"", b"error: invalid value '%s' for '%s': it has to be %s\n%s" % (word, option, wanted, meant)
 
 
 def index_rows(directory, index, verbose):

@@ -57,7 +57,7 @@ class Pairs(Searches):
                 self.change_entry(path)
         self.names = [self.name_of(path) for path in directory.entries]
         if self.names or some(rng, .7):
-            self.fill(rng.choice([0, 0, 1, 3]))
+            self.fill(rng.choice([0, 0, 1, 3, 5]))
         if some(rng, .2):
             self.text(rng.choice([1, 2, 4]))
         return directory
@@ -66,7 +66,7 @@ class Pairs(Searches):
         """An entry goes, with all below it or where none is."""
         entries = self.directory.entries
         below = [other for other in entries if other[:len(path)] == path]
-        if len(below) == 1 or some(self.rng, .2) and path:
+        if len(below) == 1 or some(self.rng, .4) and path:
             for other in below:
                 del entries[other]
 
@@ -75,7 +75,7 @@ class Pairs(Searches):
         rng, entries = self.rng, self.directory.entries
         for _ in range(rng.choice([1, 1, 2, 4])):
             rdn, attributes = entries[path]
-            rdn, attributes = rng.choice([self.respelled] + [self.with_changed_values] * 3)(path, rdn, attributes.copy())
+            rdn, attributes = rng.choice([self.respelled, self.with_other_classes] + [self.with_changed_values] * 4)(path, rdn, attributes.copy())
             for pair in rdn:
                 if not attributes.has(*pair):
                     attributes.add(*pair)
@@ -110,6 +110,31 @@ class Pairs(Searches):
             return rdn, attributes
         same = self.directory.conf.steps([other]) == self.directory.conf.steps([rdn])
         return (other if same else rdn), attributes
+
+    def with_other_classes(self, _, rdn, attributes):
+        """Of other classes, or fewer, and without what users can't change and what these classes don't allow; or as it is, where that is none."""
+        rng, conf, names = self.rng, attributes.conf, list(attributes.values[model.OBJECT_CLASS].values())
+        few = [[self.config.class_text(one)] for one in self.config.classes]
+        for others in rng.sample([names[1:], names[:-1], self.several(model.OBJECT_CLASS), *few], 3 + len(few)):
+            changed = self.of_classes(conf, others, attributes)
+            types = [*changed.values, *(number for number, _ in rdn)]
+            if changed.values.get(model.OBJECT_CLASS) and conf.fits_classes(others, dict.fromkeys(types).keys()):
+                return rdn, changed
+        return rdn, attributes
+
+    @staticmethod
+    def of_classes(conf, names, attributes):
+        """What an entry of these classes may have of attributes that users can change."""
+        classes = {conf.class_of(name) for name in names} - {None}
+        allowed = {number for one in conf.with_superclasses(classes) for number in conf.classes[one].must + conf.classes[one].may}
+        changed = model.Attributes(conf)
+        for name in names:
+            if conf.is_valid(model.OBJECT_CLASS, name) and not changed.has(model.OBJECT_CLASS, name):
+                changed.add(model.OBJECT_CLASS, name)
+        for number, texts in attributes.values.items():
+            if number in allowed and number != model.OBJECT_CLASS and not conf.types[number].is_fixed:
+                changed.replace(number, list(texts.values()))
+        return changed
 
     def with_changed_values(self, _, rdn, attributes):
         rng = self.rng
@@ -171,7 +196,7 @@ def directories(rng):
     """-> (what makes them, the first directory, the second one)"""
     config = PairConfig(rng)
     pairs = Pairs(rng, config, False)
-    pairs.is_deep = some(rng, .2)
+    pairs.is_deep = some(rng, .35)
     wanted = rng.choice([0] + [1, 2, 4, 6, 9] * 4)
     for _ in range(3):
         pairs.fill(wanted - len(pairs.directory.entries))
@@ -182,13 +207,26 @@ def directories(rng):
     return pairs, before, after
 
 
+def some_filter(rng, pairs, before, after):
+    """A filter for one of the two; many are of the RDN of one entry, most of them of one that comes or goes, and True or False for it alone."""
+    pairs.directory = rng.choice([before, after])
+    rdns = {path: rdn for path, (rdn, _) in pairs.directory.entries.items()}
+    if not rdns or some(rng, .4):
+        return pairs.text_of_filter() if some(rng, .15) else pairs.filter(rng.choice([0, 1, 2]))
+    alone = [path for path in rdns if path not in before.entries or path not in after.entries]
+    number, value = rng.choice(rdns[rng.choice(alone if alone and some(rng, .8) else list(rdns))])
+    item = b"(" + pairs.config.type_text(pairs.directory.conf.types[number].printed()) + b"=" + pairs.escaped(alike(rng, value)) + b")"
+    but = b"(!" + item + b")"
+    return rng.choice([item, but, but, b"(|" + item + pairs.filter(1) + b")", b"(&" + pairs.filter(0) + but + b")"])
+
+
 def pair_case(rng):
     """A pair that is mostly good, and perhaps a part of it; some texts break off, or can't be loaded."""
     pairs, before, after = directories(rng)
     conf, data, text = pairs.config.text, before.dump() or rng.choice([None, b""]), after.dump()
     options = {"unordered": some(rng, .4), "verbose": some(rng, .4), "by_file": some(rng, .7)}
-    if some(rng, .2):
-        options["filter"] = sayable(pairs.text_of_filter() if some(rng, .1) else pairs.filter(rng.choice([0, 1, 2])))
+    if some(rng, .3):
+        options["filter"] = sayable(some_filter(rng, pairs, before, after))
     if some(rng, .2):
         pairs.directory = rng.choice([before, after])
         options["base"] = sayable(pairs.dn_of(pairs.some_path(.2), .1))

@@ -5,7 +5,7 @@ use Rattle.clap.specs.Words.{App, Rule, Shape, Text, new_rule}
 use Rattle.clap.specs.Simple.{new_shape}
 use Rattle.clap.specs.declared.builder.action.ArgAction.TheVariants.{Set, SetTrue, Append}
 use Rattle.command_line.specs.declared.options.CommandOption.{CommandOption}
-use Rattle.command_line.specs.declared.options.CommandOption.TheVariants.{Folder, Wait, File, Value, Flag, OtherWords}
+use Rattle.command_line.specs.declared.options.CommandOption.TheVariants.{Folder, Wait, File, Value, Flag, LongFlag, OtherWords}
 use Rattle.command_line.specs.declared.options.Tool.{Tool}
 
 -- ---- options
@@ -37,6 +37,10 @@ file_option short = value_option (codes "file") short
 abbrev pub flag : Text → ℕ → Rule
 flag id short = record (new_rule id) { short = Some short; action = Some SetTrue }
 
+-- an option without a value that has a name and no letter, as `--unordered`
+abbrev pub long_flag : Text → Rule
+long_flag id = record (new_rule id) { long = Some id; action = Some SetTrue }
+
 -- the words that belong to no option, any number of them
 abbrev pub other_words : Rule
 other_words = record (new_rule (codes "words")) {
@@ -61,6 +65,7 @@ rule Wait = wait_option
 rule (File short help) = file_option short
 rule (Value id short value_name help) = value_option id.now short
 rule (Flag id short help) = flag id.now short
+rule (LongFlag id help) = long_flag id.now
 rule OtherWords = other_words
 
 abbrev pub shape : Tool → Shape
@@ -94,9 +99,11 @@ slapcat = command (codes "slapcat")
     (folder_option ∷ file_option 108 ∷ value_option (codes "filter") 97
     ∷ value_option (codes "base") 115 ∷ verbose_option ∷ [])
 
--- ldifdiff --db DIR [-l FILE] [-v]
+-- ldifdiff --db DIR [-l FILE] [-b NAME] [-a FILTER] [--unordered] [-v]
 abbrev pub ldifdiff : Shape
-ldifdiff = command (codes "ldifdiff") (folder_option ∷ file_option 108 ∷ verbose_option ∷ [])
+ldifdiff = command (codes "ldifdiff")
+    (folder_option ∷ file_option 108 ∷ value_option (codes "base") 98
+    ∷ value_option (codes "filter") 97 ∷ long_flag (codes "unordered") ∷ verbose_option ∷ [])
 
 -- one of them has to be named, or else `--help` or `--version`
 abbrev pub slaptools : App

@@ -136,6 +136,9 @@ pub record IsCat (rows : List Row) (asked : CatOptions) : Type 0 where
 pub record IsDiff (rows : List Row) (asked : DiffOptions) : Type 0 where
   pub db_is : text_of (codes "db") rows ≡ Some asked.db.now
   pub file_is : option_copied asked.file ≡ text_of (codes "file") rows
+  pub base_is : option_copied asked.base ≡ text_of (codes "base") rows
+  pub filter_is : option_copied asked.filter ≡ text_of (codes "filter") rows
+  pub unordered_is : asked.unordered ≡ is_given (codes "unordered") rows
   pub verbose_is : asked.verbose ≡ is_given (codes "verbose") rows
 
 -- ---- what a command and its rows ask for

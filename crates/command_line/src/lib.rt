@@ -1,6 +1,7 @@
 //! The command line: what its words ask for, and the text of the help.
 #![tactic(auto)]
 
+mod hints;
 mod options;
 mod reading;
 mod request;

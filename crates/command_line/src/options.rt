@@ -33,33 +33,53 @@ const FILTER_HELP: &str = "Prints the entries that it is true of";
 
 const SUBTREE_HELP: &str = "Prints this entry and those below it";
 
+const COMPARED_BASE_HELP: &str = "Compares this entry and those below it";
+
+const COMPARED_FILTER_HELP: &str =
+    "Compares the entries that it is true of in one of the directories, or in both";
+
+const UNORDERED_HELP: &str =
+    "Compares attributes and values as sets, by their equality rules, in place of their order";
+
 const VERBOSE_HELP: &str = "Says why, behind each line that reports a fault or a refusal";
 
 const BESIDE_SLAPADD: &str = "In place of options of OpenLDAP's slapadd:
   -b, -f, -F, -g, -n  --db DIR, as a folder keeps one directory
   -d                  -v
   -s                  a dir.conf without objectclass lines
-  -j, -o, -q, -S, -w  nothing";
+  -q                  nothing, as each check is always made
+  -j, -o, -S, -w      nothing";
 
 const BESIDE_LDAPMODIFY: &str = "In place of options of OpenLDAP's ldapmodify:
   -h, -H, -p                      --db DIR, as no server is asked
-  -D, -I, -Q, -U, -w, -W, -x, -y  nothing, as nobody has to say who he is
+  -D, -w, -W, -x, -y              nothing, as nobody has to say who he is
+  -I, -N, -O, -Q, -R, -U, -X, -Y  nothing, as nobody has to say who he is
   -S                              standard error, which names each refused record
   -d                              -v
-  -e, -E, -M, -o, -P, -Z          nothing";
+  -V, -VV                         slaptools --version
+  -e, -E, -M, -MM, -o, -P         nothing
+  -Z, -ZZ                         nothing, as no server is asked";
 
 const BESIDE_SLAPINDEX: &str = "In place of options of OpenLDAP's slapindex:
-  -b, -f, -F, -g, -n        --db DIR, as a folder keeps one directory
-  -d                        -v
-  -c, -o, -q, -t, or types  nothing, as the whole index is written";
+  -b, -f, -F, -g, -n     --db DIR, as a folder keeps one directory
+  -d                     -v
+  -c, -o, -q, -t, types  nothing, as the whole index is written";
 
-const BESIDE_SEARCH: &str = "In place of options of OpenLDAP's ldapsearch:
+pub(crate) const BESIDE_SEARCH: &str = "In place of options of OpenLDAP's ldapsearch:
   -h, -H, -p                      --db DIR, as no server is asked
-  -D, -I, -Q, -U, -w, -W, -x, -y  nothing, as nobody has to say who he is
+  -D, -w, -W, -x, -y              nothing, as nobody has to say who he is
+  -I, -N, -O, -Q, -R, -U, -X, -Y  nothing, as nobody has to say who he is
   -L, -LL, -LLL                   nothing, as LDIF is printed without comments
-  -s onelevel, -s subtree         -s one, -s sub
+  -s onelevel                     -s one
+  -s subtree                      -s sub
+  -s subordinate                  -s children
+  -z max, -z none                 -z 0
   -d                              -v
-  -a, -A, -l, -S, -t, -u, -Z      nothing";
+  -V, -VV                         slaptools --version
+  -Z, -ZZ                         nothing, as no server is asked
+  -a, -A, -c, -C, -e, -E, -f, -F  nothing
+  -l, -M, -MM, -n, -o, -P, -S     nothing
+  -t, -tt, -T, -u                 nothing";
 
 const BESIDE_SLAPCAT: &str = "In place of options of OpenLDAP's slapcat:
   -b, -f, -F, -g, -n  --db DIR, as a folder keeps one directory
@@ -68,7 +88,16 @@ const BESIDE_SLAPCAT: &str = "In place of options of OpenLDAP's slapcat:
   -c, -o              nothing";
 
 const BESIDE_LDIFDIFF: &str =
-    "As of diff(1), the exit status is 0 where both are alike, and 1 where they differ.";
+    "As of diff(1), the exit status is 0 where both are alike, and 1 where they differ.
+
+In place of options of OpenLDAP's tools:
+  -f          -l FILE
+  -F, -g, -n  --db DIR, as a folder keeps one directory
+  -s          -b NAME
+  -H          -b NAME and -a FILTER
+  -d          -v
+  -c          nothing, as a refused record ends it
+  -q, -u      nothing, as no file is changed";
 
 /// An option of a command.
 #[derive(Clone, Copy)]
@@ -83,6 +112,8 @@ enum CommandOption<'a> {
     Value(&'a str, char, &'a str, &'a str),
     /// One without a value: its id, its letter and its help.
     Flag(&'a str, char, &'a str),
+    /// One without a value or a letter: its id, which is its name, and its help.
+    LongFlag(&'a str, &'a str),
     /// The words that belong to no option.
     OtherWords,
 }
@@ -93,7 +124,8 @@ struct Tool<'a> {
     name: &'a str,
     about: &'a str,
     options: &'a [CommandOption<'a>],
-    /// What stands for options that OpenLDAP's tool has beside: the end of its help.
+    /// The end of its help: what stands in place of options that OpenLDAP's tools have. A row has two spaces, some of these options with commas
+    /// between, and behind two spaces or more what serves here.
     beside: &'a str,
 }
 
@@ -149,6 +181,16 @@ fn flag<'a>(alloc: Global, id: &'a str, short: char, help: &'a str) -> Arg<'a>
         .help(help)
 }
 
+fn long_flag<'a>(alloc: Global, id: &'a str, help: &'a str) -> Arg<'a>
+    ensures rule { rule_of result ≡ commands.long_flag id.entry.now }
+    ensures local { result.global ≡ false }
+{
+    Arg::new(alloc, id)
+        .long(id)
+        .action(ArgAction::SetTrue)
+        .help(help)
+}
+
 fn other_words<'a>(alloc: Global) -> Arg<'a>
     ensures rule { rule_of result ≡ commands.other_words }
     ensures local { result.global ≡ false }
@@ -173,6 +215,7 @@ fn arg_of<'a>(alloc: Global, option: CommandOption<'a>) -> Arg<'a>
             value_option(alloc, id, short, value_name, help)
         }
         CommandOption::Flag(id, short, help) => flag(alloc, id, short, help),
+        CommandOption::LongFlag(id, help) => long_flag(alloc, id, help),
         CommandOption::OtherWords => other_words(alloc),
     }
 }
@@ -286,6 +329,9 @@ fn ldifdiff() -> Tool<'static>
         options: &[
             CommandOption::Folder,
             CommandOption::File('l', CONTENT_HELP),
+            CommandOption::Value("base", 'b', "NAME", COMPARED_BASE_HELP),
+            CommandOption::Value("filter", 'a', "FILTER", COMPARED_FILTER_HELP),
+            CommandOption::LongFlag("unordered", UNORDERED_HELP),
             CommandOption::Flag("verbose", 'v', VERBOSE_HELP),
         ],
         beside: BESIDE_LDIFDIFF,
@@ -303,6 +349,30 @@ fn with_tool<'a>(
     command.subcommand(command_of(alloc, tool)?)
 }
 
+/// The commands, in the order in which the help has them.
+fn tools() -> [Tool<'static>; 6]
+    ensures { map commands.shape result ≡ commands.slaptools.subs }
+{
+    [
+        slapadd(),
+        ldapmodify(),
+        slapindex(),
+        search(),
+        slapcat(),
+        ldifdiff(),
+    ]
+}
+
+/// What the help of the command of this name has in place of options of OpenLDAP's tools; nothing where no command has the name.
+pub(crate) fn beside(name: &str) -> &'static str {
+    for tool in &tools() {
+        if tool.name == name {
+            return tool.beside;
+        }
+    }
+    ""
+}
+
 /// The commands of slaptools, of which one has to be named. `version` is what `--version` says behind the program's name.
 pub(crate) fn slaptools<'a>(alloc: Global, version: &'a str) -> Result<Command<'a>, AllocError>
     ensures { IfOk result (λ c. app_of c ≡ commands.slaptools) }
@@ -311,14 +381,7 @@ pub(crate) fn slaptools<'a>(alloc: Global, version: &'a str) -> Result<Command<'
         .about("Tools for an LDAP directory that is kept as LDIF, without a server")
         .version(version)
         .subcommand_required(true);
-    for tool in &[
-        slapadd(),
-        ldapmodify(),
-        slapindex(),
-        search(),
-        slapcat(),
-        ldifdiff(),
-    ] {
+    for tool in &tools() {
         command = with_tool(alloc, command, *tool)?;
     }
     Ok(command)

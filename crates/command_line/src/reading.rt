@@ -5,7 +5,8 @@ ghost use Rattle.clap.specs.Words.{all_of, found_of, kind_of, rows_of, subcomman
 ghost use Rattle.command_line.specs.Requests.{AsksForHelp};
 ghost use Rattle.command_line.specs.Requests as asks;
 
-use crate::options::slaptools;
+use crate::hints::{hint, with_hint};
+use crate::options::{BESIDE_SEARCH, beside, slaptools};
 use crate::request::{
     AddOptions, CatOptions, DiffOptions, IndexOptions, ModifyOptions, Request, SearchOptions,
     UsageFault,
@@ -19,6 +20,32 @@ use std::convert::AsStr;
 
 /// What a number has to be.
 const NUMBERS: &str = "a number from 0 to 4294967295";
+
+/// An option whose value has to be of some kind.
+#[derive(Clone, Copy)]
+struct Valued<'a> {
+    option: &'a str,
+    value_name: &'a str,
+    wanted: &'a str,
+}
+
+const WAIT: Valued<'_> = Valued {
+    option: "--wait",
+    value_name: "SECONDS",
+    wanted: NUMBERS,
+};
+
+const SCOPE: Valued<'_> = Valued {
+    option: "-s",
+    value_name: "SCOPE",
+    wanted: "one of base, one, sub and children",
+};
+
+const LIMIT: Valued<'_> = Valued {
+    option: "-z",
+    value_name: "N",
+    wanted: NUMBERS,
+};
 
 /// The text given for an option.
 fn text_of<'a>(found: &ArgMatches<'a>, id: &str) -> Option<&'a str>
@@ -54,10 +81,22 @@ fn folder_of<'a>(found: &ArgMatches<'a>) -> &'a str
     }
 }
 
-fn invalid(alloc: Global, text: &str, option: &str, wanted: &str) -> UsageFault {
-    match format!(in alloc;
-        "error: invalid value '{text}' for '{option}': it has to be {wanted}\n"
-    ) {
+/// What is said of a value that isn't of its option's kind, and what is meant where OpenLDAP's ldapsearch takes it.
+fn invalid_text(alloc: Global, word: &str, valued: Valued<'_>) -> Result<String, AllocError> {
+    let Valued {
+        option,
+        value_name,
+        wanted,
+    } = valued;
+    let written = format!(in alloc; "{option} {word}")?;
+    let meant = hint(alloc, BESIDE_SEARCH, written.as_str(), written.as_str())?;
+    format!(in alloc;
+        "error: invalid value '{word}' for '{option} <{value_name}>': it has to be {wanted}\n{meant}"
+    )
+}
+
+fn invalid(alloc: Global, word: &str, valued: Valued<'_>) -> UsageFault {
+    match invalid_text(alloc, word, valued) {
         Ok(text) => UsageFault::Words(text),
         Err(_) => UsageFault::OutOfMemory,
     }
@@ -83,7 +122,7 @@ fn wait_of(alloc: Global, word: Option<&str>) -> Result<u32, UsageFault>
     };
     match number_of(word) {
         Some(number) => Ok(number),
-        None => Err(invalid(alloc, word, "--wait <SECONDS>", NUMBERS)),
+        None => Err(invalid(alloc, word, WAIT)),
     }
 }
 
@@ -156,6 +195,9 @@ fn diff_options<'a>(found: &ArgMatches<'a>) -> DiffOptions<'a>
     DiffOptions {
         db: folder_of(found),
         file: text_of(found, "file"),
+        base: text_of(found, "base"),
+        filter: text_of(found, "filter"),
+        unordered: is_given(found, "unordered"),
         verbose: is_given(found, "verbose"),
     }
 }
@@ -170,12 +212,7 @@ fn scope_of(alloc: Global, word: Option<&str>) -> Result<Scope, UsageFault>
         Some("base") => Ok(Scope::Base),
         Some("one") => Ok(Scope::One),
         Some("children") => Ok(Scope::Children),
-        Some(word) => Err(invalid(
-            alloc,
-            word,
-            "-s <SCOPE>",
-            "one of base, one, sub and children",
-        )),
+        Some(word) => Err(invalid(alloc, word, SCOPE)),
     }
 }
 
@@ -190,7 +227,7 @@ fn limit_of(alloc: Global, word: Option<&str>) -> Result<Option<u32>, UsageFault
     match number_of(word) {
         Some(0) => Ok(None),
         Some(number) => Ok(Some(number)),
-        None => Err(invalid(alloc, word, "-z <N>", NUMBERS)),
+        None => Err(invalid(alloc, word, LIMIT)),
     }
 }
 
@@ -284,8 +321,29 @@ fn help(alloc: Global, version: &str) -> Result<String, AllocError> {
     slaptools(alloc, version)?.render_help()
 }
 
-/// What clap says in place of matches: what is wrong, or the help or the version that the words ask for.
-fn answer_of<'a>(alloc: Global, said: &Error) -> Result<Request<'a>, UsageFault>
+/// What clap says is wrong, and what is meant where an option is one of OpenLDAP's tools.
+fn fault_text(alloc: Global, command: Option<&str>, said: &Error) -> Result<String, AllocError> {
+    let text = said.to_string(alloc)?;
+    match command {
+        Some(name) => with_hint(alloc, beside(name), text),
+        None => Ok(text),
+    }
+}
+
+/// The first word behind the program's name, which is a command where clap reads one.
+fn named<W: AsStr>(words: &[W]) -> Option<&str> {
+    match words.get(1) {
+        Some(word) => Some(word.as_str()),
+        None => None,
+    }
+}
+
+/// What clap says in place of matches: what is wrong, or the help or the version that the words ask for. `command` is the one that they name.
+fn answer_of<'a>(
+    alloc: Global,
+    command: Option<&str>,
+    said: &Error,
+) -> Result<Request<'a>, UsageFault>
     ensures { asks.IsAnswer (kind_of said.now) result }
 {
     match said.kind() {
@@ -293,7 +351,7 @@ fn answer_of<'a>(alloc: Global, said: &Error) -> Result<Request<'a>, UsageFault>
         ErrorKind::DisplayHelp | ErrorKind::DisplayVersion => {
             Ok(Request::Help(said.to_string(alloc)?))
         }
-        _ => Err(UsageFault::Words(said.to_string(alloc)?)),
+        _ => Err(UsageFault::Words(fault_text(alloc, command, said)?)),
     }
 }
 
@@ -308,7 +366,7 @@ fn parsed<'a, W: AsStr>(
 {
     match slaptools(alloc, version)?.try_get_matches_from(words) {
         Ok(matches) => requested(alloc, &matches),
-        Err(said) => answer_of(alloc, &said),
+        Err(said) => answer_of(alloc, named(words), &said),
     }
 }
 

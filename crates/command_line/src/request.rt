@@ -93,6 +93,12 @@ pub struct DiffOptions<'a> {
     pub db: &'a str,
     /// The LDIF file with the content records of the other directory, or none for standard input.
     pub file: Option<&'a str>,
+    /// The name of the entry that is compared with those below it, or none for all.
+    pub base: Option<&'a str>,
+    /// The filter as text: an entry is compared where it is true of it in one of the directories. None for all entries.
+    pub filter: Option<&'a str>,
+    /// Whether attributes and values are compared as sets, by their equality rules, and their order doesn't count.
+    pub unordered: bool,
     /// Whether each report is followed by a sentence that says why, and a line at the end tells how much is changed.
     pub verbose: bool,
 }

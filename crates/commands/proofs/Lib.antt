@@ -9,3 +9,4 @@ pub mod StoredFiles
 pub mod IndexTold
 pub mod Searched
 pub mod OtherLoaded
+pub mod Compared

@@ -7,3 +7,4 @@ pub mod Sought
 pub mod Stopped
 pub mod Stores
 pub mod IndexFiles
+pub mod Compared

@@ -59,7 +59,7 @@ fn carry_out<F: Folder, S: Source, O: Sink, E: Sink, T: CommandTeller>(
         Ok(Request::Index(asked)) => slapindex(alloc, &asked, folder, teller),
         Ok(Request::Search(asked)) => search(alloc, &asked, folder, out, err, teller),
         Ok(Request::Cat(asked)) => slapcat(alloc, &asked, folder, out, teller),
-        Ok(Request::Diff(asked)) => ldifdiff(alloc, &asked, folder, input, out, teller),
+        Ok(Request::Diff(asked)) => ldifdiff(alloc, &asked, folder, input, out, err, teller),
         Err(UsageFault::Words(text)) => Err(Stop::Usage(text)),
         Err(UsageFault::OutOfMemory) => Err(Stop::Fault(CommandFault::OutOfMemory)),
     }

@@ -6,6 +6,7 @@ pub mod Respelled
 pub mod Brought
 pub mod PathMaps
 pub mod Gone
+pub mod Goals
 pub mod Led
 pub mod Agreed
 pub mod NothingBetween
@@ -18,4 +19,13 @@ pub mod RecordPieces
 pub mod LentMods
 pub mod Spellings
 pub mod StoredTypes
+pub mod SettledLists
+pub mod SettledSteps
+pub mod SettledValues
+pub mod SettledEntries
+pub mod SettledClasses
+pub mod SettledGoals
+pub mod Cleared
 pub mod Walked
+pub mod Hindered
+pub mod LeftAttributes

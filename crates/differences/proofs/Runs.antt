@@ -16,7 +16,7 @@ use Rattle.databases.specs.Runs.{State, start, is_empty, of_change, outcome, cou
 use Rattle.databases.specs.declared.refusal.Outcome.TheVariants.{Nothing, Accepted}
 use Rattle.ldif.specs.Changes.{CommentedChange, change_of, write_change, read_as_itself, IsWritableChange, IsWritableComment}
 use Rattle.differences.specs.Comments.{commented, change_text}
-use Rattle.differences.specs.Differences.{changes_between}
+use Rattle.differences.specs.Differences.{Extent, changes_between}
 use Rattle.differences.specs.Follows.{IsLeftAt, Leads}
 use Rattle.differences.specs.Texts.{difference, LeadsByText}
 use Rattle.differences.proofs.CommentLines.{all_commented, changes_are}
@@ -53,16 +53,16 @@ module _ (conf : Conf) (go_on : Bool) where
   texts_are (r ∷ rs) = ap (λ (x : List ℕ). change_text r ++ x) (texts_are rs)
 
   pub by_text : ((cs : List CommentedChange) → AllByRecursion IsWritableComment cs → map reading_of (readings (modes.Changes false) (flat_map write_change cs)) ≡ map read_as_itself (map change_of cs))
-      → (a b : Entries) → AllByRecursion IsWritableChange (changes_between conf a b) → Leads conf a b → LeadsByText conf a b go_on
+      → (c : Extent) (a b goal : Entries) → AllByRecursion IsWritableChange (changes_between conf c a b) → Leads conf c a b goal → LeadsByText conf c a b goal go_on
   unfolding difference after_records readings
-  by_text reads a b writable l =
-      let rs : List Record = changes_between conf a b in
-      let read : map reading_of (readings (modes.Changes false) (difference conf a b)) ≡ map read_as_itself rs =
+  by_text reads c a b goal writable l =
+      let rs : List Record = changes_between conf c a b in
+      let read : map reading_of (readings (modes.Changes false) (difference conf c a b)) ≡ map read_as_itself rs =
       ap (λ (x : List ℕ). map reading_of (readings (modes.Changes false) x)) (texts_are rs)
       ∙ reads (map commented rs) (all_commented rs writable)
       ∙ ap (map read_as_itself) (changes_are rs) in
-      let k = steps rs (readings (modes.Changes false) (difference conf a b)) (start a) l.after read refl l.done in
+      let k = steps rs (readings (modes.Changes false) (difference conf c a b)) (start a) l.after read refl l.done in
       record {
         refused = k.1;
-        left = λ p. subst (λ (x : Entries). IsLeftAt conf.types (finite.get a p) (finite.get b p) (finite.get x p)) (sym k.0) (l.left p);
+        left = λ p. subst (λ (x : Entries). IsLeftAt conf.types (finite.get a p) (finite.get goal p) (finite.get x p)) (sym k.0) (l.left p);
       }

@@ -1,6 +1,6 @@
 -- The walk over both directories, entry by entry.
 use Rattle.std.proofs.Common.{◌≡◌, ℕ, ◌+◌, ◌-◌, ◌<◌, ◌≤◌, Bool, true, false, cond, not, List, [], ◌∷◌, ◌++◌, map, filter, length, drop, reverse, get_or, Some, refl, sym, ◌∙◌, ap, subst, append_assoc, arith}
-use Rattle.std.specs.Prelude.{is_some, ◌||◌, ◌==◌}
+use Rattle.std.specs.Prelude.{is_some, ◌&&◌, ◌||◌, ◌==◌}
 use Rattle.std.specs.Borrow.{Bor}
 use Rattle.std.specs.Prelude.{Result, Err}
 use Rattle.std.specs.Result.{IsErrAnd}
@@ -20,14 +20,15 @@ use Rattle.paths.specs.Paths.{Path, begins}
 use Rattle.schema.specs.Conf.{Conf}
 use Rattle.entries.specs.Entries.{EntryContent}
 use Rattle.entries.specs.StoredEntries.{Entry}
+use Rattle.entries.proofs.StaysGood.{all_kept}
 use Rattle.tree.specs.Directories.{Entries}
 use Rattle.tree.specs.Trees.{seen_entries}
 use Rattle.databases.proofs.DumpText.{all_begin}
 use Rattle.databases.specs.inner.Dumps.{IsThere}
 use Rattle.differences.specs.Comments.{change_text}
-use Rattle.differences.specs.Differences.{removing, changes_at, is_some_change, only_in, changes_between}
+use Rattle.differences.specs.Differences.{Extent, removing, changes_of, is_some_change, only_in, changes_between}
 use Rattle.differences.specs.Texts.{difference, differs}
-use Rattle.differences.specs.inner.Walks.{changes_text, changes_of, all_changes_of, changes_ahead, path_of, gone_of, paths_gone, removals, lent_paths}
+use Rattle.differences.specs.inner.Walks.{changes_text, changes_by, all_changes_by, changes_ahead, path_of, gone_of, paths_gone, removals, lent_paths}
 use Rattle.differences.proofs.PathMaps.{all_there}
 
 -- ---- the entries of a directory, as they are lent
@@ -43,26 +44,34 @@ module _ (d : Entries) (items : List (Path × Entry)) (root : Path) (top : root 
   pub lent_there : AllByRecursion (IsThere d) items
   lent_there = each_there items (subst (AllByRecursion (λ e. finite.get d e.0 ≡ Some e.1)) (sym all_seen) (all_there d))
 
+-- those at and below a path are there, too
+pub some_there : (d : Entries) (items : List (Path × Entry)) (base : Path) → seen_entries items ≡ filter (λ e. begins base e.0) (finite.entries d) → AllByRecursion (IsThere d) items
+some_there d items base seen = each items (subst (AllByRecursion (λ e. finite.get d e.0 ≡ Some e.1)) (sym seen) (all_kept (λ e. finite.get d e.0 ≡ Some e.1) (λ e. begins base e.0) (finite.entries d) (all_there d)))
+  where
+    each : (es : List (Path × Entry)) → AllByRecursion (λ e. finite.get d e.0 ≡ Some e.1) (seen_entries es) → AllByRecursion (IsThere d) es
+    each [] h = tt
+    each (e ∷ es) h = (h.0, each es h.1)
+
 -- ---- what is to be done where the second directory has entries
 
-module _ (conf : Conf) (a b : Entries) where
-  changes_are : (es : List (Path × Entry)) → all_changes_of conf a b es ≡ flat_map (λ y. changes_at conf a b y.0 (finite.get a y.0) y.1) (seen_entries es)
+module _ (conf : Conf) (c : Extent) (a b : Entries) where
+  changes_are : (es : List (Path × Entry)) → all_changes_by conf c a b es ≡ flat_map (changes_of conf c a b) (seen_entries es)
   changes_are [] = refl
-  changes_are (e ∷ es) = ap (λ (rs : List Record). changes_of conf a b e ++ rs) (changes_are es)
+  changes_are (e ∷ es) = ap (λ (rs : List Record). changes_by conf c a b e ++ rs) (changes_are es)
 
-  pub ahead_is : (items : List (Path × Entry)) → seen_entries items ≡ finite.entries b → changes_ahead conf a b ≡ all_changes_of conf a b items
-  ahead_is items are = ap (flat_map (λ y. changes_at conf a b y.0 (finite.get a y.0) y.1)) (sym are) ∙ sym (changes_are items)
+  pub ahead_is : (items : List (Path × Entry)) → seen_entries items ≡ finite.entries b → changes_ahead conf c a b ≡ all_changes_by conf c a b items
+  ahead_is items are = ap (flat_map (changes_of conf c a b)) (sym are) ∙ sym (changes_are items)
 
   -- the text of the first that is left, behind a text, and of none
   pub text_next : (text : List ℕ) (es : List (Path × Entry)) (e : Path × Entry) (rest : List (Path × Entry)) → es ≡ e ∷ rest
-      → text ++ changes_text (all_changes_of conf a b es) ≡ (text ++ changes_text (changes_of conf a b e)) ++ changes_text (all_changes_of conf a b rest)
+      → text ++ changes_text (all_changes_by conf c a b es) ≡ (text ++ changes_text (changes_by conf c a b e)) ++ changes_text (all_changes_by conf c a b rest)
   text_next text es e rest steps =
-      ap (λ (xs : List (Path × Entry)). text ++ changes_text (all_changes_of conf a b xs)) steps
-      ∙ ap (λ (t : List ℕ). text ++ t) (flat_map-append change_text (changes_of conf a b e) (all_changes_of conf a b rest))
-      ∙ sym (append_assoc text (changes_text (changes_of conf a b e)) (changes_text (all_changes_of conf a b rest)))
+      ap (λ (xs : List (Path × Entry)). text ++ changes_text (all_changes_by conf c a b xs)) steps
+      ∙ ap (λ (t : List ℕ). text ++ t) (flat_map-append change_text (changes_by conf c a b e) (all_changes_by conf c a b rest))
+      ∙ sym (append_assoc text (changes_text (changes_by conf c a b e)) (changes_text (all_changes_by conf c a b rest)))
 
-  pub text_end : (text : List ℕ) (es : List (Path × Entry)) → es ≡ [] → text ++ changes_text (all_changes_of conf a b es) ≡ text
-  text_end text es none = ap (λ (xs : List (Path × Entry)). text ++ changes_text (all_changes_of conf a b xs)) none ∙ append-nil text
+  pub text_end : (text : List ℕ) (es : List (Path × Entry)) → es ≡ [] → text ++ changes_text (all_changes_by conf c a b es) ≡ text
+  text_end text es none = ap (λ (xs : List (Path × Entry)). text ++ changes_text (all_changes_by conf c a b xs)) none ∙ append-nil text
 
 pub some_of_both : (xs ys : List Record) → is_some_change (xs ++ ys) ≡ is_some_change xs || is_some_change ys
 some_of_both [] ys = refl
@@ -105,21 +114,22 @@ module _ (conf : Conf) (a : Entries) where
       ∙ append-nil text
 
 -- each path that goes is one of the first directory
-module _ (a b : Entries) where
-  gone_there : (es : List (Path × EntryContent)) → AllByRecursion (λ e. finite.get a e.0 ≡ Some e.1) es → AllByRecursion (λ p. finite.contains_key a p ≡ true) (gone_of b es)
+module _ (c : Extent) (a b : Entries) where
+  gone_there : (es : List (Path × EntryContent)) → AllByRecursion (λ e. finite.get a e.0 ≡ Some e.1) es → AllByRecursion (λ p. finite.contains_key a p ≡ true) (gone_of c b es)
   gone_there [] h = tt
-  gone_there (e ∷ es) h = by (finite.contains_key b e.0) (gone_there es h.1)
+  gone_there (e ∷ es) h = by (c.has e.0 && not (finite.contains_key b e.0)) (gone_there es h.1)
     where
-      by : (c : Bool) → AllByRecursion (λ p. finite.contains_key a p ≡ true) (gone_of b es)
-          → AllByRecursion (λ p. finite.contains_key a p ≡ true) (map path_of (cond (not c) (e ∷ filter (λ x. not (finite.contains_key b x.0)) es) (filter (λ x. not (finite.contains_key b x.0)) es)))
-      by true rest = rest
-      by false rest = (ap is_some h.0, rest)
+      by : (d : Bool) → AllByRecursion (λ p. finite.contains_key a p ≡ true) (gone_of c b es)
+          → AllByRecursion (λ p. finite.contains_key a p ≡ true)
+          (map path_of (cond d (e ∷ filter (λ x. c.has x.0 && not (finite.contains_key b x.0)) es) (filter (λ x. c.has x.0 && not (finite.contains_key b x.0)) es)))
+      by false rest = rest
+      by true rest = (ap is_some h.0, rest)
 
   each_lent : (ps : List (Bor Path)) → AllByRecursion (λ p. finite.contains_key a p ≡ true) (lent_paths ps) → AllByRecursion (λ p. finite.contains_key a p.now ≡ true) ps
   each_lent [] h = tt
   each_lent (p ∷ ps) h = (h.0, each_lent ps h.1)
 
-  pub paths_there : (ps : List (Bor Path)) → lent_paths ps ≡ paths_gone a b → All (λ p. finite.contains_key a p.now ≡ true) ps
+  pub paths_there : (ps : List (Bor Path)) → lent_paths ps ≡ paths_gone c a b → All (λ p. finite.contains_key a p.now ≡ true) ps
   paths_there ps is =
       All-from_recursion (λ (p : Bor Path). finite.contains_key a p.now ≡ true) ps
       (each_lent ps (subst (AllByRecursion (λ p. finite.contains_key a p ≡ true)) (sym is) (gone_there (finite.entries a) (all_there a))))
@@ -130,18 +140,18 @@ removals_are : (conf : Conf) (a : Entries) (xs : List (Path × EntryContent)) �
 removals_are conf a [] = refl
 removals_are conf a (x ∷ xs) = ap (λ (rs : List Record). removing conf a x.0 ∷ rs) (removals_are conf a xs)
 
-between_is : (conf : Conf) (a b : Entries) → changes_between conf a b ≡ removals conf a (paths_gone a b) ++ changes_ahead conf a b
+between_is : (conf : Conf) (c : Extent) (a b : Entries) → changes_between conf c a b ≡ removals conf a (paths_gone c a b) ++ changes_ahead conf c a b
 unfolding changes_between
-between_is conf a b = ap (λ (rs : List Record). rs ++ changes_ahead conf a b) (removals_are conf a (reverse (only_in a b)) ∙ ap (map (removing conf a)) (map_reverse path_of (only_in a b)))
+between_is conf c a b = ap (λ (rs : List Record). rs ++ changes_ahead conf c a b) (removals_are conf a (reverse (only_in c a b)) ∙ ap (map (removing conf a)) (map_reverse path_of (only_in c a b)))
 
-difference_is : (conf : Conf) (a b : Entries) → difference conf a b ≡ changes_text (removals conf a (paths_gone a b)) ++ changes_text (changes_ahead conf a b)
+difference_is : (conf : Conf) (c : Extent) (a b : Entries) → difference conf c a b ≡ changes_text (removals conf a (paths_gone c a b)) ++ changes_text (changes_ahead conf c a b)
 unfolding difference
-difference_is conf a b = ap changes_text (between_is conf a b) ∙ flat_map-append change_text (removals conf a (paths_gone a b)) (changes_ahead conf a b)
+difference_is conf c a b = ap changes_text (between_is conf c a b) ∙ flat_map-append change_text (removals conf a (paths_gone c a b)) (changes_ahead conf c a b)
 
 -- the removals of paths that are lent, behind nothing, and what is ahead
-pub whole_is : (conf : Conf) (a b : Entries) (nothing : List ℕ) (ps : List (Bor Path)) → nothing ≡ [] → lent_paths ps ≡ paths_gone a b
-    → difference conf a b ≡ (nothing ++ changes_text (removals conf a (lent_paths ps))) ++ changes_text (changes_ahead conf a b)
-whole_is conf a b nothing ps none gone = difference_is conf a b ∙ sym (λ i. (none i ++ changes_text (removals conf a (gone i))) ++ changes_text (changes_ahead conf a b))
+pub whole_is : (conf : Conf) (c : Extent) (a b : Entries) (nothing : List ℕ) (ps : List (Bor Path)) → nothing ≡ [] → lent_paths ps ≡ paths_gone c a b
+    → difference conf c a b ≡ (nothing ++ changes_text (removals conf a (lent_paths ps))) ++ changes_text (changes_ahead conf c a b)
+whole_is conf c a b nothing ps none gone = difference_is conf c a b ∙ sym (λ i. (none i ++ changes_text (removals conf a (gone i))) ++ changes_text (changes_ahead conf c a b))
 
 some_is : (rs : List Record) → is_some_change rs ≡ not (length rs == 0)
 some_is [] = refl
@@ -150,13 +160,13 @@ some_is (r ∷ rs) = let e : (length (r ∷ rs) == 0) ≡ false = grind (arith) 
 some_removals : (conf : Conf) (a : Entries) (ps : List Path) → is_some_change (removals conf a ps) ≡ not (length ps == 0)
 some_removals conf a ps = some_is (removals conf a ps) ∙ ap (λ n. not (n == 0)) (length-map (reverse ps) (removing conf a) ∙ length-reverse ps)
 
-pub differs_is : (conf : Conf) (a b : Entries) (ps : List (Bor Path)) (some : Bool) → lent_paths ps ≡ paths_gone a b → some ≡ is_some_change (changes_ahead conf a b)
-    → not (length ps == 0) || some ≡ differs conf a b
-differs_is conf a b ps some is ahead =
+pub differs_is : (conf : Conf) (c : Extent) (a b : Entries) (ps : List (Bor Path)) (some : Bool) → lent_paths ps ≡ paths_gone c a b → some ≡ is_some_change (changes_ahead conf c a b)
+    → not (length ps == 0) || some ≡ differs conf c a b
+differs_is conf c a b ps some is ahead =
     (λ i. not ((sym (length-map ps (λ (q : Bor Path). q.now)) ∙ ap length is) i == 0) || ahead i)
-    ∙ ap (λ (c : Bool). c || is_some_change (changes_ahead conf a b)) (sym (some_removals conf a (paths_gone a b)))
-    ∙ sym (some_of_both (removals conf a (paths_gone a b)) (changes_ahead conf a b))
-    ∙ ap is_some_change (sym (between_is conf a b))
+    ∙ ap (λ (d : Bool). d || is_some_change (changes_ahead conf c a b)) (sym (some_removals conf a (paths_gone c a b)))
+    ∙ sym (some_of_both (removals conf a (paths_gone c a b)) (changes_ahead conf c a b))
+    ∙ ap is_some_change (sym (between_is conf c a b))
 
 -- ---- where memory ran out before anything was written
 

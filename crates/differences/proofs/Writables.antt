@@ -29,13 +29,14 @@ use Rattle.entries.proofs.Pushed.{all_push}
 use Rattle.tree.specs.Directories.{Entries, IsDirectory, name_of_entry, rdns_from}
 use Rattle.tree.proofs.Ancestors.{along}
 use Rattle.differences.specs.EntryChanges.{Values, Block, and_goes, values_between, with_some, are_none, block_of, blocks_for, blocks_at, blocks_between, deleting, adding, mod_of, mods_between, users}
-use Rattle.differences.specs.Differences.{same_spelling, removing, respelling, respellings, modifying, changes_at, only_in, changes_between}
+use Rattle.differences.specs.Differences.{Extent, aimed, IsGoal, same_spelling, removing, respelling, respellings, modifying, changes_at, changes_of, only_in, changes_between}
 use Rattle.ldif.specs.Changes.{AreBytes, IsWritableLine, IsWritableMod, IsWritableHead, IsWritableChange}
 use Rattle.differences.proofs.Turned.{IsUsers}
 use Rattle.differences.proofs.Parted.{users_good}
 use Rattle.differences.proofs.Modified.{of_between, all_known}
 use Rattle.differences.proofs.PathMaps.{Pairs, all_there}
 use Rattle.differences.proofs.Gone.{Locates, only_are}
+use Rattle.differences.proofs.Goals.{aims_at, goes_at}
 
 abbrev pub NamesAreAscii : Type 0
 NamesAreAscii = (conf : Conf) (rs : List TypedRdn) → IsConf conf → AllByRecursion (IsRdn conf.types) rs → list_all (λ b. nat_lt b 128) (name_text conf rs) ≡ true
@@ -189,39 +190,52 @@ module _ (prints : NamesAreAscii) (texts : TypesHaveText) (bytes : ValuesAreByte
   head_is : (d : Entries) → IsDirectory conf d → (p : Path) → finite.contains_key d p ≡ true → IsWritableHead (name_of_entry conf d p) []
   head_is d h p there = record { dn = all_weaker (λ b. nat_lt b 128) is_byte ascii_byte (name_of_entry conf d p) (prints conf (rdns_from d [] p) ok (along conf d h p [] there).0); controls = refl }
 
-  module _ (a b : Entries) (h : IsDirectory conf a) (g : IsDirectory conf b) where
-    at_path : (p : Path) (o : Option EntryContent) (e : EntryContent) → finite.get a p ≡ o → finite.get b p ≡ Some e → AllByRecursion IsWritableChange (changes_at conf a b p o e)
-    at_path p None e none there = ((head_is b g p (ap is_some there), lines_writable (users conf.types e.attrs) (users_good conf.types e.attrs (g.good p e there).attrs)), tt)
-    at_path p (Some x) e known there =
+  module _ (extent : Extent) (a b goal : Entries) (h : IsDirectory conf a) (named : IsDirectory conf b) (aims : IsGoal conf extent a b goal) (g : IsDirectory conf goal) where
+    at_path : (p : Path) (o : Option EntryContent) (e : EntryContent) → finite.get a p ≡ o → finite.contains_key b p ≡ true → finite.get goal p ≡ Some e
+        → AllByRecursion IsWritableChange (changes_at conf a b p o e)
+    at_path p None e none there at = ((head_is b named p there, lines_writable (users conf.types e.attrs) (users_good conf.types e.attrs (g.good p e at).attrs)), tt)
+    at_path p (Some x) e known there at =
         all_append IsWritableChange (respellings (same_spelling x.rdn e.rdn) (respelling conf a p e.rdn)) (modifying conf b p (mods_between conf.types x.attrs e.attrs))
-        (by (same_spelling x.rdn e.rdn)) (modify (mods_between conf.types x.attrs e.attrs) (mods_writable x.attrs e.attrs (h.good p x known).attrs (g.good p e there).attrs))
+        (by (same_spelling x.rdn e.rdn)) (modify (mods_between conf.types x.attrs e.attrs) (mods_writable x.attrs e.attrs (h.good p x known).attrs (g.good p e at).attrs))
       where
         by : (c : Bool) → AllByRecursion IsWritableChange (respellings c (respelling conf a p e.rdn))
         by true = tt
         by false =
             let n : names.Name = written_rdn conf.types e.rdn ∷ [] in
-            let good = name_is raw conf ok (e.rdn ∷ []) ((g.good p e there).rdn, tt) in
+            let good = name_is raw conf ok (e.rdn ∷ []) ((g.good p e at).rdn, tt) in
             ((head_is a h p (ap is_some known), all_weaker is_ascii is_byte ascii_is (text_of n) (ascii n good), tt), tt)
 
         modify : (mods : List Mod) → AllByRecursion IsWritableMod mods → AllByRecursion IsWritableChange (modifying conf b p mods)
         modify [] f = tt
-        modify (m ∷ ms) f = ((head_is b g p (ap is_some there), f), tt)
+        modify (m ∷ ms) f = ((head_is b named p there, f), tt)
 
-    at_all : (es : Pairs) → AllByRecursion (λ e. finite.get b e.0 ≡ Some e.1) es → AllByRecursion IsWritableChange (flat_map (λ y. changes_at conf a b y.0 (finite.get a y.0) y.1) es)
+    at_one : (y : Path × EntryContent) → finite.get b y.0 ≡ Some y.1 → AllByRecursion IsWritableChange (changes_of conf extent a b y)
+    at_one y there = by (extent.has y.0) refl
+      where
+        by : (c : Bool) → extent.has y.0 ≡ c → AllByRecursion IsWritableChange (cond c (changes_at conf a b y.0 (finite.get a y.0) (aimed extent.as_sets conf.types (finite.get a y.0) y.1)) [])
+        by true has =
+            at_path y.0 (finite.get a y.0) (aimed extent.as_sets conf.types (finite.get a y.0) y.1) refl (ap is_some there) (aims_at conf extent a b goal aims y.0 y.1 has there)
+        by false has = tt
+
+    at_all : (es : Pairs) → AllByRecursion (λ e. finite.get b e.0 ≡ Some e.1) es → AllByRecursion IsWritableChange (flat_map (changes_of conf extent a b) es)
     at_all [] f = tt
-    at_all (y ∷ es) f = all_append IsWritableChange (changes_at conf a b y.0 (finite.get a y.0) y.1) (flat_map (λ y. changes_at conf a b y.0 (finite.get a y.0) y.1) es) (at_path y.0 (finite.get a y.0) y.1 refl f.0) (at_all es f.1)
+    at_all (y ∷ es) f = all_append IsWritableChange (changes_of conf extent a b y) (flat_map (changes_of conf extent a b) es) (at_one y f.0) (at_all es f.1)
 
     all_reverse : (P : Path × EntryContent → Type 0) (xs : Pairs) → AllByRecursion P xs → AllByRecursion P (reverse xs)
     all_reverse P [] f = tt
     all_reverse P (x ∷ xs) f = subst (AllByRecursion P) (sym (reverse-append (x ∷ []) xs)) (all_push P (reverse xs) x (all_reverse P xs f.1) f.0)
 
-    gone_writable : (xs : Pairs) → AllByRecursion (λ x. (finite.get a x.0 ≡ Some x.1) × (finite.contains_key b x.0 ≡ false)) xs → AllByRecursion IsWritableChange (map (λ x. removing conf a x.0) xs)
+    abbrev IsGone : Path × EntryContent → Type 0
+    IsGone x = (finite.get a x.0 ≡ Some x.1) × (finite.contains_key goal x.0 ≡ false)
+
+    gone_writable : (xs : Pairs) → AllByRecursion IsGone xs → AllByRecursion IsWritableChange (map (λ x. removing conf a x.0) xs)
     gone_writable [] f = tt
     gone_writable (x ∷ xs) f = (head_is a h x.0 (ap is_some f.0.0), gone_writable xs f.1)
 
-    pub changes_writable : Locates → AllByRecursion IsWritableChange (changes_between conf a b)
+    pub changes_writable : Locates → AllByRecursion IsWritableChange (changes_between conf extent a b)
     unfolding changes_between
     changes_writable reads =
-        all_append IsWritableChange (map (λ x. removing conf a x.0) (reverse (only_in a b))) (flat_map (λ y. changes_at conf a b y.0 (finite.get a y.0) y.1) (finite.entries b))
-        (gone_writable (reverse (only_in a b)) (all_reverse (λ x. (finite.get a x.0 ≡ Some x.1) × (finite.contains_key b x.0 ≡ false)) (only_in a b) (only_are reads conf ok a b h g (finite.entries a) (all_there a))))
+        let gone : AllByRecursion IsGone (only_in extent a b) = subst (AllByRecursion IsGone) (sym (goes_at conf extent a b goal aims)) (only_are reads conf ok a goal h g (finite.entries a) (all_there a)) in
+        all_append IsWritableChange (map (λ x. removing conf a x.0) (reverse (only_in extent a b))) (flat_map (changes_of conf extent a b) (finite.entries b))
+        (gone_writable (reverse (only_in extent a b)) (all_reverse IsGone (only_in extent a b) gone))
         (at_all (finite.entries b) (all_there b))

@@ -1,6 +1,9 @@
 pub mod EntryChanges
+pub mod AsSets
 pub mod Differences
+pub mod Comparisons
 pub mod Follows
 pub mod Comments
 pub mod Texts
+pub mod Obstacles
 pub mod inner

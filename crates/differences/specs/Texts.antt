@@ -5,23 +5,24 @@ use Rattle.std.specs.FinMap as finite
 use Rattle.ldif.specs.declared.record.Mode.TheVariants as modes
 use Rattle.paths.specs.Paths.{Path}
 use Rattle.schema.specs.Conf.{Conf}
-use Rattle.tree.specs.Directories.{Entries}
+use Rattle.tree.specs.Directories.{Entries, IsDirectory}
 use Rattle.databases.specs.Runs as runs
 use Rattle.differences.specs.Comments.{change_text}
-use Rattle.differences.specs.Differences.{changes_between, is_some_change}
+use Rattle.differences.specs.Differences.{Extent, IsGoal, changes_between, is_some_change}
 use Rattle.differences.specs.Follows.{IsLeftAt, MayLead}
 
-unfoldable pub difference : Conf → Entries → Entries → List ℕ
-difference conf a b = flat_map change_text (changes_between conf a b)
+unfoldable pub difference : Conf → Extent → Entries → Entries → List ℕ
+difference conf c a b = flat_map change_text (changes_between conf c a b)
 
 -- whether there is something to change
-abbrev pub differs : Conf → Entries → Entries → Bool
-differs conf a b = is_some_change (changes_between conf a b)
+abbrev pub differs : Conf → Extent → Entries → Entries → Bool
+differs conf c a b = is_some_change (changes_between conf c a b)
 
--- ldapmodify with that text refuses no record, and leaves the second directory, but for the attributes that users can't change
-pub record LeadsByText (conf : Conf) (a b : Entries) (go_on : Bool) : Type 0 where
-  pub refused : (runs.after conf (modes.Changes false) go_on a (difference conf a b)).refused ≡ []
-  pub left : (p : Path) → IsLeftAt conf.types (finite.get a p) (finite.get b p) (finite.get (runs.after conf (modes.Changes false) go_on a (difference conf a b)).entries p)
+-- ldapmodify with that text refuses no record, and leaves what is to be there, but for the attributes that users can't change
+pub record LeadsByText (conf : Conf) (c : Extent) (a b goal : Entries) (go_on : Bool) : Type 0 where
+  pub refused : (runs.after conf (modes.Changes false) go_on a (difference conf c a b)).refused ≡ []
+  pub left : (p : Path) → IsLeftAt conf.types (finite.get a p) (finite.get goal p) (finite.get (runs.after conf (modes.Changes false) go_on a (difference conf c a b)).entries p)
 
-abbrev pub MayLeadByText : Conf → Entries → Entries → Type 0
-MayLeadByText conf a b = (go_on : Bool) → MayLead conf a b → LeadsByText conf a b go_on
+-- so it is where what is to be there is a directory, and its classes ask for nothing that users can't change
+abbrev pub MayLeadByText : Conf → Extent → Entries → Entries → Type 0
+MayLeadByText conf c a b = (go_on : Bool) (goal : Entries) → IsGoal conf c a b goal → IsDirectory conf goal → MayLead conf a goal → LeadsByText conf c a b goal go_on

@@ -1,6 +1,7 @@
 -- What only the crate itself says of its pieces.
 pub mod Cuts
 pub mod LentAttributes
+pub mod Norms
 pub mod LentBlocks
 pub mod BlockTexts
 pub mod RecordTexts

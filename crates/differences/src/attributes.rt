@@ -1,19 +1,31 @@
 //! The attributes of an entry that users can change.
 
 ghost use Rattle.std.specs.Prelude.{◌≡◌, IfOk};
-ghost use Rattle.entries.specs.StoredEntries.{attributes_of};
+ghost use Rattle.entries.specs.StoredEntries.{attributes_of, raws};
 ghost use Rattle.differences.specs.EntryChanges.{users};
+ghost use Rattle.differences.specs.inner.Cuts.{texts};
 ghost use Rattle.differences.specs.inner.LentAttributes.{all_lent, AreLentKnown, AreStoredKnown};
 
 use entries::{Entry, Values};
 use schema::{Conf, TypeId};
 use std::alloc::{AllocError, Global};
 
-/// A type with its values.
-#[derive(Clone, Copy)]
+/// A type with its values as they are written.
+#[derive(Drop)]
 pub(crate) struct UserAttribute<'a> {
     pub t: &'a TypeId,
-    pub values: &'a Values,
+    pub values: Vec<&'a [u8]>,
+}
+
+/// The values as they are written.
+pub(crate) fn raws_of<'a>(alloc: Global, values: &'a Values) -> Result<Vec<&'a [u8]>, AllocError>
+    ensures { IfOk result (λ v. texts v.items ≡ raws values.now) }
+{
+    let mut found = Vec::new(alloc);
+    for value in values.iter() {
+        found.push(value.raw())?;
+    }
+    Ok(found)
 }
 
 /// The attributes of an entry that users can change.
@@ -29,6 +41,7 @@ pub(crate) fn users_of<'a>(
     let mut found = Vec::new(alloc);
     for (t, values) in entry.attrs() {
         if !conf.fixed(*t) {
+            let values = raws_of(alloc, values)?;
             found.push(UserAttribute { t, values })?;
         }
     }

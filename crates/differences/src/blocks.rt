@@ -4,7 +4,6 @@ ghost use Rattle.std.specs.Prelude.{◌≡◌, ◌<◌, ◌≤◌, ◌+◌, ◌�
 ghost use Rattle.std.specs.List.{list_any};
 ghost use Rattle.ldif.specs.declared.record.Op.TheVariants as ops;
 ghost use Rattle.values.specs.Types.{has_equality};
-ghost use Rattle.entries.specs.StoredEntries.{raws};
 ghost use Rattle.differences.specs.EntryChanges.{block_of, with_some, are_none, blocks_for, blocks_at, deleting, adding, blocks_between};
 ghost use Rattle.differences.specs.inner.Cuts.{texts};
 ghost use Rattle.differences.specs.inner.LentAttributes.{lent, all_lent, goes_on, first_blocks, AreLentKnown};
@@ -12,7 +11,6 @@ ghost use Rattle.differences.specs.inner.LentBlocks.{all_seen};
 
 use crate::attributes::UserAttribute;
 use crate::value_changes::values_between;
-use entries::Values;
 use ldif::Op;
 use schema::{Conf, TypeId};
 use std::alloc::{AllocError, Global};
@@ -55,17 +53,6 @@ fn push_some<'a>(
         return Ok(());
     }
     push_block(alloc, blocks, op, t, values)
-}
-
-/// The values as they are written.
-fn raws_of<'a>(alloc: Global, values: &'a Values) -> Result<Vec<&'a [u8]>, AllocError>
-    ensures { IfOk result (λ v. texts v.items ≡ raws values.now) }
-{
-    let mut found = Vec::new(alloc);
-    for value in values.iter() {
-        found.push(value.raw())?;
-    }
-    Ok(found)
 }
 
 fn are_none(gone: &[&[u8]], come: &[&[u8]]) -> bool
@@ -142,23 +129,6 @@ fn push_between<'a>(
     push_for(alloc, blocks, conf, t, after, gone.as_slice(), come)
 }
 
-/// Puts the blocks that turn the values of a type in one entry into those in another.
-fn push_at<'a>(
-    alloc: Global,
-    blocks: &mut Vec<Block<'a>>,
-    conf: &Conf,
-    t: &'a TypeId,
-    before: &'a Values,
-    after: &'a Values,
-) -> Result<(), AllocError>
-    requires { t.now < length conf.now.types }
-    ensures { OnOk result (all_seen blocks.new.items ≡ all_seen blocks.old.items ++ blocks_at conf.now.types t.now (raws before.now) (raws after.now)) }
-{
-    let old = raws_of(alloc, before)?;
-    let new = raws_of(alloc, after)?;
-    push_between(alloc, blocks, conf, t, old.as_slice(), new.as_slice())
-}
-
 /// Puts the block that adds an attribute.
 fn push_added<'a>(
     alloc: Global,
@@ -167,8 +137,13 @@ fn push_added<'a>(
 ) -> Result<(), AllocError>
     ensures { OnOk result (all_seen blocks.new.items ≡ all_seen blocks.old.items ++ adding (lent attribute.now) ∷ []) }
 {
-    let new = raws_of(alloc, attribute.values)?;
-    push_block(alloc, blocks, Op::Add, attribute.t, new.as_slice())
+    push_block(
+        alloc,
+        blocks,
+        Op::Add,
+        attribute.t,
+        attribute.values.as_slice(),
+    )
 }
 
 /// Puts blocks that delete the attributes from a place on.
@@ -246,7 +221,14 @@ fn push_first<'a>(
     ensures blocks { OnOk result (all_seen blocks.new.items ≡ all_seen blocks.old.items ++ first_blocks conf.now.types (lent before.now) (lent after.now)) }
 {
     if *before.t == *after.t {
-        push_at(alloc, blocks, conf, before.t, before.values, after.values)?;
+        push_between(
+            alloc,
+            blocks,
+            conf,
+            before.t,
+            before.values.as_slice(),
+            after.values.as_slice(),
+        )?;
         return Ok(1);
     }
     push_block(alloc, blocks, Op::Delete, before.t, &[])?;

@@ -1,7 +1,7 @@
 //! Change records as text (RFC 2849, "ldif-change-record"), each with its comment.
 
 ghost use Rattle.std.specs.Prelude.{◌≡◌, ◌<◌, ◌++◌, ◌∷◌, [], length, codes, IfOk, OnOk};
-ghost use Rattle.entries.specs.StoredEntries.{attributes_of, raws};
+ghost use Rattle.entries.specs.StoredEntries.{attributes_of};
 ghost use Rattle.ldif.specs.Forms.{op_word};
 ghost use Rattle.schema.specs.GoodRdns.{IsRdn};
 ghost use Rattle.values.specs.Types.{name_of};
@@ -16,7 +16,7 @@ ghost use Rattle.differences.specs.inner.RecordTexts.{head_text, modify_text, de
 use crate::attributes::{UserAttribute, users_of};
 use crate::blocks::Block;
 use crate::comments::put_words;
-use entries::{Entry, Values};
+use entries::Entry;
 use ldif::{Op, put_line};
 use schema::{Conf, TypeId, TypedRdn};
 use std::alloc::{AllocError, Global};
@@ -134,21 +134,6 @@ pub(crate) fn put_modify(
     Ok(())
 }
 
-/// Puts the lines of values under one name.
-fn put_values(
-    alloc: Global,
-    out: &mut Vec<u8>,
-    name: &[u8],
-    values: &Values,
-) -> Result<(), AllocError>
-    ensures { OnOk result (out.new.items ≡ out.old.items ++ value_lines name.now (raws values.now)) }
-{
-    for value in values.iter() {
-        put_line(alloc, out, name, value.raw())?;
-    }
-    Ok(())
-}
-
 /// Puts the lines of attributes.
 fn put_lines(
     alloc: Global,
@@ -161,7 +146,7 @@ fn put_lines(
 {
     for i in 0..attrs.len() {
         let attr = &attrs[i];
-        put_values(alloc, out, conf.name(*attr.t), attr.values)?;
+        put_texts(alloc, out, conf.name(*attr.t), attr.values.as_slice())?;
     }
     Ok(())
 }

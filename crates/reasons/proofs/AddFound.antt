@@ -1,18 +1,13 @@
 -- Flaws of an add that are found.
-use Rattle.std.proofs.Common.{◌≡◌, ℕ, ◌≤◌, ◌<◌, true, false, not, ◌&&◌, List, [], ◌∷◌, ◌++◌, Option, Some, None, Result, Ok, Err, refl, sym, ap, subst, ◌∙◌, arith}
+use Rattle.std.proofs.Common.{◌≡◌, ℕ, ◌≤◌, ◌<◌, true, false, not, ◌&&◌, List, [], ◌∷◌, ◌++◌, Option, Some, None, ap, subst, ◌∙◌, arith}
 use Rattle.std.specs.FinMap as finite
-use Rattle.base.specs.Answers.{◌>>=◌, Fails}
 use Rattle.ldif.specs.Attrs.{Attr}
 use Rattle.ldif.specs.declared.record.Mode.{Mode}
 use Rattle.ldif.specs.declared.record.Record.{Record}
 use Rattle.paths.specs.Paths.{Path, is_root, parent_of}
-use Rattle.schema.specs.declared.code.Code.{Code}
 use Rattle.schema.specs.Conf.{Conf, located, own_rdn}
 use Rattle.schema.specs.Rdns.{TypedRdn}
-use Rattle.entries.specs.Entries.{Attributes, EntryContent, add_lines, with_rdn}
-use Rattle.entries.specs.Gives.{fault_of}
-use Rattle.entries.specs.declared.refusal.Refusal.{Refusal}
-use Rattle.entries.specs.declared.refusal.Refusal.TheVariants as refusals
+use Rattle.entries.specs.Entries.{Attributes, EntryContent, with_rdn}
 use Rattle.tree.specs.Directories.{Entries}
 use Rattle.reasons.specs.declared.reason.EntryReason.{EntryReason}
 use Rattle.reasons.specs.declared.reason.Reason.{Reason}
@@ -20,15 +15,13 @@ use Rattle.reasons.specs.declared.reason.Reason.TheVariants as reasons
 use Rattle.reasons.specs.LineFlaws.{gathered, attrs_of_lines}
 use Rattle.reasons.specs.EntryFlaws.{EntryFlaw, HasEntryFlaw, entry_order}
 use Rattle.reasons.specs.Asked.{IsAt, IsToBe, name_of_record, lines_of_record}
-use Rattle.reasons.specs.Flaws.{Flaw, IsThere, NoParent, Full, Entry, HasFlaw, flaw_code, line_checks, entry_checks}
+use Rattle.reasons.specs.Flaws.{Flaw, IsThere, NoParent, Full, Entry, HasFlaw, entry_checks}
 use Rattle.reasons.specs.Reasons.{entry_flaw_of}
 use Rattle.reasons.specs.inner.Found.{Stands, Adds}
 use Rattle.reasons.specs.inner.Entries.{FindsInEntry}
-use Rattle.reasons.proofs.Answering.{is_no_answer, none_answers}
-use Rattle.reasons.proofs.AvaAnswers.{same_ok, only_ok}
+use Rattle.reasons.proofs.AvaAnswers.{only_ok}
 use Rattle.reasons.proofs.Elements.{both, joined, on, off}
 use Rattle.reasons.proofs.Finding.{within}
-use Rattle.reasons.proofs.LineAnswers.{line_answers}
 use Rattle.reasons.proofs.RecordFound.{Found, found_here, found_later, found_before, found_behind, found_none, of_this, differ}
 
 module _ (conf : Conf) (mode : Mode) (d : Entries) (r : Record) where
@@ -57,37 +50,8 @@ module _ (conf : Conf) (mode : Mode) (d : Entries) (r : Record) where
           let k = of_this conf mode d r path at (λ p. (is_root p ≡ false) × (finite.contains_key d (parent_of p) ≡ false)) has.0 has.1 (has.2, has.3) in
           differ (not (is_root path) && not (finite.contains_key d (parent_of path))) (joined (not (is_root path)) (not (finite.contains_key d (parent_of path))) (on (is_root path) k.0) (on (finite.contains_key d (parent_of path)) k.1)) has_parent) is)
 
-  -- ---- lines without a flaw
-
-  abbrev gives : Attributes → Result Attributes Code
-  gives attrs = Ok attrs
-
-  same_again : (x : Result Attributes Code) → (x >>= gives) ≡ x
-  same_again (Ok attrs) = refl
-  same_again (Err c) = refl
-
   abbrev all : List Attr
   all = lines_of_record r
-
-  all_fine : Found conf mode d r (line_checks 0 all) None → add_lines mode conf.types [] all ≡ Ok (gathered conf.types all)
-  all_fine none =
-      let x : Result Attributes Code = add_lines mode conf.types [] all >>= gives in
-      sym (same_again (add_lines mode conf.types [] all))
-      ∙ none_answers (HasFlaw conf mode d r) flaw_code (x ≡ gives (gathered conf.types all)) (line_checks 0 all) x (line_answers conf mode d r x gives refl) none.first
-
-  pub lines_fine : (lines : List Attr) → lines ≡ all → Found conf mode d r (line_checks 0 lines) None → add_lines mode conf.types [] lines ≡ Ok (gathered conf.types lines)
-  lines_fine lines same none =
-      subst (λ (ls : List Attr). add_lines mode conf.types [] ls ≡ Ok (gathered conf.types ls)) (sym same) (all_fine (subst (λ (ls : List Attr). Found conf mode d r (line_checks 0 ls) None) same none))
-
-  pub never_refused : (lines : List Attr) (refusal : Refusal) (c : Code) → lines ≡ all → Found conf mode d r (line_checks 0 lines) None → refusal ≡ refusals.Code c
-      → Fails (fault_of refusal) (add_lines mode conf.types [] lines) → ⊥
-  never_refused lines refusal c same none is fails =
-      is_no_answer (add_lines mode conf.types [] lines) (gathered conf.types lines) c (lines_fine lines same none) (subst (λ (x : Refusal). Fails (fault_of x) (add_lines mode conf.types [] lines)) is fails)
-
-  pub made_by : (lines : List Attr) (rdn : TypedRdn) (before after : Attributes) → lines ≡ all → Found conf mode d r (line_checks 0 lines) None → add_lines mode conf.types [] lines ≡ Ok before
-      → after ≡ with_rdn conf.types rdn before → after ≡ with_rdn conf.types rdn (gathered conf.types lines)
-  made_by lines rdn before after same none said with =
-      with ∙ ap (with_rdn conf.types rdn) (same_ok before (gathered conf.types lines) (sym said ∙ lines_fine lines same none))
 
   -- ---- the entry that is to be
 

@@ -6,6 +6,7 @@ use Rattle.std.specs.Map.{lookup}
 use Rattle.std.proofs.lemmas.Bool.{eqb-true}
 use Rattle.std.proofs.lemmas.List.{append-nil}
 use Rattle.values.specs.Values.{Value}
+use Rattle.entries.specs.Entries.{push_value}
 use Rattle.entries.specs.Modifies.{attribute, set_values}
 use Rattle.entries.specs.StoredEntries.{EntryAttribute}
 use Rattle.reasons.specs.inner.Drafts.{has_place, IsPlaceOf}
@@ -83,6 +84,26 @@ module _ (t : ℕ) where
 
   pub set_kept : (vs : List Value) (es : List EntryAttribute) → has_place t es ≡ false → nat_eq (length vs) 0 ≡ true → es ≡ set_values es t vs
   set_kept vs es none e = sym (ap (set_values es t) (no_values vs e) ∙ set_last [] es none ∙ append-nil es)
+
+-- a value more
+module _ (t : ℕ) (v : Value) where
+  pub push_there : (es : List EntryAttribute) (i : ℕ) (a : EntryAttribute) → IsPlaceOf t es (Some i) → slice_get es i ≡ Some a → slice_set es i (a.0, a.1 ++ v ∷ []) ≡ push_value es t v
+  unfolding push_value
+  push_there [] i a is at = absurd cc
+  push_there (e ∷ es) zero a is at =
+      let here : e ≡ a = same_one e a at in
+      let same : nat_eq t e.0 ≡ true = ap (λ (x : EntryAttribute). nat_eq t x.0) (same_one e is.0 is.1) ∙ is.2 in
+      ap (λ (x : EntryAttribute). (x.0, x.1 ++ v ∷ []) ∷ es) (sym here) ∙ sym (ap (λ (b : Bool). cond b ((e.0, e.1 ++ v ∷ []) ∷ es) (e ∷ push_value es t v)) same)
+  push_there (e ∷ es) (suc i) a is at =
+      let k = neither (nat_eq t e.0) (has_place t (take i es)) is.3 in
+      ap (λ (xs : List EntryAttribute). e ∷ xs) (push_there es i a (is.0, is.1, is.2, k.1) at) ∙ sym (ap (λ (b : Bool). cond b ((e.0, e.1 ++ v ∷ []) ∷ es) (e ∷ push_value es t v)) k.0)
+
+  pub push_last : (es : List EntryAttribute) → has_place t es ≡ false → es ++ (t, v ∷ []) ∷ [] ≡ push_value es t v
+  unfolding push_value
+  push_last [] none = refl
+  push_last (e ∷ es) none =
+      let k = neither (nat_eq t e.0) (has_place t es) none in
+      ap (λ (xs : List EntryAttribute). e ∷ xs) (push_last es k.1) ∙ sym (ap (λ (b : Bool). cond b ((e.0, e.1 ++ v ∷ []) ∷ es) (e ∷ push_value es t v)) k.0)
 
 -- as calls know them
 pub place_is : (t : ℕ) (es : List EntryAttribute) (o p : Option ℕ) → o ≡ p → IsPlaceOf t es o → IsPlaceOf t es p

@@ -62,12 +62,12 @@ any_typed Q (a ∷ attrs) t there h = elim (either (nat_eq t a.0) (has_type attr
   | inr other ↦ any_later (λ (b : Attribute). Q b.0) a attrs (any_typed Q attrs t other h)
 ]
 
--- an attribute with more values than one
-pub many_at : (types : List AttributeType) (es : List EntryAttribute) (i : ℕ) (d : EntryAttribute) → i < length es → 1 < length (slice_index_or es i d).1
-    → Any (λ a. (a.0 ≡ (slice_index_or es i d).0) × (1 < length a.1)) (attributes_of es)
-many_at types [] i d lt more = absurd (omega (arith, lt))
-many_at types (e ∷ es) zero d lt more = any_here (λ (a : Attribute). (a.0 ≡ e.0) × (1 < length a.1)) (e.0, raws e.1) (attributes_of es) (refl, subst (λ (n : ℕ). 1 < n) (sym (length-map e.1 (λ (v : Value). v.raw))) more)
-many_at types (e ∷ es) (suc i) d lt more = any_later (λ (a : Attribute). (a.0 ≡ (slice_index_or es i d).0) × (1 < length a.1)) (e.0, raws e.1) (attributes_of es) (many_at types es i d (omega (arith, lt)) more)
+-- an attribute with so many values
+pub many_at : (n : ℕ) (es : List EntryAttribute) (i : ℕ) (d : EntryAttribute) → i < length es → length (slice_index_or es i d).1 ≡ n
+    → Any (λ a. (a.0 ≡ (slice_index_or es i d).0) × (length a.1 ≡ n)) (attributes_of es)
+many_at n [] i d lt counted = absurd (omega (arith, lt))
+many_at n (e ∷ es) zero d lt counted = any_here (λ (a : Attribute). (a.0 ≡ e.0) × (length a.1 ≡ n)) (e.0, raws e.1) (attributes_of es) (refl, length-map e.1 (λ (v : Value). v.raw) ∙ counted)
+many_at n (e ∷ es) (suc i) d lt counted = any_later (λ (a : Attribute). (a.0 ≡ (slice_index_or es i d).0) × (length a.1 ≡ n)) (e.0, raws e.1) (attributes_of es) (many_at n es i d (omega (arith, lt)) counted)
 
 pub above_one : (b : Bool) (n : ℕ) → (IsTrue b ↔ (n ≤ 1)) → b ≡ false → 1 < n
 above_one b zero told off = absurd (let on : IsTrue b = told.1 (omega arith) in differ b on off)
@@ -254,9 +254,11 @@ module _ (conf : Conf) (attrs : Attributes) where
     behind_classes : (found : Option EntryReason) → Found (ManyValues ∷ []) found → Found entry_order found
     behind_classes found is = class_there (UnknownClass ∷ LacksType ∷ TypeNotAllowed ∷ ManyValues ∷ []) found there (record { first = behind Has class_order (ManyValues ∷ []) (option_map entry_flaw_of found) fine.first is.first; so = is.so })
 
-    pub many_found : (t : ℕ) → IsMany conf attrs t → Found entry_order (Some (entry_reasons.ManyValues t))
-    many_found t is = behind_classes (Some (entry_reasons.ManyValues t))
-        (entry_here (entry_reasons.ManyValues t) [] (is.more.0, is.more.1, is.more.2, is.more.3, (subst (λ (u : ℕ). (type_at conf.types u).single_value ≡ true) (sym is.more.4.0) is.one_at_most, is.more.4.1)) is)
+    pub many_found : (t n : ℕ) → IsMany conf attrs t n → Found entry_order (Some (entry_reasons.ManyValues t n))
+    many_found t n is =
+        let k = is.counted in
+        behind_classes (Some (entry_reasons.ManyValues t n))
+        (entry_here (entry_reasons.ManyValues t n) [] (k.0, k.1, k.2, k.3, (subst (λ (u : ℕ). (type_at conf.types u).single_value ≡ true) (sym k.4.0) is.one_at_most, subst (λ (m : ℕ). 1 < m) (sym k.4.1) is.more)) is)
 
     pub single_found : are_single conf.types attrs ≡ true → Found entry_order None
     single_found is = behind_classes None (entry_later ManyValues [] None (λ has. differ (are_single conf.types attrs) is (many_told.1 has)) (record { first = tt; so = tt }))
@@ -277,7 +279,7 @@ lacks_is conf attrs ns ms o p same is h = subst (λ (xs : List ℕ). LacksIn con
 pub class_values : (types : List AttributeType) (es : List EntryAttribute) (vs : List Value) → vs ≡ values_of es 0 → raws vs ≡ values_of (attributes_of es) 0
 class_values types es vs is = ap raws is ∙ sym (values_raw types 0 es)
 
-pub more_at : (es : List EntryAttribute) (i : ℕ) (d e : EntryAttribute) → i < length es → 1 < length (slice_index_or es i d).1 → 1 < length (slice_index_or es i e).1
-more_at [] i d e lt more = absurd (omega (arith, lt))
-more_at (x ∷ es) zero d e lt more = more
-more_at (x ∷ es) (suc i) d e lt more = more_at es i d e (omega (arith, lt)) more
+pub same_at : (es : List EntryAttribute) (i : ℕ) (d e : EntryAttribute) → i < length es → slice_index_or es i d ≡ slice_index_or es i e
+same_at [] i d e lt = absurd (omega (arith, lt))
+same_at (x ∷ es) zero d e lt = refl
+same_at (x ∷ es) (suc i) d e lt = same_at es i d e (omega (arith, lt))

@@ -1,5 +1,5 @@
 -- Flaws of lines that are found.
-use Rattle.std.proofs.Common.{◌≡◌, ℕ, zero, suc, ◌<◌, ◌≤◌, Bool, true, false, cond, ◌||◌, List, [], ◌∷◌, ◌++◌, length, take, drop, get_or, Option, Some, None, refl, sym, ap, subst, ◌∙◌}
+use Rattle.std.proofs.Common.{◌≡◌, ℕ, zero, suc, ◌<◌, ◌≤◌, Bool, true, false, cond, ◌||◌, List, [], ◌∷◌, ◌++◌, length, fold, take, drop, get_or, Option, Some, None, refl, sym, ap, subst, ◌∙◌}
 use Rattle.std.specs.Prelude.{◌&&◌, nat_eq, is_some, IfNone}
 use Rattle.std.specs.declared.cmp.Ordering.{Ordering}
 use Rattle.std.specs.declared.cmp.Ordering.TheVariants.{Less, Equal, Greater}
@@ -21,20 +21,22 @@ use Rattle.values.specs.Types.{type_of}
 use Rattle.schema.specs.Conf.{Conf}
 use Rattle.schema.specs.Subtypes.{passes}
 use Rattle.schema.specs.Values.{is_valid_at, norm_at, are_equal}
-use Rattle.entries.specs.Entries.{is_barred}
+use Rattle.entries.specs.Entries.{Attributes, push_value, is_barred}
+use Rattle.entries.specs.StoredEntries.{EntryAttribute, attributes_of, IsMade}
+use Rattle.entries.proofs.StoredLemmas.{made_pushed, raws_pushed}
 use Rattle.tree.specs.Directories.{Entries}
 use Rattle.reasons.specs.declared.reason.Reason.{Reason}
 use Rattle.reasons.specs.declared.reason.Reason.TheVariants as reasons
 use Rattle.reasons.specs.declared.reason.LineReason.{LineReason}
 use Rattle.reasons.specs.declared.reason.LineReason.TheVariants as line_reasons
-use Rattle.reasons.specs.LineFlaws.{UnknownType, UsersCantChange, BadSyntax, EqualValue, IsLine, SaysEqual}
+use Rattle.reasons.specs.LineFlaws.{UnknownType, UsersCantChange, BadSyntax, EqualValue, IsLine, SaysEqual, put_typed, put_line}
 use Rattle.reasons.specs.Asked.{lines_of_record}
 use Rattle.reasons.specs.Flaws.{Flaw, Line, HasFlaw, line_checks}
 use Rattle.reasons.specs.inner.Found.{FindsFirst, Finds, Leaves}
-use Rattle.reasons.specs.inner.Lines.{checks_of_line, says_norm, IsSaidBy, AreSeen}
+use Rattle.reasons.specs.inner.Lines.{checks_of_line, says_norm, IsSaidBy, ArePlaced, TypedValue, IsTyped, AreTyped, has_norm_of, IsPlaceIn, put_typed_value}
 use Rattle.reasons.proofs.Elements.{is_none, only_some, both}
 use Rattle.reasons.proofs.Finding.{leaves_behind, leaves_before, element, split_at, none_left, at_place}
-use Rattle.reasons.proofs.Lines.{says, earlier_told, is_it}
+use Rattle.reasons.proofs.Lines.{get_seam, says, earlier_told, is_it}
 use Rattle.reasons.proofs.RecordFound.{Found, found_here, found_later, found_none, differ}
 
 -- ---- the lines that were gone through
@@ -51,11 +53,6 @@ get_front : {X : Type 0} (xs ys : List X) (i : ℕ) (x : X) → slice_get xs i �
 get_front [] ys i x there = absurd cc
 get_front (y ∷ xs) ys zero x there = there
 get_front (y ∷ xs) ys (suc i) x there = get_front xs ys i x there
-
-get_last : {X : Type 0} (xs : List X) (i : ℕ) (x : X) → slice_get xs i ≡ Some x → slice_get (take i xs ++ x ∷ []) i ≡ Some x
-get_last [] i x there = absurd cc
-get_last (y ∷ xs) zero x there = refl
-get_last (y ∷ xs) (suc i) x there = get_last xs i x there
 
 then_ties : (o r : Ordering) → is_eq (ordering_then o r) ≡ (is_eq o && is_eq r)
 then_ties Less r = refl
@@ -78,15 +75,12 @@ pair_tie : (t u : ℕ) (n m : List ℕ) → is_eq (pair_cmp (t, n) (u, m)) ≡ (
 pair_tie t u n m = then_ties (nat_cmp t u) (slice_cmp nat_cmp n m) ∙ (λ i. numbers_tie t u i && is_eq-slice_cmp n m i)
 
 module _ (types : List AttributeType) where
-  seen_none : (seen : BTreeMap Pair ℕ) → ((q : Pair) → get pair_cmp seen q ≡ None) → AreSeen types [] seen
-  seen_none seen none = record { each = λ t norm. subst (IsSaidBy types [] t norm) (sym (none (t, norm))) refl }
+  pub placed_none : (places : BTreeMap Pair ℕ) → ((q : Pair) → get pair_cmp places q ≡ None) → ArePlaced types [] places
+  placed_none places none = record { each = λ t norm. subst (IsSaidBy types [] t norm) (sym (none (t, norm))) refl }
 
-  module _ (lines : List Attr) (i : ℕ) (l : Attr) (there : slice_get lines i ≡ Some l) (t : ℕ) (known : type_of types l.name ≡ Some t) where
+  module _ (front : List Attr) (l : Attr) (t : ℕ) (known : type_of types l.name ≡ Some t) where
     abbrev norm : List ℕ
     norm = norm_at types t l.value
-
-    abbrev front : List Attr
-    front = take i lines
 
     says_by_tie : (u : ℕ) (n : List ℕ) → (b : Bool) → (nat_eq t u && bytes_eq norm n) ≡ b → says_norm types u n l ≡ b
     says_by_tie u n b is = ap (λ (o : Option ℕ). passes (nat_eq u) o && bytes_eq (norm_at types u l.value) n) known ∙ by (nat_eq t u) refl is
@@ -104,18 +98,77 @@ module _ (types : List AttributeType) where
     one_more u n None other none = list_any-append (says_norm types u n) front (l ∷ []) ∙ ap (λ (b : Bool). b || (says_norm types u n l || false)) none ∙ ap (λ (b : Bool). b || false) other
     one_more u n (Some j) other h = (h.0, get_front front (l ∷ []) j h.0 h.1, h.2)
 
-    pub seen_more : (old new : BTreeMap Pair ℕ) → AreSeen types front old → ((q : Pair) → get pair_cmp new q ≡ cond (is_eq (pair_cmp (t, norm) q)) (Some i) (get pair_cmp old q))
-        → AreSeen types (take (suc i) lines) new
-    seen_more old new seen updates = record {
+    pub placed_more : (old new : BTreeMap Pair ℕ) → ArePlaced types front old
+        → ((q : Pair) → get pair_cmp new q ≡ cond (is_eq (pair_cmp (t, norm) q)) (Some (length front)) (get pair_cmp old q)) → ArePlaced types (front ++ l ∷ []) new
+    placed_more old new placed updates = record {
       each = λ u n.
-          subst (IsSaidBy types (take (suc i) lines) u n) (sym (updates (u, n)))
-          (subst (λ (ls : List Attr). IsSaidBy types ls u n (cond (is_eq (pair_cmp (t, norm) (u, n))) (Some i) (get pair_cmp old (u, n)))) (sym (take_one_more lines i l there))
-          (by u n (is_eq (pair_cmp (t, norm) (u, n))) (sym (pair_tie t u norm n))));
+          subst (IsSaidBy types (front ++ l ∷ []) u n) (sym (updates (u, n)))
+          (by u n (is_eq (pair_cmp (t, norm) (u, n))) (sym (pair_tie t u norm n)));
     }
       where
-        by : (u : ℕ) (n : List ℕ) (b : Bool) → (nat_eq t u && bytes_eq norm n) ≡ b → IsSaidBy types (front ++ l ∷ []) u n (cond b (Some i) (get pair_cmp old (u, n)))
-        by u n true tie = (l, get_last lines i l there, says_by_tie u n true tie)
-        by u n false tie = one_more u n (get pair_cmp old (u, n)) (says_by_tie u n false tie) (seen.each u n)
+        by : (u : ℕ) (n : List ℕ) (b : Bool) → (nat_eq t u && bytes_eq norm n) ≡ b → IsSaidBy types (front ++ l ∷ []) u n (cond b (Some (length front)) (get pair_cmp old (u, n)))
+        by u n true tie = (l, get_seam front l [], says_by_tie u n true tie)
+        by u n false tie = one_more u n (get pair_cmp old (u, n)) (says_by_tie u n false tie) (placed.each u n)
+
+-- ---- the values that lines say
+
+module _ (types : List AttributeType) where
+  pub typed_more : (ls : List Attr) (xs : List TypedValue) (l : Attr) (x : TypedValue) → AreTyped types ls xs → IsTyped types l x → AreTyped types (ls ++ l ∷ []) (xs ++ x ∷ [])
+  typed_more [] [] l x are is = (is, tt)
+  typed_more [] (y ∷ xs) l x are is = absurd are
+  typed_more (k ∷ ls) [] l x are is = absurd are
+  typed_more (k ∷ ls) (y ∷ xs) l x are is = (are.0, typed_more ls xs l x are.1 is)
+
+  pub as_many : (ls : List Attr) (xs : List TypedValue) → AreTyped types ls xs → length xs ≡ length ls
+  as_many [] [] are = refl
+  as_many [] (x ∷ xs) are = absurd are
+  as_many (l ∷ ls) [] are = absurd are
+  as_many (l ∷ ls) (x ∷ xs) are = ap (λ (n : ℕ). suc n) (as_many ls xs are.1)
+
+  says_same : (t : ℕ) (n : List ℕ) (l : Attr) (x : TypedValue) → IsTyped types l x → says_norm types t n l ≡ has_norm_of t n x
+  says_same t n l x is = ap (λ (o : Option ℕ). passes (nat_eq t) o && bytes_eq (norm_at types t l.value) n) is.type_is ∙ by (nat_eq t x.0) refl
+    where
+      by : (b : Bool) → nat_eq t x.0 ≡ b → (b && bytes_eq (norm_at types t l.value) n) ≡ (b && bytes_eq x.1.norm n)
+      by true same = ap (λ (u : ℕ). bytes_eq (norm_at types u l.value) n) (eqb-true t x.0 same) ∙ ap (λ (m : List ℕ). bytes_eq m n) (sym is.norm_is)
+      by false same = refl
+
+  none_says : (t : ℕ) (n : List ℕ) (ls : List Attr) (xs : List TypedValue) → AreTyped types ls xs → list_any (says_norm types t n) ls ≡ list_any (has_norm_of t n) xs
+  none_says t n [] [] are = refl
+  none_says t n [] (x ∷ xs) are = absurd are
+  none_says t n (l ∷ ls) [] are = absurd are
+  none_says t n (l ∷ ls) (x ∷ xs) are = λ i. says_same t n l x are.0 i || none_says t n ls xs are.1 i
+
+  line_of : (ls : List Attr) (xs : List TypedValue) (j : ℕ) (x : TypedValue) → AreTyped types ls xs → slice_get xs j ≡ Some x → (l : Attr) × (slice_get ls j ≡ Some l) × IsTyped types l x
+  line_of [] [] j x are at = absurd cc
+  line_of [] (y ∷ xs) j x are at = absurd are
+  line_of (l ∷ ls) [] j x are at = absurd are
+  line_of (l ∷ ls) (y ∷ xs) zero x are at = (l, refl, subst (IsTyped types l) (same y x at) are.0)
+    where
+      same : (a b : TypedValue) → ◌≡◌ {A = Option TypedValue} (Some a) (Some b) → a ≡ b
+      same a b h = cc
+  line_of (l ∷ ls) (y ∷ xs) (suc j) x are at = line_of ls xs j x are.1 at
+
+  -- where a value is among these, a line says it
+  pub said_at : (t : ℕ) (n : List ℕ) (ls : List Attr) (xs : List TypedValue) (o : Option ℕ) → AreTyped types ls xs → IsPlaceIn t n xs o → IsSaidBy types ls t n o
+  said_at t n ls xs None are none = none_says t n ls xs are ∙ none
+  said_at t n ls xs (Some j) are is = let k = line_of ls xs j is.0 are is.1 in (k.0, k.1, says_same t n k.0 is.0 k.2 ∙ is.2)
+
+  -- the attributes that they make
+  pub made_of : (ls : List Attr) (xs : List TypedValue) (es : List EntryAttribute) → AreTyped types ls xs → IsMade types es → IsMade types (fold put_typed_value es xs)
+  made_of [] [] es are made = made
+  made_of [] (x ∷ xs) es are made = absurd are
+  made_of (l ∷ ls) [] es are made = absurd are
+  made_of (l ∷ ls) (x ∷ xs) es are made = made_of ls xs (push_value es x.0 x.1) are.1
+      (made_pushed types x.0 es x.1 made are.0.known (are.0.norm_is ∙ ap (norm_at types x.0) (sym are.0.raw_is)))
+
+  pub gathered_of : (ls : List Attr) (xs : List TypedValue) (es : List EntryAttribute) → AreTyped types ls xs → attributes_of (fold put_typed_value es xs) ≡ fold (put_line types) (attributes_of es) ls
+  gathered_of [] [] es are = refl
+  gathered_of [] (x ∷ xs) es are = absurd are
+  gathered_of (l ∷ ls) [] es are = absurd are
+  gathered_of (l ∷ ls) (x ∷ xs) es are =
+      gathered_of ls xs (push_value es x.0 x.1) are.1
+      ∙ ap (λ (attrs : Attributes). fold (put_line types) attrs ls)
+      (raws_pushed es x.0 x.1 ∙ ap (push_value (attributes_of es) x.0) are.0.raw_is ∙ ap (put_typed (attributes_of es) l.value) (sym are.0.type_is))
 
 -- ---- a line
 
@@ -223,7 +276,12 @@ kept_at P (Some reason) none h = absurd cc
 pub here_in : (r : Record) (lines : List Attr) (i : ℕ) (l : Attr) → lines ≡ lines_of_record r → i < length lines → l ≡ get_or lines i l → slice_get (lines_of_record r) i ≡ Some l
 here_in r lines i l same within is = ap (λ (ls : List Attr). slice_get ls i) (sym same) ∙ at_place lines i l within is
 
--- what the map tells of the lines before
-pub said_in : (r : Record) (lines : List Attr) (i : ℕ) → lines ≡ lines_of_record r → (types : List AttributeType) (t : ℕ) (norm : List ℕ) (seen : BTreeMap Pair ℕ) → AreSeen types (take i lines) seen
-    → (o : Option ℕ) → get pair_cmp seen (t, norm) ≡ o → IsSaidBy types (take i (lines_of_record r)) t norm o
-said_in r lines i same types t norm seen are o is = subst (λ (ls : List Attr). IsSaidBy types (take i ls) t norm o) same (subst (IsSaidBy types (take i lines) t norm) is (are.each t norm))
+-- what the lines before say
+pub said_in : (r : Record) (lines : List Attr) (i : ℕ) → lines ≡ lines_of_record r → (types : List AttributeType) (t : ℕ) (n m : List ℕ) (o p : Option ℕ) → n ≡ m → o ≡ p
+    → IsSaidBy types (take i lines) t n o → IsSaidBy types (take i (lines_of_record r)) t m p
+said_in r lines i same types t n m o p norm_is found_is said =
+    subst (λ (ls : List Attr). IsSaidBy types (take i ls) t m p) same (subst (IsSaidBy types (take i lines) t m) found_is (subst (λ (k : List ℕ). IsSaidBy types (take i lines) t k o) norm_is said))
+
+pub none_kept : (P : Type 0) (o : Option Reason) → is_some o ≡ true → IfNone o P
+none_kept P None some = absurd cc
+none_kept P (Some reason) some = tt

@@ -80,7 +80,7 @@ entry_flaw_of entry_reasons.NoObjectClass = entry_flaws.NoObjectClass
 entry_flaw_of (entry_reasons.UnknownClass value) = entry_flaws.UnknownClass
 entry_flaw_of (entry_reasons.LacksType class needed) = entry_flaws.LacksType
 entry_flaw_of (entry_reasons.TypeNotAllowed found) = entry_flaws.TypeNotAllowed
-entry_flaw_of (entry_reasons.ManyValues single) = entry_flaws.ManyValues
+entry_flaw_of (entry_reasons.ManyValues single count) = entry_flaws.ManyValues
 
 abbrev pub flaw_of : Reason → Flaw
 flaw_of (reasons.CriticalControl control) = flaws.CriticalControl
@@ -127,11 +127,12 @@ pub record IsNotAllowed (conf : Conf) (attrs : Attributes) (found : ℕ) : Type 
   pub there : has_type attrs found ≡ true
   pub refused : is_allowed conf (classes_of conf attrs) found ≡ false
 
--- more values than one of a SINGLE-VALUE type are there
-pub record IsMany (conf : Conf) (attrs : Attributes) (single : ℕ) : Type 0 where
+-- so many values of a SINGLE-VALUE type are there, and more than one
+pub record IsMany (conf : Conf) (attrs : Attributes) (single count : ℕ) : Type 0 where
   pub type_known : single < length conf.types
   pub one_at_most : (type_at conf.types single).single_value ≡ true
-  pub more : Any (λ a. (a.0 ≡ single) × (1 < length a.1)) attrs
+  pub counted : Any (λ a. (a.0 ≡ single) × (length a.1 ≡ count)) attrs
+  pub more : 1 < count
 
 -- of an entry with these attributes
 abbrev pub IsSoOfEntry : Conf → Attributes → EntryReason → Type 0
@@ -139,7 +140,7 @@ IsSoOfEntry conf attrs entry_reasons.NoObjectClass = Unit {0}
 IsSoOfEntry conf attrs (entry_reasons.UnknownClass value) = (v : List ℕ) × (slice_get (values_of attrs 0) value ≡ Some v) × (class_of conf.classes v ≡ None)
 IsSoOfEntry conf attrs (entry_reasons.LacksType class needed) = IsLacked conf attrs class needed
 IsSoOfEntry conf attrs (entry_reasons.TypeNotAllowed found) = IsNotAllowed conf attrs found
-IsSoOfEntry conf attrs (entry_reasons.ManyValues single) = IsMany conf attrs single
+IsSoOfEntry conf attrs (entry_reasons.ManyValues single count) = IsMany conf attrs single count
 
 -- what a reason tells besides its flaw is so
 abbrev pub IsSo : Conf → Entries → Record → Reason → Type 0

@@ -3,14 +3,14 @@
 ghost use Rattle.std.specs.Prelude.{◌≡◌, nat_eq, IfOk, OnOk};
 ghost use Rattle.std.specs.Map.{lookup};
 ghost use Rattle.std.specs.Option.{option_copied};
-ghost use Rattle.entries.specs.Entries.{values_of};
+ghost use Rattle.entries.specs.Entries.{values_of, push_value};
 ghost use Rattle.entries.specs.EntryClasses.{has_type};
 ghost use Rattle.entries.specs.Modifies.{set_values};
 ghost use Rattle.entries.specs.StoredEntries.{attributes_of};
 ghost use Rattle.reasons.specs.inner.Drafts.{IsPlaceOf};
 
 use entries::Entry;
-use schema::TypeId;
+use schema::{TypeId, Value};
 use std::alloc::{AllocError, Global};
 use values::Values;
 
@@ -69,6 +69,22 @@ pub(crate) fn copy_values(
         Some(values) => values.copy(alloc),
         None => Ok(Values::new()),
     }
+}
+
+/// Puts a value last among those of a type.
+pub(crate) fn push_value(
+    alloc: Global,
+    attrs: &mut Vec<Attribute>,
+    t: TypeId,
+    value: Value,
+) -> Result<(), AllocError>
+    ensures { OnOk result (attrs.new.items ≡ push_value attrs.old.items t value) }
+{
+    match place_of(attrs, t) {
+        Some(place) => attrs[place].1.push(alloc, value)?,
+        None => attrs.push((t, Values::one(value)))?,
+    }
+    Ok(())
 }
 
 /// Puts these values in place of those of a type, or last. An attribute without values goes.

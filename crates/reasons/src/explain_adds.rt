@@ -1,6 +1,6 @@
 //! Explains adds that are refused (RFC 4511, 4.7).
 
-ghost use Rattle.std.specs.Prelude.{◌≡◌, ◌++◌, ◌∷◌, ◌&&◌, [], not, IfOk, None};
+ghost use Rattle.std.specs.Prelude.{◌≡◌, ◌++◌, ◌∷◌, ◌&&◌, [], not, IfOk};
 ghost use Rattle.std.specs.FinMap as finite;
 ghost use Rattle.paths.specs.Paths.{is_root, parent_of};
 ghost use Rattle.schema.specs.GoodRdns.{IsRdn};
@@ -10,11 +10,12 @@ ghost use Rattle.reasons.specs.LineFlaws.{gathered};
 ghost use Rattle.reasons.specs.Asked.{name_of_record, lines_of_record};
 ghost use Rattle.reasons.specs.Flaws.{Full, line_checks, entry_checks, add_checks};
 ghost use Rattle.reasons.specs.inner.Found.{Finds, Stands, Adds};
+ghost use Rattle.reasons.specs.inner.Lines.{AreSeen};
 
-use crate::draft::{Attribute, attributes_of};
+use crate::draft::Attribute;
 use crate::explainer::Explainer;
 use crate::reason::Reason;
-use entries::{Entry, Refusal, add_rdn, attributes_of_lines};
+use crate::seen_lines::SeenLines;
 use ldif::Attr;
 use schema::{Located, Path};
 use std::alloc::AllocError;
@@ -34,42 +35,39 @@ impl Explainer<'_> {
         Ok(!self.is_there(&parent))
     }
 
-    // the attributes that lines without a flaw make, with the values of the entry's own RDN
+    // the attributes that lines make, with the values of the entry's own RDN
     fn added_attributes(
         &self,
         place: &Located,
         lines: &[Attr<'_>],
+        seen: SeenLines,
     ) -> Result<Vec<Attribute>, AllocError>
-        requires lines { lines.now ≡ lines_of_record self.now.asked.now }
-        requires flawless { Finds self.now.conf.now self.now.mode self.now.tree.now.entries self.now.asked.now (line_checks 0 lines.now) None }
+        requires seen { AreSeen self.now.conf.now.types lines.now seen }
         requires good { IsRdn self.now.conf.now.types place.now.rdn }
         ensures made { IfOk result (λ attrs. IsMade self.now.conf.now.types attrs.items) }
         ensures attrs { IfOk result (λ attrs. attributes_of attrs.items ≡ with_rdn self.now.conf.now.types place.now.rdn (gathered self.now.conf.now.types lines.now)) }
     {
-        let mut attrs = match attributes_of_lines(self.alloc, self.conf, self.mode, lines, &[]) {
-            Ok(attrs) => attrs,
-            Err(Refusal::Code(_)) => unreachable!(),
-            Err(Refusal::OutOfMemory) => return Err(AllocError),
-        };
-        add_rdn(self.alloc, self.conf, &mut attrs, &place.rdn)?;
-        let rdn = place.rdn.copy(self.alloc)?;
-        attributes_of(self.alloc, &Entry::new(rdn, attrs))
+        let _ = lines;
+        let mut attrs = seen.into_attributes(self.alloc)?;
+        self.put_rdn(&mut attrs, &place.rdn)?;
+        Ok(attrs)
     }
 
-    // what the entry that lines without a flaw make is refused for
+    // what the entry that lines without a flaw make is refused for, where all are seen
     fn added_reason(
         &self,
         place: &Located,
         lines: &[Attr<'_>],
+        seen: SeenLines,
     ) -> Result<Option<Reason>, AllocError>
         requires stands { Stands self.now.conf.now (name_of_record self.now.asked.now) place.now.path place.now.rdn }
         requires adds { Adds self.now.conf.now self.now.tree.now.entries self.now.asked.now }
         requires lines { lines.now ≡ lines_of_record self.now.asked.now }
-        requires flawless { Finds self.now.conf.now self.now.mode self.now.tree.now.entries self.now.asked.now (line_checks 0 lines.now) None }
+        requires seen { AreSeen self.now.conf.now.types lines.now seen }
         requires good { IsRdn self.now.conf.now.types place.now.rdn }
         ensures { IfOk result (Finds self.now.conf.now self.now.mode self.now.tree.now.entries self.now.asked.now (entry_checks ++ Full ∷ [])) }
     {
-        let attrs = self.added_attributes(place, lines)?;
+        let attrs = self.added_attributes(place, lines, seen)?;
         if let Some(why) = self.entry_reason(&attrs)? {
             return Ok(Some(Reason::Entry(why)));
         }
@@ -91,11 +89,12 @@ impl Explainer<'_> {
         requires good { IsRdn self.now.conf.now.types place.now.rdn }
         ensures { IfOk result (Finds self.now.conf.now self.now.mode self.now.tree.now.entries self.now.asked.now (line_checks 0 lines.now ++ (entry_checks ++ Full ∷ []))) }
     {
-        let found = self.lines_reason(lines)?;
+        let mut seen = SeenLines::new(self.alloc, lines.len());
+        let found = self.lines_reason(lines, &mut seen)?;
         if found.is_some() {
             return Ok(found);
         }
-        self.added_reason(place, lines)
+        self.added_reason(place, lines, seen)
     }
 
     /// What an add is refused for, of the entry that is to come to a place.

@@ -19,6 +19,17 @@ use schema::TypeId;
 use std::alloc::AllocError;
 use values::Values;
 
+// how many values there are
+fn count_of(values: &Values) -> Result<usize, AllocError>
+    ensures { IfOk result (λ count. count ≡ length values.now) }
+{
+    let mut count = 0usize;
+    for _value in values.iter() {
+        count = count.checked_add(1).ok_or(AllocError)?;
+    }
+    Ok(count)
+}
+
 impl Explainer<'_> {
     // whether the configuration has a class besides the two that each one has
     fn defines_classes(&self) -> bool
@@ -108,19 +119,19 @@ impl Explainer<'_> {
         None
     }
 
-    // a SINGLE-VALUE type that has more values than one
-    fn many_values(&self, attrs: &[Attribute]) -> Option<TypeId>
+    // a SINGLE-VALUE type that has more values than one, and how many
+    fn many_values(&self, attrs: &[Attribute]) -> Result<Option<(TypeId, usize)>, AllocError>
         requires { IsMade self.now.conf.now.types attrs.now }
-        ensures some { IfSome result (IsMany self.now.conf.now (attributes_of attrs.now)) }
-        ensures none { IfNone result (are_single self.now.conf.now.types (attributes_of attrs.now) ≡ true) }
+        ensures some { IfOk result (λ found. IfSome found (λ many. IsMany self.now.conf.now (attributes_of attrs.now) many.0 many.1)) }
+        ensures none { IfOk result (λ found. IfNone found (are_single self.now.conf.now.types (attributes_of attrs.now) ≡ true)) }
     {
         for index in 0..attrs.len() {
             let t = attrs[index].0;
             if self.conf.single(t) && !attrs[index].1.is_at_most_one() {
-                return Some(t);
+                return Ok(Some((t, count_of(&attrs[index].1)?)));
             }
         }
-        None
+        Ok(None)
     }
 
     // what its classes refuse an entry for
@@ -166,9 +177,10 @@ impl Explainer<'_> {
         if found.is_some() {
             return Ok(found);
         }
-        match self.many_values(attrs) {
-            Some(single) => Ok(Some(EntryReason::ManyValues { single })),
-            None => Ok(None),
+        if let Some(many) = self.many_values(attrs)? {
+            let (single, count) = many;
+            return Ok(Some(EntryReason::ManyValues { single, count }));
         }
+        Ok(None)
     }
 }

@@ -1,6 +1,6 @@
 //! Explains the lines of an add (RFC 4511, 4.7).
 
-ghost use Rattle.std.specs.Prelude.{◌≡◌, ◌+◌, ◌<◌, IfOk, IfNone, OnOk, length, take};
+ghost use Rattle.std.specs.Prelude.{◌≡◌, ◌+◌, ◌<◌, [], IfOk, IfNone, length, take};
 ghost use Rattle.entries.specs.Entries.{is_barred};
 ghost use Rattle.reasons.specs.Asked.{lines_of_record};
 ghost use Rattle.reasons.specs.Flaws.{line_checks};
@@ -9,14 +9,10 @@ ghost use Rattle.reasons.specs.inner.Lines.{AreSeen, checks_of_line};
 
 use crate::explainer::Explainer;
 use crate::reason::{LineReason, Reason};
-use base::Bytes;
+use crate::seen_lines::SeenLines;
 use ldif::{Attr, Mode};
 use schema::{TypeId, ValueFault};
 use std::alloc::AllocError;
-use std::collections::BTreeMap;
-
-/// For each type with a normal form, the index of the line that says such a value.
-type SeenLines = BTreeMap<(TypeId, Bytes), usize>;
 
 fn of_line(line: usize, why: LineReason) -> Option<Reason>
     ensures { result ≡ Some (Reason.Line line why) }
@@ -61,22 +57,26 @@ impl Explainer<'_> {
             Err(ValueFault::Invalid) => return Ok(of_line(index, LineReason::BadSyntax)),
             Err(ValueFault::OutOfMemory) => return Err(AllocError),
         };
-        let key = (t, Bytes::from_slice(self.alloc, value.norm())?);
-        if let Some(earlier) = seen.get(&key).copied() {
+        if let Some(earlier) = seen.place_of(self.alloc, t, value.norm())? {
             return Ok(of_line(index, LineReason::EqualTo { earlier }));
         }
-        seen.insert(key, index)?;
+        seen.push(self.alloc, t, value)?;
         Ok(None)
     }
 
-    /// The first flaw of lines that are added.
-    pub(crate) fn lines_reason(&self, lines: &[Attr<'_>]) -> Result<Option<Reason>, AllocError>
-        requires { lines.now ≡ lines_of_record self.now.asked.now }
-        ensures { IfOk result (Finds self.now.conf.now self.now.mode self.now.tree.now.entries self.now.asked.now (line_checks 0 lines.now)) }
+    /// The first flaw of lines that are added. Where they have none, all are seen.
+    pub(crate) fn lines_reason(
+        &self,
+        lines: &[Attr<'_>],
+        seen: &mut SeenLines,
+    ) -> Result<Option<Reason>, AllocError>
+        requires lines { lines.now ≡ lines_of_record self.now.asked.now }
+        requires none { AreSeen self.now.conf.now.types [] seen.old }
+        ensures found { IfOk result (Finds self.now.conf.now self.now.mode self.now.tree.now.entries self.now.asked.now (line_checks 0 lines.now)) }
+        ensures seen { IfOk result (λ found. IfNone found (AreSeen self.now.conf.now.types lines.now seen.new)) }
     {
-        let mut seen = BTreeMap::new(self.alloc);
         for index in 0..lines.len() {
-            let found = self.line_reason(lines, index, &mut seen)?;
+            let found = self.line_reason(lines, index, seen)?;
             if found.is_some() {
                 return Ok(found);
             }

@@ -15,6 +15,7 @@ mod explainer;
 mod laws;
 mod reason;
 mod renamed_attributes;
+mod seen_lines;
 
 pub use explainer::{Explanation, explain, explain_in_place};
 pub use laws::{a_change_has_no_flaw, a_refusal_is_of_the_first_flaw};

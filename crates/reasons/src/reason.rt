@@ -87,8 +87,8 @@ pub enum EntryReason {
     LacksType { class: usize, needed: TypeId },
     /// It has this type, which none of its classes allows (MUST or MAY).
     TypeNotAllowed { found: TypeId },
-    /// It has more values than one of this SINGLE-VALUE type.
-    ManyValues { single: TypeId },
+    /// It has so many values of this SINGLE-VALUE type, and more than one.
+    ManyValues { single: TypeId, count: usize },
 }
 
 /// Why a record is refused (RFC 4511, 4.6 to 4.9): the first of its flaws, in the order of the checks.

@@ -34,9 +34,13 @@ impl Explainer<'_> {
         set_values(attrs, *t, values)
     }
 
-    // each value of an RDN that has no equal one there
+    /// Puts each value of an RDN last, where no equal one is there.
     #[tactic(auto, unfolding(entries::specs::Entries::with_rdn))]
-    fn put_rdn(&self, attrs: &mut Vec<Attribute>, rdn: &TypedRdn) -> Result<(), AllocError>
+    pub(crate) fn put_rdn(
+        &self,
+        attrs: &mut Vec<Attribute>,
+        rdn: &TypedRdn,
+    ) -> Result<(), AllocError>
         requires made { IsMade self.now.conf.now.types attrs.old.items }
         requires avas { AllByRecursion (IsAva self.now.conf.now.types) rdn.now }
         ensures made { OnOk result (IsMade self.now.conf.now.types attrs.new.items) }

@@ -170,10 +170,10 @@ fn flaw_words(alloc: Global, flaw: &ConfFlaw) -> Result<ShownText, AllocError> {
 fn reason_sentence(alloc: Global, reason: &ConfReason) -> Result<Sentence, AllocError> {
     let words = flaw_words(alloc, &reason.flaw)?;
     match reason.word_line {
-        0 => Sentence::of(alloc, &words),
+        0 => Sentence::of(words),
         line => {
             let words = ShownText::of(format!(in alloc; "line {line}: {words}"))?;
-            Sentence::of(alloc, &words)
+            Sentence::of(words)
         }
     }
 }

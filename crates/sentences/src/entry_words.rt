@@ -1,13 +1,14 @@
 //! Words for entries that aren't as their classes and types ask.
 
 use crate::lines::ShownText;
-use crate::names::{class_name, type_name};
-use crate::record_parts::{is_add, lines_in, naming_text_in};
+use crate::names::{push_class, push_type};
+use crate::record_parts::{lines_in, naming_text_in};
 use crate::record_words::Refused;
 use crate::shown::quoted;
 use crate::summary::grouped;
+use base::Bytes;
 use dn::{Ava, Name};
-use ldif::Op;
+use ldif::{Mod, Op};
 use reasons::EntryReason;
 use schema::{PathFault, TypeId, read_dn};
 use std::alloc::AllocError;
@@ -16,54 +17,117 @@ use std::alloc::AllocError;
 const MOST_NAMED: usize = 3;
 
 /// The AVAs of the first RDN of a name.
-fn first_avas(name: &Name) -> &[Ava] {
+pub(crate) fn first_avas(name: &Name) -> &[Ava] {
     match name.rdns() {
         [first, ..] => first.avas(),
         [] => &[],
     }
 }
 
+/// Whether one of the values is a class name, in any case.
+fn has_class_name(values: &[Bytes], name: &[u8]) -> bool {
+    for value in values {
+        if value.as_slice().eq_ignore_ascii_case(name) {
+            return true;
+        }
+    }
+    false
+}
+
 impl Refused<'_> {
-    /// What is wrong with the entry as it is to be.
-    pub(crate) fn entry_words(&self, why: EntryReason) -> Result<ShownText, AllocError> {
+    /// Puts what is wrong with the entry as it is to be behind words.
+    pub(crate) fn push_entry_words(
+        &self,
+        words: &mut ShownText,
+        why: EntryReason,
+    ) -> Result<(), AllocError> {
         match why {
-            EntryReason::NoObjectClass => self.text("the entry has no objectClass"),
-            EntryReason::UnknownClass { .. } => self.unknown_class(),
-            EntryReason::LacksType { class, needed } => self.lacks_type(class, needed),
+            EntryReason::NoObjectClass => words.push_str("the entry has no objectClass"),
+            EntryReason::UnknownClass { .. } => self.push_unknown_class(words),
+            EntryReason::LacksType { class, needed } => {
+                self.push_lacked_types(words, class, needed)
+            }
             EntryReason::TypeNotAllowed { found } => {
-                let name = type_name(self.alloc, self.conf, found)?;
-                ShownText::of(format!(in self.alloc; "none of its object classes allows {name}"))
+                words.push_str("none of its object classes allows ")?;
+                push_type(words, self.conf, found)
             }
-            EntryReason::ManyValues { single } => {
-                let name = type_name(self.alloc, self.conf, single)?;
-                ShownText::of(format!(in self.alloc;
-                    "{name} is SINGLE-VALUE, and the entry would have more values"
-                ))
+            EntryReason::ManyValues { single, count } => {
+                self.push_many_values(words, single, count)
             }
+        }
+    }
+
+    fn push_many_values(
+        &self,
+        words: &mut ShownText,
+        single: TypeId,
+        count: usize,
+    ) -> Result<(), AllocError> {
+        push_type(words, self.conf, single)?;
+        words.push_str(" is SINGLE-VALUE, and the entry would have ")?;
+        let count = grouped(self.alloc, count as u64)?;
+        words.push_str(count.as_str())?;
+        words.push_str(" values")
+    }
+
+    /// Whether an attribute name means objectClass.
+    fn is_object_class(&self, name: &[u8]) -> bool {
+        match self.conf.type_of(name) {
+            Some(t) => t.number() == 0,
+            None => false,
         }
     }
 
     /// Whether a value names no class, under an attribute name that means objectClass.
     fn names_no_class(&self, name: &[u8], value: &[u8]) -> bool {
-        match self.conf.type_of(name) {
-            Some(t) => t.number() == 0 && self.conf.class_of(value).is_none(),
-            None => false,
-        }
+        self.is_object_class(name) && self.conf.class_of(value).is_none()
     }
 
-    /// The first value of the record that is to name a class and names none.
+    /// Whether a block takes a value of objectClass away that names no class.
+    fn takes_class_away(&self, block: &Mod, value: &[u8]) -> bool {
+        self.is_object_class(block.attr.as_slice())
+            && match block.op {
+                Op::Add => false,
+                Op::Replace => true,
+                Op::Delete => block.values.as_slice().is_empty()
+                    || has_class_name(block.values.as_slice(), value),
+            }
+    }
+
+    /// Whether no block behind one takes a value of objectClass away.
+    fn stays_behind(&self, place: usize, value: &[u8]) -> bool {
+        for (later, block) in self.blocks().iter().enumerate() {
+            if later > place && self.takes_class_away(block, value) {
+                return false;
+            }
+        }
+        true
+    }
+
+    /// The first value of a block that names no class and stays.
+    fn class_value_of<'b>(&self, place: usize, block: &'b Mod) -> Option<&'b [u8]> {
+        for value in block.values.as_slice() {
+            if self.names_no_class(block.attr.as_slice(), value.as_slice())
+                && self.stays_behind(place, value.as_slice())
+            {
+                return Some(value.as_slice());
+            }
+        }
+        None
+    }
+
+    /// The first value of the record that is to name a class and names none, and that the entry would have.
     fn class_value(&self) -> Option<&[u8]> {
         for line in lines_in(self.asked) {
             if self.names_no_class(line.name(), line.value()) {
                 return Some(line.value());
             }
         }
-        for block in self.blocks() {
-            for value in block.values.as_slice() {
-                if block.op != Op::Delete
-                    && self.names_no_class(block.attr.as_slice(), value.as_slice())
-                {
-                    return Some(value.as_slice());
+        for (place, block) in self.blocks().iter().enumerate() {
+            if block.op != Op::Delete {
+                let value = self.class_value_of(place, block);
+                if value.is_some() {
+                    return value;
                 }
             }
         }
@@ -71,7 +135,7 @@ impl Refused<'_> {
     }
 
     /// The name whose first RDN gives the entry values, if it can be read.
-    fn naming_name(&self) -> Result<Option<Name>, AllocError> {
+    pub(crate) fn naming_name(&self) -> Result<Option<Name>, AllocError> {
         match read_dn(self.alloc, naming_text_in(self.asked)) {
             Ok(name) => Ok(Some(name)),
             Err(PathFault::Code(_)) => Ok(None),
@@ -92,83 +156,53 @@ impl Refused<'_> {
         Ok(None)
     }
 
-    fn unknown_class(&self) -> Result<ShownText, AllocError> {
+    fn push_unknown_class(&self, words: &mut ShownText) -> Result<(), AllocError> {
         let value = match self.class_value() {
             Some(value) => Some(quoted(self.alloc, value)?),
             None => self.class_in_rdn()?,
         };
         match value {
-            Some(value) => ShownText::of(format!(in self.alloc;
-                "objectClass: {value} is no object class of dir.conf"
-            )),
-            None => self.text("a value of objectClass is no object class of dir.conf"),
+            Some(value) => {
+                words.push_str("objectClass: ")?;
+                words.push_str(value.as_str())?;
+                words.push_str(" is no object class of dir.conf")
+            }
+            None => words.push_str("a value of objectClass is no object class of dir.conf"),
         }
     }
 
-    /// The types that an add gives the entry values of, by its lines and its RDN.
-    fn given_types(&self) -> Result<Vec<TypeId>, AllocError> {
-        let mut given = Vec::new(self.alloc);
-        for line in lines_in(self.asked) {
-            if let Some(t) = self.conf.type_of(line.name()) {
-                given.push(t)?;
-            }
-        }
-        if let Some(place) = self.place {
-            for (t, _) in place.rdn.avas() {
-                given.push(*t)?;
-            }
-        }
-        Ok(given)
-    }
-
-    /// The types that a class requires, and that an add gives no value of.
-    fn lacked_types(&self, class: usize) -> Result<Vec<TypeId>, AllocError> {
-        let mut lacked = Vec::new(self.alloc);
-        if class >= self.conf.classes().len() {
-            return Ok(lacked);
-        }
-        let given = self.given_types()?;
-        for t in self.conf.required(class) {
-            if !given.contains(t) {
-                lacked.push(*t)?;
-            }
-        }
-        Ok(lacked)
-    }
-
-    /// The names of the first types, and how many more there are.
-    fn names_of(&self, types: &[TypeId]) -> Result<ShownText, AllocError> {
-        let mut names = ShownText::new(self.alloc);
+    /// Puts the names of the first types behind words, and how many more there are.
+    fn push_types(&self, words: &mut ShownText, types: &[TypeId]) -> Result<(), AllocError> {
+        let mut is_first = true;
         for t in types.iter().take(MOST_NAMED) {
-            if !names.is_empty() {
-                names.push_str(", ")?;
+            if !is_first {
+                words.push_str(", ")?;
             }
-            let name = type_name(self.alloc, self.conf, *t)?;
-            names.push_str(name.as_str())?;
+            push_type(words, self.conf, *t)?;
+            is_first = false;
         }
-        if types.len() <= MOST_NAMED {
-            return Ok(names);
+        if types.len() > MOST_NAMED {
+            words.push_str(" and ")?;
+            let more = grouped(self.alloc, (types.len() - MOST_NAMED) as u64)?;
+            words.push_str(more.as_str())?;
+            words.push_str(" more")?;
         }
-        let more = grouped(self.alloc, (types.len() - MOST_NAMED) as u64)?;
-        ShownText::of(format!(in self.alloc; "{names} and {more} more"))
+        Ok(())
     }
 
-    /// The names of the types that a class lacks: of an add all, else the one that was found.
-    fn lacked_names(&self, class: usize, needed: TypeId) -> Result<ShownText, AllocError> {
-        if is_add(self.asked) {
-            let lacked = self.lacked_types(class)?;
-            if !lacked.is_empty() {
-                return self.names_of(lacked.as_slice());
-            }
-        }
-        type_name(self.alloc, self.conf, needed)
-    }
-
-    fn lacks_type(&self, class: usize, needed: TypeId) -> Result<ShownText, AllocError> {
-        let mut words = class_name(self.alloc, self.conf, class)?;
+    /// Puts what a class requires that the entry lacks behind words. One such type is known.
+    fn push_lacked_types(
+        &self,
+        words: &mut ShownText,
+        class: usize,
+        needed: TypeId,
+    ) -> Result<(), AllocError> {
+        push_class(words, self.conf, class)?;
         words.push_str(" requires ")?;
-        let names = self.lacked_names(class, needed)?;
-        words.push_str(names.as_str())?;
-        Ok(words)
+        let lacked = self.lacked_types(class)?;
+        if lacked.is_empty() {
+            return push_type(words, self.conf, needed);
+        }
+        self.push_types(words, lacked.as_slice())
     }
 }

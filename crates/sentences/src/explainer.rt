@@ -21,7 +21,7 @@ use device::Sink;
 use differences::Counts;
 use filter_text::FilterFault;
 use ldif::Record;
-use reasons::{Explanation, explain_in_place};
+use reasons::{Explanation, Reason, explain_in_place};
 use schema::{Conf, Located, PathFault};
 use std::alloc::{AllocError, Global};
 use std::io::ErrorKind;
@@ -185,10 +185,10 @@ impl Refusal<'_> {
             place: explanation.place.as_ref(),
             adds,
         };
-        Ok(Some(refused.sentence(reason)?))
+        Ok(Some(refused.sentence(&reason)?))
     }
 
-    /// The sentence of a record that can be read. If that is an add, it is kept.
+    /// The sentence of a record that can be read. An add of an entry that isn't there is kept.
     fn record_sentence(
         &self,
         asked: &Record<'_>,
@@ -197,7 +197,8 @@ impl Refusal<'_> {
         let mode = self.refused.mode;
         let explanation = explain_in_place(self.alloc, self.tree, self.conf, asked, mode)?;
         let sentence = self.reason_sentence(asked, &explanation, adds)?;
-        if is_add(asked) {
+        let is_there = matches!(explanation.reason, Some(Reason::IsThere));
+        if is_add(asked) && !is_there {
             self.keep_add(asked, explanation.place.as_ref(), adds)?;
         }
         Ok(sentence)

@@ -23,5 +23,5 @@ fn failure_words(alloc: Global, kind: ErrorKind) -> Result<ShownText, AllocError
 /// The same as a sentence.
 pub(crate) fn failure_sentence(alloc: Global, kind: ErrorKind) -> Result<Sentence, AllocError> {
     let words = failure_words(alloc, kind)?;
-    Sentence::of(alloc, &words)
+    Sentence::of(words)
 }

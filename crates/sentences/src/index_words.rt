@@ -28,5 +28,5 @@ pub(crate) fn index_sentence(alloc: Global, fault: &FaultLine) -> Result<Sentenc
     let words = ShownText::of(format!(in alloc;
         "line {number}: {text}: {words}; slapindex writes it anew"
     ))?;
-    Sentence::of(alloc, &words)
+    Sentence::of(words)
 }

@@ -102,5 +102,5 @@ pub(crate) fn fault_sentence(
         None => 0,
     };
     let words = words_at(alloc, raw, index, kind)?;
-    Sentence::of(alloc, &words)
+    Sentence::of(words)
 }

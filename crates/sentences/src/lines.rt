@@ -8,6 +8,9 @@ ghost use Rattle.sentences.specs.Sentence.{IsShown, IsLine, IsSentence};
 use std::alloc::{AllocError, Global};
 use std::fmt;
 
+/// As many bytes as most sentences take at most.
+const USUAL_LEN: usize = 160;
+
 /// Words in which no byte is a control character.
 #[derive(Drop)]
 pub(crate) struct ShownText {
@@ -20,6 +23,11 @@ impl ShownText {
         ShownText {
             text: String::new(alloc),
         }
+    }
+
+    /// No words yet, and room for as many bytes as most sentences take at most.
+    pub(crate) fn roomy(alloc: Global) -> Result<ShownText, AllocError> {
+        ShownText::with_capacity(alloc, USUAL_LEN)
     }
 
     /// No words yet, and room for so many bytes.
@@ -82,7 +90,7 @@ impl fmt::Display for ShownText {
 
 /// One line of shown words, with its line feed.
 #[derive(Drop)]
-pub(crate) struct Line {
+pub struct Line {
     text: String,
     ghost line: { IsLine (string_bytes text) },
 }
@@ -101,7 +109,8 @@ impl Line {
         Ok(Line { text })
     }
 
-    pub(crate) fn as_bytes(&self) -> &[u8]
+    /// Its bytes, the line feed among them.
+    pub fn as_bytes(&self) -> &[u8]
         ensures { IsLine result.now }
     {
         self.text.as_bytes()
@@ -110,10 +119,9 @@ impl Line {
 
 impl Sentence {
     #[tactic(auto, using(crate::proofs::Pieces::sentence_is))]
-    pub(crate) fn of(alloc: Global, words: &ShownText) -> Result<Sentence, AllocError> {
-        let mut text = String::with_capacity(alloc, words.as_str().len().saturating_add(3))?;
-        text.push_str("  ")?;
-        text.push_str(words.as_str())?;
+    pub(crate) fn of(words: ShownText) -> Result<Sentence, AllocError> {
+        let ShownText { mut text } = words;
+        text.insert_str(0, "  ")?;
         text.push('\n')?;
         Ok(Sentence { text })
     }
@@ -123,7 +131,7 @@ impl Sentence {
         requires { IsShown words.now }
     {
         let words = ShownText::fixed(alloc, words)?;
-        Sentence::of(alloc, &words)
+        Sentence::of(words)
     }
 
     pub(crate) fn as_bytes(&self) -> &[u8]

@@ -57,44 +57,43 @@ impl RefusedAdds {
         }
     }
 
-    /// What there is to say of a name that leads to this path: that no entry has it, or that one has it.
-    pub(crate) fn looked_up(
+    /// Puts what there is to say of a name that leads to this path behind words: that no entry has it, or that one has it.
+    pub(crate) fn push_looked_up(
         &self,
         alloc: Global,
+        words: &mut ShownText,
         conf: &Conf,
         tree: &Tree,
         name: &[u8],
         path: &Path,
-    ) -> Result<ShownText, AllocError>
+    ) -> Result<(), AllocError>
         requires { tree.now.conf ≡ conf.now }
     {
         if is_there(tree, path) {
-            let mut words = ShownText::new(alloc);
-            push_name(&mut words, name)?;
-            words.push_str(" is there")?;
-            return Ok(words);
+            push_name(words, name)?;
+            return words.push_str(" is there");
         }
-        self.no_entry(alloc, conf, tree, name, path)
+        self.push_no_entry(alloc, words, conf, tree, name, path)
     }
 
-    /// That there is no entry with this name, which leads to this path: whether a record that was to make it is refused, and which entry above it
-    /// is there.
-    fn no_entry(
+    /// Puts behind words that there is no entry with this name, which leads to this path: whether a record that was to make it is refused, and
+    /// which entry above it is there.
+    fn push_no_entry(
         &self,
         alloc: Global,
+        words: &mut ShownText,
         conf: &Conf,
         tree: &Tree,
         name: &[u8],
         path: &Path,
-    ) -> Result<ShownText, AllocError>
+    ) -> Result<(), AllocError>
         requires same_conf { tree.now.conf ≡ conf.now }
         requires missing { finite.contains_key tree.now.entries path.now ≡ false }
     {
-        let mut words = ShownText::fixed(alloc, "no entry ")?;
-        push_name(&mut words, name)?;
-        self.push_refused(alloc, &mut words, path)?;
-        push_nearest(alloc, &mut words, conf, tree, path)?;
-        Ok(words)
+        words.push_str("no entry ")?;
+        push_name(words, name)?;
+        self.push_refused(alloc, words, path)?;
+        push_nearest(alloc, words, conf, tree, path)
     }
 }
 

@@ -4,7 +4,7 @@ ghost use Rattle.sentences.specs.Sentence.{IsShown};
 
 use crate::lines::ShownText;
 use crate::shown::{named, quoted};
-use crate::value_words::no_such_value;
+use crate::value_words::push_no_such_value;
 use dn::{Ava, Name, NameFault, NameFaultKind, read_name};
 use reasons::{AvaReason, NameReason};
 use schema::{Conf, PathFault, read_dn};
@@ -115,8 +115,10 @@ impl NameText<'_> {
         let what = self.what;
         match self.conf.type_of(found.type_text()) {
             Some(t) => {
-                let words = no_such_value(self.alloc, self.conf, t, found.value())?;
-                ShownText::of(format!(in self.alloc; "{what}: {words}"))
+                let mut words = ShownText::fixed(self.alloc, what)?;
+                words.push_str(": ")?;
+                push_no_such_value(&mut words, self.conf, t, found.value())?;
+                Ok(words)
             }
             None => self.unreadable(),
         }

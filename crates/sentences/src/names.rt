@@ -4,16 +4,16 @@ ghost use Rattle.std.specs.Prelude.{◌≡◌};
 ghost use Rattle.std.specs.FinMap as finite;
 
 use crate::lines::ShownText;
-use crate::shown::named;
+use crate::shown::push_name;
 use schema::{Conf, ObjectClass, Path, TypeId};
-use std::alloc::{AllocError, Global};
+use std::alloc::AllocError;
 use tree::Tree;
 
-/// The name that a type is printed by.
-pub(crate) fn type_name(alloc: Global, conf: &Conf, t: TypeId) -> Result<ShownText, AllocError> {
+/// Puts the name that a type is printed by behind a text.
+pub(crate) fn push_type(out: &mut ShownText, conf: &Conf, t: TypeId) -> Result<(), AllocError> {
     match conf.types().get(t.number() as usize) {
-        Some(found) => named(alloc, found.printed_name()),
-        None => ShownText::fixed(alloc, "an attribute type"),
+        Some(found) => push_name(out, found.printed_name()),
+        None => out.push_str("an attribute type"),
     }
 }
 
@@ -25,15 +25,11 @@ fn name_of_class(class: &ObjectClass) -> &[u8] {
     }
 }
 
-/// The name of the class with this number.
-pub(crate) fn class_name(
-    alloc: Global,
-    conf: &Conf,
-    class: usize,
-) -> Result<ShownText, AllocError> {
+/// Puts the name of the class with this number behind a text.
+pub(crate) fn push_class(out: &mut ShownText, conf: &Conf, class: usize) -> Result<(), AllocError> {
     match conf.classes().get(class) {
-        Some(found) => named(alloc, name_of_class(found)),
-        None => ShownText::fixed(alloc, "a class"),
+        Some(found) => push_name(out, name_of_class(found)),
+        None => out.push_str("a class"),
     }
 }
 

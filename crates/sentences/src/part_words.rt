@@ -4,12 +4,12 @@ ghost use Rattle.std.specs.Prelude.{◌<◌, length};
 ghost use Rattle.sentences.specs.Sentence.{IsShown};
 
 use crate::lines::ShownText;
-use crate::names::type_name;
+use crate::names::push_type;
 use crate::places::line_of;
 use crate::record_parts::lines_in;
-use crate::record_words::{Refused, Words, of_part};
-use crate::shown::{named, quoted};
-use crate::value_words::no_such_value;
+use crate::record_words::Refused;
+use crate::shown::{push_name, push_quoted, quoted};
+use crate::value_words::push_no_such_value;
 use ldif::{Attr, Mod, Op, Part};
 use reasons::{BlockReason, LineReason, ValueReason};
 use schema::{TypeId, ValueFault};
@@ -30,96 +30,135 @@ fn op_word(op: Op) -> &'static str
     }
 }
 
+/// Puts that a name is none of an attribute type behind words.
+fn push_unknown_type(words: &mut ShownText, name: &[u8]) -> Result<(), AllocError> {
+    if is_dn(name) {
+        return words.push_str("a dn: line within a record; an empty line is missing before it");
+    }
+    push_name(words, name)?;
+    if name.contains(&b';') {
+        words.push_str(": attribute options aren't kept")
+    } else {
+        words.push_str(" is no attribute type of dir.conf")
+    }
+}
+
+/// Puts that users can't change values of the type with this name behind words.
+fn push_fixed_type(words: &mut ShownText, name: &[u8]) -> Result<(), AllocError> {
+    push_name(words, name)?;
+    words.push_str(": users can't change it (NO-USER-MODIFICATION)")
+}
+
+/// Puts a value of the type with this name behind words.
+fn push_named_value(words: &mut ShownText, name: &[u8], value: &[u8]) -> Result<(), AllocError> {
+    push_name(words, name)?;
+    words.push_str(": ")?;
+    push_quoted(words, value)
+}
+
+/// Puts what is wrong with a block behind words.
+fn push_block_fault(
+    words: &mut ShownText,
+    block: &Mod,
+    why: BlockReason,
+) -> Result<(), AllocError> {
+    let attr = block.attr.as_slice();
+    match why {
+        BlockReason::UnknownType => push_unknown_type(words, attr),
+        BlockReason::UsersCantChange => push_fixed_type(words, attr),
+        BlockReason::NoValues => push_operation(words, block, "", " has no values to add"),
+        BlockReason::NoEquality => push_operation(
+            words,
+            block,
+            "",
+            " has no equality rule, so its values can't be compared; replace them",
+        ),
+        BlockReason::NoAttribute => push_operation(words, block, "the entry has no ", ""),
+    }
+}
+
+/// Puts what a block is to do behind words, and its type between others.
+fn push_operation(
+    words: &mut ShownText,
+    block: &Mod,
+    before: &str,
+    behind: &str,
+) -> Result<(), AllocError>
+    requires before { IsShown before.now }
+    requires behind { IsShown behind.now }
+{
+    words.push_str(op_word(block.op))?;
+    words.push_str(": ")?;
+    words.push_str(before)?;
+    push_name(words, block.attr.as_slice())?;
+    words.push_str(behind)
+}
+
 impl Refused<'_> {
-    /// That a name is none of an attribute type.
-    fn unknown_type(&self, name: &[u8]) -> Result<ShownText, AllocError> {
-        let shown = named(self.alloc, name)?;
-        if is_dn(name) {
-            return self.text("a dn: line within a record; an empty line is missing before it");
-        }
-        if name.contains(&b';') {
-            return ShownText::of(format!(in self.alloc; "{shown}: attribute options aren't kept"));
-        }
-        ShownText::of(format!(in self.alloc; "{shown} is no attribute type of dir.conf"))
-    }
-
-    fn fixed_type(&self, name: &[u8]) -> Result<ShownText, AllocError> {
-        let shown = named(self.alloc, name)?;
-        ShownText::of(format!(in self.alloc;
-            "{shown}: users can't change it (NO-USER-MODIFICATION)"
-        ))
-    }
-
-    /// That a value is none of the type with this name.
-    fn bad_value(&self, name: &[u8], value: &[u8]) -> Result<ShownText, AllocError> {
+    /// Puts that a value is none of the type with this name behind words.
+    fn push_bad_value(
+        &self,
+        words: &mut ShownText,
+        name: &[u8],
+        value: &[u8],
+    ) -> Result<(), AllocError> {
         match self.conf.type_of(name) {
-            Some(t) => no_such_value(self.alloc, self.conf, t, value),
-            None => self.unknown_type(name),
+            Some(t) => push_no_such_value(words, self.conf, t, value),
+            None => push_unknown_type(words, name),
         }
     }
 
-    /// That a line's value equals that of an earlier one.
-    fn equal_line(&self, line: &Attr<'_>, earlier: usize) -> Result<ShownText, AllocError> {
-        let name = named(self.alloc, line.name())?;
-        let value = quoted(self.alloc, line.value())?;
+    /// Puts that a line's value equals that of an earlier one behind words.
+    fn push_equal_line(
+        &self,
+        words: &mut ShownText,
+        line: &Attr<'_>,
+        earlier: usize,
+    ) -> Result<(), AllocError> {
+        push_named_value(words, line.name(), line.value())?;
         let Some(other) = lines_in(self.asked).get(earlier) else {
-            return ShownText::of(format!(in self.alloc; "{name}: {value} stands twice"));
+            return words.push_str(" stands twice");
         };
-        let other = quoted(self.alloc, other.value())?;
+        words.push_str(" equals ")?;
+        push_quoted(words, other.value())?;
         match line_of(self.asked, self.raw, Part::Attribute(earlier)) {
             Some(number) => {
-                ShownText::of(format!(in self.alloc;
-                    "{name}: {value} equals {other} on line {number}"
-                ))
+                let at = ShownText::of(format!(in self.alloc; " on line {number}"))?;
+                words.push_str(at.as_str())
             }
-            None => ShownText::of(format!(in self.alloc;
-                "{name}: {value} equals {other} before it"
-            )),
+            None => words.push_str(" before it"),
         }
     }
 
-    /// What is wrong with a line of an add.
-    pub(crate) fn line_words(&self, index: usize, why: LineReason) -> Result<Words, AllocError> {
-        let text = match lines_in(self.asked).get(index) {
-            Some(line) => match why {
-                LineReason::UnknownType => self.unknown_type(line.name())?,
-                LineReason::UsersCantChange => self.fixed_type(line.name())?,
-                LineReason::BadSyntax => self.bad_value(line.name(), line.value())?,
-                LineReason::EqualTo { earlier } => self.equal_line(line, earlier)?,
-            },
-            None => ShownText::new(self.alloc),
+    /// Puts what is wrong with a line of an add behind words.
+    pub(crate) fn push_line_words(
+        &self,
+        words: &mut ShownText,
+        index: usize,
+        why: LineReason,
+    ) -> Result<(), AllocError> {
+        let Some(line) = lines_in(self.asked).get(index) else {
+            return Ok(());
         };
-        Ok(of_part(Part::Attribute(index), text))
-    }
-
-    fn block_fault(&self, block: &Mod, why: BlockReason) -> Result<ShownText, AllocError> {
-        let attr = block.attr.as_slice();
-        let name = named(self.alloc, attr)?;
-        let op = op_word(block.op);
         match why {
-            BlockReason::UnknownType => self.unknown_type(attr),
-            BlockReason::UsersCantChange => self.fixed_type(attr),
-            BlockReason::NoValues => ShownText::of(format!(in self.alloc;
-                "{op}: {name} has no values to add"
-            )),
-            BlockReason::NoEquality => {
-                ShownText::of(format!(in self.alloc;
-                    "{op}: {name} has no equality rule, so its values can't be compared; replace them"
-                ))
-            }
-            BlockReason::NoAttribute => ShownText::of(format!(in self.alloc;
-                "{op}: the entry has no {name}"
-            )),
+            LineReason::UnknownType => push_unknown_type(words, line.name()),
+            LineReason::UsersCantChange => push_fixed_type(words, line.name()),
+            LineReason::BadSyntax => self.push_bad_value(words, line.name(), line.value()),
+            LineReason::EqualTo { earlier } => self.push_equal_line(words, line, earlier),
         }
     }
 
-    /// What is wrong with a block of a modify.
-    pub(crate) fn block_words(&self, index: usize, why: BlockReason) -> Result<Words, AllocError> {
-        let text = match self.blocks().get(index) {
-            Some(block) => self.block_fault(block, why)?,
-            None => ShownText::new(self.alloc),
-        };
-        Ok(of_part(Part::Block(index), text))
+    /// Puts what is wrong with a block of a modify behind words.
+    pub(crate) fn push_block_words(
+        &self,
+        words: &mut ShownText,
+        index: usize,
+        why: BlockReason,
+    ) -> Result<(), AllocError> {
+        match self.blocks().get(index) {
+            Some(block) => push_block_fault(words, block, why),
+            None => Ok(()),
+        }
     }
 
     /// A value of the entry, as it is spelled there, that equals this one of a type.
@@ -147,83 +186,81 @@ impl Refused<'_> {
         Ok(None)
     }
 
-    fn equal_value(&self, name: &[u8], value: &[u8]) -> Result<ShownText, AllocError> {
-        let shown = named(self.alloc, name)?;
-        let spelled = quoted(self.alloc, value)?;
+    fn push_equal_value(
+        &self,
+        words: &mut ShownText,
+        name: &[u8],
+        value: &[u8],
+    ) -> Result<(), AllocError> {
+        push_named_value(words, name, value)?;
         let there = match self.conf.type_of(name) {
             Some(t) => self.equal_there(t, value)?,
             None => None,
         };
         match there {
             Some(other) => {
-                ShownText::of(format!(in self.alloc;
-                    "{shown}: {spelled} is there already, as {other}"
-                ))
+                words.push_str(" is there already, as ")?;
+                words.push_str(other.as_str())
             }
-            None => ShownText::of(format!(in self.alloc;
-                "{shown}: {spelled} stands twice in the block"
-            )),
+            None => words.push_str(" stands twice in the block"),
         }
     }
 
-    fn value_fault(
+    fn push_value_fault(
         &self,
+        words: &mut ShownText,
         block: &Mod,
         value: &[u8],
         why: ValueReason,
-    ) -> Result<ShownText, AllocError> {
+    ) -> Result<(), AllocError> {
         let attr = block.attr.as_slice();
         match why {
-            ValueReason::BadSyntax => self.bad_value(attr, value),
-            ValueReason::EqualValue => self.equal_value(attr, value),
+            ValueReason::BadSyntax => self.push_bad_value(words, attr, value),
+            ValueReason::EqualValue => self.push_equal_value(words, attr, value),
             ValueReason::NoValue => {
-                let name = named(self.alloc, attr)?;
-                let value = quoted(self.alloc, value)?;
-                ShownText::of(format!(in self.alloc; "{name}: {value} isn't there"))
+                push_named_value(words, attr, value)?;
+                words.push_str(" isn't there")
             }
         }
     }
 
-    /// What is wrong with a value of a block.
-    pub(crate) fn value_words(
+    /// Puts what is wrong with a value of a block behind words.
+    pub(crate) fn push_value_words(
         &self,
+        words: &mut ShownText,
         block: usize,
         index: usize,
         why: ValueReason,
-    ) -> Result<Words, AllocError> {
-        let text = match self.blocks().get(block) {
-            Some(found) => match found.values.as_slice().get(index) {
-                Some(value) => self.value_fault(found, value.as_slice(), why)?,
-                None => ShownText::new(self.alloc),
-            },
-            None => ShownText::new(self.alloc),
+    ) -> Result<(), AllocError> {
+        let Some(found) = self.blocks().get(block) else {
+            return Ok(());
         };
-        Ok(of_part(
-            Part::Value {
-                block,
-                value: index,
-            },
-            text,
-        ))
+        match found.values.as_slice().get(index) {
+            Some(value) => self.push_value_fault(words, found, value.as_slice(), why),
+            None => Ok(()),
+        }
     }
 
-    /// Which value of the entry's RDN is to go.
-    pub(crate) fn rdn_value_words(&self, ava: usize) -> Result<ShownText, AllocError> {
+    /// Puts which value of the entry's RDN is to go behind words.
+    pub(crate) fn push_rdn_value(
+        &self,
+        words: &mut ShownText,
+        ava: usize,
+    ) -> Result<(), AllocError> {
         let Some(path) = self.path() else {
-            return self.text("a value of its RDN is to go");
+            return words.push_str("a value of its RDN is to go");
         };
         let Some(entry) = self.tree.get(path) else {
-            return self.text("a value of its RDN is to go");
+            return words.push_str("a value of its RDN is to go");
         };
         match entry.rdn().avas().get(ava) {
             Some((t, value)) => {
-                let name = type_name(self.alloc, self.conf, *t)?;
-                let value = quoted(self.alloc, value.as_slice())?;
-                ShownText::of(format!(in self.alloc;
-                    "{name}: {value} is in its RDN, so it has to stay"
-                ))
+                push_type(words, self.conf, *t)?;
+                words.push_str(": ")?;
+                push_quoted(words, value.as_slice())?;
+                words.push_str(" is in its RDN, so it has to stay")
             }
-            None => self.text("a value of its RDN is to go"),
+            None => words.push_str("a value of its RDN is to go"),
         }
     }
 }

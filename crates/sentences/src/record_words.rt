@@ -9,16 +9,13 @@ use crate::name_words::NameText;
 use crate::names::{is_there, parent_text};
 use crate::places::line_of;
 use crate::record_parts::{blocks_in, controls_in, name_in, new_rdn_in, new_superior_in};
-use crate::shown::{named, push_name};
+use crate::shown::push_name;
 use crate::summary::grouped;
 use ldif::{Control, Mod, Part, RawRecord, Record};
 use reasons::{NameReason, Reason};
 use schema::{Conf, Located, Path, PathFault};
 use std::alloc::{AllocError, Global};
 use tree::Tree;
-
-/// As many bytes as most sentences take at most.
-const USUAL_LEN: usize = 160;
 
 /// A refused record, with the entries and the configuration that it was refused under.
 #[derive(Drop)]
@@ -35,21 +32,19 @@ pub(crate) struct Refused<'a> {
     ghost same_conf: { tree.now.conf ≡ conf.now },
 }
 
-/// What is told of a refusal: in which part of the record, if in one of its own, and what.
-#[derive(Drop)]
-pub(crate) struct Words {
-    pub(crate) part: Option<Part>,
-    pub(crate) text: ShownText,
-}
-
-fn of_entry(text: ShownText) -> Words {
-    Words { part: None, text }
-}
-
-pub(crate) fn of_part(part: Part, text: ShownText) -> Words {
-    Words {
-        part: Some(part),
-        text,
+/// In which part of a record it is refused, if in one by itself.
+fn part_of(reason: &Reason) -> Option<Part> {
+    match reason {
+        Reason::CriticalControl { control } => Some(Part::Control(*control)),
+        Reason::Line { line, .. } => Some(Part::Attribute(*line)),
+        Reason::Block { block, .. } => Some(Part::Block(*block)),
+        Reason::Value { block, value, .. } => Some(Part::Value {
+            block: *block,
+            value: *value,
+        }),
+        Reason::NewRdn(_) => Some(Part::NewRdn),
+        Reason::Superior(_) => Some(Part::NewSuperior),
+        _ => None,
     }
 }
 
@@ -74,13 +69,6 @@ impl Refused<'_> {
         new_superior_in(self.asked)
     }
 
-    /// Words that are written in the program.
-    pub(crate) fn text(&self, words: &str) -> Result<ShownText, AllocError>
-        requires { IsShown words.now }
-    {
-        ShownText::fixed(self.alloc, words)
-    }
-
     /// The path of its own name, if it has one.
     pub(crate) fn path(&self) -> Option<&Path> {
         match self.place {
@@ -98,7 +86,13 @@ impl Refused<'_> {
         }
     }
 
-    fn name_words(&self, what: &str, text: &[u8], why: NameReason) -> Result<ShownText, AllocError>
+    fn push_name_words(
+        &self,
+        words: &mut ShownText,
+        what: &str,
+        text: &[u8],
+        why: NameReason,
+    ) -> Result<(), AllocError>
         requires { IsShown what.now }
     {
         let name = NameText {
@@ -107,140 +101,139 @@ impl Refused<'_> {
             what,
             text,
         };
-        name.words(why)
+        let found = name.words(why)?;
+        words.push_str(found.as_str())
     }
 
-    /// The sentence: where in the text, of which entry, and what is wrong.
-    pub(crate) fn sentence(&self, reason: Reason) -> Result<Sentence, AllocError> {
-        let Words { part, text } = self.words(reason)?;
-        let mut words = ShownText::with_capacity(self.alloc, USUAL_LEN)?;
-        if let Some(line) = self.line_of(part) {
+    /// Where in the text, of which entry, and what is wrong.
+    fn words(&self, reason: &Reason) -> Result<ShownText, AllocError> {
+        let mut words = ShownText::roomy(self.alloc)?;
+        if let Some(line) = self.line_of(reason) {
             let at = ShownText::of(format!(in self.alloc; "line {line}, "))?;
             words.push_str(at.as_str())?;
         }
         push_name(&mut words, self.dn())?;
         words.push_str(": ")?;
-        words.push_str(text.as_str())?;
-        Sentence::of(self.alloc, &words)
-    }
-
-    /// The number of the line of the text on which a part of it begins.
-    fn line_of(&self, part: Option<Part>) -> Option<u64> {
-        line_of(self.asked, self.raw, part?)
-    }
-
-    fn words(&self, reason: Reason) -> Result<Words, AllocError> {
-        match reason {
-            Reason::CriticalControl { control } => self.control_words(control),
-            Reason::Name(why) => Ok(of_entry(self.name_words("the name", self.dn(), why)?)),
-            Reason::Line { line, why } => self.line_words(line, why),
-            Reason::Block { block, why } => self.block_words(block, why),
-            Reason::Value { block, value, why } => self.value_words(block, value, why),
-            Reason::NewRdn(why) => Ok(of_part(
-                Part::NewRdn,
-                self.name_words("newrdn", self.new_rdn(), why)?,
-            )),
-            Reason::Superior(why) => {
-                let name = self.new_superior().unwrap_or(&[]);
-                Ok(of_part(
-                    Part::NewSuperior,
-                    self.name_words("newsuperior", name, why)?,
-                ))
-            }
-            Reason::Entry(why) => Ok(of_entry(self.entry_words(why)?)),
-            _ => Ok(of_entry(self.place_words(reason)?)),
-        }
-    }
-
-    /// What is wrong with where the entry stands, or is to stand.
-    fn place_words(&self, reason: Reason) -> Result<ShownText, AllocError> {
-        match reason {
-            Reason::IsThere => self.there_words(),
-            Reason::NoParent => self.no_parent_words(),
-            Reason::NoEntry => self.no_entry_words(),
-            Reason::HasChildren => self.children_words(),
-            Reason::NoRdnValue { ava } => self.rdn_value_words(ava),
-            Reason::IsSuffix => self.text("the entry of the suffix keeps its name and its place"),
-            Reason::BelowItself => self.text("it can't be moved below itself"),
-            Reason::NoSuperior => self.no_superior_words(),
-            Reason::IsTaken => self.text("another entry has the new name"),
-            _ => self.text("the directory has 4,294,967,295 entries, and takes no more"),
-        }
-    }
-
-    fn control_words(&self, control: usize) -> Result<Words, AllocError> {
-        let oid = match self.controls().get(control) {
-            Some(found) => named(self.alloc, found.oid.as_slice())?,
-            None => ShownText::new(self.alloc),
-        };
-        let text = ShownText::of(format!(in self.alloc;
-            "control {oid} is critical, and no control is known"
-        ))?;
-        Ok(of_part(Part::Control(control), text))
-    }
-
-    /// That the name is there, as it is spelled there.
-    fn there_words(&self) -> Result<ShownText, AllocError> {
-        let mut words = self.text("there already")?;
-        if let Some(path) = self.path() {
-            if is_there(self.tree, path) {
-                let name = self.tree.name_of(self.alloc, self.conf, path)?;
-                words.push_str(", as ")?;
-                push_name(&mut words, name.as_slice())?;
-            }
-        }
+        self.push_words(&mut words, reason)?;
         Ok(words)
     }
 
-    fn missing_words(&self, name: &[u8], path: Option<&Path>) -> Result<ShownText, AllocError> {
+    /// The same as a sentence.
+    pub(crate) fn sentence(&self, reason: &Reason) -> Result<Sentence, AllocError> {
+        Sentence::of(self.words(reason)?)
+    }
+
+    /// The number of the line of the text on which the part begins that is refused.
+    fn line_of(&self, reason: &Reason) -> Option<u64> {
+        line_of(self.asked, self.raw, part_of(reason)?)
+    }
+
+    /// Puts what is wrong behind words.
+    fn push_words(&self, words: &mut ShownText, reason: &Reason) -> Result<(), AllocError> {
+        match reason {
+            Reason::CriticalControl { control } => self.push_control(words, *control),
+            Reason::Name(why) => self.push_name_words(words, "the name", self.dn(), *why),
+            Reason::Line { line, why } => self.push_line_words(words, *line, *why),
+            Reason::Block { block, why } => self.push_block_words(words, *block, *why),
+            Reason::Value { block, value, why } => {
+                self.push_value_words(words, *block, *value, *why)
+            }
+            Reason::NewRdn(why) => self.push_name_words(words, "newrdn", self.new_rdn(), *why),
+            Reason::Superior(why) => {
+                let name = self.new_superior().unwrap_or(&[]);
+                self.push_name_words(words, "newsuperior", name, *why)
+            }
+            Reason::Entry(why) => self.push_entry_words(words, *why),
+            _ => self.push_place_words(words, reason),
+        }
+    }
+
+    /// Puts what is wrong with where the entry stands, or is to stand, behind words.
+    fn push_place_words(&self, words: &mut ShownText, reason: &Reason) -> Result<(), AllocError> {
+        match reason {
+            Reason::IsThere => self.push_there(words),
+            Reason::NoParent => self.push_no_parent(words),
+            Reason::NoEntry => self.push_missing(words, self.dn(), self.path()),
+            Reason::HasChildren => self.push_children(words),
+            Reason::NoRdnValue { ava } => self.push_rdn_value(words, *ava),
+            Reason::IsSuffix => {
+                words.push_str("the entry of the suffix keeps its name and its place")
+            }
+            Reason::BelowItself => words.push_str("it can't be moved below itself"),
+            Reason::NoSuperior => self.push_no_superior(words),
+            Reason::IsTaken => words.push_str("another entry has the new name"),
+            _ => words.push_str("the directory has 4,294,967,295 entries, and takes no more"),
+        }
+    }
+
+    fn push_control(&self, words: &mut ShownText, control: usize) -> Result<(), AllocError> {
+        words.push_str("control ")?;
+        if let Some(found) = self.controls().get(control) {
+            push_name(words, found.oid.as_slice())?;
+        }
+        words.push_str(" is critical, and no control is known")
+    }
+
+    /// Puts that the name is there, as it is spelled there, behind words.
+    fn push_there(&self, words: &mut ShownText) -> Result<(), AllocError> {
+        match self.path() {
+            Some(path) if is_there(self.tree, path) => {
+                let name = self.tree.name_of(self.alloc, self.conf, path)?;
+                words.push_str("there already, as ")?;
+                push_name(words, name.as_slice())
+            }
+            _ => words.push_str("there already"),
+        }
+    }
+
+    fn push_missing(
+        &self,
+        words: &mut ShownText,
+        name: &[u8],
+        path: Option<&Path>,
+    ) -> Result<(), AllocError> {
         match path {
-            Some(path) => self
-                .adds
-                .looked_up(self.alloc, self.conf, self.tree, name, path),
+            Some(path) => {
+                self.adds
+                    .push_looked_up(self.alloc, words, self.conf, self.tree, name, path)
+            }
             None => {
-                let name = named(self.alloc, name)?;
-                ShownText::of(format!(in self.alloc; "no entry {name}"))
+                words.push_str("no entry ")?;
+                push_name(words, name)
             }
         }
     }
 
-    fn no_parent_words(&self) -> Result<ShownText, AllocError> {
+    fn push_no_parent(&self, words: &mut ShownText) -> Result<(), AllocError> {
         let above = match self.path() {
             Some(path) => Some(path.parent(self.alloc)?),
             None => None,
         };
-        self.missing_words(parent_text(self.dn()), above.as_ref())
+        self.push_missing(words, parent_text(self.dn()), above.as_ref())
     }
 
-    fn no_entry_words(&self) -> Result<ShownText, AllocError> {
-        self.missing_words(self.dn(), self.path())
-    }
-
-    fn no_superior_words(&self) -> Result<ShownText, AllocError> {
+    fn push_no_superior(&self, words: &mut ShownText) -> Result<(), AllocError> {
         match self.new_superior() {
-            Some(name) => self.missing_words(name, self.path_of(name)?.as_ref()),
-            None => self.no_parent_words(),
+            Some(name) => self.push_missing(words, name, self.path_of(name)?.as_ref()),
+            None => self.push_no_parent(words),
         }
     }
 
-    /// How many entries are below it.
-    fn children_words(&self) -> Result<ShownText, AllocError> {
+    /// Puts how many entries are below it behind words.
+    fn push_children(&self, words: &mut ShownText) -> Result<(), AllocError> {
         let Some(path) = self.path() else {
-            return self.text("entries are below it");
+            return words.push_str("entries are below it");
         };
         let mut below: u64 = 0;
         for _ in self.tree.range(path) {
             below = below.saturating_add(1);
         }
         let below = below.saturating_sub(1);
-        match below {
-            1 => self.text("an entry is below it: delete that first"),
-            _ => {
-                let below = grouped(self.alloc, below)?;
-                ShownText::of(format!(in self.alloc;
-                    "{below} entries are below it: delete those first"
-                ))
-            }
+        if below == 1 {
+            return words.push_str("an entry is below it: delete that first");
         }
+        let below = grouped(self.alloc, below)?;
+        words.push_str(below.as_str())?;
+        words.push_str(" entries are below it: delete those first")
     }
 }

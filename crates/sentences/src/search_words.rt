@@ -41,7 +41,7 @@ pub(crate) fn filter_sentence(
     fault: &FilterFault,
 ) -> Result<Sentence, AllocError> {
     let words = filter_words(alloc, text, fault)?;
-    Sentence::of(alloc, &words)
+    Sentence::of(words)
 }
 
 /// That no entry has this name.
@@ -49,7 +49,11 @@ fn no_entry(alloc: Global, conf: &Conf, tree: &Tree, text: &[u8]) -> Result<Show
     requires { tree.now.conf ≡ conf.now }
 {
     match conf.path_of_text(alloc, text) {
-        Ok(path) => RefusedAdds::new(alloc).looked_up(alloc, conf, tree, text, &path),
+        Ok(path) => {
+            let mut words = ShownText::new(alloc);
+            RefusedAdds::new(alloc).push_looked_up(alloc, &mut words, conf, tree, text, &path)?;
+            Ok(words)
+        }
         Err(PathFault::Code(_)) => {
             let name = named(alloc, text)?;
             ShownText::of(format!(in alloc; "no entry {name}"))
@@ -99,7 +103,7 @@ pub(crate) fn base_sentence(
     requires { tree.now.conf ≡ conf.now }
 {
     let words = base_words(alloc, conf, tree, text)?;
-    Sentence::of(alloc, &words)
+    Sentence::of(words)
 }
 
 /// That more entries match than are printed.
@@ -109,7 +113,7 @@ pub(crate) fn limit_sentence(alloc: Global, limit: Option<u32>) -> Result<Senten
             let words = ShownText::of(format!(in alloc;
                 "more than {limit} match, and no more are printed"
             ))?;
-            Sentence::of(alloc, &words)
+            Sentence::of(words)
         }
         None => Err(AllocError),
     }

@@ -141,12 +141,17 @@ fn push_shown(
     Ok(())
 }
 
-/// A value in quotation marks; such marks and backslashes in it are shown by their digits, too.
+/// Puts a value in quotation marks behind a text; such marks and backslashes in it are shown by their digits, too.
+pub(crate) fn push_quoted(out: &mut ShownText, bytes: &[u8]) -> Result<(), AllocError> {
+    out.push('"')?;
+    push_shown(out, bytes, VALUE_LIMIT, Form::Quoted)?;
+    out.push('"')
+}
+
+/// A value in quotation marks by itself.
 pub(crate) fn quoted(alloc: Global, bytes: &[u8]) -> Result<ShownText, AllocError> {
     let mut out = ShownText::with_capacity(alloc, bytes.len().min(VALUE_LIMIT) + 2)?;
-    out.push('"')?;
-    push_shown(&mut out, bytes, VALUE_LIMIT, Form::Quoted)?;
-    out.push('"')?;
+    push_quoted(&mut out, bytes)?;
     Ok(out)
 }
 

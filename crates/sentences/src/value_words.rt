@@ -3,10 +3,10 @@
 ghost use Rattle.sentences.specs.Sentence.{IsShown};
 
 use crate::lines::ShownText;
-use crate::names::type_name;
-use crate::shown::quoted;
+use crate::names::push_type;
+use crate::shown::push_quoted;
 use schema::{Conf, Syntax, TypeId, TypeSyntax};
-use std::alloc::{AllocError, Global};
+use std::alloc::AllocError;
 
 /// The syntax that a value isn't of, with its OID (RFC 4517, 3.3).
 fn syntax_words(syntax: TypeSyntax) -> &'static str
@@ -26,18 +26,19 @@ fn syntax_words(syntax: TypeSyntax) -> &'static str
     }
 }
 
-/// That a type has no such value.
-pub(crate) fn no_such_value(
-    alloc: Global,
+/// Puts that a type has no such value behind a text.
+pub(crate) fn push_no_such_value(
+    out: &mut ShownText,
     conf: &Conf,
     t: TypeId,
     value: &[u8],
-) -> Result<ShownText, AllocError> {
-    let name = type_name(alloc, conf, t)?;
-    let value = quoted(alloc, value)?;
-    let words = match conf.types().get(t.number() as usize) {
-        Some(found) => syntax_words(found.syntax),
-        None => "no value",
-    };
-    ShownText::of(format!(in alloc; "{name}: {value} is {words}"))
+) -> Result<(), AllocError> {
+    push_type(out, conf, t)?;
+    out.push_str(": ")?;
+    push_quoted(out, value)?;
+    out.push_str(" is ")?;
+    match conf.types().get(t.number() as usize) {
+        Some(found) => out.push_str(syntax_words(found.syntax)),
+        None => out.push_str("no value"),
+    }
 }

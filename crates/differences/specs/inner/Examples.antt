@@ -8,6 +8,8 @@ use Rattle.ldif.specs.declared.record.Op.TheVariants as ops
 use Rattle.differences.specs.Comments.{modified}
 use Rattle.values.specs.declared.types.AttributeType.{AttributeType}
 use Rattle.entries.specs.Entries.{Attributes}
+use Rattle.schema.specs.Values.{norm_at}
+use Rattle.differences.specs.AsSets.{settled_values, settled_attributes}
 use Rattle.differences.specs.EntryChanges.{Values, values_between, Block, block_of, blocks_between}
 
 -- which values go, and which come
@@ -69,6 +71,27 @@ type_in_front : blocks ((0, a ∷ []) ∷ []) ((1, b ∷ []) ∷ (0, a ∷ []) �
     (block_of 0 ops.Delete [] ∷ block_of 1 ops.Add (b ∷ []) ∷ block_of 0 ops.Add (a ∷ []) ∷ [])
 unfolding values_between blocks_between a b c
 type_in_front types = refl
+
+-- ---- as sets, without an equality rule
+
+-- which values are to be there
+abbrev settled : Values → Values → Values → Type 0
+settled before after said = settled_values [] 0 before after ≡ said
+
+-- order alone changes nothing
+in_another_order : settled (a ∷ b ∷ []) (b ∷ a ∷ []) (a ∷ b ∷ [])
+unfolding norm_at a b
+in_another_order = refl
+
+-- one goes and one comes: those that stay are where they were, and the new one is behind them
+one_for_another : settled (a ∷ b ∷ []) (c ∷ b ∷ []) (b ∷ c ∷ [])
+unfolding norm_at a b c
+one_for_another = refl
+
+-- a type that both have stays in its place, and a new one is behind it
+types_as_sets : settled_attributes [] ((0, a ∷ []) ∷ (1, b ∷ []) ∷ []) ((2, c ∷ []) ∷ (1, b ∷ []) ∷ []) ≡ (1, b ∷ []) ∷ (2, c ∷ []) ∷ []
+unfolding norm_at a b c
+types_as_sets = refl
 
 -- ---- the comment
 

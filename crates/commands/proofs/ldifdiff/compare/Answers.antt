@@ -1,62 +1,64 @@
-use Rattle.std.proofs.Common.{inl, inr, refl, subst}
-use Rattle.std.specs.Option.{option_copied}
+use Rattle.std.proofs.Common.{inr, refl, subst}
+use Rattle.std.specs.Option.{option_map}
 use Rattle.schema.specs.Conf.{Conf}
+use Rattle.filter_text.specs.Spells.{view}
+use Rattle.differences.specs.Differences.{Extent}
+use Rattle.differences.specs.Comparisons.{extent_of}
+use Rattle.differences.specs.declared.comparison.Comparison.{Comparison}
 use Rattle.commands.specs.Worlds.{World}
-use Rattle.commands.specs.Differences.{LoadsOther, LacksOther, DiffStops}
-use Rattle.commands.specs.declared.messages.Stop.TheVariants as stops
-use Rattle.commands.proofs.Stopping.{stopped}
+use Rattle.commands.specs.inner.Compared.{PreparedFor}
+use Rattle.commands.proofs.Compared.{wanted_extent}
 use Rattle.commands.proofs.ldifdiff.compare.Goals as goal
 
-pub returns-in-Ok-printed : goal.returns-in-Ok-printed
-returns-in-Ok-printed g c = λ w.
+pub returns-in-Ok-print_changes-clause-ends : goal.returns-in-Ok-print_changes-clause-ends
+returns-in-Ok-print_changes-clause-ends g c = λ w.
     let asked = c.args.asked.now in
-    let start : World = record w { files = g.F.Folder.files c.args.folder.now; input = g.S.Source.seen c.args.input.now; output = g.O.Sink.written c.args.out.now } in
-    let mid : World = record start { input = g.S.Source.seen c.load_other.new.input } in
+    let conf = c.args.database.now.conf in
+    let a = c.args.database.now.entries in
+    let b = c.args.other.now.entries in
+    let start : World = record w { output = g.O.Sink.written c.args.out.now; messages = g.E.Sink.written c.args.err.now } in
+    let compared : Comparison = c.comparison_of-comparison.result in
+    let extent : Extent = extent_of compared conf a b in
+    let prepared = subst (λ (k : Conf). PreparedFor k (option_map view c.args.filter.now) c.in-Ok-prepared_filter.prepared) c.conf-2.ensures c.in-Ok-prepared_filter.ensures in
+    let extent_is = wanted_extent asked conf a b compared c.in-Ok.base (option_map view c.args.filter.now) c.in-Ok-prepared_filter.prepared
+    c.comparison_of-comparison.ensures.unordered c.comparison_of-comparison.ensures.base c.comparison_of-comparison.ensures.filter prepared c.in-Ok.ensures.found c.in-Ok.ensures.there c.requires.filter in
+    let heard = c.in-Ok-warn.ensures.heard in
+    let warned : World = record start { messages = g.E.Sink.written c.warn.new.err } in
     record {
-      conf = c.args.database.now.conf;
-      before = c.args.database.now.entries;
-      after = c.in-Ok.other.entries;
-      loaded = c.requires.loaded;
-      mid = mid;
-      other = subst (λ (k : Conf). LoadsOther (option_copied asked.file) k c.in-Ok.other.entries start mid) c.conf.ensures (c.in-Ok.ensures.loads start);
-      printed = record { took = c.in-Ok-printed.ensures.put; stays = refl };
-      status = c.in-Ok-printed.ensures.status;
-      leads = c.print_changes-printed.ensures.leads;
+      extent = extent;
+      extent_is = extent_is;
+      told = heard.text;
+      warned = warned;
+      warns = record { took = heard.took; clear = heard.clear; stays = refl };
+      printed = record { took = c.in-Ok-print_changes.ensures.put; stays = refl };
+      status = c.in-Ok-print_changes.ensures.status;
+      leads = c.print_changes.ensures.leads extent;
+      leads_where_clear = c.warn.ensures.leads extent;
     }
 
-pub returns-in-Err-printed : goal.returns-in-Err-printed
-returns-in-Err-printed g c = λ w.
+pub returns-in-Ok-warn-clause-ends : goal.returns-in-Ok-warn-clause-ends
+returns-in-Ok-warn-clause-ends g c = λ w.
     let asked = c.args.asked.now in
-    let start : World = record w { files = g.F.Folder.files c.args.folder.now; input = g.S.Source.seen c.args.input.now; output = g.O.Sink.written c.args.out.now } in
-    let mid : World = record start { input = g.S.Source.seen c.load_other.new.input } in
-    stopped (DiffStops asked) start (record mid { output = g.O.Sink.written c.print_changes-printed.new.out }) (stops.Fault c.in-Err-printed.fault)
-    (inr (inr (record {
-      conf = c.args.database.now.conf;
-      before = c.args.database.now.entries;
-      after = c.in-Ok.other.entries;
-      loaded = c.requires.loaded;
-      mid = mid;
-      other = subst (λ (k : Conf). LoadsOther (option_copied asked.file) k c.in-Ok.other.entries start mid) c.conf.ensures (c.in-Ok.ensures.loads start);
-      fault = c.in-Err-printed.fault;
+    let conf = c.args.database.now.conf in
+    let a = c.args.database.now.entries in
+    let b = c.args.other.now.entries in
+    let start : World = record w { output = g.O.Sink.written c.args.out.now; messages = g.E.Sink.written c.args.err.now } in
+    let compared : Comparison = c.comparison_of-comparison.result in
+    let extent : Extent = extent_of compared conf a b in
+    let prepared = subst (λ (k : Conf). PreparedFor k (option_map view c.args.filter.now) c.in-Ok-prepared_filter.prepared) c.conf-2.ensures c.in-Ok-prepared_filter.ensures in
+    let extent_is = wanted_extent asked conf a b compared c.in-Ok.base (option_map view c.args.filter.now) c.in-Ok-prepared_filter.prepared
+    c.comparison_of-comparison.ensures.unordered c.comparison_of-comparison.ensures.base c.comparison_of-comparison.ensures.filter prepared c.in-Ok.ensures.found c.in-Ok.ensures.there c.requires.filter in
+    let heard = c.in-Ok-warn.ensures.heard in
+    let warned : World = record start { messages = g.E.Sink.written c.warn.new.err } in
+    inr (inr (record {
+      extent = extent;
+      extent_is = extent_is;
+      told = heard.text;
+      warned = warned;
+      warns = record { took = heard.took; clear = heard.clear; stays = refl };
+      fault = c.in-Err-print_changes.fault;
       fault_is = refl;
-      fails = c.in-Err-printed.ensures.fails;
-      begun = c.in-Err-printed.ensures.begun;
-      stored = refl;
+      fails = c.in-Err-print_changes.ensures.fails;
+      begun = c.in-Err-print_changes.ensures.begun;
       stays = refl;
-    }))) refl
-
-pub returns-in-Err : goal.returns-in-Err
-returns-in-Err g c = λ w.
-    let asked = c.args.asked.now in
-    let start : World = record w { files = g.F.Folder.files c.args.folder.now; input = g.S.Source.seen c.args.input.now; output = g.O.Sink.written c.args.out.now } in
-    let mid : World = record start { input = g.S.Source.seen c.load_other.new.input } in
-    stopped (DiffStops asked) start mid (stops.Fault c.in-Err.fault)
-    (inr (inl (record {
-      conf = c.args.database.now.conf;
-      before = c.args.database.now.entries;
-      loaded = c.requires.loaded;
-      fault = c.in-Err.fault;
-      fault_is = refl;
-      lacks = subst (λ (k : Conf). LacksOther (option_copied asked.file) k c.in-Err.fault start mid) c.conf.ensures (c.in-Err.ensures.lacks start);
-      stored = refl;
-    }))) refl
+    }))

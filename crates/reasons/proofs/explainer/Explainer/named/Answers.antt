@@ -1,4 +1,4 @@
-use Rattle.std.proofs.Common.{◌++◌, map}
+use Rattle.std.proofs.Common.{map}
 use Rattle.reasons.specs.Asked.{name_of_record}
 use Rattle.reasons.specs.NameFlaws.{place_checks}
 use Rattle.reasons.specs.Flaws.{Name}
