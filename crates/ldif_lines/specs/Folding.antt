@@ -1,21 +1,49 @@
--- How lines are written: folded to at most 76 bytes (RFC 2849, note 2), each record with an empty line behind it.
-use Rattle.std.specs.Prelude.{◌≡◌, ℕ, zero, suc, Bool, true, false, not, ◌&&◌, ◌==◌, List, [], ◌∷◌, ◌++◌}
+-- How lines are written: folded to at most so many bytes (RFC 2849, note 2), each record with an empty line behind it.
+use Rattle.std.specs.Prelude.{◌≡◌, ℕ, zero, suc, ◌-◌, ◌≤◌, Bool, true, false, not, ◌&&◌, ◌==◌, List, [], ◌∷◌, ◌++◌, length}
 use Rattle.std.specs.List.{flat_map, list_all, AllByRecursion}
 use Rattle.base.specs.Ascii.{line_feed, carriage_return, space, number_sign}
 use Rattle.base.specs.Ends.{begins_with}
 use Rattle.ldif_lines.specs.Records.{RawRecord}
 
--- a line that is folded, with room for so many bytes before the first fold: each further piece is a space and at most 75 bytes
-unfoldable pub folded : ℕ → List ℕ → List ℕ
-folded room [] = line_feed ∷ []
-folded zero (b ∷ bs) = line_feed ∷ space ∷ b ∷ folded 74 bs
-folded (suc room) (b ∷ bs) = b ∷ folded room bs
+-- a line that is folded to a width, with room for so many bytes before the first fold: each further piece is a space and at most width - 1 bytes
+unfoldable pub folded_to : ℕ → ℕ → List ℕ → List ℕ
+folded_to width room [] = line_feed ∷ []
+folded_to width zero (b ∷ bs) = line_feed ∷ space ∷ b ∷ folded_to width (width - 2) bs
+folded_to width (suc room) (b ∷ bs) = b ∷ folded_to width room bs
+
+-- a whole line: at most width bytes, and the further pieces
+abbrev pub folded_line : ℕ → List ℕ → List ℕ
+folded_line width line = folded_to width width line
+
+abbrev pub written_block_to : ℕ → List (List ℕ) → List ℕ
+written_block_to width block = flat_map (folded_line width) block ++ line_feed ∷ []
+
+abbrev pub written_blocks_to : ℕ → List (List (List ℕ)) → List ℕ
+written_blocks_to width blocks = flat_map (written_block_to width) blocks
+
+-- a space and a byte fit into each further piece
+abbrev pub IsWidth : ℕ → Type 0
+IsWidth width = 2 ≤ width
+
+-- it fits into a line of this width
+abbrev pub FitsIn : ℕ → List ℕ → Type 0
+FitsIn width line = length line ≤ width
+
+-- ---- to the width that is taken where none is asked for
+
+abbrev pub standard_width : ℕ
+standard_width = 76
+
+abbrev pub folded : ℕ → List ℕ → List ℕ
+folded = folded_to standard_width
 
 abbrev pub written_block : List (List ℕ) → List ℕ
-written_block block = flat_map (folded 76) block ++ line_feed ∷ []
+written_block = written_block_to standard_width
 
 abbrev pub written_blocks : List (List (List ℕ)) → List ℕ
-written_blocks blocks = flat_map written_block blocks
+written_blocks = written_blocks_to standard_width
+
+-- ---- lines that can be written
 
 -- what may stand within a line: neither a line feed nor a carriage return
 abbrev pub is_line_byte : ℕ → Bool

@@ -1,7 +1,7 @@
 -- The records of short texts and the folds of some lines, by computation (RFC 2849, notes 2, 5 and 6).
 use Rattle.std.specs.Prelude.{◌≡◌, ℕ, Bool, true, false, List, [], ◌∷◌, ◌++◌, map, codes, replicate, refl}
 use Rattle.ldif_lines.specs.Records.{RawRecord, number_of, bytes_of, continuation, joined, joined_block, body_of, body_of_block, with_first, records_from, records, but_last, whole_lines, closed_from}
-use Rattle.ldif_lines.specs.Folding.{folded, written_blocks}
+use Rattle.ldif_lines.specs.Folding.{folded, folded_line, folded_to, written_blocks}
 
 -- a record of these lines, each with its number
 abbrev raw : ℕ → Bool → List (ℕ × List ℕ) → RawRecord
@@ -101,18 +101,31 @@ closed_by_return = refl
 
 -- a line of 76 bytes is not folded
 whole : folded 76 (replicate 76 97) ≡ ended (replicate 76 97)
-unfolding folded
+unfolding folded_to
 whole = refl
 
 -- 76 bytes, then a space and at most 75
 folds : folded 76 (replicate 152 97) ≡ ended (replicate 76 97) ++ ended (32 ∷ replicate 75 97) ++ ended (32 ∷ 97 ∷ [])
-unfolding folded
+unfolding folded_to
 folds = refl
 
+-- to other widths: the smallest, and one that the line just fits into
+smallest_width : folded_line 2 (codes "abcd") ≡ ended (codes "ab") ++ ended (codes " c") ++ ended (codes " d")
+unfolding folded_to
+smallest_width = refl
+
+three_bytes : folded_line 3 (codes "abcdefg") ≡ ended (codes "abc") ++ ended (codes " de") ++ ended (codes " fg")
+unfolding folded_to
+three_bytes = refl
+
+just_fits : folded_line 4 (codes "abcd") ≡ ended (codes "abcd")
+unfolding folded_to
+just_fits = refl
+
 empty_line : folded 76 [] ≡ ended []
-unfolding folded
+unfolding folded_to
 empty_line = refl
 
 written : written_blocks ((codes "dn: x" ∷ codes "cn: a" ∷ []) ∷ (codes "dn: y" ∷ []) ∷ []) ≡ ended (codes "dn: x") ++ ended (codes "cn: a") ++ ended [] ++ ended (codes "dn: y") ++ ended []
-unfolding folded
+unfolding folded_to
 written = refl
