@@ -1,10 +1,11 @@
 -- Content records that are written are read back.
-use Rattle.std.proofs.Common.{◌≡◌, ℕ, ◌<◌, Bool, true, false, not, ◌&&◌, cond, eqb, List, [], ◌∷◌, ◌++◌, length, map, codes, Result, Ok, Err, refl, ap, ◌∙◌, arith}
+use Rattle.std.proofs.Common.{◌≡◌, ℕ, ◌<◌, Bool, true, false, not, ◌&&◌, cond, eqb, List, [], ◌∷◌, ◌++◌, length, map, codes, Result, Ok, Err, refl, sym, ap, subst, ◌∙◌, arith}
 use Rattle.std.specs.List.{flat_map, list_all, AllByRecursion}
 use Rattle.std.proofs.lemmas.Bool.{and_parts, and_from}
 use Rattle.std.proofs.lemmas.Bool.Decides.{nat_tests}
 use Rattle.ldif_lines.specs.Records.{RawRecord, records}
-use Rattle.ldif_lines.specs.Folding.{folded, written_block, written_blocks, begins_line, IsWritable, AreWritable, raw_block, with_first_flag}
+use Rattle.std.specs.Str.Lines.{lines}
+use Rattle.ldif_lines.specs.Folding.{FitsIn, folded_line, written_block_to, written_blocks_to, begins_line, IsWritable, AreWritable, raw_block, with_first_flag}
 use Rattle.ldif.specs.declared.fault.LdifFaultKind.{LdifFaultKind}
 use Rattle.ldif.specs.declared.fault.LdifFaultKind.TheVariants.{DnMissing, ChangetypeInContent, Version}
 use Rattle.ldif.specs.Attrs.{Attr}
@@ -13,8 +14,8 @@ use Rattle.ldif.specs.declared.record.Mode.TheVariants.{Content}
 use Rattle.base.specs.Answers.{◌>>=◌, each}
 use Rattle.ldif.specs.Line.{value_line, same_name}
 use Rattle.ldif.specs.Reading.{content_line, body, entry, after_version, first_of_text, reading}
-use Rattle.ldif.specs.Writing.{line_text, written_line}
-use Rattle.ldif.specs.Contents.{is_name_byte, is_inner_name_byte, IsName, IsWritableAttr, ContentRecord, IsWritableContent, written_attr, write_content, readings, reading_of, as_record}
+use Rattle.ldif.specs.Writing.{line_text, written_line_to}
+use Rattle.ldif.specs.Contents.{is_name_byte, is_inner_name_byte, IsName, IsWritableAttr, ContentRecord, IsWritableContent, written_attr_to, write_content_to, readings, reading_of, as_record}
 use Rattle.ldif.proofs.WrittenLines.{read_again, writable}
 
 -- ---- names of attributes can be names
@@ -55,17 +56,19 @@ all_writable : (cs : List ContentRecord) → AllByRecursion IsWritableContent cs
 all_writable [] h = tt
 all_writable (c ∷ cs) h = ((writable (codes "dn") c.dn dn_is_name, attrs_writable c.attrs h.0.attrs), all_writable cs h.1)
 
-attrs_text : (as_ : List Attr) → flat_map written_attr as_ ≡ flat_map (folded 76) (map attr_text as_)
-attrs_text [] = refl
-attrs_text (a ∷ as_) = ap (λ (x : List ℕ). written_attr a ++ x) (attrs_text as_)
+module _ (width : ℕ) where
+  attrs_text : (as_ : List Attr) → flat_map (written_attr_to width) as_ ≡ flat_map (folded_line width) (map attr_text as_)
+  attrs_text [] = refl
+  attrs_text (a ∷ as_) = ap (λ (x : List ℕ). written_attr_to width a ++ x) (attrs_text as_)
 
-content_text : (c : ContentRecord) → write_content c ≡ written_block (block_of c)
-unfolding write_content
-content_text c = ap (λ (x : List ℕ). written_line (codes "dn") c.dn ++ x ++ 10 ∷ []) (attrs_text c.attrs)
+  content_text : (c : ContentRecord) → write_content_to width c ≡ written_block_to width (block_of c)
+  unfolding write_content_to
+  content_text c = ap (λ (x : List ℕ). written_line_to width (codes "dn") c.dn ++ x ++ 10 ∷ []) (attrs_text c.attrs)
 
-contents_text : (cs : List ContentRecord) → flat_map write_content cs ≡ written_blocks (map block_of cs)
-contents_text [] = refl
-contents_text (c ∷ cs) = ap (λ (x : List ℕ). x ++ flat_map write_content cs) (content_text c) ∙ ap (λ (x : List ℕ). written_block (block_of c) ++ x) (contents_text cs)
+  contents_text : (cs : List ContentRecord) → flat_map (write_content_to width) cs ≡ written_blocks_to width (map block_of cs)
+  contents_text [] = refl
+  contents_text (c ∷ cs) =
+      ap (λ (x : List ℕ). x ++ flat_map (write_content_to width) cs) (content_text c) ∙ ap (λ (x : List ℕ). written_block_to width (block_of c) ++ x) (contents_text cs)
 
 -- ---- what they read as
 
@@ -125,11 +128,19 @@ unnumbered : (rs : List RawRecord) → map reading_of (map numbered rs) ≡ map 
 unnumbered [] = refl
 unnumbered (r ∷ rs) = ap (λ (xs : List (Result Record LdifFaultKind)). reading Content r.first r.lines ∷ xs) (unnumbered rs)
 
-pub contents_back : ((blocks : List (List (List ℕ))) → AllByRecursion AreWritable blocks → map raw_block (records (written_blocks blocks)) ≡ with_first_flag true blocks)
-    → (cs : List ContentRecord) → AllByRecursion IsWritableContent cs → map reading_of (readings Content (flat_map write_content cs)) ≡ map as_record cs
-unfolding readings
-contents_back blocks_back cs h =
-    unnumbered (records (flat_map write_content cs))
-    ∙ ap (λ (x : List ℕ). map read_block (map raw_block (records x))) (contents_text cs)
-    ∙ ap (map read_block) (blocks_back (map block_of cs) (all_writable cs h))
-    ∙ blocks_are true cs h
+-- ---- the text of many
+
+module _ (width : ℕ) where
+  pub contents_back : ((blocks : List (List (List ℕ))) → AllByRecursion AreWritable blocks → map raw_block (records (written_blocks_to width blocks)) ≡ with_first_flag true blocks)
+      → (cs : List ContentRecord) → AllByRecursion IsWritableContent cs → map reading_of (readings Content (flat_map (write_content_to width) cs)) ≡ map as_record cs
+  unfolding readings
+  contents_back blocks_back cs h =
+      unnumbered (records (flat_map (write_content_to width) cs))
+      ∙ ap (λ (x : List ℕ). map read_block (map raw_block (records x))) (contents_text width cs)
+      ∙ ap (map read_block) (blocks_back (map block_of cs) (all_writable cs h))
+      ∙ blocks_are true cs h
+
+  pub contents_fit : ((blocks : List (List (List ℕ))) → AllByRecursion AreWritable blocks → AllByRecursion (FitsIn width) (lines (written_blocks_to width blocks)))
+      → (cs : List ContentRecord) → AllByRecursion IsWritableContent cs → AllByRecursion (FitsIn width) (lines (flat_map (write_content_to width) cs))
+  contents_fit blocks_fit cs h =
+      subst (λ (text : List ℕ). AllByRecursion (FitsIn width) (lines text)) (sym (contents_text width cs)) (blocks_fit (map block_of cs) (all_writable cs h))

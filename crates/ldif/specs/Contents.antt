@@ -3,7 +3,7 @@ use Rattle.std.specs.Prelude.{◌≡◌, ℕ, ◌<◌, Bool, true, false, not, �
 use Rattle.std.specs.List.{flat_map, list_all, AllByRecursion}
 use Rattle.base.specs.Ascii.{line_feed, hyphen, full_stop, colon, underscore}
 use Rattle.ldif_lines.specs.Records.{records}
-use Rattle.ldif_lines.specs.Folding.{begins_line, is_line_byte}
+use Rattle.ldif_lines.specs.Folding.{begins_line, is_line_byte, standard_width}
 use Rattle.ldif.specs.declared.fault.LdifFaultKind.{LdifFaultKind}
 use Rattle.ldif.specs.Attrs.{Attr}
 use Rattle.ldif.specs.declared.record.Mode.{Mode}
@@ -11,7 +11,7 @@ use Rattle.ldif.specs.declared.record.Record.{Record}
 use Rattle.ldif.specs.declared.record.Record.TheVariants as variants
 use Rattle.ldif.specs.Line.{same_name}
 use Rattle.ldif.specs.Reading.{reading}
-use Rattle.ldif.specs.Writing.{written_line}
+use Rattle.ldif.specs.Writing.{written_line_to}
 
 -- the records of a text, each by the number of its first line and what it reads as
 unfoldable pub readings : Mode → List ℕ → List (ℕ × Result Record LdifFaultKind)
@@ -25,12 +25,19 @@ pub record ContentRecord : Type 0 where
   pub dn : List ℕ
   pub attrs : List Attr
 
-abbrev pub written_attr : Attr → List ℕ
-written_attr a = written_line a.name a.value
+abbrev pub written_attr_to : ℕ → Attr → List ℕ
+written_attr_to width a = written_line_to width a.name a.value
 
 -- its lines, and an empty line
-unfoldable pub write_content : ContentRecord → List ℕ
-write_content c = written_line (codes "dn") c.dn ++ flat_map written_attr c.attrs ++ line_feed ∷ []
+unfoldable pub write_content_to : ℕ → ContentRecord → List ℕ
+write_content_to width c = written_line_to width (codes "dn") c.dn ++ flat_map (written_attr_to width) c.attrs ++ line_feed ∷ []
+
+-- the same to 76 bytes
+abbrev pub written_attr : Attr → List ℕ
+written_attr = written_attr_to standard_width
+
+abbrev pub write_content : ContentRecord → List ℕ
+write_content = write_content_to standard_width
 
 -- the record that it is
 abbrev pub as_record : ContentRecord → Result Record LdifFaultKind

@@ -5,7 +5,7 @@ use Rattle.base64.specs.GeneralPurpose.{encode_of}
 use Rattle.base64.specs.Engines.{standard}
 use Rattle.base.specs.Ascii.{line_feed, carriage_return, space, colon, less_than_sign}
 use Rattle.base.specs.Ends.{begins_with, ends_with}
-use Rattle.ldif_lines.specs.Folding.{folded}
+use Rattle.ldif_lines.specs.Folding.{folded_line, standard_width}
 
 -- ASCII without NUL and without what ends a line
 abbrev pub is_safe_byte : ℕ → Bool
@@ -33,6 +33,10 @@ line_text name value =
     else if is_plain value then name ++ codes ": " ++ value
     else name ++ codes ":: " ++ encode_of standard value
 
--- the line as it is written: at most 76 bytes, and each further piece a space and at most 75
+-- the line as it is written to a width: at most so many bytes, and each further piece a space and at most one byte less
+abbrev pub written_line_to : ℕ → List ℕ → List ℕ → List ℕ
+written_line_to width name value = folded_line width (line_text name value)
+
+-- the same to 76 bytes
 abbrev pub written_line : List ℕ → List ℕ → List ℕ
-written_line name value = folded 76 (line_text name value)
+written_line = written_line_to standard_width

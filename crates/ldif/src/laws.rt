@@ -3,7 +3,8 @@
 ghost use Rattle.std.specs.Prelude.{◌≡◌, ◌↔◌, ◌++◌, Bool, List, ℕ, true, Ok, Err, map};
 ghost use Rattle.std.specs.List.{list_all, flat_map, AllByRecursion};
 ghost use Rattle.base64.specs.GeneralPurpose.{IsBytes};
-ghost use Rattle.ldif_lines.specs.Folding.{IsWritable};
+ghost use Rattle.std.specs.Str.Lines.{lines};
+ghost use Rattle.ldif_lines.specs.Folding.{FitsIn, IsWidth, IsWritable};
 ghost use Rattle.ldif.specs.declared.fault.LdifFaultKind.{LdifFaultKind};
 ghost use Rattle.ldif.specs.Attrs.{Attr};
 ghost use Rattle.ldif.specs.declared.record.Mode.{Mode};
@@ -17,7 +18,7 @@ ghost use Rattle.ldif.specs.Reading.{reading};
 ghost use Rattle.ldif.specs.Line.{value_line};
 ghost use Rattle.ldif.specs.Writing.{line_text};
 ghost use Rattle.ldif.specs.Changes.{CommentedChange, IsWritableComment, write_change, change_of, read_as_itself};
-ghost use Rattle.ldif.specs.Contents.{is_byte, IsName, ContentRecord, IsWritableContent, write_content, readings, reading_of, as_record};
+ghost use Rattle.ldif.specs.Contents.{is_byte, IsName, ContentRecord, IsWritableContent, write_content, write_content_to, readings, reading_of, as_record};
 
 /// The line of a name and a value can be written.
 pub fn line_texts_are_writable()
@@ -34,6 +35,22 @@ pub fn written_contents_are_read()
     ensures { (cs : List ContentRecord) → AllByRecursion IsWritableContent cs → map reading_of (readings Content (flat_map write_content cs)) ≡ map as_record cs }
 {
     ldif_lines::written_blocks_are_read();
+}
+
+/// The same of content records whose lines are folded to any width.
+pub fn folded_contents_are_read()
+    ensures { (width : ℕ) (cs : List ContentRecord) → IsWidth width → AllByRecursion IsWritableContent cs
+        → map reading_of (readings Content (flat_map (write_content_to width) cs)) ≡ map as_record cs }
+{
+    ldif_lines::folded_blocks_are_read();
+}
+
+/// No line of content records that are written is longer than its width.
+pub fn folded_contents_fit()
+    ensures { (width : ℕ) (cs : List ContentRecord) → IsWidth width → AllByRecursion IsWritableContent cs
+        → AllByRecursion (FitsIn width) (lines (flat_map (write_content_to width) cs)) }
+{
+    ldif_lines::folded_lines_fit();
 }
 
 /// Change records without controls that are written one after another, a comment before each, are read back, one for each.

@@ -1,27 +1,22 @@
 //! Lines that are written.
 
-ghost use Rattle.std.specs.Prelude.{◌≡◌, ◌<◌, ◌≤◌, ◌+◌, ◌-◌, ◌^◌, ◌++◌, ◌∷◌, length, IfOk, OnErr, OnOk, IsTrue};
+ghost use Rattle.std.specs.Prelude.{ℕ, ◌≡◌, ◌<◌, ◌≤◌, ◌+◌, ◌-◌, ◌^◌, ◌++◌, ◌∷◌, [], length, IfOk, OnErr, OnOk, IsTrue};
 ghost use Rattle.std.specs.List.{list_all};
 ghost use Rattle.base64.specs.GeneralPurpose.{encode_of};
 ghost use Rattle.base64.specs.Engines.{standard};
 ghost use Rattle.base.specs.Ascii.{line_feed, space};
 ghost use Rattle.base.specs.Extends.{Extends};
 ghost use Rattle.device.specs.Device.{Took, Broke};
-ghost use Rattle.ldif_lines.specs.Folding.{folded};
-ghost use Rattle.ldif.specs.Writing.{is_safe_byte, is_common_byte, has_plain_ends, is_plain, line_text, written_line};
+ghost use Rattle.ldif_lines.specs.Folding.{folded_line, folded_to};
+ghost use Rattle.ldif.specs.Writing.{is_safe_byte, is_common_byte, has_plain_ends, is_plain, line_text, written_line, written_line_to};
 ghost use Rattle.ldif.specs.declared.write.WriteFault.TheVariants as faults;
 
+use crate::line_width::LineWidth;
 use base::{ByteTest, any_byte, begins_with, ends_with};
 use base64::engine::general_purpose::STANDARD;
 use device::{Device, Sink, push_all};
 use std::alloc::{AllocError, Global};
 use thiserror::Error;
-
-/// The bytes of a line's first piece, at most.
-const FIRST_PIECE: usize = 76;
-
-/// The bytes behind the space of each further piece, at most.
-const NEXT_PIECE: usize = 75;
 
 /// Why a line was not written whole.
 #[derive(Clone, Copy, Debug, PartialEq, Eq, Error)]
@@ -142,7 +137,7 @@ fn put_text(alloc: Global, out: &mut Vec<u8>, name: &[u8], value: &[u8]) -> Resu
 
 /// What fits into the room, and the rest.
 fn split_piece(text: &[u8], room: usize) -> (&[u8], &[u8])
-    ensures piece { folded room text.now ≡ result.0.now ++ folded 0 result.1.now }
+    ensures piece { (width : ℕ) → folded_to width room text.now ≡ result.0.now ++ folded_to width 0 result.1.now }
     ensures fewer { 0 < room → 0 < length text.now → length result.1.now < length text.now }
 {
     if text.len() <= room {
@@ -161,15 +156,16 @@ fn push_piece(out: &mut Vec<u8>, piece: &[u8]) -> Result<(), AllocError>
 }
 
 // Puts the line, folded, at the end.
-fn put_folded(out: &mut Vec<u8>, text: &[u8]) -> Result<(), AllocError>
-    ensures put { OnOk result (out.new.items ≡ out.old.items ++ folded 76 text.now) }
+fn put_folded(out: &mut Vec<u8>, width: LineWidth, text: &[u8]) -> Result<(), AllocError>
+    ensures put { OnOk result (out.new.items ≡ out.old.items ++ folded_line width text.now) }
     ensures kept { OnErr result (Extends out.old.items out.new.items) }
 {
-    let (front, after) = split_piece(text, FIRST_PIECE);
+    let bytes = width.bytes();
+    let (front, after) = split_piece(text, bytes);
     out.extend_from_slice(front)?;
     let mut rest = after;
     'pieces: while !rest.is_empty() {
-        let (piece, after) = split_piece(rest, NEXT_PIECE);
+        let (piece, after) = split_piece(rest, bytes - 1);
         push_piece(out, piece)?;
         rest = after;
     }
@@ -178,41 +174,53 @@ fn put_folded(out: &mut Vec<u8>, text: &[u8]) -> Result<(), AllocError>
 }
 
 // Puts the line at the end. Where memory runs out, a beginning of it may stand there.
-fn put_some(alloc: Global, out: &mut Vec<u8>, name: &[u8], value: &[u8]) -> Result<(), AllocError>
-    ensures put { OnOk result (out.new.items ≡ out.old.items ++ written_line name.now value.now) }
+fn put_some(
+    alloc: Global,
+    out: &mut Vec<u8>,
+    width: LineWidth,
+    name: &[u8],
+    value: &[u8],
+) -> Result<(), AllocError>
+    ensures put { OnOk result (out.new.items ≡ out.old.items ++ written_line_to width name.now value.now) }
     ensures kept { OnErr result (Extends out.old.items out.new.items) }
 {
     let start = out.len();
     put_text(alloc, out, name, value)?;
-    if out.len() - start <= FIRST_PIECE {
+    if out.len() - start <= width.bytes() {
         out.push(b'\n')?;
         return Ok(());
     }
     let text = Vec::from_slice(alloc, &out[start..])?;
     out.truncate(start);
-    put_folded(out, &text)
+    put_folded(out, width, &text)
 }
 
 // Puts any line at the end. Where memory runs out, nothing is put.
 #[inline(never)]
-fn put_any(alloc: Global, out: &mut Vec<u8>, name: &[u8], value: &[u8]) -> Result<(), AllocError>
-    ensures put { OnOk result (out.new.items ≡ out.old.items ++ written_line name.now value.now) }
+fn put_any(
+    alloc: Global,
+    out: &mut Vec<u8>,
+    width: LineWidth,
+    name: &[u8],
+    value: &[u8],
+) -> Result<(), AllocError>
+    ensures put { OnOk result (out.new.items ≡ out.old.items ++ written_line_to width name.now value.now) }
     ensures kept { OnErr result (out.new.items ≡ out.old.items) }
 {
     let before = out.len();
-    let put = put_some(alloc, out, name, value);
+    let put = put_some(alloc, out, width, name, value);
     if put.is_err() {
         out.truncate(before);
     }
     put
 }
 
-// The same of a line of one piece that has its value as it is.
+// The same of a line that has its value as it is and is not folded.
 fn put_short(out: &mut Vec<u8>, name: &[u8], value: &[u8]) -> Result<(), AllocError>
-    requires one_piece { length name.now + length value.now ≤ 74 }
+    requires room { length name.now + length value.now < 2 ^ 63 }
     requires some { 0 < length value.now }
     requires plain { IsTrue (is_plain value.now) }
-    ensures put { OnOk result (out.new.items ≡ out.old.items ++ written_line name.now value.now) }
+    ensures put { OnOk result (out.new.items ≡ out.old.items ++ (line_text name.now value.now ++ line_feed ∷ [])) }
     ensures kept { OnErr result (out.new.items ≡ out.old.items) }
 {
     out.reserve(name.len() + value.len() + 3)?;
@@ -222,6 +230,28 @@ fn put_short(out: &mut Vec<u8>, name: &[u8], value: &[u8]) -> Result<(), AllocEr
     out.extend_from_slice(value)?;
     out.push_reserved(b'\n');
     Ok(())
+}
+
+/// Puts the line of a name and a value at the end, folded to a width, where [`write_line`] folds to 76 bytes. Where memory runs out,
+/// nothing is put.
+pub fn put_line_to(
+    alloc: Global,
+    out: &mut Vec<u8>,
+    width: LineWidth,
+    name: &[u8],
+    value: &[u8],
+) -> Result<(), AllocError>
+    ensures put { OnOk result (out.new.items ≡ out.old.items ++ written_line_to width name.now value.now) }
+    ensures kept { OnErr result (out.new.items ≡ out.old.items) }
+{
+    // As most lines are: the colon and the space stand in the piece, too.
+    if !value.is_empty()
+        && name.len() + value.len() <= width.bytes() - 2
+        && is_surely_plain(value)
+    {
+        return put_short(out, name, value);
+    }
+    put_any(alloc, out, width, name, value)
 }
 
 /// Puts the line of a name and a value at the end, as [`write_line`] writes it. Where memory runs out, nothing is put.
@@ -234,11 +264,7 @@ pub fn put_line(
     ensures put { OnOk result (out.new.items ≡ out.old.items ++ written_line name.now value.now) }
     ensures kept { OnErr result (out.new.items ≡ out.old.items) }
 {
-    // As most lines are: the colon and the space stand in the piece, too.
-    if !value.is_empty() && name.len() + value.len() <= FIRST_PIECE - 2 && is_surely_plain(value) {
-        return put_short(out, name, value);
-    }
-    put_any(alloc, out, name, value)
+    put_line_to(alloc, out, LineWidth::STANDARD, name, value)
 }
 
 fn written_line(alloc: Global, name: &[u8], value: &[u8]) -> Result<Vec<u8>, AllocError>

@@ -12,4 +12,4 @@ returns-clause-put c =
     ∙ ap (λ (xs : List ℕ). xs ++ 32 ∷ [])
     (c.push_reserved.ensures.items
     ∙ ap (λ (xs : List ℕ). xs ++ 58 ∷ []) (c.in_ok-extend_from_slice.ensures.items ∙ ap (λ (xs : List ℕ). xs ++ c.args.name.now) c.in_ok-reserve.ensures.items))))
-    ∙ short_line c.args.out.now.items c.args.name.now c.args.value.now c.requires.one_piece c.requires.some c.requires.plain
+    ∙ short_line c.args.out.now.items c.args.name.now c.args.value.now c.requires.some c.requires.plain
