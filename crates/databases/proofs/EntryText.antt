@@ -3,8 +3,8 @@ use Rattle.std.proofs.Common.{◌≡◌, ℕ, Bool, true, false, cond, None, Lis
 use Rattle.std.specs.List.{flat_map, filter, AllByRecursion}
 use Rattle.std.proofs.lemmas.Bool.{ltb-true}
 use Rattle.std.proofs.lemmas.Grind.{flat_map-append}
-use Rattle.ldif.specs.Contents.{written_attr, write_content}
-use Rattle.ldif.specs.Writing.{written_line}
+use Rattle.ldif.specs.Contents.{written_attr_to, write_content_to}
+use Rattle.ldif.specs.Writing.{written_line_to}
 use Rattle.values.specs.declared.types.AttributeType.{AttributeType}
 use Rattle.values.specs.Values.{Value}
 use Rattle.values.specs.Types.{name_of}
@@ -16,27 +16,27 @@ use Rattle.entries.specs.StoredEntries.{Entry, EntryAttribute, attributes_of, ra
 use Rattle.databases.specs.Selections.{Selection, selects, selected}
 use Rattle.databases.specs.inner.Dumps.{AreKnown, attr_of, values_text, attributes_text, attribute_text, selected_text, entry_text}
 
-of_values : (name : List ℕ) (vs : List Value) → flat_map written_attr (map (λ (v : List ℕ). record { name = name; value = v }) (raws vs)) ≡ values_text name vs
-of_values name [] = refl
-of_values name (v ∷ vs) = ap (λ bs. written_attr (attr_of name v) ++ bs) (of_values name vs)
+of_values : (width : ℕ) (name : List ℕ) (vs : List Value) → flat_map (written_attr_to width) (map (λ (v : List ℕ). record { name = name; value = v }) (raws vs)) ≡ values_text width name vs
+of_values width name [] = refl
+of_values width name (v ∷ vs) = ap (λ bs. written_attr_to width (attr_of name v) ++ bs) (of_values width name vs)
 
-pub first_attribute : (types : List AttributeType) (a : EntryAttribute) (rest : List EntryAttribute) → attributes_text types (a ∷ rest) ≡ values_text (name_of types a.0) a.1 ++ attributes_text types rest
+pub first_attribute : (width : ℕ) (types : List AttributeType) (a : EntryAttribute) (rest : List EntryAttribute) → attributes_text width types (a ∷ rest) ≡ values_text width (name_of types a.0) a.1 ++ attributes_text width types rest
 unfolding lines_of
-first_attribute types a rest =
-    ap (λ (bs : List ℕ). bs ++ 10 ∷ []) (flat_map-append written_attr (attribute_lines types (a.0, raws a.1)) (lines_of types (attributes_of rest)) ∙ ap (λ bs. bs ++ flat_map written_attr (lines_of types (attributes_of rest))) (of_values (name_of types a.0) a.1))
-    ∙ append_assoc (values_text (name_of types a.0) a.1) (flat_map written_attr (lines_of types (attributes_of rest))) (10 ∷ [])
+first_attribute width types a rest =
+    ap (λ (bs : List ℕ). bs ++ 10 ∷ []) (flat_map-append (written_attr_to width) (attribute_lines types (a.0, raws a.1)) (lines_of types (attributes_of rest)) ∙ ap (λ bs. bs ++ flat_map (written_attr_to width) (lines_of types (attributes_of rest))) (of_values width (name_of types a.0) a.1))
+    ∙ append_assoc (values_text width (name_of types a.0) a.1) (flat_map (written_attr_to width) (lines_of types (attributes_of rest))) (10 ∷ [])
 
-pub no_attribute : (types : List AttributeType) → attributes_text types [] ≡ 10 ∷ []
+pub no_attribute : (width : ℕ) (types : List AttributeType) → attributes_text width types [] ≡ 10 ∷ []
 unfolding lines_of
-no_attribute types = refl
+no_attribute width types = refl
 
 -- ---- of those that are selected
 
-pub first_selected : (types : List AttributeType) (s : Selection) (a : EntryAttribute) (rest : List EntryAttribute) → selected_text types s (a ∷ rest) ≡ attribute_text types s a ++ selected_text types s rest
-first_selected types s a rest = by (selects s a.0)
+pub first_selected : (width : ℕ) (types : List AttributeType) (s : Selection) (a : EntryAttribute) (rest : List EntryAttribute) → selected_text width types s (a ∷ rest) ≡ attribute_text width types s a ++ selected_text width types s rest
+first_selected width types s a rest = by (selects s a.0)
   where
-    by : (b : Bool) → attributes_text types (cond b (a ∷ filter (λ a. selects s a.0) rest) (filter (λ a. selects s a.0) rest)) ≡ cond b (values_text (name_of types a.0) a.1) [] ++ selected_text types s rest
-    by true = first_attribute types a (filter (λ a. selects s a.0) rest)
+    by : (b : Bool) → attributes_text width types (cond b (a ∷ filter (λ a. selects s a.0) rest) (filter (λ a. selects s a.0) rest)) ≡ cond b (values_text width (name_of types a.0) a.1) [] ++ selected_text width types s rest
+    by true = first_attribute width types a (filter (λ a. selects s a.0) rest)
     by false = refl
 
 selected_as_seen : (s : Selection) (attrs : List EntryAttribute) → filter (λ a. selects s a.0) (attributes_of attrs) ≡ attributes_of (filter (λ a. selects s a.0) attrs)
@@ -48,11 +48,11 @@ selected_as_seen s (a ∷ rest) = by (selects s a.0) (selected_as_seen s rest)
     by true same = ap (λ (xs : Attributes). (a.0, raws a.1) ∷ xs) same
     by false same = same
 
-pub entry_is : (conf : Conf) (d : Entries) (s : Selection) (p : Path) (e : Entry) → entry_text conf d s (p, e) ≡ written_line (100 ∷ 110 ∷ []) (name_of_entry conf d p) ++ selected_text conf.types s e.attrs
-unfolding write_content
-entry_is conf d s p e =
-    append_assoc (written_line (100 ∷ 110 ∷ []) (name_of_entry conf d p)) (flat_map written_attr (lines_of conf.types (filter (λ a. selects s a.0) (attributes_of e.attrs)))) (10 ∷ [])
-    ∙ ap (λ (attrs : Attributes). written_line (100 ∷ 110 ∷ []) (name_of_entry conf d p) ++ (flat_map written_attr (lines_of conf.types attrs) ++ 10 ∷ [])) (selected_as_seen s e.attrs)
+pub entry_is : (width : ℕ) (conf : Conf) (d : Entries) (s : Selection) (p : Path) (e : Entry) → entry_text width conf d s (p, e) ≡ written_line_to width (100 ∷ 110 ∷ []) (name_of_entry conf d p) ++ selected_text width conf.types s e.attrs
+unfolding write_content_to
+entry_is width conf d s p e =
+    append_assoc (written_line_to width (100 ∷ 110 ∷ []) (name_of_entry conf d p)) (flat_map (written_attr_to width) (lines_of conf.types (filter (λ a. selects s a.0) (attributes_of e.attrs)))) (10 ∷ [])
+    ∙ ap (λ (attrs : Attributes). written_line_to width (100 ∷ 110 ∷ []) (name_of_entry conf d p) ++ (flat_map (written_attr_to width) (lines_of conf.types attrs) ++ 10 ∷ [])) (selected_as_seen s e.attrs)
 
 -- all are selected
 filter_all : {A : Type 0} (xs : List A) → filter (λ x. true) xs ≡ xs

@@ -8,10 +8,10 @@ use Rattle.std.specs.FinMap as finite
 use Rattle.std.specs.Str.{is_utf8, chars}
 use lib.Utf8.{encode}
 use Rattle.ldif_lines.specs.Records.{records, continuation, joined, joined_block, body_of, body_of_block, with_first, records_from}
-use Rattle.ldif_lines.specs.Folding.{folded}
+use Rattle.ldif_lines.specs.Folding.{folded_to}
 use Rattle.ldif.specs.Line.{form_of, value_of, value_line}
 use Rattle.ldif.specs.Reading as reading
-use Rattle.ldif.specs.Contents.{write_content}
+use Rattle.ldif.specs.Contents.{write_content, write_content_to}
 use Rattle.ldif.specs.Writing.{is_plain, line_text}
 use Rattle.ldif.specs.declared.fault.LdifFaultKind.TheVariants as faults
 use Rattle.ldif.specs.Attrs.{Attr}
@@ -42,7 +42,7 @@ use Rattle.tree.specs.Adds.{add, add_at, added}
 use Rattle.tree.specs.Directories as directories
 use Rattle.tree.specs.Directories.{Entries, rdn_in}
 use Rattle.entries.specs.Entries.{EntryContent, push_value, add_lines, with_rdn, lines_of}
-use Rattle.databases.specs.Runs.{State, start, of_change, take_up, outcome, step, after_records, after, record_of, dump, Loads}
+use Rattle.databases.specs.Runs.{State, start, of_change, take_up, outcome, step, after_records, after, record_of, dump, dump_to, Loads}
 use Rattle.databases.specs.Loading.{StopsAt}
 use Rattle.databases.specs.declared.loading.LoadFault.TheVariants as loads
 use Rattle.databases.specs.Reports.{report, report_line}
@@ -61,7 +61,7 @@ on_entries = tt
 
 -- what an entry is written by
 unfoldable on_writing : ⊤
-unfolding write_content name_text written text_from text_of directories.rdns_from lines_of is_plain line_text folded
+unfolding write_content_to name_text written text_from text_of directories.rdns_from lines_of is_plain line_text folded_to
 on_writing = tt
 
 -- a line with its end
@@ -217,7 +217,7 @@ unfolding on_writing
 written_ann = ap (λ o. write_content (record { dn = name_text conf (rdn_in o ∷ []); attrs = lines_of conf.types ann.attrs })) ann_stands
 
 dumped : dump conf both ≡ ended (codes "dn: dc=ex") ++ domain ++ ended (codes "dc: ex") ++ ended [] ++ ended (codes "dn: cn=Ann,dc=ex") ++ ended (codes "cn: ann") ++ person ++ ended []
-unfolding dump on_writing
+unfolding dump_to on_writing
 dumped =
     ap (λ es. flat_map (λ x. write_content (record_of conf both x)) es) (finite.entries-from_sorted path_cmp in_order tt)
     ∙ ap (λ bs. bs ++ write_content (record_of conf both (at_ann, ann)) ++ []) written_root

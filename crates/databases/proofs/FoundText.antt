@@ -7,7 +7,7 @@ use Rattle.std.specs.FinMap as finite
 use Rattle.std.proofs.lemmas.List.{append-nil}
 use Rattle.std.proofs.lemmas.Bool.{eqb-true, ltb-true, lt-ltb, le-ltb}
 use Rattle.device.specs.Device.{Written}
-use Rattle.ldif.specs.Contents.{write_content}
+use Rattle.ldif.specs.Contents.{write_content_to}
 use Rattle.ldif.specs.declared.write.WriteFault.{WriteFault}
 use Rattle.paths.specs.Paths.{Path, path_cmp}
 use Rattle.schema.specs.Conf.{Conf}
@@ -80,36 +80,36 @@ found_are_there conf d is_candidate base scope f total is = kept_there d (λ e. 
 
 -- ---- text
 
-module _ (conf : Conf) (d : Entries) (s : Selection) where
+module _ (width : ℕ) (conf : Conf) (d : Entries) (s : Selection) where
   pub text_more : (left : Option ℕ) (e : Path × EntryContent) (es : List (Path × EntryContent)) → left ≢ Some 0
-      → found_text conf d s (up_to left (e ∷ es)) ≡ write_content (found_record conf d s e) ++ found_text conf d s (up_to (one_fewer left) es)
+      → found_text width conf d s (up_to left (e ∷ es)) ≡ write_content_to width (found_record conf d s e) ++ found_text width conf d s (up_to (one_fewer left) es)
   unfolding found_text
-  text_more left e es some = ap (found_text conf d s) (up_more left e es some)
+  text_more left e es some = ap (found_text width conf d s) (up_more left e es some)
 
-  pub no_text : found_text conf d s [] ≡ []
+  pub no_text : found_text width conf d s [] ≡ []
   unfolding found_text
   no_text = refl
 
   -- one more entry, behind what is written
   pub goes_on : (left fewer : Option ℕ) (found : Lent) (old new : List Lent) (text : List ℕ) → old ≡ found ∷ new → left ≢ Some 0 → fewer ≡ one_fewer left
-      → text ++ found_text conf d s (up_to left (map seen old)) ≡ (text ++ entry_text conf d s (found.path, found.entry)) ++ found_text conf d s (up_to fewer (map seen new))
+      → text ++ found_text width conf d s (up_to left (map seen old)) ≡ (text ++ entry_text width conf d s (found.path, found.entry)) ++ found_text width conf d s (up_to fewer (map seen new))
   goes_on left fewer found old new text steps some is =
-      ap (λ (ls : List Lent). text ++ found_text conf d s (up_to left (map seen ls))) steps
+      ap (λ (ls : List Lent). text ++ found_text width conf d s (up_to left (map seen ls))) steps
       ∙ ap (λ (bs : List ℕ). text ++ bs) (text_more left (seen found) (map seen new) some)
-      ∙ sym (append_assoc text (entry_text conf d s (found.path, found.entry)) (found_text conf d s (up_to (one_fewer left) (map seen new))))
-      ∙ ap (λ (l : Option ℕ). (text ++ entry_text conf d s (found.path, found.entry)) ++ found_text conf d s (up_to l (map seen new))) (sym is)
+      ∙ sym (append_assoc text (entry_text width conf d s (found.path, found.entry)) (found_text width conf d s (up_to (one_fewer left) (map seen new))))
+      ∙ ap (λ (l : Option ℕ). (text ++ entry_text width conf d s (found.path, found.entry)) ++ found_text width conf d s (up_to l (map seen new))) (sym is)
 
   -- none is left, or none may be written any more
-  pub none_left : (left : Option ℕ) (old : List Lent) (text : List ℕ) → old ≡ [] → text ++ found_text conf d s (up_to left (map seen old)) ≡ text
+  pub none_left : (left : Option ℕ) (old : List Lent) (text : List ℕ) → old ≡ [] → text ++ found_text width conf d s (up_to left (map seen old)) ≡ text
   none_left left old text none =
-      ap (λ (ls : List Lent). text ++ found_text conf d s (up_to left (map seen ls))) none
-      ∙ ap (λ (es : List (Path × EntryContent)). text ++ found_text conf d s es) (up_to_nothing (Path × EntryContent) left)
+      ap (λ (ls : List Lent). text ++ found_text width conf d s (up_to left (map seen ls))) none
+      ∙ ap (λ (es : List (Path × EntryContent)). text ++ found_text width conf d s es) (up_to_nothing (Path × EntryContent) left)
       ∙ ap (λ (bs : List ℕ). text ++ bs) no_text
       ∙ append-nil text
 
-  pub none_may : (left : Option ℕ) (old : List Lent) (text : List ℕ) → left ≡ Some 0 → text ++ found_text conf d s (up_to left (map seen old)) ≡ text
+  pub none_may : (left : Option ℕ) (old : List Lent) (text : List ℕ) → left ≡ Some 0 → text ++ found_text width conf d s (up_to left (map seen old)) ≡ text
   none_may left old text over =
-      ap (λ (l : Option ℕ). text ++ found_text conf d s (up_to l (map seen old))) over
+      ap (λ (l : Option ℕ). text ++ found_text width conf d s (up_to l (map seen old))) over
       ∙ ap (λ (bs : List ℕ). text ++ bs) no_text
       ∙ append-nil text
 

@@ -12,7 +12,7 @@ use Rattle.std.proofs.lemmas.Cmp.{tied_itself}
 use Rattle.ldif.specs.declared.fault.LdifFaultKind.{LdifFaultKind}
 use Rattle.ldif.specs.declared.record.Record.{Record}
 use Rattle.ldif.specs.declared.record.Mode.TheVariants.{Content}
-use Rattle.ldif.specs.Contents.{ContentRecord, IsWritableContent, write_content, readings, reading_of, as_record}
+use Rattle.ldif.specs.Contents.{ContentRecord, IsWritableContent, write_content_to, readings, reading_of, as_record}
 use Rattle.schema.specs.declared.code.Code.{Code}
 use Rattle.base.specs.Answers.{◌>>=◌}
 use Rattle.paths.specs.Paths.{RdnKey, Path, path_cmp}
@@ -21,7 +21,7 @@ use Rattle.entries.specs.Entries.{EntryContent}
 use Rattle.tree.specs.Directories.{Entries, IsDirectory, record_at}
 use Rattle.tree.specs.Changes.{Change, changed}
 use Rattle.tree.specs.Adds.{add, added, MayCome}
-use Rattle.databases.specs.Runs.{State, start, outcome, of_change, take_up, step, after_records, record_of, dump, LoadsBack}
+use Rattle.databases.specs.Runs.{State, start, outcome, of_change, take_up, step, after_records, record_of, dump_to, LoadsBackAt}
 
 abbrev Pairs : Type 0
 Pairs = List (Path × EntryContent)
@@ -166,7 +166,7 @@ all_left total conf d h m (e ∷ es) s = (there total conf d h m e es s, all_lef
 pub all_there : IsTotalOrder path_cmp → (conf : Conf) (d : Entries) → IsDirectory conf d → AllByRecursion (λ e. finite.get d e.0 ≡ Some e.1) (finite.entries d)
 all_there total conf d h = all_left total conf d h finite.empty (finite.entries d) (begins total conf d h)
 
-map-map : {A B C : Type 0} (f : B → C) (g : A → B) (xs : List A) → map f (map g xs) ≡ map (λ x. f (g x)) xs
+pub map-map : {A B C : Type 0} (f : B → C) (g : A → B) (xs : List A) → map f (map g xs) ≡ map (λ x. f (g x)) xs
 map-map f g [] = refl
 map-map f g (x ∷ xs) = ap (λ ys. f (g x) ∷ ys) (map-map f g xs)
 
@@ -174,20 +174,20 @@ pub flat_map-map : {A B C : Type 0} (f : B → List C) (g : A → B) (xs : List 
 flat_map-map f g [] = refl
 flat_map-map f g (x ∷ xs) = ap (λ ys. f (g x) ++ ys) (flat_map-map f g xs)
 
-all_written : (conf : Conf) (d : Entries) → ((p : Path) (e : EntryContent) → finite.get d p ≡ Some e → IsWritableContent (record_at conf d p e)) → (es : Pairs) → AllByRecursion (λ e. finite.get d e.0 ≡ Some e.1) es → AllByRecursion IsWritableContent (map (record_of conf d) es)
+pub all_written : (conf : Conf) (d : Entries) → ((p : Path) (e : EntryContent) → finite.get d p ≡ Some e → IsWritableContent (record_at conf d p e)) → (es : Pairs) → AllByRecursion (λ e. finite.get d e.0 ≡ Some e.1) es → AllByRecursion IsWritableContent (map (record_of conf d) es)
 all_written conf d own [] h = tt
 all_written conf d own (e ∷ es) h = (own e.0 e.1 h.0, all_written conf d own es h.1)
 
-pub loads_back : ((cs : List ContentRecord) → AllByRecursion IsWritableContent cs → map reading_of (readings Content (flat_map write_content cs)) ≡ map as_record cs)
+pub loads_back : (width : ℕ) → ((cs : List ContentRecord) → AllByRecursion IsWritableContent cs → map reading_of (readings Content (flat_map (write_content_to width) cs)) ≡ map as_record cs)
     → ((conf : Conf) (d : Entries) (p : Path) (e : EntryContent) → IsConf conf → IsDirectory conf d → finite.get d p ≡ Some e → IsWritableContent (record_at conf d p e))
     → ((conf : Conf) (d m : Entries) (p : Path) (e : EntryContent) → IsConf conf → IsDirectory conf d → finite.get d p ≡ Some e → MayCome m p → add conf Content m (record_at conf d p e).dn (record_at conf d p e).attrs ≡ added p e)
     → IsTotalOrder path_cmp → finite.IsAntisymmetric path_cmp → ((p : Path) (s : RdnKey) → path_cmp p (p ++ s ∷ []) ≡ Less)
-    → (conf : Conf) (d : Entries) → IsConf conf → IsDirectory conf d → LoadsBack conf d
-unfolding dump after_records readings
-loads_back reads own adds total exact first conf d c h =
+    → (conf : Conf) (d : Entries) → IsConf conf → IsDirectory conf d → LoadsBackAt width conf d
+unfolding dump_to after_records readings
+loads_back width reads own adds total exact first conf d c h =
     let es : Pairs = finite.entries d in
     let all = all_written conf d (λ p e there. own conf d p e c h there) es (all_there total conf d h) in
-    let same : map reading_of (readings Content (dump conf d)) ≡ map (read_of total conf d h) es =
-    ap (λ t. map reading_of (readings Content t)) (sym (flat_map-map write_content (record_of conf d) es)) ∙ reads (map (record_of conf d) es) all ∙ map-map as_record (record_of conf d) es in
-    let end = loaded total conf d h first exact (λ m p e there may. adds conf d m p e c h there may) (readings Content (dump conf d)) es (start finite.empty) same refl (begins total conf d h) in
+    let same : map reading_of (readings Content (dump_to width conf d)) ≡ map (read_of total conf d h) es =
+    ap (λ t. map reading_of (readings Content t)) (sym (flat_map-map (write_content_to width) (record_of conf d) es)) ∙ reads (map (record_of conf d) es) all ∙ map-map as_record (record_of conf d) es in
+    let end = loaded total conf d h first exact (λ m p e there may. adds conf d m p e c h there may) (readings Content (dump_to width conf d)) es (start finite.empty) same refl (begins total conf d h) in
     record { entries = sym end.0; all = end.1 }

@@ -1,5 +1,5 @@
 -- Loading: a run of content records from the empty directory on, which the first refused record ends.
-use Rattle.std.proofs.Common.{◌≡◌, ℕ, ◌+◌, arith, List, [], ◌∷◌, length, Option, refl, ◌∙◌, sym, ap, subst}
+use Rattle.std.proofs.Common.{◌≡◌, ℕ, arith, List, [], ◌∷◌, length, Option, refl, ◌∙◌, sym, subst}
 use Rattle.std.specs.FinMap as finite
 use Rattle.device.specs.Device.{Seen, Written}
 use Rattle.ldif_lines.specs.Records.{RawRecord, closed_records}

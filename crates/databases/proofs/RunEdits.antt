@@ -19,7 +19,6 @@ use Rattle.databases.specs.inner.Stands.{IsReached, Stands}
 use Rattle.databases.specs.inner.Steps.{IsTaken, IsCounted}
 use Rattle.databases.specs.declared.refusal.RecordRefusal.{RecordRefusal}
 use Rattle.databases.specs.declared.runs.Tally.{Tally}
-use Rattle.databases.specs.declared.runs.RunFault.{RunFault}
 use Rattle.databases.specs.declared.runs.RunFault.TheVariants as faults
 use Rattle.databases.proofs.Records.{ended_is, reached_more}
 use Rattle.databases.proofs.Whole.{step_ended, after_all, others_of, parts_of}

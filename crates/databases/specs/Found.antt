@@ -3,7 +3,7 @@ use Rattle.std.specs.Prelude.{◌≡◌, ℕ, Bool, false, List, take, length, n
 use Rattle.std.specs.List.{flat_map, AllByRecursion}
 use Rattle.std.specs.FinMap as finite
 use Rattle.device.specs.Device.{Written, Took}
-use Rattle.ldif.specs.Contents.{ContentRecord, write_content}
+use Rattle.ldif.specs.Contents.{ContentRecord, write_content_to}
 use Rattle.ldif.specs.declared.write.WriteFault.{WriteFault}
 use Rattle.paths.specs.Paths.{Path}
 use Rattle.schema.specs.Conf.{Conf}
@@ -19,9 +19,9 @@ AreThere d es = AllByRecursion (λ e. finite.get d e.0 ≡ Some e.1) es
 abbrev pub found_record : Conf → Entries → Selection → Path × EntryContent → ContentRecord
 found_record conf d s e = record_at conf d e.0 (selected s e.1)
 
--- each entry as in the dump, with the attributes that are selected
-unfoldable pub found_text : Conf → Entries → Selection → List (Path × EntryContent) → List ℕ
-found_text conf d s es = flat_map (λ e. write_content (found_record conf d s e)) es
+-- each entry as in the dump, with the attributes that are selected, its lines folded to a width
+unfoldable pub found_text : ℕ → Conf → Entries → Selection → List (Path × EntryContent) → List ℕ
+found_text width conf d s es = flat_map (λ e. write_content_to width (found_record conf d s e)) es
 
 -- ---- a limit (RFC 4511, 4.5.1.4)
 
@@ -36,8 +36,8 @@ goes_past None xs = false
 goes_past (Some n) xs = nat_lt n (length xs)
 
 -- the text of these first ones
-abbrev pub limited_text : Conf → Entries → Selection → Option ℕ → List (Path × EntryContent) → List ℕ
-limited_text conf d s limit es = found_text conf d s (up_to limit es)
+abbrev pub limited_text : ℕ → Conf → Entries → Selection → Option ℕ → List (Path × EntryContent) → List ℕ
+limited_text width conf d s limit es = found_text width conf d s (up_to limit es)
 
 -- the bytes were written, and the answer is this; or as many were written as came before the fault
 pub record Answers (past wanted : Bool) (a b : Written) (bytes : List ℕ) : Type 0 where

@@ -5,13 +5,14 @@ use Rattle.std.specs.FinMap as finite
 use Rattle.ldif_lines.specs.Records as lines
 use Rattle.ldif_lines.specs.Records.{RawRecord}
 use Rattle.ldif_lines.specs.declared.raw_record.RawRecord as raws
+use Rattle.ldif_lines.specs.Folding.{standard_width}
 use Rattle.ldif.specs.declared.fault.LdifFaultKind.{LdifFaultKind}
 use Rattle.ldif.specs.declared.record.Record.{Record}
 use Rattle.ldif.specs.declared.record.Record.TheVariants as records
 use Rattle.ldif.specs.declared.record.Mode.{Mode}
 use Rattle.ldif.specs.declared.record.Mode.TheVariants.{Content}
 use Rattle.ldif.specs.Reading.{reading}
-use Rattle.ldif.specs.Contents.{ContentRecord, write_content}
+use Rattle.ldif.specs.Contents.{ContentRecord, write_content_to, readings, reading_of}
 use Rattle.schema.specs.declared.code.Code.{Code}
 use Rattle.paths.specs.Paths.{Path}
 use Rattle.schema.specs.Conf.{Conf}
@@ -92,9 +93,17 @@ after conf mode go_on d text = state_after conf mode go_on d (lines.records text
 abbrev pub record_of : Conf → Entries → Path × EntryContent → ContentRecord
 record_of conf d x = record_at conf d x.0 x.1
 
--- each entry as a content record, in the order of paths
-unfoldable pub dump : Conf → Entries → List ℕ
-dump conf d = flat_map (λ x. write_content (record_of conf d x)) (finite.entries d)
+-- each entry as a content record, in the order of paths, its lines folded to a width
+unfoldable pub dump_to : ℕ → Conf → Entries → List ℕ
+dump_to width conf d = flat_map (λ x. write_content_to width (record_of conf d x)) (finite.entries d)
+
+-- the same to 76 bytes
+abbrev pub dump : Conf → Entries → List ℕ
+dump = dump_to standard_width
+
+-- they read as the same content records
+abbrev pub ReadAlike : List ℕ → List ℕ → Type 0
+ReadAlike text other = map reading_of (readings Content text) ≡ map reading_of (readings Content other)
 
 -- ---- loading
 
@@ -112,5 +121,8 @@ abbrev pub Loads : Conf → List ℕ → Entries → Type 0
 Loads conf text d = LoadsRecords conf finite.empty (lines.records text) d
 
 -- the records of a dump leave the entries that were dumped, and none is refused
+abbrev pub LoadsBackAt : ℕ → Conf → Entries → Type 0
+LoadsBackAt width conf d = Loads conf (dump_to width conf d) d
+
 abbrev pub LoadsBack : Conf → Entries → Type 0
-LoadsBack conf d = Loads conf (dump conf d) d
+LoadsBack conf d = LoadsBackAt standard_width conf d

@@ -2,19 +2,19 @@
 
 ghost use Rattle.std.specs.Prelude.{◌≡◌, ◌<◌, ◌-◌, ◌^◌, ◌++◌, ◌∷◌, [], List, ℕ, Some, OnOk, length};
 ghost use Rattle.std.specs.FinMap as finite;
-ghost use Rattle.ldif.specs.Writing.{written_line};
+ghost use Rattle.ldif.specs.Writing.{written_line_to};
 ghost use Rattle.entries.specs.StoredEntries.{content_of};
-ghost use Rattle.databases.specs.Runs.{dump, LoadsBack};
+ghost use Rattle.databases.specs.Runs.{dump, dump_to, LoadsBack, LoadsBackAt};
 ghost use Rattle.ldif.specs.Written.{Writes, WritesOn};
 ghost use Rattle.databases.specs.inner.Dumps.{AreKnown, HearsOn, values_text, attribute_text, selected_text, entry_text, tree_entry_text};
 
 use crate::database::Database;
-use crate::laws::loading_a_dump;
+use crate::laws::{loading_a_dump, loading_a_folded_dump};
 use crate::listening::{Listener, Nobody};
 use crate::selection::Selection;
 use device::{Sink, push_all};
 use entries::{Entry, Values};
-use ldif::{WriteFault, put_line};
+use ldif::{LineWidth, WriteFault, put_line_to};
 use schema::{Conf, Path, TypeId};
 use std::alloc::{AllocError, Global};
 use tree::{Names, Tree};
@@ -26,13 +26,14 @@ const PIECE: usize = 65536;
 fn put_values(
     alloc: Global,
     out: &mut Vec<u8>,
+    width: LineWidth,
     name: &[u8],
     values: &Values,
 ) -> Result<(), AllocError>
-    ensures { OnOk result (out.new.items ≡ out.old.items ++ values_text name.now values.now) }
+    ensures { OnOk result (out.new.items ≡ out.old.items ++ values_text width name.now values.now) }
 {
     for value in values.iter() {
-        put_line(alloc, out, name, value.raw())?;
+        put_line_to(alloc, out, width, name, value.raw())?;
     }
     Ok(())
 }
@@ -41,33 +42,35 @@ fn put_values(
 fn put_attribute(
     alloc: Global,
     out: &mut Vec<u8>,
+    width: LineWidth,
     conf: &Conf,
     selection: &Selection,
     t: TypeId,
     values: &Values,
 ) -> Result<(), AllocError>
     requires { t < length conf.now.types }
-    ensures { OnOk result (out.new.items ≡ out.old.items ++ attribute_text conf.now.types selection.now (t, values.now)) }
+    ensures { OnOk result (out.new.items ≡ out.old.items ++ attribute_text width conf.now.types selection.now (t, values.now)) }
 {
     if !selection.has(t) {
         return Ok(());
     }
-    put_values(alloc, out, conf.name(t), values)
+    put_values(alloc, out, width, conf.name(t), values)
 }
 
 // the lines of the attributes that are selected, and an empty line
 fn put_attributes(
     alloc: Global,
     out: &mut Vec<u8>,
+    width: LineWidth,
     conf: &Conf,
     selection: &Selection,
     entry: &Entry,
 ) -> Result<(), AllocError>
     requires { AreKnown conf.now.types entry.now.attrs }
-    ensures { OnOk result (out.new.items ≡ out.old.items ++ selected_text conf.now.types selection.now entry.now.attrs) }
+    ensures { OnOk result (out.new.items ≡ out.old.items ++ selected_text width conf.now.types selection.now entry.now.attrs) }
 {
     for (t, values) in entry.attrs() {
-        put_attribute(alloc, out, conf, selection, *t, values)?;
+        put_attribute(alloc, out, width, conf, selection, *t, values)?;
     }
     out.push(b'\n')?;
     Ok(())
@@ -77,16 +80,17 @@ fn put_attributes(
 fn put_entry(
     alloc: Global,
     out: &mut Vec<u8>,
+    width: LineWidth,
     conf: &Conf,
     selection: &Selection,
     name: &[u8],
     entry: &Entry,
 ) -> Result<(), AllocError>
     requires { AreKnown conf.now.types entry.now.attrs }
-    ensures { OnOk result (out.new.items ≡ out.old.items ++ written_line (100 ∷ 110 ∷ []) name.now ++ selected_text conf.now.types selection.now entry.now.attrs) }
+    ensures { OnOk result (out.new.items ≡ out.old.items ++ written_line_to width (100 ∷ 110 ∷ []) name.now ++ selected_text width conf.now.types selection.now entry.now.attrs) }
 {
-    put_line(alloc, out, b"dn", name)?;
-    put_attributes(alloc, out, conf, selection, entry)
+    put_line_to(alloc, out, width, b"dn", name)?;
+    put_attributes(alloc, out, width, conf, selection, entry)
 }
 
 /// Hands all bytes of a text on to a sink, and clears it. On a fault a beginning was written.
@@ -144,21 +148,34 @@ fn pass_on_long_heard<W: Sink, L: Listener>(
     pass_on_heard(sink, listener, text)
 }
 
-/// The entries of a tree, and the configuration that they are printed under: the one that they were made with.
+/// The entries of a tree, the configuration that they are printed under: the one that they were made with, and how long a printed line may
+/// be.
 #[derive(Drop)]
 pub(crate) struct Printer<'a> {
     alloc: Global,
     tree: &'a Tree,
     conf: &'a Conf,
+    width: LineWidth,
     ghost same_conf: { tree.now.conf ≡ conf.now },
 }
 
 impl<'a> Printer<'a> {
-    pub(crate) fn new(alloc: Global, tree: &'a Tree, conf: &'a Conf) -> Printer<'a>
+    pub(crate) fn new(
+        alloc: Global,
+        tree: &'a Tree,
+        conf: &'a Conf,
+        width: LineWidth,
+    ) -> Printer<'a>
         requires { tree.now.conf ≡ conf.now }
-        ensures { result.tree.now ≡ tree.now }
+        ensures tree { result.tree.now ≡ tree.now }
+        ensures width { result.width ≡ width }
     {
-        Printer { alloc, tree, conf }
+        Printer {
+            alloc,
+            tree,
+            conf,
+            width,
+        }
     }
 
     // names the entries, in the order of the dump
@@ -180,13 +197,14 @@ impl<'a> Printer<'a> {
         requires names { names.old ≡ self.now.tree.now }
         requires there { finite.get self.now.tree.now.entries path.now ≡ Some (content_of entry.now) }
         ensures names { names.new ≡ self.now.tree.now }
-        ensures text { OnOk result (out.new.items ≡ out.old.items ++ entry_text self.now.tree.now.conf self.now.tree.now.entries selection.now (path.now, entry.now)) }
+        ensures text { OnOk result (out.new.items ≡ out.old.items ++ entry_text self.now.width self.now.tree.now.conf self.now.tree.now.entries selection.now (path.now, entry.now)) }
     {
         self.tree.entries_are_a_directory();
         let name = names.name_of(self.alloc, path, entry)?;
         put_entry(
             self.alloc,
             out,
+            self.width,
             self.conf,
             selection,
             name.as_slice(),
@@ -208,9 +226,9 @@ impl<'a> Printer<'a> {
         requires names { names.old ≡ self.now.tree.now }
         requires there { finite.get self.now.tree.now.entries found.0.now ≡ Some (content_of found.1.now) }
         ensures names { names.new ≡ self.now.tree.now }
-        ensures writes { WritesOn result (W.written sink.old) (W.written sink.new) (text.old.items ++ tree_entry_text self.now.tree.now selection.now found.entry) text.new.items }
+        ensures writes { WritesOn result (W.written sink.old) (W.written sink.new) (text.old.items ++ tree_entry_text self.now.width self.now.tree.now selection.now found.entry) text.new.items }
         ensures short { OnOk result (length text.new.items < 65536) }
-        ensures heard { OnOk result (HearsOn L.heard listener.old listener.new (text.old.items ++ tree_entry_text self.now.tree.now selection.now found.entry) text.new.items) }
+        ensures heard { OnOk result (HearsOn L.heard listener.old listener.new (text.old.items ++ tree_entry_text self.now.width self.now.tree.now selection.now found.entry) text.new.items) }
     {
         let (path, entry) = found;
         self.put_record(names, selection, path, entry, text)?;
@@ -224,8 +242,8 @@ impl<'a> Printer<'a> {
         listener: &mut L,
     ) -> Result<(), WriteFault>
         requires { (W.written sink.old).failed < 2 ^ 64 - 1 }
-        ensures writes { Writes result (W.written sink.old) (W.written sink.new) (dump self.now.tree.now.conf self.now.tree.now.entries) }
-        ensures heard { OnOk result ((m : List ℕ) → L.heard listener.old m → L.heard listener.new (m ++ dump self.now.tree.now.conf self.now.tree.now.entries)) }
+        ensures writes { Writes result (W.written sink.old) (W.written sink.new) (dump_to self.now.width self.now.tree.now.conf self.now.tree.now.entries) }
+        ensures heard { OnOk result ((m : List ℕ) → L.heard listener.old m → L.heard listener.new (m ++ dump_to self.now.width self.now.tree.now.conf self.now.tree.now.entries)) }
     {
         self.tree.entries_are_a_directory();
         schema::order_of_paths();
@@ -258,6 +276,26 @@ impl Database {
         self.tree().entries_are_a_directory();
         self.conf().rules_are_kept();
         loading_a_dump();
-        Printer::new(alloc, self.tree(), self.conf()).write_dump(sink, &mut Nobody)
+        let printer = Printer::new(alloc, self.tree(), self.conf(), LineWidth::STANDARD);
+        printer.write_dump(sink, &mut Nobody)
+    }
+
+    /// Writes the dump as `dump` does, its lines folded to a width. What is written loads back from every width.
+    pub fn dump_to<W: Sink>(
+        &self,
+        alloc: Global,
+        width: LineWidth,
+        sink: &mut W,
+    ) -> Result<(), WriteFault>
+        requires { (W.written sink.old).failed < 2 ^ 64 - 1 }
+        ensures writes { Writes result (W.written sink.old) (W.written sink.new) (dump_to width self.now.conf self.now.entries) }
+        ensures loads { LoadsBackAt width self.now.conf self.now.entries }
+    {
+        width.holds_a_byte();
+        self.tree().entries_are_a_directory();
+        self.conf().rules_are_kept();
+        loading_a_folded_dump();
+        let printer = Printer::new(alloc, self.tree(), self.conf(), width);
+        printer.write_dump(sink, &mut Nobody)
     }
 }

@@ -12,7 +12,7 @@ use crate::listening::Nobody;
 use crate::selection::Selection;
 use device::Sink;
 use id_sets::IdSet;
-use ldif::WriteFault;
+use ldif::{LineWidth, WriteFault};
 use std::alloc::Global;
 use tree::Names;
 
@@ -51,7 +51,7 @@ fn put_found<W: Sink, S: IdSet>(
     requires names { names.old ≡ printer.now.tree.now }
     requires there { AreThere printer.now.tree.now.entries (map seen hits.to_come) }
     ensures { WritesFoundOn result (goes_past limit hits.entry.to_come) (W.written sink.old) (W.written sink.new)
-        (text.old.items ++ limited_text printer.now.tree.now.conf printer.now.tree.now.entries selection.now limit (map seen hits.entry.to_come)) text.new.items }
+        (text.old.items ++ limited_text printer.now.width printer.now.tree.now.conf printer.now.tree.now.entries selection.now limit (map seen hits.entry.to_come)) text.new.items }
 {
     let mut left = limit;
     for found in hits {
@@ -76,7 +76,7 @@ fn write_all_found<W: Sink, S: IdSet>(
     requires can_fail { (W.written sink.old).failed < 2 ^ 64 - 1 }
     requires there { AreThere printer.now.tree.now.entries (map seen hits.to_come) }
     ensures { WritesFound result (goes_past limit hits.entry.to_come) (W.written sink.old) (W.written sink.new)
-        (limited_text printer.now.tree.now.conf printer.now.tree.now.entries selection.now limit (map seen hits.entry.to_come)) }
+        (limited_text printer.now.width printer.now.tree.now.conf printer.now.tree.now.entries selection.now limit (map seen hits.entry.to_come)) }
 {
     let mut names = printer.names();
     let mut text = Vec::new(alloc);
@@ -87,7 +87,7 @@ fn write_all_found<W: Sink, S: IdSet>(
 
 impl Database {
     /// Writes entries that a search found, each as a content record with the attributes that are selected (RFC 2849; RFC 4511, 4.5.1.8),
-    /// in pieces of some 64 KiB. With a limit it writes the first ones up to it, and answers whether there are more (RFC 4511, 4.5.1.4).
+    /// its lines folded to a width, in pieces of some 64 KiB. With a limit it writes the first ones up to it, and answers whether there are more (RFC 4511, 4.5.1.4).
     /// On a fault a beginning was written.
     pub fn write_found<W: Sink, S: IdSet>(
         &self,
@@ -96,13 +96,14 @@ impl Database {
         hits: Hits<'_, S>,
         limit: Option<u32>,
         selection: &Selection,
+        width: LineWidth,
     ) -> Result<bool, WriteFault>
         requires can_fail { (W.written sink.old).failed < 2 ^ 64 - 1 }
         requires there { AreThere self.now.entries (map seen hits.to_come) }
         ensures { WritesFound result (goes_past limit hits.entry.to_come) (W.written sink.old) (W.written sink.new)
-            (limited_text self.now.conf self.now.entries selection.now limit (map seen hits.entry.to_come)) }
+            (limited_text width self.now.conf self.now.entries selection.now limit (map seen hits.entry.to_come)) }
     {
-        let printer = Printer::new(alloc, self.tree(), self.conf());
+        let printer = Printer::new(alloc, self.tree(), self.conf(), width);
         write_all_found(alloc, &printer, sink, hits, limit, selection)
     }
 }

@@ -1,6 +1,7 @@
 //! What holds of dumps, of index texts, and of searches among candidates.
 
-ghost use Rattle.std.specs.Prelude.{◌≡◌, length, Ok, ℕ, Bool, Some};
+ghost use Rattle.std.specs.Prelude.{◌≡◌, length, Ok, ℕ, Bool, List, Option, Some};
+ghost use Rattle.std.specs.Str.Lines.{lines};
 ghost use Rattle.std.specs.List.{AllByRecursion, slice_get};
 ghost use Rattle.std.specs.FinMap as finite;
 ghost use Rattle.paths.specs.Paths.{Path};
@@ -13,7 +14,10 @@ ghost use Rattle.index_text.specs.Postings.{Shown};
 ghost use Rattle.stored_index.specs.Rows.{IsByte};
 ghost use Rattle.stored_index.specs.Stored.{index_in, stored, shown_by};
 ghost use Rattle.databases.specs.IndexTexts.{index_rows, index_text, stamp};
-ghost use Rattle.databases.specs.Runs.{LoadsBack};
+ghost use Rattle.ldif_lines.specs.Folding.{FitsIn, IsWidth, standard_width};
+ghost use Rattle.databases.specs.Selections.{Selection};
+ghost use Rattle.databases.specs.Found.{AreThere, limited_text};
+ghost use Rattle.databases.specs.Runs.{dump, dump_to, LoadsBack, LoadsBackAt, ReadAlike};
 ghost use Rattle.databases.specs.Searches.{ReflectsDump, ShowsIndexText};
 ghost use Rattle.databases.specs.Ranks.{rank_in};
 ghost use Rattle.databases.specs.Scanned.{scan, Suffices, scan_among};
@@ -26,6 +30,40 @@ pub fn loading_a_dump()
     ldif::written_contents_are_read();
     tree::own_content_is_written();
     tree::an_entry_adds_itself();
+    schema::order_of_paths();
+}
+
+/// The same of a dump whose lines are folded to any width.
+#[tactic(auto, using(crate::proofs::LoadLaw::loads_back))]
+pub fn loading_a_folded_dump()
+    ensures { (width : ℕ) (conf : Conf) (d : Entries) → IsWidth width → IsConf conf → IsDirectory conf d → LoadsBackAt width conf d }
+{
+    ldif::folded_contents_are_read();
+    tree::own_content_is_written();
+    tree::an_entry_adds_itself();
+    schema::order_of_paths();
+}
+
+/// What is printed of entries reads as the same records, to whatever width its lines are folded.
+pub fn folded_texts_read_alike()
+    ensures found { (width : ℕ) (conf : Conf) (d : Entries) (s : Selection) (limit : Option ℕ) (es : List (Path × EntryContent)) → IsWidth width → IsConf conf → IsDirectory conf d
+        → AreThere d es → ReadAlike (limited_text width conf d s limit es) (limited_text standard_width conf d s limit es) }
+    ensures dump { (width : ℕ) (conf : Conf) (d : Entries) → IsWidth width → IsConf conf → IsDirectory conf d → ReadAlike (dump_to width conf d) (dump conf d) }
+{
+    ldif::folded_contents_are_read();
+    ldif::written_contents_are_read();
+    tree::own_content_is_written();
+    schema::order_of_paths();
+}
+
+/// No line that is printed of entries is longer than its width.
+pub fn folded_texts_fit()
+    ensures found { (width : ℕ) (conf : Conf) (d : Entries) (s : Selection) (limit : Option ℕ) (es : List (Path × EntryContent)) → IsWidth width → IsConf conf → IsDirectory conf d
+        → AreThere d es → AllByRecursion (FitsIn width) (lines (limited_text width conf d s limit es)) }
+    ensures dump { (width : ℕ) (conf : Conf) (d : Entries) → IsWidth width → IsConf conf → IsDirectory conf d → AllByRecursion (FitsIn width) (lines (dump_to width conf d)) }
+{
+    ldif::folded_contents_fit();
+    tree::own_content_is_written();
     schema::order_of_paths();
 }
 

@@ -31,8 +31,8 @@ pub use database::Database;
 pub use dump::{pass_on, pass_on_long};
 pub use hits::Hits;
 pub use laws::{
-    candidates_suffice, index_texts_reflect_dumps, kept_index_texts_are_read, loading_a_dump,
-    ranks_are_places,
+    candidates_suffice, folded_texts_fit, folded_texts_read_alike, index_texts_reflect_dumps,
+    kept_index_texts_are_read, loading_a_dump, loading_a_folded_dump, ranks_are_places,
 };
 pub use loading::{LoadFault, load_tree, load_tree_telling};
 pub use paths::Scope;

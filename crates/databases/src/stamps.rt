@@ -1,14 +1,15 @@
 //! The stamp of a directory: the SHA-256 of its dump.
 
 ghost use Rattle.std.specs.Prelude.{◌≡◌, ◌<◌, ◌-◌, ◌^◌, IfOk};
+ghost use Rattle.sha2.specs.Sha256.{sha256};
 ghost use Rattle.ldif.specs.Written.{Writes, end_of};
 ghost use Rattle.databases.specs.IndexTexts.{stamp};
-ghost use Rattle.databases.specs.Runs.{dump};
+ghost use Rattle.databases.specs.Runs.{dump, dump_to};
 
 use crate::database::Database;
 use crate::dump::Printer;
 use device::{Nowhere, Sink};
-use ldif::WriteFault;
+use ldif::{LineWidth, WriteFault};
 use schema::Conf;
 use sha2::{Digest, Sha256};
 use std::alloc::{AllocError, Global};
@@ -17,11 +18,11 @@ use tree::Tree;
 /// The stamp of a directory: the SHA-256 (FIPS 180-4) of its dump.
 pub type Stamp = [u8; 32];
 
-// writes the dump, and answers its stamp; each is made in the same pass
+// writes the dump, and answers its SHA-256; each is made in the same pass
 fn write_stamped<W: Sink>(printer: &Printer<'_>, sink: &mut W) -> Result<Stamp, WriteFault>
     requires { (W.written sink.old).failed < 2 ^ 64 - 1 }
-    ensures writes { Writes (end_of result) (W.written sink.old) (W.written sink.new) (dump printer.now.tree.now.conf printer.now.tree.now.entries) }
-    ensures stamp { IfOk result (λ s. s ≡ stamp printer.now.tree.now.conf printer.now.tree.now.entries) }
+    ensures writes { Writes (end_of result) (W.written sink.old) (W.written sink.new) (dump_to printer.now.width printer.now.tree.now.conf printer.now.tree.now.entries) }
+    ensures stamp { IfOk result (λ s. s ≡ sha256 (dump_to printer.now.width printer.now.tree.now.conf printer.now.tree.now.entries)) }
 {
     let mut hasher = Sha256::new();
     printer.write_dump(sink, &mut hasher)?;
@@ -34,7 +35,8 @@ pub fn stamp_of(alloc: Global, tree: &Tree, conf: &Conf) -> Result<Stamp, AllocE
     requires { tree.now.conf ≡ conf.now }
     ensures { IfOk result (λ s. s ≡ stamp tree.now.conf tree.now.entries) }
 {
-    match write_stamped(&Printer::new(alloc, tree, conf), &mut Nowhere::new()) {
+    let printer = Printer::new(alloc, tree, conf, LineWidth::STANDARD);
+    match write_stamped(&printer, &mut Nowhere::new()) {
         Ok(stamp) => Ok(stamp),
         Err(WriteFault::OutOfMemory) => Err(AllocError),
         Err(WriteFault::Device) => unreachable!(),
@@ -48,7 +50,8 @@ impl Database {
         ensures writes { Writes (end_of result) (W.written sink.old) (W.written sink.new) (dump self.now.conf self.now.entries) }
         ensures stamp { IfOk result (λ s. s ≡ stamp self.now.conf self.now.entries) }
     {
-        write_stamped(&Printer::new(alloc, self.tree(), self.conf()), sink)
+        let printer = Printer::new(alloc, self.tree(), self.conf(), LineWidth::STANDARD);
+        write_stamped(&printer, sink)
     }
 
     /// The stamp of the entries. Their dump is made in pieces of some 64 KiB.

@@ -1,11 +1,11 @@
--- What is written of a dump, piece by piece.
+-- What is written of a dump, piece by piece, its lines folded to a width.
 use Rattle.std.specs.Prelude.{◌≡◌, ℕ, ◌<◌, Some, List, [], ◌∷◌, ◌++◌, length, if◌then◌else◌}
 use Rattle.std.specs.List.{flat_map, filter, AllByRecursion}
 use Rattle.std.specs.FinMap as finite
 use Rattle.std.specs.Borrow.{Bor}
 use Rattle.base.specs.Ascii.{line_feed}
 use Rattle.ldif.specs.Attrs.{Attr}
-use Rattle.ldif.specs.Contents.{written_attr, write_content}
+use Rattle.ldif.specs.Contents.{written_attr_to, write_content_to}
 use Rattle.values.specs.declared.types.AttributeType.{AttributeType}
 use Rattle.values.specs.Types.{name_of}
 use Rattle.values.specs.Values.{Value}
@@ -25,30 +25,30 @@ abbrev pub attr_of : List ℕ → Value → Attr
 attr_of name v = record { name = name; value = v.raw }
 
 -- the lines of values under one name
-abbrev pub values_text : List ℕ → List Value → List ℕ
-values_text name vs = flat_map (λ v. written_attr (attr_of name v)) vs
+abbrev pub values_text : ℕ → List ℕ → List Value → List ℕ
+values_text width name vs = flat_map (λ v. written_attr_to width (attr_of name v)) vs
 
 -- the lines of attributes, and the empty line behind them
-abbrev pub attributes_text : List AttributeType → List EntryAttribute → List ℕ
-attributes_text types attrs = flat_map written_attr (lines_of types (attributes_of attrs)) ++ line_feed ∷ []
+abbrev pub attributes_text : ℕ → List AttributeType → List EntryAttribute → List ℕ
+attributes_text width types attrs = flat_map (written_attr_to width) (lines_of types (attributes_of attrs)) ++ line_feed ∷ []
 
 -- the lines of an attribute, where it is selected
-abbrev pub attribute_text : List AttributeType → Selection → EntryAttribute → List ℕ
-attribute_text types s a = if selects s a.0 then values_text (name_of types a.0) a.1 else []
+abbrev pub attribute_text : ℕ → List AttributeType → Selection → EntryAttribute → List ℕ
+attribute_text width types s a = if selects s a.0 then values_text width (name_of types a.0) a.1 else []
 
 -- the lines of those attributes that are selected, and the empty line behind them
-abbrev pub selected_text : List AttributeType → Selection → List EntryAttribute → List ℕ
-selected_text types s attrs = attributes_text types (filter (λ a. selects s a.0) attrs)
+abbrev pub selected_text : ℕ → List AttributeType → Selection → List EntryAttribute → List ℕ
+selected_text width types s attrs = attributes_text width types (filter (λ a. selects s a.0) attrs)
 
-abbrev pub entry_text : Conf → Entries → Selection → Path × Entry → List ℕ
-entry_text conf d s e = write_content (record_at conf d e.0 (selected s (content_of e.1)))
+abbrev pub entry_text : ℕ → Conf → Entries → Selection → Path × Entry → List ℕ
+entry_text width conf d s e = write_content_to width (record_at conf d e.0 (selected s (content_of e.1)))
 
 -- that of an entry of a tree
-abbrev pub tree_entry_text : Tree → Selection → Bor Path × Bor Entry → List ℕ
-tree_entry_text t s found = entry_text t.conf t.entries s (found.0.now, found.1.now)
+abbrev pub tree_entry_text : ℕ → Tree → Selection → Bor Path × Bor Entry → List ℕ
+tree_entry_text width t s found = entry_text width t.conf t.entries s (found.0.now, found.1.now)
 
-abbrev pub entries_text : Conf → Entries → Selection → List (Path × Entry) → List ℕ
-entries_text conf d s es = flat_map (entry_text conf d s) es
+abbrev pub entries_text : ℕ → Conf → Entries → Selection → List (Path × Entry) → List ℕ
+entries_text width conf d s es = flat_map (entry_text width conf d s) es
 
 -- each is of a type that there is
 abbrev pub AreKnown : List AttributeType → List EntryAttribute → Type 0

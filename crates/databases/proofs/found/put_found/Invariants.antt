@@ -11,6 +11,6 @@ invariant-loop-found g l = record {
   there : AreThere l.printer.tree.now.entries (map seen l.found-iterator.to_come);
   past : goes_past l.left l.found-iterator.to_come ≡ goes_past l.fn.limit l.fn.hits.to_come;
   so_far : SoFar (g.W.Sink.written l.fn.sink) (g.W.Sink.written l.sink)
-      (l.fn.text.items ++ found_text l.printer.tree.now.conf l.printer.tree.now.entries l.selection (up_to l.fn.limit (map seen l.fn.hits.to_come)))
-      (l.text.items ++ found_text l.printer.tree.now.conf l.printer.tree.now.entries l.selection (up_to l.left (map seen l.found-iterator.to_come)));
+      (l.fn.text.items ++ found_text l.printer.width l.printer.tree.now.conf l.printer.tree.now.entries l.selection (up_to l.fn.limit (map seen l.fn.hits.to_come)))
+      (l.text.items ++ found_text l.printer.width l.printer.tree.now.conf l.printer.tree.now.entries l.selection (up_to l.left (map seen l.found-iterator.to_come)));
 }

@@ -2,7 +2,7 @@ use Rattle.std.proofs.Common.{subst, rules, arith}
 use Rattle.std.proofs.lemmas.Grind.{common_steps}
 use Rattle.databases.specs.Folds.{Runs}
 use Rattle.databases.specs.RunEdits.{EditsRise}
-use Rattle.databases.specs.inner.Endings.{tally_in, EndsAsTold}
+use Rattle.databases.specs.inner.Endings.{tally_in}
 use Rattle.databases.proofs.Pulled.{closed_when_fresh, stops_fresh, read_by, ends_fresh}
 use Rattle.databases.proofs.runs.run_to_ending.Goals as goal
 
