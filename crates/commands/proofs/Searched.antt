@@ -11,6 +11,7 @@ use Rattle.command_line.specs.declared.request.SearchOptions.{SearchOptions}
 use Rattle.filter.specs.Made.{Made}
 use Rattle.filter_text.specs.Spells.{view}
 use Rattle.tree.specs.Trees.{Tree}
+use Rattle.ldif_lines.specs.Folding.{standard_width}
 use Rattle.databases.specs.Found.{limited_text, goes_past}
 use Rattle.databases.specs.Scanned.{scan}
 use Rattle.commands.specs.Asked.{base_of, IsBase, IsSelection}
@@ -157,7 +158,7 @@ module _ (asked : SearchOptions) (w : World) (f : Made) (t : Tree) (file : Index
             there = it.there;
             selects = subst (λ (conf : Conf). IsSelection conf (map (λ w. w.now) asked.attributes.items) q.selection) same is.selection;
             past_is = it.past_is ∙ (λ i. goes_past (is.limit i) (es i));
-            text_is = it.text_is ∙ (λ i. limited_text t.conf t.entries q.selection (is.limit i) (es i));
+            text_is = it.text_is ∙ (λ i. limited_text standard_width t.conf t.entries q.selection (is.limit i) (es i));
             whole = λ own. sym es ∙ it.whole own ∙ all;
           }
 

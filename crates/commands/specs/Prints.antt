@@ -10,6 +10,7 @@ use Rattle.tree.specs.Directories.{Entries}
 use Rattle.databases.specs.Scanned.{scan}
 use Rattle.stored_index.specs.declared.fault.IndexFaultKind.{IndexFaultKind}
 use Rattle.databases.specs.Selections.{Selection}
+use Rattle.ldif_lines.specs.Folding.{standard_width}
 use Rattle.databases.specs.Found.{limited_text, goes_past}
 use Rattle.databases.specs.IndexTexts.{index_text}
 use Rattle.databases.specs.Runs.{dump}
@@ -105,7 +106,7 @@ pub record IsFoundText (asked : SearchOptions) (said : Said) (basis : Basis) (pa
   pub there : finite.contains_key basis.entries base ≡ true
   pub selects : IsSelection basis.conf (map (λ w. w.now) asked.attributes.items) selection
   pub past_is : past ≡ goes_past asked.limit (found_by said basis.conf basis.entries base asked.scope basis.filter)
-  pub text_is : text ≡ limited_text basis.conf basis.entries selection asked.limit (found_by said basis.conf basis.entries base asked.scope basis.filter)
+  pub text_is : text ≡ limited_text standard_width basis.conf basis.entries selection asked.limit (found_by said basis.conf basis.entries base asked.scope basis.filter)
   pub whole : said ≡ said_by basis.conf basis.entries (Some (index_text basis.conf basis.entries))
       → found_by said basis.conf basis.entries base asked.scope basis.filter ≡ scan basis.conf basis.entries base asked.scope basis.filter
 

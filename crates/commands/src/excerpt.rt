@@ -6,7 +6,7 @@ use crate::query::Query;
 use databases::{Database, scan};
 use device::Sink;
 use folders::FileText;
-use ldif::WriteFault;
+use ldif::{LineWidth, WriteFault};
 use std::alloc::Global;
 
 /// What a query finds by a test of each entry in scope.
@@ -35,7 +35,14 @@ impl<'a> FileText for Excerpt<'a> {
             query.scope,
             &query.filter,
         ) {
-            Some(hits) => database.write_found(alloc, sink, hits, query.limit, &query.selection),
+            Some(hits) => database.write_found(
+                alloc,
+                sink,
+                hits,
+                query.limit,
+                &query.selection,
+                LineWidth::STANDARD,
+            ),
             None => Ok(false),
         }
     }

@@ -29,6 +29,7 @@ use device::Sink;
 use filter::{Prepared, prepare};
 use filter_text::Filter;
 use folders::Folder;
+use ldif::LineWidth;
 use schema::{Code, Conf};
 use std::alloc::Global;
 use std::mem;
@@ -95,7 +96,14 @@ fn print_by_text<O: Sink>(
         &query.filter,
     );
     match found {
-        Ok(hits) => match database.write_found(alloc, out, hits, query.limit, &query.selection) {
+        Ok(hits) => match database.write_found(
+            alloc,
+            out,
+            hits,
+            query.limit,
+            &query.selection,
+            LineWidth::STANDARD,
+        ) {
             Ok(past) => Ok(past),
             Err(fault) => Err(CommandFault::of_output(alloc, fault)),
         },
@@ -122,7 +130,14 @@ fn print_by_scan<O: Sink>(
         &query.filter,
     );
     match scanned {
-        Some(hits) => match database.write_found(alloc, out, hits, query.limit, &query.selection) {
+        Some(hits) => match database.write_found(
+            alloc,
+            out,
+            hits,
+            query.limit,
+            &query.selection,
+            LineWidth::STANDARD,
+        ) {
             Ok(past) => Ok(past),
             Err(fault) => Err(CommandFault::of_output(alloc, fault)),
         },

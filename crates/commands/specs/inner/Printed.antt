@@ -7,6 +7,7 @@ use Rattle.schema.specs.declared.code.Code.TheVariants.{NoSuchObject}
 use Rattle.entries.specs.Entries.{EntryContent}
 use Rattle.tree.specs.Trees.{Tree}
 use Rattle.filter_text.specs.Spells.{view}
+use Rattle.ldif_lines.specs.Folding.{standard_width}
 use Rattle.databases.specs.Found.{limited_text, goes_past}
 use Rattle.databases.specs.IndexTexts.{index_text}
 use Rattle.databases.specs.Scanned.{scan}
@@ -35,7 +36,7 @@ found q said t = found_by said t.conf t.entries q.base q.scope (view q.filter.fi
 
 -- the text of entries that were found, up to the limit
 abbrev pub query_text : Query → Tree → List (Path × EntryContent) → List ℕ
-query_text q t es = limited_text t.conf t.entries q.selection q.limit es
+query_text q t es = limited_text standard_width t.conf t.entries q.selection q.limit es
 
 -- that of a query that is answered by a test of each entry; nothing where the base isn't there
 abbrev pub scanned_text : Query → Tree → List ℕ
