@@ -4,7 +4,7 @@ use Rattle.std.specs.Prelude.{◌==◌}
 use Rattle.std.specs.List.{flat_map}
 use Rattle.std.proofs.lemmas.Grind.{flat_map-append}
 use Rattle.std.proofs.lemmas.List.{append-nil}
-use Rattle.ldif_lines.specs.Folding.{folded, written_block}
+use Rattle.ldif_lines.specs.Folding.{folded, folded_to, written_block}
 use Rattle.ldif.specs.declared.record.Mod.{Mod}
 use Rattle.ldif.specs.Attrs.{Attr}
 use Rattle.ldif.specs.Forms.{op_word}
@@ -26,7 +26,7 @@ lines_at name [] = refl
 lines_at name (v ∷ vs) = ap (λ (x : List ℕ). written_line name v ++ x) (lines_at name vs)
 
 mod_is : (m : Mod) → flat_map (folded 76) (mod_lines m) ≡ mod_text m
-unfolding folded
+unfolding folded_to
 mod_is m =
     let head : List ℕ = written_line (op_word m.op) m.attr in
     ap (λ (x : List ℕ). head ++ x) (flat_map-append (folded 76) (map (value_text m.attr) m.values) (codes "-" ∷ []) ∙ ap (λ (x : List ℕ). x ++ 45 ∷ 10 ∷ []) (lines_at m.attr m.values))
