@@ -1,7 +1,7 @@
 //! Lines that are written one by one.
 
 use crate::texts::repeated;
-use ldif::{WriteFault, write_line};
+use ldif::{LineWidth, WriteFault, put_line_to, write_line};
 use std::alloc::Global;
 use std::test::Fail;
 use try_device::TrySink;
@@ -51,6 +51,64 @@ fn a_line_of_more_than_76_bytes_is_folded(rt: HostRuntime) -> Result<(), Fail> {
     for row in FOLDED {
         assert!(rt; is_folded(rt.alloc(), row)?, "{}", row.0);
     }
+    Ok(())
+}
+
+// a width, a name, a value, and the line that is written
+const WIDE: [(u32, &str, &[u8], &str); 7] = [
+    (2, "cn", b"abc", "cn\n :\n  \n a\n b\n c\n"),
+    (3, "cn", b"abcdef", "cn:\n  a\n bc\n de\n f\n"),
+    (3, "cn", b"\xc3\xa9", "cn:\n : \n w6\n k=\n"),
+    (20, "description", b"abcdefg", "description: abcdefg\n"),
+    (20, "description", b"abcdefgh", "description: abcdefg\n h\n"),
+    (
+        20,
+        "description",
+        b"abcdefghijklmnopqrstuvwxyz0123456789",
+        "description: abcdefg\n hijklmnopqrstuvwxyz\n 0123456789\n",
+    ),
+    (4294967295, "cn", b"a", "cn: a\n"),
+];
+
+fn is_put(
+    alloc: Global,
+    width: Option<LineWidth>,
+    name: &[u8],
+    value: &[u8],
+    line: &[u8],
+) -> Result<bool, Fail> {
+    let mut out = Vec::new(alloc);
+    let Some(width) = width else {
+        return Ok(false);
+    };
+    put_line_to(alloc, &mut out, width, name, value)?;
+    Ok(out.as_slice() == line)
+}
+
+#[test]
+fn a_line_is_folded_to_its_width(rt: HostRuntime) -> Result<(), Fail> {
+    for (bytes, name, value, line) in WIDE {
+        let width = LineWidth::of(bytes);
+        let is = is_put(rt.alloc(), width, name.as_bytes(), value, line.as_bytes())?;
+        assert!(rt; is, "{line}");
+    }
+    Ok(())
+}
+
+#[test]
+fn widths_have_two_bytes_at_least(rt: HostRuntime) {
+    for (bytes, is) in [(0, false), (1, false), (2, true)] {
+        assert!(rt; LineWidth::of(bytes).is_some() == is, "{bytes}");
+    }
+}
+
+#[test]
+fn a_line_is_not_folded_where_none_is(rt: HostRuntime) -> Result<(), Fail> {
+    let alloc = rt.alloc();
+    let value = repeated(alloc, b"", b"x", 10000, b"")?;
+    let line = repeated(alloc, b"description: ", b"x", 10000, b"\n")?;
+    let unfolded = Some(LineWidth::unfolded());
+    assert!(rt; is_put(alloc, unfolded, b"description", &value, &line)?);
     Ok(())
 }
 
