@@ -24,3 +24,6 @@ pub mod RankedEntries
 pub mod SortedRows
 pub mod Places
 pub mod Scans
+pub mod Points
+pub mod Picks
+pub mod FromBase

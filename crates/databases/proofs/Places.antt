@@ -20,17 +20,17 @@ use Rattle.databases.specs.Ranks.{rank_in}
 
 -- ---- the order of paths
 
-split_and : (a b : Bool) → T (a && b) → T a × T b
+pub split_and : (a b : Bool) → T (a && b) → T a × T b
 split_and true b h = (tt, h)
 split_and false b h = absurd h
 
-less : (o : Ordering) → T (is_lt o) → o ≡ Less
+pub less : (o : Ordering) → T (is_lt o) → o ≡ Less
 less Less h = refl
 less Equal h = absurd h
 less Greater h = absurd h
 
 -- what comes before a path isn't begun by it
-apart : (p q : Path) → is_lt (path_cmp q p) ≡ true → begins p q ≡ false
+pub apart : (p q : Path) → is_lt (path_cmp q p) ≡ true → begins p q ≡ false
 apart [] [] h = cc
 apart [] (y ∷ q) h = cc
 apart (x ∷ p) [] h = refl
@@ -43,7 +43,7 @@ apart (x ∷ p) (y ∷ q) h =
     ] h
 
 -- what comes after a path that doesn't come before another one doesn't either
-not_before : (p q r : Path) → T (is_lt (path_cmp p q)) → is_lt (path_cmp p r) ≡ false → is_lt (path_cmp q r) ≡ false
+pub not_before : (p q r : Path) → T (is_lt (path_cmp p q)) → is_lt (path_cmp p r) ≡ false → is_lt (path_cmp q r) ≡ false
 not_before p q r after not = by (is_lt (path_cmp q r)) refl
   where
     by : (b : Bool) → is_lt (path_cmp q r) ≡ b → b ≡ false

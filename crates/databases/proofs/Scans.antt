@@ -169,7 +169,7 @@ module _ (test : ℕ → Bool) (d : Tree) where
   by_numbers rank [] all = tt
   by_numbers rank (e ∷ es) all = (ap test (sym (number_is e all.0)), by_numbers (rank + 1) es all.1)
 
-  by_ranks : (rank : ℕ) (es : List Placed) → AreRanked (rank_in d.entries) rank (seen_entries (map unnumbered es)) → AreMarked (λ p. test (own InDump p)) (marked test InDump rank es)
+  pub by_ranks : (rank : ℕ) (es : List Placed) → AreRanked (rank_in d.entries) rank (seen_entries (map unnumbered es)) → AreMarked (λ p. test (own InDump p)) (marked test InDump rank es)
   by_ranks rank [] ranked = tt
   by_ranks rank (e ∷ es) ranked = (ap test (sym ranked.0), by_ranks (rank + 1) es ranked.1)
 

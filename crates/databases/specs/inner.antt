@@ -9,3 +9,5 @@ pub mod Pulls
 pub mod RecordEdits
 pub mod RankedEntries
 pub mod Running
+pub mod Picks
+pub mod Untested

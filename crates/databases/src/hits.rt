@@ -5,7 +5,7 @@ ghost use Rattle.std.specs.List.{AllByRecursion};
 ghost use Rattle.entries.specs.StoredEntries.{IsMade};
 ghost use Rattle.databases.specs.Walks.{walk_by, Steps};
 
-use crate::marked::MarkedEntries;
+use crate::untested::UntestedEntries;
 use entries::Entry;
 use filter::{Meter, Prepared, Truth};
 use id_sets::IdSet;
@@ -16,7 +16,7 @@ use std::marker::Model;
 /// The entries that a search finds, in dump order, each with its path. They are lent, and it takes no memory to find them. A contract
 /// sees those that are still to come, each with the number of entries tested by then.
 pub struct Hits<'a, S: IdSet> {
-    rest: MarkedEntries<'a, S>,
+    rest: UntestedEntries<'a, S>,
     scope: Scope,
     base_depth: usize,
     filter: &'a Prepared,
@@ -53,7 +53,7 @@ impl<'a, S: IdSet> Model for Hits<'a, S> {
 
 // The next of the rest that is a candidate in scope and of which the filter is True.
 fn next_hit<'a, S: IdSet>(
-    rest: &mut MarkedEntries<'a, S>,
+    rest: &mut UntestedEntries<'a, S>,
     scope: Scope,
     base_depth: usize,
     filter: &Prepared,
@@ -80,7 +80,7 @@ fn next_hit<'a, S: IdSet>(
 impl<'a, S: IdSet> Hits<'a, S> {
     // those of the rest, all of which the base begins
     pub(crate) fn new(
-        rest: MarkedEntries<'a, S>,
+        rest: UntestedEntries<'a, S>,
         scope: Scope,
         base_depth: usize,
         filter: &'a Prepared,

@@ -7,6 +7,7 @@
 mod applying;
 mod database;
 mod dump;
+mod entries_by_rank;
 mod found;
 mod hits;
 mod index_of_entries;
@@ -15,7 +16,9 @@ mod listening;
 mod loading;
 mod marked;
 mod numbering;
+mod picked;
 mod placed_entries;
+mod ranked_searches;
 mod ranks;
 mod reading_index;
 mod refusal;
@@ -26,9 +29,11 @@ mod selection;
 mod stamps;
 mod target;
 mod teller;
+mod untested;
 
 pub use database::Database;
 pub use dump::{pass_on, pass_on_long};
+pub use entries_by_rank::EntriesByRank;
 pub use hits::Hits;
 pub use laws::{
     candidates_suffice, folded_texts_fit, folded_texts_read_alike, index_texts_reflect_dumps,
@@ -36,6 +41,7 @@ pub use laws::{
 };
 pub use loading::{LoadFault, load_tree, load_tree_telling};
 pub use paths::Scope;
+pub use ranked_searches::{search_ranked, search_ranked_with};
 pub use refusal::{Outcome, RecordRefusal};
 pub use runs::{RunFault, Tally, run, run_telling};
 pub use scanning::{scan, search, search_by_ranks};

@@ -16,7 +16,7 @@ use tree::NumberedEntries;
 /// Entries that follow each other in the dump, each with whether it is a candidate. A contract sees those that are left.
 #[derive(Drop)]
 pub(crate) struct MarkedEntries<'a, S: IdSet> {
-    rest: NumberedEntries<'a>,
+    rest: NumberedEntries<'a, 'a>,
     // of the next entry, as far as ranks are counted
     rank: u32,
     numbering: Numbering,
@@ -41,7 +41,7 @@ impl<'a, S: IdSet> Model for MarkedEntries<'a, S> {
 impl<'a, S: IdSet> MarkedEntries<'a, S> {
     // the rest, whose first entry has this rank
     pub(crate) fn new(
-        rest: NumberedEntries<'a>,
+        rest: NumberedEntries<'a, 'a>,
         rank: u32,
         numbering: Numbering,
         candidates: Numbers<S>,

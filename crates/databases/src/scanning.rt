@@ -15,6 +15,7 @@ use crate::hits::Hits;
 use crate::marked::MarkedEntries;
 use crate::numbering::Numbering;
 use crate::ranks::rank_of;
+use crate::untested::UntestedEntries;
 use candidates::Numbers;
 use filter::Prepared;
 use id_sets::{IdSet, ListSet};
@@ -45,7 +46,8 @@ fn search_from<'a, S: IdSet>(
     tree.entries_are_a_directory();
     tree.get(base)?;
     let rest = MarkedEntries::new(tree.numbered(base), rank, numbering, candidates);
-    Some(Hits::new(rest, scope, base.len(), filter))
+    let untested = UntestedEntries::of_marked(rest);
+    Some(Hits::new(untested, scope, base.len(), filter))
 }
 
 /// The entries in scope of which the filter is True, as far as their numbers are among the candidates, in dump order (RFC 4511, 4.5.1).
