@@ -5,3 +5,4 @@ pub mod WholeIndex
 pub mod RankLists
 pub mod RanksByNumber
 pub mod IndexRows
+pub mod RanksForNumbers

@@ -131,7 +131,7 @@ member_passes p (x ∷ xs) n has h = by (nat_eq x n) refl has (member_passes p x
     by true same _ _ = ap (λ b. b || list_any p xs) (ap p (eqb-true x n same) ∙ h)
     by false apart later rest = ap (λ b. p x || b) (rest later h) ∙ or_true (p x)
 
-same_answer : (a b : Bool) → (a ≡ true → b ≡ true) → (b ≡ true → a ≡ true) → a ≡ b
+pub same_answer : (a b : Bool) → (a ≡ true → b ≡ true) → (b ≡ true → a ≡ true) → a ≡ b
 same_answer true b there back = sym (there refl)
 same_answer false true there back = back refl
 same_answer false false there back = refl

@@ -1,9 +1,9 @@
 -- The ranks of the entries, kept at their numbers one after the other.
-use Rattle.std.proofs.Common.{◌≡◌, ℕ, ◌+◌, ◌≤◌, Bool, true, false, cond, ◌||◌, nat_eq, List, [], ◌∷◌, ◌++◌, filter, map, length, Some, refl, sym, ap, subst, ◌∙◌, arith, append_assoc}
+use Rattle.std.proofs.Common.{◌≡◌, ℕ, zero, suc, ◌+◌, ◌≤◌, Bool, true, false, cond, ◌||◌, nat_eq, List, [], ◌∷◌, ◌++◌, filter, map, length, Some, refl, sym, ap, subst, ◌∙◌, arith, append_assoc}
 use Rattle.std.specs.Prelude.{unwrap_or, is_some}
 use Rattle.std.specs.List.{AllByRecursion}
 use Rattle.std.specs.Ordering.{is_lt}
-use Rattle.std.specs.Cmp.{IsTotalOrder}
+use Rattle.std.specs.Cmp.{IsTotalOrder, nat_eq_equiv}
 use Rattle.std.specs.FinMap as finite
 use Rattle.std.specs.FinMap.Entries.{is_sorted, below_all}
 use Rattle.std.proofs.lemmas.Bool.{and_parts, eqb-true, eq-eqb}
@@ -16,7 +16,8 @@ use Rattle.entries.specs.Entries.{EntryContent}
 use Rattle.tree.specs.Directories.{IsDirectory}
 use Rattle.tree.specs.Trees.{Tree, Placed, unnumbered, seen_entries, number_at, IsNumbered}
 use Rattle.tree.proofs.Ancestors.{some_at}
-use Rattle.directory.specs.inner.IndexRows.{rank_at, AreRanked, numbers_in_order}
+use Rattle.directory.specs.inner.IndexRows.{no_rank, rank_at, AreRanked, numbers_in_order}
+use Rattle.directory.specs.inner.Ordered.{IsRankTable}
 use Rattle.databases.proofs.DumpText.{all_begin}
 use Rattle.databases.proofs.LoadLaw.{all_there}
 use Rattle.directory.proofs.RankLists.{is_true}
@@ -92,20 +93,26 @@ pub record RanksSoFar (t : Tree) (ranks : List ℕ) (rank : ℕ) (left : List Pl
   pub done : List ℕ
   pub parts : done ++ map (λ e. e.number) left ≡ numbers_in_order t
   pub ranked : AreRanked ranks 0 done
+  pub others : (n : ℕ) → holds done n ≡ false → rank_at ranks n ≡ no_rank
   pub count : length done ≡ rank
 
 placed_numbers : (t : Tree) (items : List Placed) → AllByRecursion (λ e. finite.get t.numbers e.path ≡ Some e.number) items → map (λ e. e.number) items ≡ map (λ e. number_at t e.0) (seen_entries (map unnumbered items))
 placed_numbers t [] all = refl
 placed_numbers t (e ∷ es) all = λ i. ap (λ o. unwrap_or o t.next_number) (sym all.0) i ∷ placed_numbers t es all.1 i
 
-pub no_rank_yet : (t : Tree) (ranks : List ℕ) (items : List Placed) (root : Path) → root ≡ []
+empty_table : (n : ℕ) → rank_at [] n ≡ no_rank
+empty_table zero = refl
+empty_table (suc n) = refl
+
+pub no_rank_yet : (t : Tree) (ranks : List ℕ) (items : List Placed) (root : Path) → ranks ≡ [] → root ≡ []
     → seen_entries (map unnumbered items) ≡ filter (λ e. begins root e.0) (finite.entries t.entries) → AllByRecursion (λ e. finite.get t.numbers e.path ≡ Some e.number) items
     → RanksSoFar t ranks 0 items
-no_rank_yet t ranks items root top seen numbers = record {
+no_rank_yet t ranks items root none top seen numbers = record {
   done = [];
   parts = placed_numbers t items numbers
       ∙ ap (λ (es : List (Path × EntryContent)). map (λ e. number_at t e.0) es) (seen ∙ ap (λ (p : Path). filter (λ e. begins p e.0) (finite.entries t.entries)) top ∙ all_begin (finite.entries t.entries));
   ranked = tt;
+  others = λ n _. ap (λ (rs : List ℕ). rank_at rs n) none ∙ empty_table n;
   count = refl;
 }
 
@@ -120,6 +127,10 @@ one_rank_more t old new rank left rest e apart cut put h =
           (kept_other old new e.number rank h.done 0 put (new_behind h.done e.number (map (λ e. e.number) rest) (subst AreApart (sym whole) apart)) h.ranked)
           (put e.number ∙ ap (λ b. cond b rank (rank_at old e.number)) (eq-eqb e.number e.number refl))
           (let count = h.count in omega (arith, count));
+      others = λ m away.
+          let parts = neither (holds h.done m) (nat_eq e.number m || false) (sym (list_any-append (λ y. nat_eq y m) h.done (e.number ∷ [])) ∙ away) in
+          let differs : nat_eq m e.number ≡ false = nat_eq_equiv.symm m e.number ∙ (neither (nat_eq e.number m) false parts.1).0 in
+          put m ∙ ap (λ b. cond b rank (rank_at old m)) differs ∙ h.others m parts.0;
       count = length-append h.done (e.number ∷ []) ∙ (let count = h.count in omega (arith, count));
     }
 
@@ -133,7 +144,11 @@ few_ranks t ranks rank left rest e directory cut h =
     let count = h.count in
     omega (arith, length_is, parts, few, count)
 
-pub all_ranked : (t : Tree) (ranks : List ℕ) (rank : ℕ) (left : List Placed) → left ≡ [] → RanksSoFar t ranks rank left → AreRanked ranks 0 (numbers_in_order t)
-all_ranked t ranks rank left none h =
+pub all_ranked : (t : Tree) (ranks : List ℕ) (rank : ℕ) (left : List Placed) → IsDirectory t.conf t.entries → left ≡ [] → RanksSoFar t ranks rank left → IsRankTable t ranks
+all_ranked t ranks rank left directory none h =
     let whole : h.done ≡ numbers_in_order t = sym (append-nil h.done) ∙ ap (λ (es : List Placed). h.done ++ map (λ e. e.number) es) (sym none) ∙ h.parts in
-    subst (AreRanked ranks 0) whole h.ranked
+    record {
+      ranked = subst (AreRanked ranks 0) whole h.ranked;
+      others = λ n away. h.others n (ap (λ (ns : List ℕ). holds ns n) whole ∙ away);
+      few = directory.few;
+    }

@@ -1,5 +1,5 @@
 -- The rows of an index, from the ranks of the entries by their numbers.
-use Rattle.std.specs.Prelude.{◌≡◌, ℕ, ◌+◌, List, [], ◌∷◌, map, slice_index}
+use Rattle.std.specs.Prelude.{◌≡◌, ℕ, ◌+◌, List, [], ◌∷◌, map, slice_index_or}
 use Rattle.std.specs.List.{flat_map}
 use Rattle.std.specs.Ordering.{nat_cmp}
 use Rattle.std.specs.FinMap as finite
@@ -12,9 +12,13 @@ use Rattle.index_text.specs.IndexTexts.{ended, key_line}
 use Rattle.index_text.specs.IndexTexts as texts
 use Rattle.directory.specs.Indexes.{IsIndexOf}
 
--- the rank of the entry with a number, or 0 where none stands for it
+-- a number that no entry has as its rank
+abbrev pub no_rank : ℕ
+no_rank = 4294967295
+
+-- the rank of the entry with a number, where one has it
 abbrev pub rank_at : List ℕ → ℕ → ℕ
-rank_at ranks number = slice_index ranks number
+rank_at ranks number = slice_index_or ranks number no_rank
 
 -- the entries with these numbers have their ranks, of which this is the first
 abbrev pub AreRanked : List ℕ → ℕ → List ℕ → Type 0

@@ -9,7 +9,7 @@ loop-number-init c =
     let t : Tree = c.args.tree.now in
     let seen = c.numbered-number-items.ensures in
     subst (λ (items : List Placed). RanksSoFar t c.new-ranks.result.items 0 items) (sym c.into_iter-number-iterator.ensures.into_iter_gives)
-    (no_rank_yet t c.new-ranks.result.items c.numbered-number-items.result c.root-root.result c.root-root.ensures seen.entries seen.numbers)
+    (no_rank_yet t c.new-ranks.result.items c.numbered-number-items.result c.root-root.result c.new-ranks.ensures.items c.root-root.ensures seen.entries seen.numbers)
 
 pub overflow_add-rank : goal.overflow_add-rank
 overflow_add-rank c =
