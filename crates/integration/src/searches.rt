@@ -3,7 +3,9 @@
 ghost use Rattle.std.specs.Prelude.{◌≡◌, IfOk};
 
 use crate::indexes::{INDEX, TURNED, empty, indexed};
-use directory::{Directory, Hits, Scope, search_with};
+use directory::{
+    Directory, EntriesByRank, Hits, OrderedDirectory, Scope, search_ranked_with, search_with,
+};
 use entries::{Entry, Refusal};
 use filter::{Prepared, prepare};
 use filter_text::read_filter;
@@ -198,6 +200,109 @@ fn loaded_finds_each_by_text(alloc: Global) -> Result<bool, Fail> {
 #[test]
 fn an_index_text_finds_as_the_index_does(rt: HostRuntime) -> Result<(), Fail> {
     assert!(rt; loaded_finds_each_by_text(rt.alloc())?);
+    Ok(())
+}
+
+// the same in the order of the dump, by the numbers of entries
+fn finds_in_order(ordered: &OrderedDirectory<'_>, filter: &Prepared, base: &Path, row: &Row) -> bool
+    requires { filter.now.conf ≡ ordered.now.conf }
+{
+    let (_, values, tested) = row;
+    match ordered.search(base, Scope::Sub, filter) {
+        Ok(hits) => are_found(hits, values, *tested),
+        Err(_) => false,
+    }
+}
+
+fn finds_each_in_order(alloc: Global, dir: &Directory) -> Result<bool, Fail> {
+    let ordered = dir.in_order(alloc)?;
+    let base = Path::root(alloc);
+    for row in &ROWS {
+        let (text, ..) = row;
+        let filter = prepared(alloc, dir, text)?;
+        if !finds_in_order(&ordered, &filter, &base, row) {
+            return Ok(false);
+        }
+    }
+    Ok(true)
+}
+
+fn loaded_finds_each_in_order(alloc: Global) -> Result<bool, Fail> {
+    let dir = indexed(alloc, TURNED)?;
+    finds_each_in_order(alloc, &dir)
+}
+
+#[test]
+fn a_directory_in_order_finds_as_the_directory_does(rt: HostRuntime) -> Result<(), Fail> {
+    assert!(rt; loaded_finds_each_in_order(rt.alloc())?);
+    Ok(())
+}
+
+// the same by postings of ranks
+fn finds_ranked<P: Postings>(
+    alloc: Global,
+    dir: &Directory,
+    entries: &EntriesByRank<'_>,
+    postings: &P,
+    filter: &Prepared,
+    row: &Row,
+) -> bool
+    requires conf { entries.now.conf ≡ dir.now.conf }
+    requires prepared { filter.now.conf ≡ dir.now.conf }
+{
+    let (_, values, tested) = row;
+    let base = Path::root(alloc);
+    match search_ranked_with(
+        alloc,
+        entries,
+        dir.conf(),
+        postings,
+        &base,
+        Scope::Sub,
+        filter,
+    ) {
+        Ok(hits) => are_found(hits, values, *tested),
+        Err(_) => false,
+    }
+}
+
+fn finds_each_ranked<P: Postings>(
+    alloc: Global,
+    dir: &Directory,
+    postings: &P,
+    rows: &[Row],
+) -> Result<bool, Fail> {
+    let entries = EntriesByRank::of(alloc, dir.tree())?;
+    for row in rows {
+        let (text, ..) = row;
+        let filter = prepared(alloc, dir, text)?;
+        if !finds_ranked(alloc, dir, &entries, postings, &filter, row) {
+            return Ok(false);
+        }
+    }
+    Ok(true)
+}
+
+fn loaded_finds_each_ranked(alloc: Global) -> Result<bool, Fail> {
+    let dir = indexed(alloc, TURNED)?;
+    let stamp = dir.database().stamp(alloc)?;
+    let mut source = TrySource::new(INDEX.as_bytes(), 100, None);
+    match dir.database().read_index(alloc, &mut source, &stamp) {
+        Ok(stored) => finds_each_ranked(alloc, &dir, &stored, &ROWS),
+        Err(_) => Ok(false),
+    }
+}
+
+fn loaded_finds_each_ranked_with_nothing(alloc: Global) -> Result<bool, Fail> {
+    let dir = indexed(alloc, TURNED)?;
+    let nothing = Index::new(alloc, dir.conf())?;
+    finds_each_ranked(alloc, &dir, &nothing, &SHOWN_NOTHING)
+}
+
+#[test]
+fn entries_by_their_ranks_find_as_their_tree_does(rt: HostRuntime) -> Result<(), Fail> {
+    assert!(rt; loaded_finds_each_ranked(rt.alloc())?);
+    assert!(rt; loaded_finds_each_ranked_with_nothing(rt.alloc())?);
     Ok(())
 }
 
