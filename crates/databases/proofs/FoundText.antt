@@ -1,5 +1,5 @@
 -- The text of found entries, entry by entry, up to a limit.
-use Rattle.std.proofs.Common.{◌≡◌, ◌≢◌, ℕ, zero, suc, ◌-◌, Bool, true, false, cond, List, [], ◌∷◌, ◌++◌, map, take, length, Option, Some, None, refl, sym, ◌∙◌, ap, subst, append_assoc, arith}
+use Rattle.std.proofs.Common.{◌≡◌, ◌≢◌, ℕ, zero, suc, ◌+◌, ◌-◌, Bool, true, false, cond, List, [], ◌∷◌, ◌++◌, map, take, length, Option, Some, None, refl, sym, ◌∙◌, ap, subst, append_assoc, arith}
 use Rattle.std.specs.Prelude.{nat_lt, ◌&&◌, filter, Err}
 use Rattle.std.specs.Bool.{one_answer}
 use Rattle.std.specs.Cmp.{IsTotalOrder}
@@ -61,6 +61,18 @@ used_up (Some n) h = ap (λ (k : ℕ). Some k) (eqb-true n 0 h)
 pub some_left : (left : Option ℕ) → is_used_up left ≡ false → left ≢ Some 0
 some_left left h same = let no : false ≡ true = sym h ∙ ap is_used_up same in cc
 
+-- how many they are, up to the limit
+pub counts_more : {A : Type 0} (left fewer : Option ℕ) (x : A) (old new : List A) (n : ℕ) → old ≡ x ∷ new → left ≢ Some 0 → fewer ≡ one_fewer left
+    → n + 1 + length (up_to fewer new) ≡ n + length (up_to left old)
+counts_more {A} left fewer x old new n steps some is =
+    let one : length (up_to left old) ≡ length (x ∷ up_to fewer new) = ap (λ (xs : List A). length (up_to left xs)) steps ∙ ap (λ (xs : List A). length xs) (up_more left x new some) ∙ ap (λ (l : Option ℕ). length (x ∷ up_to l new)) (sym is) in
+    omega (arith, one)
+
+pub counts_nothing : {A : Type 0} (left : Option ℕ) (old : List A) (n : ℕ) → old ≡ [] → n ≡ n + length (up_to left old)
+counts_nothing {A} left old n none =
+    let zero : length (up_to left old) ≡ 0 = ap (λ (xs : List A). length (up_to left xs)) none ∙ ap (λ (xs : List A). length xs) (up_to_nothing A left) in
+    omega (arith, zero)
+
 -- ---- entries of a directory
 
 kept_there : (d : Entries) (p : Path × EntryContent → Bool) (es : List (Path × EntryContent)) → AreThere d es → AreThere d (filter p es)
@@ -113,10 +125,10 @@ module _ (width : ℕ) (conf : Conf) (d : Entries) (s : Selection) where
       ∙ ap (λ (bs : List ℕ). text ++ bs) no_text
       ∙ append-nil text
 
--- ---- behind a text that holds nothing yet
+-- ---- behind a text that is held
 
-pub begun_empty : (a b : Written) (front bytes left : List ℕ) → front ≡ [] → SoFar a b (front ++ bytes) left → SoFar a b bytes left
-begun_empty a b front bytes left none h = subst (λ (xs : List ℕ). SoFar a b (xs ++ bytes) left) none h
+pub begun_behind : (a b : Written) (held front bytes left : List ℕ) → held ≡ front → SoFar a b (held ++ bytes) left → SoFar a b (front ++ bytes) left
+begun_behind a b held front bytes left is h = subst (λ (xs : List ℕ). SoFar a b (xs ++ bytes) left) is h
 
-pub fails_empty : (e : WriteFault) (a b : Written) (front bytes : List ℕ) → front ≡ [] → Writes (Err e) a b (front ++ bytes) → Writes (Err e) a b bytes
-fails_empty e a b front bytes none h = subst (λ (xs : List ℕ). Writes (Err e) a b (xs ++ bytes)) none h
+pub fails_behind : (e : WriteFault) (a b : Written) (held front bytes : List ℕ) → held ≡ front → Writes (Err e) a b (held ++ bytes) → Writes (Err e) a b (front ++ bytes)
+fails_behind e a b held front bytes is h = subst (λ (xs : List ℕ). Writes (Err e) a b (xs ++ bytes)) is h

@@ -12,6 +12,7 @@ pub mod LoadedRecords
 pub mod Examples
 pub mod SelectedTypes
 pub mod FoundText
+pub mod FewHits
 pub mod FoldedTexts
 pub mod ByPostings
 pub mod ShownRanks

@@ -1,8 +1,8 @@
 //! The entries that a search finds, as LDIF.
 
-ghost use Rattle.std.specs.Prelude.{◌≡◌, ◌<◌, ◌-◌, ◌^◌, ◌++◌, false, map};
+ghost use Rattle.std.specs.Prelude.{◌≡◌, ◌<◌, ◌-◌, ◌^◌, ◌++◌, false, length, map};
 ghost use Rattle.databases.specs.Walks.{seen};
-ghost use Rattle.databases.specs.Found.{AreThere, limited_text, goes_past, WritesFound};
+ghost use Rattle.databases.specs.Found.{AreThere, up_to, limited_text, goes_past, WritesFound};
 ghost use Rattle.databases.specs.inner.Found.{is_used_up, one_fewer, WritesFoundOn};
 
 use crate::database::Database;
@@ -64,11 +64,12 @@ fn put_found<W: Sink, S: IdSet>(
     Ok(false)
 }
 
-// writes the records of entries that a search found, up to the limit; answers whether there are more
+// writes a text and the records of entries that a search found, up to the limit; answers whether there are more
 fn write_all_found<W: Sink, S: IdSet>(
     alloc: Global,
     printer: &Printer<'_>,
     sink: &mut W,
+    front: &[u8],
     hits: Hits<'_, S>,
     limit: Option<u32>,
     selection: &Selection,
@@ -76,10 +77,10 @@ fn write_all_found<W: Sink, S: IdSet>(
     requires can_fail { (W.written sink.old).failed < 2 ^ 64 - 1 }
     requires there { AreThere printer.now.tree.now.entries (map seen hits.to_come) }
     ensures { WritesFound result (goes_past limit hits.entry.to_come) (W.written sink.old) (W.written sink.new)
-        (limited_text printer.now.width printer.now.tree.now.conf printer.now.tree.now.entries selection.now limit (map seen hits.entry.to_come)) }
+        (front.now ++ limited_text printer.now.width printer.now.tree.now.conf printer.now.tree.now.entries selection.now limit (map seen hits.entry.to_come)) }
 {
     let mut names = printer.names();
-    let mut text = Vec::new(alloc);
+    let mut text = Vec::from_slice(alloc, front)?;
     let past = put_found(printer, sink, &mut names, hits, limit, selection, &mut text)?;
     pass_on(sink, &mut text)?;
     Ok(past)
@@ -103,7 +104,58 @@ impl Database {
         ensures { WritesFound result (goes_past limit hits.entry.to_come) (W.written sink.old) (W.written sink.new)
             (limited_text width self.now.conf self.now.entries selection.now limit (map seen hits.entry.to_come)) }
     {
+        self.write_found_behind(alloc, sink, &[], hits, limit, selection, width)
+    }
+
+    /// The same, with a text in front of all records.
+    pub fn write_found_behind<W: Sink, S: IdSet>(
+        &self,
+        alloc: Global,
+        sink: &mut W,
+        front: &[u8],
+        hits: Hits<'_, S>,
+        limit: Option<u32>,
+        selection: &Selection,
+        width: LineWidth,
+    ) -> Result<bool, WriteFault>
+        requires can_fail { (W.written sink.old).failed < 2 ^ 64 - 1 }
+        requires there { AreThere self.now.entries (map seen hits.to_come) }
+        ensures { WritesFound result (goes_past limit hits.entry.to_come) (W.written sink.old) (W.written sink.new)
+            (front.now ++ limited_text width self.now.conf self.now.entries selection.now limit (map seen hits.entry.to_come)) }
+    {
         let printer = Printer::new(alloc, self.tree(), self.conf(), width);
-        write_all_found(alloc, &printer, sink, hits, limit, selection)
+        write_all_found(alloc, &printer, sink, front, hits, limit, selection)
+    }
+}
+
+/// How many entries a search found, up to a limit.
+#[derive(Clone, Copy)]
+pub struct FoundCount {
+    pub entries: u64,
+    /// Whether there are more.
+    pub past: bool,
+}
+
+/// Counts the entries that a search found, up to the limit (RFC 4511, 4.5.1.4).
+pub fn count_found<S: IdSet>(hits: Hits<'_, S>, limit: Option<u32>) -> FoundCount
+    ensures entries { result.entries ≡ length (up_to limit hits.entry.to_come) }
+    ensures past { result.past ≡ goes_past limit hits.entry.to_come }
+{
+    hits.are_few();
+    let mut left = limit;
+    let mut entries: u64 = 0;
+    for _ in hits {
+        if is_used_up(left) {
+            return FoundCount {
+                entries,
+                past: true,
+            };
+        }
+        entries += 1;
+        left = one_fewer(left);
+    }
+    FoundCount {
+        entries,
+        past: false,
     }
 }

@@ -98,6 +98,13 @@ impl<'a, S: IdSet> Hits<'a, S> {
         }
     }
 
+    /// There are fewer than 2^64.
+    pub fn are_few(&self)
+        ensures { length self.now.to_come < 2 ^ 64 }
+    {
+        let _ = &self.rest;
+    }
+
     /// How many entries were tested so far. At the end it is the number of the candidates in scope.
     pub fn tested(&self) -> u64
         ensures { result ≡ self.now.tested }

@@ -34,6 +34,7 @@ mod untested;
 pub use database::Database;
 pub use dump::{pass_on, pass_on_long};
 pub use entries_by_rank::EntriesByRank;
+pub use found::{FoundCount, count_found};
 pub use hits::Hits;
 pub use laws::{
     candidates_suffice, folded_texts_fit, folded_texts_read_alike, index_texts_reflect_dumps,

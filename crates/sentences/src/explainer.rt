@@ -72,9 +72,16 @@ impl<'a, V: Sink, G: Gauge> Explainer<'a, V, G> {
         ensures { TellsSentence (V.written self.old.told.now) (V.written self.new.told.now) }
     {
         if let Some(text) = self.filter.take() {
-            if let Ok(sentence) = filter_sentence(alloc, text.as_bytes(), fault) {
-                tell_sentence(self.told, &sentence);
-            }
+            self.tell_filter_text(alloc, text.as_bytes(), fault);
+        }
+    }
+
+    /// Tells what is wrong with this text, which is no filter.
+    pub fn tell_filter_text(&mut self, alloc: Global, text: &[u8], fault: &FilterFault)
+        ensures { TellsSentence (V.written self.old.told.now) (V.written self.new.told.now) }
+    {
+        if let Ok(sentence) = filter_sentence(alloc, text, fault) {
+            tell_sentence(self.told, &sentence);
         }
     }
 
