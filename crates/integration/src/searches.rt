@@ -3,6 +3,7 @@
 ghost use Rattle.std.specs.Prelude.{◌≡◌, IfOk};
 
 use crate::indexes::{INDEX, TURNED, empty, indexed};
+use databases::count_found;
 use directory::{
     Directory, EntriesByRank, Hits, OrderedDirectory, Scope, search_ranked_with, search_with,
 };
@@ -214,13 +215,31 @@ fn finds_in_order(ordered: &OrderedDirectory<'_>, filter: &Prepared, base: &Path
     }
 }
 
+// as many are counted as are found
+fn counts_in_order(
+    ordered: &OrderedDirectory<'_>,
+    filter: &Prepared,
+    base: &Path,
+    row: &Row,
+) -> bool
+    requires { filter.now.conf ≡ ordered.now.conf }
+{
+    let (_, values, _) = row;
+    match ordered.search(base, Scope::Sub, filter) {
+        Ok(hits) => count_found(hits, None).entries == values.len() as u64,
+        Err(_) => false,
+    }
+}
+
 fn finds_each_in_order(alloc: Global, dir: &Directory) -> Result<bool, Fail> {
     let ordered = dir.in_order(alloc)?;
     let base = Path::root(alloc);
     for row in &ROWS {
         let (text, ..) = row;
         let filter = prepared(alloc, dir, text)?;
-        if !finds_in_order(&ordered, &filter, &base, row) {
+        if !finds_in_order(&ordered, &filter, &base, row)
+            || !counts_in_order(&ordered, &filter, &base, row)
+        {
             return Ok(false);
         }
     }
