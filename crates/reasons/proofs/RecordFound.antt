@@ -1,6 +1,6 @@
 -- Reasons that are found for a record.
 use Rattle.std.proofs.Common.{◌≡◌, ◌↔◌, ℕ, Bool, true, false, ◌||◌, List, [], ◌∷◌, ◌++◌, map, zero, suc, Option, Some, None, Result, Ok, Err, refl, sym, ap, subst, ◌∙◌}
-use Rattle.std.specs.Prelude.{is_some, IfOk}
+use Rattle.std.specs.Prelude.{is_some, IfOk, IfSome, IfNone}
 use Rattle.std.specs.FinMap as finite
 use Rattle.std.specs.Option.{option_map}
 use Rattle.std.specs.List.{slice_get, Any}
@@ -17,6 +17,7 @@ use Rattle.schema.specs.Rdns.{TypedRdn}
 use Rattle.tree.specs.Directories.{Entries}
 use Rattle.tree.specs.Operations.{has_critical, controls_of}
 use Rattle.tree.specs.Trees.{has_child}
+use Rattle.reasons.specs.declared.explain_names.FaultyName.{FaultyName}
 use Rattle.reasons.specs.declared.reason.NameReason.{NameReason}
 use Rattle.reasons.specs.declared.reason.Reason.{Reason}
 use Rattle.reasons.specs.declared.reason.Reason.TheVariants as reasons
@@ -35,6 +36,12 @@ use Rattle.reasons.proofs.Told.{refused, allowed}
 pub ok_map : {A E : Type 0} (P Q : A → Type 0) → ((a : A) → P a → Q a) → (x : Result A E) → IfOk x P → IfOk x Q
 ok_map P Q f (Ok a) h = f a h
 ok_map P Q f (Err e) h = h
+
+pub if_some : {A : Type 0} (P : A → Type 0) (o : Option A) (a : A) → o ≡ Some a → IfSome o P → P a
+if_some {A} P o a is h = subst (λ (z : Option A). IfSome z P) is h
+
+pub if_none : {A : Type 0} (P : Type 0) (o : Option A) → o ≡ None → IfNone o P → P
+if_none {A} P o is h = subst (λ (z : Option A). IfNone z P) is h
 
 pub differ : (b : Bool) → b ≡ true → b ≡ false → ⊥
 differ b h k = let both = sym h ∙ k in cc
@@ -165,3 +172,9 @@ stands_there conf text name o place same is h = subst (λ (t : List ℕ). IsPlac
 pub refused_there : (conf : Conf) (text name : List ℕ) (o : Result Located NameReason) (why : NameReason) → text ≡ name → o ≡ Err why → IsPlace conf text o
     → FindsFirst (HasNameFlaw conf name) (place_checks name) (Some (name_flaw_of why))
 refused_there conf text name o why same is h = subst (λ (t : List ℕ). IsPlace conf t (Err why)) same (subst (IsPlace conf text) is h)
+
+-- the same of a call for what a name is refused for by itself
+pub faulty_there : (conf : Conf) (text name : List ℕ) (o : Option FaultyName) (f : FaultyName) → text ≡ name → o ≡ Some f
+    → IfSome o (λ g. IsPlace conf text (Err g.why)) → FindsFirst (HasNameFlaw conf name) (place_checks name) (Some (name_flaw_of f.why))
+faulty_there conf text name o f same is h =
+    subst (λ (t : List ℕ). IsPlace conf t (Err f.why)) same (if_some (λ (g : FaultyName). IsPlace conf text (Err g.why)) o f is h)

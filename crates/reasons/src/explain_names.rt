@@ -1,8 +1,9 @@
 //! Explains names that are refused.
 
-ghost use Rattle.std.specs.Prelude.{◌≡◌, ◌<◌, IfOk, Some, Err, Ok, length};
+ghost use Rattle.std.specs.Prelude.{◌≡◌, ◌<◌, IfOk, IfSome, IfNone, Some, None, Err, Ok, length};
 ghost use Rattle.std.specs.Option.{option_map};
 ghost use Rattle.std.specs.List.{list_any};
+ghost use Rattle.dn.specs.Names as names;
 ghost use Rattle.schema.specs.declared.code.Code as codes;
 ghost use Rattle.schema.specs.Conf.{located};
 ghost use Rattle.schema.specs.FaultyNames.{HasAvaFlaw, ava_order, is_of_type};
@@ -25,6 +26,13 @@ pub(crate) struct NameExplainer<'a> {
     pub(crate) alloc: Global,
     pub(crate) conf: &'a Conf,
     pub(crate) text: &'a [u8],
+}
+
+/// What a name is refused for, and the name as it was read, if it can be.
+#[derive(Drop)]
+pub(crate) struct FaultyName {
+    pub(crate) why: NameReason,
+    pub(crate) name: Option<Name>,
 }
 
 impl NameExplainer<'_> {
@@ -115,18 +123,38 @@ impl NameExplainer<'_> {
         Ok(None)
     }
 
+    /// What an entry's name is refused for by itself, whatever it ends with.
+    pub(crate) fn own_flaw(&self) -> Result<Option<FaultyName>, AllocError>
+        ensures some { IfOk result (λ found. IfSome found (λ f. FindsFirst (HasNameFlaw self.now.conf.now self.now.text.now) (place_checks self.now.text.now) (Some (name_flaw_of f.why)))) }
+        ensures none { IfOk result (λ found. IfNone found ((n : names.Name) × (name_in self.now.text.now ≡ Ok n) × FindsFirst (HasNameFlaw self.now.conf.now self.now.text.now) (rdn_checks 0 n) None)) }
+        ensures name { IfOk result (λ found. IfSome found (λ f. IfSome f.name (λ n. name_in self.now.text.now ≡ Ok n))) }
+    {
+        let name = match read_dn(self.alloc, self.text) {
+            Ok(name) => name,
+            Err(PathFault::Code(_)) => {
+                return Ok(Some(FaultyName {
+                    why: NameReason::Unreadable,
+                    name: None,
+                }));
+            }
+            Err(PathFault::OutOfMemory) => return Err(AllocError),
+        };
+        match self.avas_reason(&name)? {
+            Some(why) => Ok(Some(FaultyName {
+                why,
+                name: Some(name),
+            })),
+            None => Ok(None),
+        }
+    }
+
     /// What an entry's name is refused for.
     pub(crate) fn place_reason(&self) -> Result<NameReason, AllocError>
         requires { (code : codes.Code) × (located self.now.conf.now self.now.text.now ≡ Err code) }
         ensures { IfOk result (λ why. FindsFirst (HasNameFlaw self.now.conf.now self.now.text.now) (place_checks self.now.text.now) (Some (name_flaw_of why))) }
     {
-        let name = match read_dn(self.alloc, self.text) {
-            Ok(name) => name,
-            Err(PathFault::Code(_)) => return Ok(NameReason::Unreadable),
-            Err(PathFault::OutOfMemory) => return Err(AllocError),
-        };
-        match self.avas_reason(&name)? {
-            Some(why) => Ok(why),
+        match self.own_flaw()? {
+            Some(faulty) => Ok(faulty.why),
             None => Ok(NameReason::OutsideSuffix),
         }
     }

@@ -7,18 +7,20 @@ ghost use Rattle.std.specs.Option.{option_map};
 ghost use Rattle.ldif.specs.declared.record.Control as controls;
 ghost use Rattle.paths.specs.Paths.{is_root, parent_of};
 ghost use Rattle.schema.specs.GoodRdns.{IsRdn};
+ghost use Rattle.schema.specs.Names.{name_in};
 ghost use Rattle.tree.specs.Operations.{has_critical, controls_of};
 ghost use Rattle.reasons.specs.NameFlaws.{place_checks};
 ghost use Rattle.reasons.specs.Asked.{name_of_record, lines_of_record, IsAt};
-ghost use Rattle.reasons.specs.Flaws.{Name, delete_checks, add_checks, checks_of};
+ghost use Rattle.reasons.specs.Flaws as flaws;
+ghost use Rattle.reasons.specs.Flaws.{delete_checks, add_checks, checks_of};
 ghost use Rattle.reasons.specs.Reasons.{Explains};
 ghost use Rattle.reasons.specs.inner.Found.{Finds, IsPlace, Stands, later_checks};
 
-use crate::explain_names::NameExplainer;
+use crate::explain_names::{FaultyName, NameExplainer};
 use crate::laws::a_refusal_is_of_the_first_flaw;
 use crate::reason::{NameReason, Reason};
 use ldif::{Control, Mode, Record};
-use schema::{Conf, Located, Path, PathFault};
+use schema::{Code, Conf, Located, Name, Path, PathFault};
 use std::alloc::{AllocError, Global};
 use tree::Tree;
 
@@ -30,14 +32,19 @@ pub(crate) struct Explainer<'a> {
     pub(crate) conf: &'a Conf,
     pub(crate) mode: Mode,
     pub(crate) asked: &'a Record<'a>,
+    /// The code that it is refused with, where that is known. It only tells where to look first.
+    pub(crate) code: Option<Code>,
     ghost same_conf: { tree.now.conf ≡ conf.now },
 }
 
-/// Why a record is refused, and where its name stands, if that was looked up and is well.
+/// Why a record is refused, and what was found of its name on the way.
 #[derive(Drop)]
 pub struct Explanation {
     pub reason: Option<Reason>,
+    /// Where it stands, if that was looked up and is well.
     pub place: Option<Located>,
+    /// The name as it was read, where that was done to find what is wrong with it.
+    pub name: Option<Name>,
 }
 
 // the index of the first control that is critical
@@ -131,23 +138,52 @@ impl Explainer<'_> {
         }
     }
 
+    // what the record's name is refused for by itself, where the code tells that a name is
+    fn faulty_name(&self, dn: &[u8]) -> Result<Option<FaultyName>, AllocError>
+        ensures why { IfOk result (λ found. IfSome found (λ f. IsPlace self.now.conf.now dn.now (Err f.why))) }
+        ensures name { IfOk result (λ found. IfSome found (λ f. IfSome f.name (λ n. name_in dn.now ≡ Ok n))) }
+    {
+        match self.code {
+            Some(Code::InvalidDnSyntax | Code::NamingViolation) => {
+                let names = NameExplainer {
+                    alloc: self.alloc,
+                    conf: self.conf,
+                    text: dn,
+                };
+                names.own_flaw()
+            }
+            _ => Ok(None),
+        }
+    }
+
     // what a record is refused for, by this name and what stands there
     fn named(&self, dn: &[u8]) -> Result<Explanation, AllocError>
         requires { dn.now ≡ name_of_record self.now.asked.now }
-        ensures finds { IfOk result (λ e. Finds self.now.conf.now self.now.mode self.now.tree.now.entries self.now.asked.now (map Name (place_checks (name_of_record self.now.asked.now)) ++ later_checks self.now.asked.now) e.reason) }
+        ensures finds { IfOk result (λ e. Finds self.now.conf.now self.now.mode self.now.tree.now.entries self.now.asked.now (map flaws.Name (place_checks (name_of_record self.now.asked.now)) ++ later_checks self.now.asked.now) e.reason) }
         ensures place { IfOk result (λ e. IfSome e.place (λ place. IsAt self.now.conf.now self.now.asked.now place.path)) }
+        ensures name { IfOk result (λ e. IfSome e.name (λ n. name_in (name_of_record self.now.asked.now) ≡ Ok n)) }
     {
+        if let Some(faulty) = self.faulty_name(dn)? {
+            let FaultyName { why, name } = faulty;
+            return Ok(Explanation {
+                reason: Some(Reason::Name(why)),
+                place: None,
+                name,
+            });
+        }
         match self.place(dn)? {
             Ok(place) => {
                 let reason = self.placed_reason(&place)?;
                 Ok(Explanation {
                     reason,
                     place: Some(place),
+                    name: None,
                 })
             }
             Err(why) => Ok(Explanation {
                 reason: Some(Reason::Name(why)),
                 place: None,
+                name: None,
             }),
         }
     }
@@ -157,11 +193,13 @@ impl Explainer<'_> {
         requires { has_critical (controls_of self.now.asked.now) ≡ false }
         ensures finds { IfOk result (λ e. Finds self.now.conf.now self.now.mode self.now.tree.now.entries self.now.asked.now (checks_of self.now.asked.now) e.reason) }
         ensures place { IfOk result (λ e. IfSome e.place (λ place. IsAt self.now.conf.now self.now.asked.now place.path)) }
+        ensures name { IfOk result (λ e. IfSome e.name (λ n. name_in (name_of_record self.now.asked.now) ≡ Ok n)) }
     {
         match self.asked {
             Record::Empty => Ok(Explanation {
                 reason: None,
                 place: None,
+                name: None,
             }),
             Record::Content { dn, .. } => self.named(dn.as_slice()),
             Record::Add { dn, .. } => self.named(dn.as_slice()),
@@ -172,24 +210,28 @@ impl Explainer<'_> {
     }
 }
 
-/// Why a record is refused: its first flaw (RFC 4511, 4.6 to 4.9), and what that is of; None where it isn't refused. With it comes where the
-/// record's name stands. `conf` is the configuration that the tree was made with.
+/// Why a record is refused: its first flaw (RFC 4511, 4.6 to 4.9), and what that is of; None where it isn't refused. With it comes what was found of
+/// the record's name. `conf` is the configuration that the tree was made with. The code that the record is refused with may be left out: no answer
+/// depends on it, but with it names at fault are read once.
 pub fn explain_in_place(
     alloc: Global,
     tree: &Tree,
     conf: &Conf,
     asked: &Record<'_>,
     mode: Mode,
+    code: Option<Code>,
 ) -> Result<Explanation, AllocError>
     requires made { tree.now.conf ≡ conf.now }
     ensures explains { IfOk result (λ e. Explains conf.now mode tree.now.entries asked.now e.reason) }
     ensures place { IfOk result (λ e. IfSome e.place (λ place. IsAt conf.now asked.now place.path)) }
+    ensures name { IfOk result (λ e. IfSome e.name (λ n. name_in (name_of_record asked.now) ≡ Ok n)) }
 {
     a_refusal_is_of_the_first_flaw();
     if let Some(control) = critical(controls_of(asked)) {
         return Ok(Explanation {
             reason: Some(Reason::CriticalControl { control }),
             place: None,
+            name: None,
         });
     }
     let explainer = Explainer {
@@ -198,11 +240,12 @@ pub fn explain_in_place(
         conf,
         mode,
         asked,
+        code,
     };
     explainer.explanation()
 }
 
-/// The same without the place.
+/// The reason alone.
 pub fn explain(
     alloc: Global,
     tree: &Tree,
@@ -213,6 +256,6 @@ pub fn explain(
     requires made { tree.now.conf ≡ conf.now }
     ensures { IfOk result (Explains conf.now mode tree.now.entries asked.now) }
 {
-    let explanation = explain_in_place(alloc, tree, conf, asked, mode)?;
+    let explanation = explain_in_place(alloc, tree, conf, asked, mode, None)?;
     Ok(explanation.reason)
 }

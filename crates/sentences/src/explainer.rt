@@ -22,7 +22,7 @@ use differences::Counts;
 use filter_text::FilterFault;
 use ldif::Record;
 use reasons::{Explanation, Reason, explain_in_place};
-use schema::{Conf, Located, PathFault};
+use schema::{Code, Conf, Located, PathFault};
 use std::alloc::{AllocError, Global};
 use std::io::ErrorKind;
 use stored_index::FaultLine;
@@ -172,6 +172,18 @@ struct Refusal<'a> {
     ghost same_conf: { tree.now.conf ≡ conf.now },
 }
 
+fn code_of(refusal: RecordRefusal) -> Option<Code> {
+    match refusal {
+        RecordRefusal::Code(code) => Some(code),
+        RecordRefusal::Fault(_) => None,
+    }
+}
+
+/// Whether an add that is refused for this leaves a place without an entry: its name has one, and none is there.
+fn leaves_place_empty(reason: &Option<Reason>) -> bool {
+    !matches!(reason, Some(Reason::IsThere | Reason::Name(_)))
+}
+
 impl Refusal<'_> {
     /// The sentence of a record that can be read, for why it is refused.
     fn reason_sentence(
@@ -190,6 +202,7 @@ impl Refusal<'_> {
             raw: self.refused.raw,
             asked,
             place: explanation.place.as_ref(),
+            name: explanation.name.as_ref(),
             adds,
         };
         Ok(Some(refused.sentence(&reason)?))
@@ -202,10 +215,11 @@ impl Refusal<'_> {
         adds: &mut RefusedAdds,
     ) -> Result<Option<Sentence>, AllocError> {
         let mode = self.refused.mode;
-        let explanation = explain_in_place(self.alloc, self.tree, self.conf, asked, mode)?;
+        let code = code_of(self.refused.refusal);
+        let explanation = explain_in_place(self.alloc, self.tree, self.conf, asked, mode, code)?;
         let sentence = self.reason_sentence(asked, &explanation, adds)?;
-        let is_there = matches!(explanation.reason, Some(Reason::IsThere));
-        if is_add(asked) && !is_there {
+        let leaves_place = leaves_place_empty(&explanation.reason);
+        if is_add(asked) && leaves_place {
             self.keep_add(asked, explanation.place.as_ref(), adds)?;
         }
         Ok(sentence)

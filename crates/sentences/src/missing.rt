@@ -6,7 +6,7 @@ ghost use Rattle.std.specs.FinMap as finite;
 ghost use Rattle.sentences.specs.Missing.{IsNearestAbove, NoneAbove};
 
 use crate::lines::ShownText;
-use crate::names::is_there;
+use crate::names::{is_there, kept_name};
 use crate::shown::push_name;
 use base::Bytes;
 use indexmap::IndexMap;
@@ -122,13 +122,16 @@ fn push_nearest(
 ) -> Result<(), AllocError>
     requires { tree.now.conf ≡ conf.now }
 {
-    let Some(above) = nearest_above(alloc, tree, path)? else {
-        return Ok(());
-    };
-    if above.len() == path.len().saturating_sub(1) {
+    let right_above = path.parent(alloc)?;
+    if is_there(tree, &right_above) {
         return Ok(());
     }
-    let name = tree.name_of(alloc, conf, &above)?;
+    let Some(above) = nearest_above(alloc, tree, &right_above)? else {
+        return Ok(());
+    };
+    let Some(name) = kept_name(alloc, conf, tree, &above)? else {
+        return Ok(());
+    };
     words.push_str("; the nearest above it is ")?;
     push_name(words, name.as_slice())
 }

@@ -3,7 +3,7 @@
 ghost use Rattle.sentences.specs.Sentence.{IsShown};
 
 use crate::lines::ShownText;
-use crate::shown::{named, quoted};
+use crate::shown::{push_name, push_quoted};
 use crate::value_words::push_no_such_value;
 use dn::{Ava, Name, NameFault, NameFaultKind, read_name};
 use reasons::{AvaReason, NameReason};
@@ -29,98 +29,122 @@ pub(crate) struct NameText<'a> {
 }
 
 impl NameText<'_> {
-    /// What is wrong with the name.
-    pub(crate) fn words(&self, why: NameReason) -> Result<ShownText, AllocError> {
-        let what = self.what;
+    /// Puts what is wrong with the name behind words. Where it was read before, it is not read again.
+    pub(crate) fn push_words(
+        &self,
+        words: &mut ShownText,
+        name: Option<&Name>,
+        why: NameReason,
+    ) -> Result<(), AllocError> {
         match why {
-            NameReason::Unreadable => self.unreadable(),
+            NameReason::Unreadable => self.push_unreadable(words),
             NameReason::NotOneRdn => {
-                let shown = quoted(self.alloc, self.text)?;
-                ShownText::of(format!(in self.alloc; "{what} {shown} is not one RDN"))
+                words.push_str(self.what)?;
+                words.push(' ')?;
+                push_quoted(words, self.text)?;
+                words.push_str(" is not one RDN")
             }
-            NameReason::Ava { rdn, ava, why } => self.ava_words(rdn, ava, why),
-            NameReason::OutsideSuffix => self.outside(),
+            NameReason::Ava { rdn, ava, why } => match name {
+                Some(name) => self.push_ava_fault(words, ava_at(name, rdn, ava), why),
+                None => self.push_ava_words(words, rdn, ava, why),
+            },
+            NameReason::OutsideSuffix => self.push_outside(words),
         }
     }
 
-    /// That it doesn't end with the suffix.
-    fn outside(&self) -> Result<ShownText, AllocError> {
-        let what = self.what;
-        let shown = named(self.alloc, self.text)?;
-        let suffix = named(self.alloc, self.conf.suffix_text())?;
-        ShownText::of(format!(in self.alloc; "{what} {shown} doesn't end with the suffix {suffix}"))
+    /// Puts that it doesn't end with the suffix behind words.
+    fn push_outside(&self, words: &mut ShownText) -> Result<(), AllocError> {
+        words.push_str(self.what)?;
+        words.push(' ')?;
+        push_name(words, self.text)?;
+        words.push_str(" doesn't end with the suffix ")?;
+        push_name(words, self.conf.suffix_text())
     }
 
-    /// Why the text spells no name.
-    fn unreadable(&self) -> Result<ShownText, AllocError> {
-        let what = self.what;
+    /// Puts why the text spells no name behind words.
+    fn push_unreadable(&self, words: &mut ShownText) -> Result<(), AllocError> {
+        words.push_str(self.what)?;
         let Ok(text) = str::from_utf8(self.text) else {
-            return ShownText::of(format!(in self.alloc; "{what} isn't UTF-8"));
+            return words.push_str(" isn't UTF-8");
         };
+        words.push_str(" can't be read")?;
         match read_name(self.alloc, text) {
-            Err(NameFault::Fault(kind)) => self.name_fault(kind),
+            Err(NameFault::Fault(kind)) => push_name_fault(words, kind),
             Err(NameFault::OutOfMemory) => Err(AllocError),
-            Ok(_) => ShownText::of(format!(in self.alloc; "{what} can't be read")),
+            Ok(_) => Ok(()),
         }
     }
 
-    /// What is wrong with the text where it spells no name.
-    fn name_fault(&self, kind: NameFaultKind) -> Result<ShownText, AllocError> {
-        let what = self.what;
-        let kind = format!(in self.alloc; "{kind}")?;
-        let kind = named(self.alloc, kind.as_bytes())?;
-        ShownText::of(format!(in self.alloc; "{what} can't be read: {kind}"))
+    /// Puts what is wrong with an AVA of the name behind words.
+    fn push_ava_words(
+        &self,
+        words: &mut ShownText,
+        rdn: usize,
+        ava: usize,
+        why: AvaReason,
+    ) -> Result<(), AllocError> {
+        match read_dn(self.alloc, self.text) {
+            Ok(name) => self.push_ava_fault(words, ava_at(&name, rdn, ava), why),
+            Err(PathFault::Code(_)) => self.push_unreadable(words),
+            Err(PathFault::OutOfMemory) => Err(AllocError),
+        }
     }
 
-    /// What is wrong with an AVA of the name.
-    fn ava_words(&self, rdn: usize, ava: usize, why: AvaReason) -> Result<ShownText, AllocError> {
-        let name = match read_dn(self.alloc, self.text) {
-            Ok(name) => name,
-            Err(PathFault::Code(_)) => return self.unreadable(),
-            Err(PathFault::OutOfMemory) => return Err(AllocError),
+    fn push_ava_fault(
+        &self,
+        words: &mut ShownText,
+        found: Option<&Ava>,
+        why: AvaReason,
+    ) -> Result<(), AllocError> {
+        let Some(found) = found else {
+            return self.push_unreadable(words);
         };
-        match ava_at(&name, rdn, ava) {
-            Some(found) => self.ava_fault(found, why),
-            None => self.unreadable(),
-        }
-    }
-
-    fn ava_fault(&self, found: &Ava, why: AvaReason) -> Result<ShownText, AllocError> {
-        let what = self.what;
-        let type_text = named(self.alloc, found.type_text())?;
         match why {
             AvaReason::UnknownType => {
-                ShownText::of(format!(in self.alloc;
-                    "{what} has {type_text}, which is no attribute type of dir.conf"
-                ))
+                self.push_type_fault(words, found, ", which is no attribute type of dir.conf")
             }
             AvaReason::NameSyntax => {
-                ShownText::of(format!(in self.alloc;
-                    "{what} has {type_text}, whose values are names themselves"
-                ))
+                self.push_type_fault(words, found, ", whose values are names themselves")
             }
             AvaReason::NoEquality => {
-                ShownText::of(format!(in self.alloc;
-                    "{what} has {type_text}, which has no equality rule"
-                ))
+                self.push_type_fault(words, found, ", which has no equality rule")
             }
-            AvaReason::TypeTwice => {
-                ShownText::of(format!(in self.alloc; "{what} has {type_text} twice in one RDN"))
-            }
-            AvaReason::BadValue => self.bad_value(found),
+            AvaReason::TypeTwice => self.push_type_fault(words, found, " twice in one RDN"),
+            AvaReason::BadValue => self.push_bad_value(words, found),
         }
     }
 
-    fn bad_value(&self, found: &Ava) -> Result<ShownText, AllocError> {
-        let what = self.what;
+    /// Puts behind words that the name has a type, and what is wrong with that.
+    fn push_type_fault(
+        &self,
+        words: &mut ShownText,
+        found: &Ava,
+        fault: &str,
+    ) -> Result<(), AllocError>
+        requires { IsShown fault.now }
+    {
+        words.push_str(self.what)?;
+        words.push_str(" has ")?;
+        push_name(words, found.type_text())?;
+        words.push_str(fault)
+    }
+
+    fn push_bad_value(&self, words: &mut ShownText, found: &Ava) -> Result<(), AllocError> {
         match self.conf.type_of(found.type_text()) {
             Some(t) => {
-                let mut words = ShownText::fixed(self.alloc, what)?;
+                words.push_str(self.what)?;
                 words.push_str(": ")?;
-                push_no_such_value(&mut words, self.conf, t, found.value())?;
-                Ok(words)
+                push_no_such_value(words, self.conf, t, found.value())
             }
-            None => self.unreadable(),
+            None => self.push_unreadable(words),
         }
     }
+}
+
+/// Puts what is wrong with a text that spells no name behind words.
+fn push_name_fault(words: &mut ShownText, kind: NameFaultKind) -> Result<(), AllocError> {
+    words.push_str(": N")?;
+    words.push(char::from(b'0' + kind.number()))?;
+    words.push(' ')?;
+    words.push_str(kind.text())
 }

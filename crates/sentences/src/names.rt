@@ -6,8 +6,11 @@ ghost use Rattle.std.specs.FinMap as finite;
 use crate::lines::ShownText;
 use crate::shown::push_name;
 use schema::{Conf, ObjectClass, Path, TypeId};
-use std::alloc::AllocError;
+use std::alloc::{AllocError, Global};
 use tree::Tree;
+
+/// As many bytes as most names take at most.
+const NAME_ROOM: usize = 160;
 
 /// Puts the name that a type is printed by behind a text.
 pub(crate) fn push_type(out: &mut ShownText, conf: &Conf, t: TypeId) -> Result<(), AllocError> {
@@ -31,6 +34,30 @@ pub(crate) fn push_class(out: &mut ShownText, conf: &Conf, class: usize) -> Resu
         Some(found) => push_name(out, name_of_class(found)),
         None => out.push_str("a class"),
     }
+}
+
+/// The name of the entry at a path, as it is spelled there; none where no entry is there.
+pub(crate) fn kept_name(
+    alloc: Global,
+    conf: &Conf,
+    tree: &Tree,
+    path: &Path,
+) -> Result<Option<Vec<u8>>, AllocError>
+    requires { tree.now.conf ≡ conf.now }
+{
+    tree.entries_are_a_directory();
+    let mut name = Vec::with_capacity(alloc, NAME_ROOM)?;
+    let mut at = path.copy(alloc)?;
+    for _step in 0..path.len() {
+        let Some(entry) = tree.get(&at) else {
+            return Ok(None);
+        };
+        conf.put_rdn(&mut name, entry.rdn())?;
+        name.push(b',')?;
+        at = at.parent(alloc)?;
+    }
+    name.extend_from_slice(conf.suffix_text())?;
+    Ok(Some(name))
 }
 
 /// Whether an entry is at a path.

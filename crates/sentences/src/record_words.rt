@@ -6,11 +6,12 @@ ghost use Rattle.sentences.specs.Sentence.{IsShown};
 use crate::lines::{Sentence, ShownText};
 use crate::missing::RefusedAdds;
 use crate::name_words::NameText;
-use crate::names::{is_there, parent_text};
+use crate::names::{kept_name, parent_text};
 use crate::places::line_of;
 use crate::record_parts::{blocks_in, controls_in, name_in, new_rdn_in, new_superior_in};
 use crate::shown::push_name;
 use crate::summary::grouped;
+use dn::Name;
 use ldif::{Control, Mod, Part, RawRecord, Record};
 use reasons::{NameReason, Reason};
 use schema::{Conf, Located, Path, PathFault};
@@ -27,6 +28,8 @@ pub(crate) struct Refused<'a> {
     pub(crate) asked: &'a Record<'a>,
     /// Where its name stands, if it has a place.
     pub(crate) place: Option<&'a Located>,
+    /// Its name as it was read, if that has a flaw.
+    pub(crate) name: Option<&'a Name>,
     /// The adds that were refused before it.
     pub(crate) adds: &'a RefusedAdds,
     ghost same_conf: { tree.now.conf ≡ conf.now },
@@ -91,18 +94,18 @@ impl Refused<'_> {
         words: &mut ShownText,
         what: &str,
         text: &[u8],
+        name: Option<&Name>,
         why: NameReason,
     ) -> Result<(), AllocError>
         requires { IsShown what.now }
     {
-        let name = NameText {
+        let name_text = NameText {
             alloc: self.alloc,
             conf: self.conf,
             what,
             text,
         };
-        let found = name.words(why)?;
-        words.push_str(found.as_str())
+        name_text.push_words(words, name, why)
     }
 
     /// Where in the text, of which entry, and what is wrong.
@@ -132,16 +135,20 @@ impl Refused<'_> {
     fn push_words(&self, words: &mut ShownText, reason: &Reason) -> Result<(), AllocError> {
         match reason {
             Reason::CriticalControl { control } => self.push_control(words, *control),
-            Reason::Name(why) => self.push_name_words(words, "the name", self.dn(), *why),
+            Reason::Name(why) => {
+                self.push_name_words(words, "the name", self.dn(), self.name, *why)
+            }
             Reason::Line { line, why } => self.push_line_words(words, *line, *why),
             Reason::Block { block, why } => self.push_block_words(words, *block, *why),
             Reason::Value { block, value, why } => {
                 self.push_value_words(words, *block, *value, *why)
             }
-            Reason::NewRdn(why) => self.push_name_words(words, "newrdn", self.new_rdn(), *why),
+            Reason::NewRdn(why) => {
+                self.push_name_words(words, "newrdn", self.new_rdn(), None, *why)
+            }
             Reason::Superior(why) => {
                 let name = self.new_superior().unwrap_or(&[]);
-                self.push_name_words(words, "newsuperior", name, *why)
+                self.push_name_words(words, "newsuperior", name, None, *why)
             }
             Reason::Entry(why) => self.push_entry_words(words, *why),
             _ => self.push_place_words(words, reason),
@@ -176,13 +183,16 @@ impl Refused<'_> {
 
     /// Puts that the name is there, as it is spelled there, behind words.
     fn push_there(&self, words: &mut ShownText) -> Result<(), AllocError> {
-        match self.path() {
-            Some(path) if is_there(self.tree, path) => {
-                let name = self.tree.name_of(self.alloc, self.conf, path)?;
-                words.push_str("there already, as ")?;
+        words.push_str("there already")?;
+        let Some(path) = self.path() else {
+            return Ok(());
+        };
+        match kept_name(self.alloc, self.conf, self.tree, path)? {
+            Some(name) => {
+                words.push_str(", as ")?;
                 push_name(words, name.as_slice())
             }
-            _ => words.push_str("there already"),
+            None => Ok(()),
         }
     }
 

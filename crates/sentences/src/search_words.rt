@@ -75,7 +75,9 @@ fn name_words(
         what: "the name",
         text,
     };
-    name.words(why)
+    let mut words = ShownText::new(alloc);
+    name.push_words(&mut words, None, why)?;
+    Ok(words)
 }
 
 /// What is wrong with the name of a base, or that no entry has it: what a delete of that entry would be refused for.

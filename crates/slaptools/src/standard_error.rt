@@ -15,7 +15,7 @@ pub struct StandardError<'a> {
     rt: &'a HostRuntime,
     failure: &'a LastFailure,
     line: ProgressLine<'a>,
-    /// What was told and waits, if something does.
+    /// What was told and waits, if something does; else no bytes, in the room of those that waited before.
     waiting: Cell<Vec<u8>>,
     waits: Cell<bool>,
     /// Whether a record went by since it was told: its own.
@@ -47,6 +47,12 @@ impl<'a> StandardError<'a> {
         self.waiting.replace(Vec::new(self.rt.alloc()))
     }
 
+    /// Keeps the room of bytes that wait no longer for those to come.
+    fn reuse(&self, mut room: Vec<u8>) {
+        room.clear();
+        self.waiting.set(room);
+    }
+
     fn write(&self, bytes: &[u8]) -> io::Result<usize>
         ensures { IfOk result (λ count. count ≤ length bytes.now) }
     {
@@ -68,6 +74,7 @@ impl<'a> StandardError<'a> {
         if self.waits.get() {
             let told = self.take_waiting();
             self.write_told(told.as_slice());
+            self.reuse(told);
         }
     }
 
@@ -77,15 +84,10 @@ impl<'a> StandardError<'a> {
         self.write_waiting();
     }
 
-    /// Writes a report behind what waits, and answers how many of its own bytes are written.
-    fn report(&self, report: &[u8]) -> io::Result<usize>
+    /// Writes a report behind what was told, and answers how many of its own bytes are written.
+    fn report_behind(&self, both: &mut Vec<u8>, report: &[u8]) -> io::Result<usize>
         ensures { IfOk result (λ count. count ≤ length report.now) }
     {
-        self.line.clear();
-        if !self.waits.get() {
-            return self.write(report);
-        }
-        let mut both = self.take_waiting();
         let told = both.len();
         if both.extend_from_slice(report).is_err() {
             self.write_told(both.as_slice());
@@ -102,6 +104,20 @@ impl<'a> StandardError<'a> {
                 self.write(report)
             }
         }
+    }
+
+    /// Writes a report behind what waits, and answers how many of its own bytes are written.
+    fn report(&self, report: &[u8]) -> io::Result<usize>
+        ensures { IfOk result (λ count. count ≤ length report.now) }
+    {
+        self.line.clear();
+        if !self.waits.get() {
+            return self.write(report);
+        }
+        let mut told = self.take_waiting();
+        let written = self.report_behind(&mut told, report);
+        self.reuse(told);
+        written
     }
 
     fn keep(&self, told: &[u8]) -> Result<(), AllocError> {

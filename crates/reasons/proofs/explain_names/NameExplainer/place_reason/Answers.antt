@@ -1,22 +1,18 @@
-use Rattle.std.proofs.Common.{[], ◌∷◌, ◌++◌}
-use Rattle.schema.specs.Names.{name_in}
-use Rattle.reasons.specs.NameFlaws.{HasNameFlaw, OutsideSuffix, spelled_checks, rdn_checks}
+use Rattle.std.proofs.Common.{Some}
+use Rattle.reasons.specs.declared.explain_names.FaultyName.{FaultyName}
+use Rattle.reasons.specs.NameFlaws.{HasNameFlaw, place_checks}
 use Rattle.reasons.specs.Reasons.{name_flaw_of}
-use Rattle.reasons.proofs.Finding.{where_some, where_none, failed_by}
-use Rattle.reasons.proofs.NameFound.{unreadable, place_ava, place_outside}
+use Rattle.reasons.specs.inner.Found.{FindsFirst}
+use Rattle.reasons.proofs.RecordFound.{if_some, if_none}
+use Rattle.reasons.proofs.NameFound.{place_outside}
 use Rattle.reasons.proofs.explain_names.NameExplainer.place_reason.Goals as goal
-
-pub returns-in-Err-Code : goal.returns-in-Err-Code
-returns-in-Err-Code c =
-    unreadable c.args.self.now.conf.now c.args.self.now.text.now c.in-Err-Code.field-0-0 (spelled_checks (name_in c.args.self.now.text.now) ++ OutsideSuffix ∷ [])
-    (failed_by c.in-Err-Code.field-0 c.in-Err-Code.field-0-0 (name_in c.args.self.now.text.now) c.in-Err-Code.field-0-is c.in-Err-Code.ensures)
 
 pub returns-in-Some : goal.returns-in-Some
 returns-in-Some c =
-    place_ava c.args.self.now.conf.now c.args.self.now.text.now c.in-Ok.name c.in-Ok.ensures (name_flaw_of c.in-Some.why)
-    (where_some (HasNameFlaw c.args.self.now.conf.now c.args.self.now.text.now) (rdn_checks 0 c.in-Ok.name) name_flaw_of c.in_ok-why.field-0 c.in-Some.why c.in-Some.is c.in_ok-why.ensures)
+    if_some (λ (f : FaultyName). FindsFirst (HasNameFlaw c.args.self.now.conf.now c.args.self.now.text.now) (place_checks c.args.self.now.text.now) (Some (name_flaw_of f.why)))
+    c.in_ok-faulty.field-0 c.in-Some.faulty c.in-Some.is c.in_ok-faulty.ensures.some
 
-pub returns : goal.returns
-returns c =
-    place_outside c.args.self.now.conf.now c.args.self.now.text.now c.in-Ok.name c.in-Ok.ensures c.requires.0 c.requires.1
-    (where_none (HasNameFlaw c.args.self.now.conf.now c.args.self.now.text.now) (rdn_checks 0 c.in-Ok.name) name_flaw_of c.in_ok-why.field-0 c.in-None.is c.in_ok-why.ensures)
+pub returns-in-None : goal.returns-in-None
+returns-in-None c =
+    let fine = if_none _ c.in_ok-faulty.field-0 c.in-None.is c.in_ok-faulty.ensures.none in
+    place_outside c.args.self.now.conf.now c.args.self.now.text.now fine.0 fine.1 c.requires.0 c.requires.1 fine.2

@@ -3,8 +3,15 @@ use Rattle.reasons.specs.Asked.{name_of_record}
 use Rattle.reasons.specs.NameFlaws.{place_checks}
 use Rattle.reasons.specs.Flaws.{Name}
 use Rattle.reasons.specs.inner.Found.{later_checks}
-use Rattle.reasons.proofs.RecordFound.{name_found, name_passed, found_behind, stands_there, refused_there}
+use Rattle.reasons.proofs.RecordFound.{name_found, name_passed, found_behind, stands_there, refused_there, faulty_there}
 use Rattle.reasons.proofs.explainer.Explainer.named.Goals as goal
+
+pub returns-in-Some-clause-finds : goal.returns-in-Some-clause-finds
+returns-in-Some-clause-finds c =
+    let conf = c.args.self.now.conf.now in
+    let r = c.args.self.now.asked.now in
+    name_found conf c.args.self.now.mode c.args.self.now.tree.now.entries r c.in-Some.faulty.why
+    (faulty_there conf c.args.dn.now (name_of_record r) c.in_ok-faulty.field-0 c.in-Some.faulty c.requires c.in-Some.is c.in_ok-faulty.ensures.why) (later_checks r)
 
 pub returns-in_ok-reason-in-Ok-clause-finds : goal.returns-in_ok-reason-in-Ok-clause-finds
 returns-in_ok-reason-in-Ok-clause-finds c =
