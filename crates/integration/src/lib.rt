@@ -4,6 +4,8 @@
 #![tactic(auto)]
 
 #[cfg(test)]
+mod integrity;
+#[cfg(test)]
 mod directories;
 #[cfg(test)]
 mod entry_values;

@@ -1,0 +1,9 @@
+pub mod Kept
+pub mod Members
+pub mod Told
+pub mod Twins
+pub mod Once
+pub mod Holding
+pub mod Sharings
+pub mod SharedTold
+pub mod Examples

@@ -1,0 +1,6 @@
+pub mod EntryValues
+pub mod References
+pub mod Sharing
+pub mod TypeNames
+pub mod Gives
+pub mod inner
