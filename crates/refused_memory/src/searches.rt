@@ -7,12 +7,15 @@ use crate::shown::shown_by;
 use crate::{brackets, lies};
 use anyhow::{Error, Result};
 use candidates::asked_keys;
-use directory::{Directory, Hits, Scope, Stamp, scan, search_with, stamp_of};
+use directory::{
+    Directory, EntriesByRank, Hits, OrderedDirectory, Scope, Stamp, scan, search_ranked_with,
+    search_with, stamp_of,
+};
 use entries::{Entry, Refusal};
 use filter::{Prepared, prepare};
 use filter_text::{FilterFault, read_filter};
 use id_sets::IdSet;
-use schema::Path;
+use schema::{Conf, Path};
 use std::alloc::Global;
 use std::io::Print;
 use stored_index::{IndexFault, StoredIndex};
@@ -54,7 +57,9 @@ pub(crate) struct IndexText<'a> {
 #[derive(Clone, Copy)]
 pub(crate) enum By<'a> {
     Index,
+    Order,
     Text(IndexText<'a>),
+    Ranks(IndexText<'a>),
     Scan,
 }
 
@@ -133,6 +138,79 @@ fn print_by_text(
     Ok(true)
 }
 
+/// The same of the entries by their ranks, by an index that was read.
+fn print_ranked(
+    rt: &impl Print,
+    alloc: Global,
+    conf: &Conf,
+    entries: &EntriesByRank<'_>,
+    stored: &StoredIndex,
+    filter: &Prepared,
+) -> Result<bool>
+    requires made { entries.now.conf ≡ conf.now }
+    requires prepared { filter.now.conf ≡ conf.now }
+{
+    let base = Path::root(alloc);
+    match search_ranked_with(alloc, entries, conf, stored, &base, Scope::Sub, filter) {
+        Ok(hits) => print_hits(rt, hits)?,
+        Err(Refusal::OutOfMemory) => return Ok(false),
+        Err(Refusal::Code(_)) => return Err(Error::msg("no base")),
+    }
+    Ok(true)
+}
+
+/// The same of the entries by their ranks.
+fn print_by_ranks(
+    rt: &impl Print,
+    alloc: Global,
+    dir: &Directory,
+    filter: &Prepared,
+    index: IndexText<'_>,
+) -> Result<bool>
+    requires { filter.now.conf ≡ dir.now.conf }
+{
+    let Some(stored) = stored_for(alloc, dir, filter, index)? else {
+        return Ok(false);
+    };
+    let Ok(entries) = EntriesByRank::of(alloc, dir.tree()) else {
+        return Ok(false);
+    };
+    print_ranked(rt, alloc, dir.conf(), &entries, &stored, filter)
+}
+
+/// The same of a directory that is in the order of its dump.
+fn print_ordered(
+    rt: &impl Print,
+    alloc: Global,
+    ordered: &OrderedDirectory<'_>,
+    filter: &Prepared,
+) -> Result<bool>
+    requires { filter.now.conf ≡ ordered.now.conf }
+{
+    let base = Path::root(alloc);
+    match ordered.search(&base, Scope::Sub, filter) {
+        Ok(hits) => print_hits(rt, hits)?,
+        Err(Refusal::OutOfMemory) => return Ok(false),
+        Err(Refusal::Code(_)) => return Err(Error::msg("no base")),
+    }
+    Ok(true)
+}
+
+/// The same of the directory in the order of its dump.
+fn print_in_order(
+    rt: &impl Print,
+    alloc: Global,
+    dir: &Directory,
+    filter: &Prepared,
+) -> Result<bool>
+    requires { filter.now.conf ≡ dir.now.conf }
+{
+    match dir.in_order(alloc) {
+        Ok(ordered) => print_ordered(rt, alloc, &ordered, filter),
+        Err(_) => Ok(false),
+    }
+}
+
 /// The same by any way.
 fn print_by(
     rt: &impl Print,
@@ -150,7 +228,9 @@ fn print_by(
             Err(Refusal::OutOfMemory) => return Ok(false),
             Err(Refusal::Code(_)) => return Err(Error::msg("no base")),
         },
+        By::Order => return print_in_order(rt, alloc, dir, filter),
         By::Text(index) => return print_by_text(rt, alloc, dir, filter, index),
+        By::Ranks(index) => return print_by_ranks(rt, alloc, dir, filter, index),
         By::Scan => match scan(alloc, dir.tree(), &base, Scope::Sub, filter) {
             Some(hits) => print_hits(rt, hits)?,
             None => return Err(Error::msg("no base")),
@@ -221,18 +301,20 @@ fn print_searches_by_text(rt: &impl Print, alloc: Global, dir: &Directory) -> Re
         stamp: &stamp,
     };
     print_searches(rt, alloc, dir, By::Text(index))?;
+    print_searches(rt, alloc, dir, By::Ranks(index))?;
     lies::print(rt, alloc, dir, index)?;
     brackets::print(rt, alloc, dir, index)
 }
 
 fn print_in_each_way(rt: &impl Print, alloc: Global, dir: &Directory) -> Result<()> {
     print_searches(rt, alloc, dir, By::Index)?;
+    print_searches(rt, alloc, dir, By::Order)?;
     print_searches_by_text(rt, alloc, dir)?;
     print_searches(rt, alloc, dir, By::Scan)
 }
 
-/// Prints what each filter finds, by the directory's index, by its index text, and by none; between them what index texts that lie give, and both
-/// sides of candidates.
+/// Prints what each filter finds, by the directory's index and by its index text, each also with the entries by their ranks, and by none; between
+/// them what index texts that lie give, and both sides of candidates.
 pub(crate) fn print(rt: &impl Print, alloc: Global) -> Result<()> {
     let dir = directory(alloc, PEOPLE)?;
     print_in_each_way(rt, alloc, &dir)
