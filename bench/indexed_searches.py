@@ -4,12 +4,14 @@
 SLAPTOOLS is the program, SEARCH_BENCH that of the crate search_bench. People (people.py, 100,000 by default) lie in a folder under the
 dir.conf and the index lines of indexes.py. For each line below the best of five rounds, in which the two take turns: its seconds, those
 of the other command, the first in times of the second, and how many times we want at most. Then the peak memory of a search in times of
-the LDIF (GNU time), and from SEARCH_BENCH what a search takes as a call of the library, in times of one that tests all entries. The
-status is 1 where something takes more than we want.
+the LDIF (GNU time), and from SEARCH_BENCH what a search takes as a call of the library, in times of one that tests all entries, of a
+directory as it stands and of one that is put in order once for many searches. The status is 1 where something takes more than we want.
 
   one uid                       beside slapcat
   one uid, without index.txt    beside slapindex
   1,000 items                   beside a filter of one item: both by slots
+  10,000 lines, one uid each    beside one uid: one load, and one index for all lines
+  10,000 lines, substrings      beside one uid: each finds some twenty
 """
 import re
 import shutil
@@ -68,14 +70,22 @@ def main(program, bench, people="100000"):
         missed |= compare("one uid", lambda: seconds([*search, one]), lambda: seconds([program, "slapcat", "--db", db]), 1.5)
         missed |= compare("one uid, without index.txt", without, lambda: seconds([program, "slapindex", "--db", db]), 1.0)
         missed |= compare("1,000 items", lambda: seconds([*search, many]), lambda: seconds([*search, one]), 1.3)
+        lines = work / "lines"
+        lines.write_text("".join(f"{uid}\n" for uid in uids[:10000]))
+        missed |= compare("10,000 lines, one uid each", lambda: seconds([*search, "-f", lines, "(uid=%s)", "1.1"]), lambda: seconds([*search, one]), 1.15)
+        pieces = work / "pieces"
+        pieces.write_text("".join(f"{n:04}\n" for n in range(10000)))
+        missed |= compare("10,000 lines, substrings", lambda: seconds([*search, "-f", pieces, "(uid=*%s*)", "1.1"]), lambda: seconds([*search, one]), 2.0)
         times = peak_kb([*search, one], work / "peak") * 1024 / len(text)
         print(f"{'peak memory of the LDIF':48}{times:9.2f}{5.5:7}")
         missed |= times > 5.5
         rows = subprocess.run([bench, db / "dir.conf", work / "people.ldif", one], stdout=subprocess.PIPE, check=True).stdout.decode()
         print(rows, end="")
-        by_index, by_scan, tested = map(int, rows.splitlines()[1].split()[:3])
-        print(f"{'a call of the library, of a scan':48}{by_index / by_scan:9.4f}{0.2:7}")
-        missed |= by_index / by_scan > 0.2 or tested != 1
+        by_index, by_scan, in_order, tested = map(int, rows.splitlines()[1].split()[:4])
+        for label, took, bar in ("a call of the library, of a scan", by_index, 0.2), ("the same in order", in_order, 0.001):
+            print(f"{label:48}{took / by_scan:9.6f}{bar:7}")
+            missed |= took / by_scan > bar
+        missed |= tested != 1
     sys.exit(missed)
 
 

@@ -1,4 +1,4 @@
-//! Times searches of a directory by its index beside searches that test each entry in scope.
+//! Times searches of a directory by its index, as it stands and in the order of its dump, beside searches that test each entry in scope.
 #![tactic(auto)]
 
 mod timing;
@@ -14,7 +14,7 @@ use std::alloc::Global;
 use std::io::Print;
 use std::rt::Clock;
 use std::{env, fs};
-use timing::{Search, best_of};
+use timing::{Both, Search, best_of};
 use try_device::TrySource;
 
 /// What is printed without words.
@@ -42,20 +42,41 @@ fn prepared(alloc: Global, dir: &Directory, text: &str) -> Result<Prepared>
     Ok(prepare(alloc, &filter, dir.conf())?)
 }
 
-/// A line: the nanoseconds by the index and by the scan, how many entries each tested, and how many were found.
-fn print_row(rt: &(impl Clock + Print), alloc: Global, dir: &Directory, text: &str) -> Result<()> {
-    let filter = prepared(alloc, dir, text)?;
-    let by_index = best_of(rt, alloc, dir, &filter, Search::ByIndex)?;
-    let by_scan = best_of(rt, alloc, dir, &filter, Search::ByScan)?;
+/// A line: the nanoseconds by the index, by the scan and in order, how many entries the first two tested, and how many were found.
+fn print_row(rt: &(impl Clock + Print), alloc: Global, both: &Both<'_>, text: &str) -> Result<()> {
+    let filter = prepared(alloc, both.directory, text)?;
+    let by_index = best_of(rt, alloc, both, &filter, Search::ByIndex)?;
+    let by_scan = best_of(rt, alloc, both, &filter, Search::ByScan)?;
+    let in_order = best_of(rt, alloc, both, &filter, Search::InOrder)?;
     println!(rt;
-        "{:>12}{:>12}{:>9}{:>9}{:>9}  {}",
+        "{:>12}{:>12}{:>12}{:>9}{:>9}{:>9}  {}",
         by_index.nanoseconds,
         by_scan.nanoseconds,
+        in_order.nanoseconds,
         by_index.tested,
         by_scan.tested,
         by_index.found,
         text
     )?;
+    Ok(())
+}
+
+/// A line for each filter.
+fn print_rows(
+    rt: &(impl Clock + Print),
+    alloc: Global,
+    dir: &Directory,
+    filters: &[String],
+) -> Result<()> {
+    let ordered = dir.in_order(alloc)?;
+    let both = Both {
+        directory: dir,
+        ordered,
+    };
+    println!(rt; "    by index     by scan    in order   tested   tested    found  filter")?;
+    for filter in filters {
+        print_row(rt, alloc, &both, filter.as_str())?;
+    }
     Ok(())
 }
 
@@ -69,9 +90,5 @@ fn main(rt: HostRuntime) -> Result<()> {
     let conf = fs::read(&rt, conf.as_str())?;
     let data = fs::read(&rt, data.as_str())?;
     let dir = directory_of(alloc, &conf, &data)?;
-    println!(rt; "    by index     by scan   tested   tested    found  filter")?;
-    for filter in filters {
-        print_row(&rt, alloc, &dir, filter.as_str())?;
-    }
-    Ok(())
+    print_rows(&rt, alloc, &dir, filters)
 }

@@ -3,7 +3,7 @@
 ghost use Rattle.std.specs.Prelude.{◌≡◌};
 
 use anyhow::{Error, Result};
-use directory::{Directory, Hits, Scope, scan};
+use directory::{Directory, Hits, OrderedDirectory, Scope, scan};
 use filter::Prepared;
 use id_sets::IdSet;
 use schema::Path;
@@ -18,7 +18,16 @@ const ROUNDS: usize = 7;
 #[derive(Clone, Copy)]
 pub(crate) enum Search {
     ByIndex,
+    InOrder,
     ByScan,
+}
+
+/// A directory, and the same in the order of its dump.
+#[derive(Drop)]
+pub(crate) struct Both<'a> {
+    pub directory: &'a Directory,
+    pub ordered: OrderedDirectory<'a>,
+    ghost same_conf: { ordered.conf ≡ directory.now.conf },
 }
 
 /// What a search took, and how many entries it found and tested.
@@ -41,19 +50,23 @@ fn counts<S: IdSet>(hits: Hits<'_, S>) -> (u64, u64) {
 
 fn searched(
     alloc: Global,
-    dir: &Directory,
+    both: &Both<'_>,
     base: &Path,
     filter: &Prepared,
     how: Search,
 ) -> Result<(u64, u64)>
-    requires { filter.now.conf ≡ dir.now.conf }
+    requires { filter.now.conf ≡ both.now.directory.now.conf }
 {
     match how {
-        Search::ByIndex => match dir.search(base, Scope::Sub, filter) {
+        Search::ByIndex => match both.directory.search(base, Scope::Sub, filter) {
             Ok(hits) => Ok(counts(hits)),
             Err(_) => Err(Error::msg("the base isn't there")),
         },
-        Search::ByScan => match scan(alloc, dir.tree(), base, Scope::Sub, filter) {
+        Search::InOrder => match both.ordered.search(base, Scope::Sub, filter) {
+            Ok(hits) => Ok(counts(hits)),
+            Err(_) => Err(Error::msg("the base isn't there")),
+        },
+        Search::ByScan => match scan(alloc, both.directory.tree(), base, Scope::Sub, filter) {
             Some(hits) => Ok(counts(hits)),
             None => Err(Error::msg("the base isn't there")),
         },
@@ -63,15 +76,15 @@ fn searched(
 fn time(
     clock: &impl Clock,
     alloc: Global,
-    dir: &Directory,
+    both: &Both<'_>,
     filter: &Prepared,
     how: Search,
 ) -> Result<Row>
-    requires { filter.now.conf ≡ dir.now.conf }
+    requires { filter.now.conf ≡ both.now.directory.now.conf }
 {
     let base = Path::root(alloc);
     let start = Instant::now(clock)?;
-    let (found, tested) = searched(alloc, dir, &base, filter, how)?;
+    let (found, tested) = searched(alloc, both, &base, filter, how)?;
     let took: Duration = start.elapsed(clock)?;
     Ok(Row {
         nanoseconds: took.as_nanos().min(u128::from(u64::MAX)) as u64,
@@ -84,15 +97,15 @@ fn time(
 pub(crate) fn best_of(
     clock: &impl Clock,
     alloc: Global,
-    dir: &Directory,
+    both: &Both<'_>,
     filter: &Prepared,
     how: Search,
 ) -> Result<Row>
-    requires { filter.now.conf ≡ dir.now.conf }
+    requires { filter.now.conf ≡ both.now.directory.now.conf }
 {
-    let mut best = time(clock, alloc, dir, filter, how)?;
+    let mut best = time(clock, alloc, both, filter, how)?;
     for _ in 1..ROUNDS {
-        let row = time(clock, alloc, dir, filter, how)?;
+        let row = time(clock, alloc, both, filter, how)?;
         if row.nanoseconds < best.nanoseconds {
             best = row;
         }
