@@ -3,22 +3,30 @@ from helps import PROGRAM
 
 # What stands behind an option, by the name of its value: folders, files, or one of some words. Others are up to the user.
 FOLDER, FILE = "DIR", "FILE"
-CHOICES = {"SCOPE": ["base", "one", "sub", "children"]}
+CHOICES = {"SCOPE": ["base", "one", "sub", "children"], "ldif-wrap=N|no": ["ldif-wrap=no", "ldif-wrap=76"]}
 
 BASH = """\
 # Completions of {program} for bash, made of its help.
 _{program}() {{
-    local word=$2 before=$3 command= at
+    local word=$2 before=$3 begin= command= at=$COMP_CWORD
     COMPREPLY=()
+    # bash parts a word at each `=`, and looks for what stands behind the last one
+    [[ ${{COMP_WORDS[at]}} == = ]] || ((at--))
+    if ((at > 2)) && [[ ${{COMP_WORDS[at]}} == = ]]; then
+        begin=${{COMP_WORDS[at - 1]}}=
+        word=$begin${{word#=}} before=${{COMP_WORDS[at - 2]}}
+    fi
     for ((at = 1; at < COMP_CWORD; at++)); do
         case ${{COMP_WORDS[at]}} in
             {commands}) command=${{COMP_WORDS[at]}}; break ;;
         esac
     done
     case $command:$before in
-{values}    esac
-    case $command in
-{words}    esac
+{values}        *)
+            case $command in
+{words}            esac ;;
+    esac
+    COMPREPLY=("${{COMPREPLY[@]#"$begin"}}")
 }}
 complete -F _{program} {program}
 """
@@ -65,13 +73,13 @@ def bash_values(helps):
     for command, read in helps.items():
         for option in read.options:
             if option.value:
-                yield f"        {'|'.join(f'{command}:{name}' for name in option.names())}) {bash_choice(option.value)}; return ;;\n"
+                yield f"        {'|'.join(f'{command}:{name}' for name in option.names())}) {bash_choice(option.value)} ;;\n"
 
 
 def bash_words(whole, helps):
     """For each command, its options; without one, the commands."""
     for command, words in [("", [*whole.commands, *words_of(whole)]), ("help", helps)] + [(name, words_of(read)) for name, read in helps.items()]:
-        yield f"""        {command or '""'}) mapfile -t COMPREPLY < <(compgen -W "{' '.join(words)}" -- "$word") ;;\n"""
+        yield f"""                {command or '""'}) mapfile -t COMPREPLY < <(compgen -W "{' '.join(words)}" -- "$word") ;;\n"""
 
 
 def bash(whole, helps):

@@ -6,8 +6,9 @@ from dataclasses import dataclass, field
 PROGRAM = "slaptools"
 # A command, or what OpenLDAP's tool has, and behind two spaces or more what is said of it.
 ROW = re.compile(r"  (\S.*?)  +(\S.*)")
-# An option: its letter, its long name, the name of its value; and what is said of it. WORD, as in [WORD]..., belongs to no option.
-OPTION = re.compile(r"  (?:  |(-\w))(?:,? +(--[\w-]+))?(?: <(\w+)>)?  +(\S.*)")
+# An option: its letter, its long name, the name of its value, which may say its words; and what is said of it. WORD, as in [WORD]..., belongs to no
+# option.
+OPTION = re.compile(r"  (?:  |(-\w))(?:,? +(--[\w-]+))?(?: <([\w=|-]+)>)?  +(\S.*)")
 WORDS = re.compile(r"  \[(\w+)\]\.\.\.  +(\S.*)")
 
 

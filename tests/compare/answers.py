@@ -94,8 +94,8 @@ def searches():
     text = indexes.index_text(directory.conf, dump)
     rows = indexes.read(directory.conf, dump, text)
     asked = strings(constant("searches.rt", "FILTERS"))
-    for by in rows, rows:
-        yield from (found(directory, by, one) for one in asked)
+    for _ in "the kept index", "that in the order of a dump", "the index text", "that and the entries by their ranks":
+        yield from (found(directory, rows, one) for one in asked)
     yield from lies(directory, dump, text)
     yield from brackets(directory, rows)
     yield from (found(directory, None, one) for one in asked)

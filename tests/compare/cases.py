@@ -21,7 +21,7 @@ from pieces import (
 class Case:
     """The files of a folder, None for one that isn't there, and the input and options of a command."""
     # what a case is cut down to
-    OPTIONS: ClassVar = tuple((option, False) for option in ("by_file", "to_file", "index_first", "go_on", "dry_run", "add_default"))
+    OPTIONS: ClassVar = (("wrap", None), *((option, False) for option in ("by_file", "to_file", "index_first", "go_on", "dry_run", "add_default")))
     TEXTS: ClassVar = (("index", None), ("data", None), ("input", b""), ("conf", PLAIN_CONF))
     conf: Optional[bytes]
     data: Optional[bytes]
@@ -34,6 +34,22 @@ class Case:
     to_file: bool = False       # slapcat writes to a file
     index: Optional[bytes] = None
     index_first: bool = False   # slapindex runs over the folder as it begins, too
+    wrap: Optional[bytes] = None    # what slapcat has behind -o
+
+
+# words behind -o that say no width
+BAD_WRAPS = [b"", b"ldif-wrap", b"ldif-wrap=", b"ldif-wrap=1", b"ldif-wrap=01", b"ldif-wrap=+20", b"ldif-wrap=-20", b"ldif-wrap= 20", b"ldif-wrap=20 ",
+             b"ldif-wrap=4294967296", b"ldif-wrap=99999999999999999999", b"ldif-wrap=No", b"ldif-wrap=nono", b"ldif-wrap==20", b"ldif_wrap=20",
+             b"LDIF-WRAP=20", b"wrap=20", b"20", b"no", b"ldif-wrap=2_0", b"ldif-wrap=\xd9\xa3", b"ldif-wrap=20,ldif-wrap=30"]
+
+
+def wrap(rng, chance):
+    """What stands behind -o, with this chance: mostly a width."""
+    if not some(rng, chance):
+        return None
+    width = rng.choice([b"%d" % rng.randrange(2, 101)] * 6 + [b"%d" % rng.randrange(2, 12)] * 3 + [b"0", b"00", b"no", b"no", b"2", b"75", b"76", b"77"] +
+                       [b"4294967295", b"0020"])
+    return rng.choice(BAD_WRAPS) if some(rng, .03) else b"ldif-wrap=" + width
 
 
 def value_line(rng, name, text, wild=True):
@@ -662,7 +678,7 @@ def case(rng):
     config = Config(rng)
     conf, data, text = rng.choice(KINDS)(rng, config, Records(rng, config))
     return Case(conf, data, text, go_on=some(rng, .7), dry_run=some(rng, .1), by_file=some(rng, .3),
-                to_file=some(rng, .1), index=index_before(rng, conf, data), index_first=some(rng, .2))
+                to_file=some(rng, .1), index=index_before(rng, conf, data), index_first=some(rng, .2), wrap=wrap(rng, .3))
 
 
 def change_case(rng):
@@ -677,4 +693,4 @@ def change_case(rng):
     text = None if some(rng, .02) else mutated(rng, text) if some(rng, .1) else text
     conf = config.broken_text() if some(rng, .03) else config.text
     return Case(conf, data, text, True, add_default, go_on=some(rng, .8), dry_run=some(rng, .1), by_file=some(rng, .3),
-                to_file=some(rng, .1), index=index_before(rng, conf, data), index_first=some(rng, .2))
+                to_file=some(rng, .1), index=index_before(rng, conf, data), index_first=some(rng, .2), wrap=wrap(rng, .3))

@@ -1,13 +1,13 @@
 #!/usr/bin/env python3
-"""Compares a built program with a second reading of the rules: compare.py PROGRAM COUNT SEED .. [--changes] [--searches] [--only]
+"""Compares a built program with a second reading of the rules: compare.py PROGRAM COUNT SEED .. [--changes] [--searches] [--lists] [--only]
 
-The second reading is `model.py` with `schema.py`, `values.py`, `ldif.py`, `filters.py` and `indexes.py`. It was written apart from the
-program and shares no code with it, so that a rule that one of the two reads wrongly shows as a difference. For each SEED, COUNT random
-folders and inputs go through slapadd, slapcat and slapindex, and some through slapindex before all of them; statuses, outputs, messages
-and all files are compared byte for byte. With --changes as many more go through ldapmodify in place of slapadd, and with --searches as
-many through search or through slapcat with a filter or a name; with --only slapadd is left out. A case that differs is cut down and
-printed; at the end stands how often each status, code and fault came up, and how many slots of the index texts had keys. The exit
-status is 0 where nothing differs, else 1.
+The second reading is `model.py` with `schema.py`, `values.py`, `ldif.py`, `filters.py` and `indexes.py`. It was written apart from the program
+and shares no code with it, so that a rule that one of the two reads wrongly shows as a difference. For each SEED, COUNT random folders and
+inputs go through slapadd, slapcat and slapindex, and some through slapindex before all of them; statuses, outputs, messages and all files are
+compared byte for byte. Some print lines of another width than 76; slapadd makes the same directory of what slapcat prints so. With --changes as
+many more go through ldapmodify in place of slapadd, with --searches as many through search or through slapcat with a filter or a name, and with
+--lists as many through search -f; with --only slapadd is left out. A case that differs is cut down and printed; at the end stands how often each
+status, code and fault came up, and how many slots of the index texts had keys. The exit status is 0 where nothing differs, else 1.
 """
 import argparse
 import collections
@@ -23,6 +23,7 @@ from dataclasses import fields, replace
 from pathlib import Path
 
 import cases
+import lists
 import model
 import searches
 import values
@@ -32,7 +33,8 @@ SECONDS = 10        # for one run of the program
 MOST_SHOWN = 3      # differences that are cut down and printed
 MOST_TRIES = 2000   # cases that are tried to cut down one of them
 # what a case is called, what it is drawn from beside its seed, and how
-KINDS = [("case", "", cases.case), ("change", "{} changes", cases.change_case), ("search", "{} searches", searches.search_case)]
+KINDS = [("case", "", cases.case), ("change", "{} changes", cases.change_case), ("search", "{} searches", searches.search_case),
+         ("list", "{} lists", lists.list_case)]
 
 
 def read(path):
@@ -49,7 +51,7 @@ class Runner:
 
     def __init__(self, program, home):
         self.program, self.db = program, home / "db"
-        self.input, self.output, self.missing = home / "input", home / "output", home / "missing"
+        self.input, self.output, self.missing, self.copy = home / "input", home / "output", home / "missing", home / "copy"
 
     def run(self, *words, text=b""):
         """-> (status, output, messages)"""
@@ -68,6 +70,9 @@ class Runner:
         seen, wanted = {}, {}
         if isinstance(case, searches.Search):
             self.search(case, seen, wanted)
+            return seen, wanted
+        if isinstance(case, lists.SearchList):
+            self.search_list(case, seen, wanted)
             return seen, wanted
         if case.index_first:
             self.slapindex(case, "first slapindex", seen, wanted)
@@ -113,14 +118,27 @@ class Runner:
         before = self.files()
         self.output.unlink(missing_ok=True)
         words = ["-l", self.output] if case.to_file else []
+        words += ["-o", case.wrap] if case.wrap is not None else []
         status, output, messages = self.run("slapcat", "--db", self.db, *words)
         seen.update({"slapcat status": status, "slapcat output": output, "slapcat messages": messages,
                      "slapcat file": read(self.output)})
-        status, output, messages = model.slapcat(case.conf, before.get("data.ldif"), self.db)
+        printed = seen["slapcat file"] or output
+        status, output, messages = model.slapcat(case.conf, before.get("data.ldif"), self.db, wrap=case.wrap)
         to_file = case.to_file and status == 0
         wanted.update({"slapcat status": status, "slapcat output": b"" if to_file else output,
                        "slapcat messages": messages, "slapcat file": output if to_file else None})
         self.compare_files(" behind slapcat", before, seen, wanted)
+        if case.wrap is not None and seen["slapcat status"] == status == 0:
+            self.load(case, printed, seen, wanted)
+
+    def load(self, case, printed, seen, wanted):
+        """What slapcat printed in lines of a width, loaded into a folder of its own: the same directory is stored, in lines of 76 bytes."""
+        stored = model.slapcat(case.conf, self.files().get("data.ldif"), self.db)[1]
+        shutil.rmtree(self.copy, ignore_errors=True)
+        self.copy.mkdir()
+        write(self.copy / "dir.conf", case.conf)
+        seen["loaded"] = *self.run("slapadd", "--db", self.copy, text=printed), read(self.copy / "data.ldif")
+        wanted["loaded"] = 0, b"", b"", stored
 
     def slapindex(self, case, called, seen, wanted):
         """Stores the index of the folder as it is. Behind a change that was stored it is there already."""
@@ -141,9 +159,9 @@ class Runner:
         if not all(values.is_utf8(text) for text in case.texts()):
             answer = 2, b"", b"command line: not UTF-8\n"
         elif case.is_slapcat:
-            answer = model.slapcat(*files, case.filter, case.base)
+            answer = model.slapcat(*files, case.filter, case.base, wrap=case.wrap)
         else:
-            answer = model.search(*files, case.asked(), case.base, case.scope, case.limit, case.index)
+            answer = model.search(*files, case.asked(), case.base, case.scope, case.limit, case.index, wrap=case.wrap)
         wanted["status"], wanted["output"], wanted["messages"] = answer
         if wanted["messages"] is None:
             # a text of the library that reads the words
@@ -151,6 +169,25 @@ class Runner:
         wanted["file"] = None
         if case.to_file and wanted["status"] == 0:
             wanted["output"], wanted["file"] = b"", wanted["output"]
+        self.compare_files("", before, seen, wanted)
+
+    def search_list(self, case, seen, wanted):
+        """search -f, of a file or of its input"""
+        before, file = self.files(), self.missing if case.lines is None else self.input
+        if not case.by_input:
+            write(self.input, case.lines)
+        words = case.command(self.db, "-" if case.by_input else file)
+        seen["status"], seen["output"], seen["messages"] = self.run(*words, text=case.lines if case.by_input else b"")
+        lines = model.Lines(case.lines, "input" if case.by_input else file, case.go_on)
+        if all(values.is_utf8(text) for text in case.texts()):
+            answer = model.search(case.conf, case.data, self.db, case.asked(), case.base, case.scope, case.limit, case.index, case.verbose, case.counts, lines,
+                                  case.wrap)
+        else:
+            answer = 2, b"", b"command line: not UTF-8\n"
+        wanted["status"], wanted["output"], wanted["messages"] = answer
+        if wanted["messages"] is None:
+            # a text of the library that reads the words
+            wanted["messages"] = seen["messages"] or b"a message"
         self.compare_files("", before, seen, wanted)
 
 
@@ -219,8 +256,12 @@ def show(case, found):
 
 
 def count(counts, case, wanted):
+    count_width(counts, case, wanted)
     if isinstance(case, searches.Search):
         count_search(counts, case, wanted)
+        return
+    if isinstance(case, lists.SearchList):
+        count_list(counts, case, wanted)
         return
     counts[f"{'ldapmodify' if case.changes else 'slapadd'}: status {wanted['status']}"] += 1
     counts[f"slapcat: status {wanted['slapcat status']}"] += 1
@@ -231,6 +272,19 @@ def count(counts, case, wanted):
     if wanted["slapindex status"] == 0:
         count_index(counts, case, wanted)
     count_messages(counts, "changes" if case.changes else "input", wanted["messages"])
+
+
+def count_width(counts, case, wanted):
+    """The width that is asked for, of what is printed."""
+    printed = wanted.get("slapcat file") or wanted.get("slapcat output") or wanted.get("file") or wanted["output"]
+    if case.wrap is not None and printed:
+        folded = "folded" if re.search(rb"^ ", printed, re.MULTILINE) else "not folded"
+        width = model.width_of(case.wrap)
+        kind = "no" if width == model.UNFOLDED else "to 9" if width < 10 else "to 75" if width < 76 else "76" if width == 76 else "more than 76"
+        counts[f"widths: {kind}, {folded}"] += 1
+        counts["widths: loaded again"] += "loaded" in wanted
+    elif case.wrap is not None and model.width_of(case.wrap) is None:
+        counts["widths: a word that is none"] += 1
 
 
 def count_index(counts, case, wanted):
@@ -257,6 +311,19 @@ def count_search(counts, case, wanted):
         counts[f"searches: {min(found, 3)} {'entries or more' if found > 2 else 'entry' if found == 1 else 'entries'}"] += 1
     elif case.conf is not None and case.data is not None:
         count_messages(counts, "searches", wanted["messages"])
+
+
+def count_list(counts, case, wanted):
+    counts[f"search -f: status {wanted['status']}"] += 1
+    fault = re.search(rb"^index.txt: (.*)$", wanted["messages"], re.MULTILINE)
+    counts[f"lists: index.txt {'missing' if case.index is None else fault[1].decode() if fault else 'read'}"] += 1
+    searched = wanted["output"].count(b"\n" if case.counts else b"# filter: ")
+    counts[f"lists: {min(searched, 3)} {'lines or more' if searched > 2 else 'line' if searched == 1 else 'lines'} with an answer"] += 1
+    for line in wanted["messages"].decode().splitlines():
+        if line.startswith(("filter line ", "error: ", "search: ")):
+            counts[f"lists: {re.sub(r'[0-9]+', 'N', re.sub(r'^(error: invalid value).*: ', r'error: ', line))}"[:70]] += 1
+        elif line.endswith(": cannot read"):
+            counts["lists: a file: cannot read"] += 1
 
 
 def count_messages(counts, source, messages):
@@ -303,6 +370,7 @@ def main():
     parser.add_argument("seeds", metavar="seed", type=int, nargs="+")
     parser.add_argument("--changes", action="store_true")
     parser.add_argument("--searches", action="store_true")
+    parser.add_argument("--lists", action="store_true")
     parser.add_argument("--only", action="store_true", help="no cases of slapadd beside those")
     words = parser.parse_args()
     program = shutil.which(words.program)
@@ -311,7 +379,7 @@ def main():
     memory = "/dev/shm" if os.access("/dev/shm", os.W_OK) else None
     with tempfile.TemporaryDirectory(prefix="compare.", dir=memory) as home:
         runner = Runner(os.path.abspath(program), Path(home))
-        kinds = [kind for kind, wanted in zip(KINDS, (not words.only, words.changes, words.searches)) if wanted]
+        kinds = [kind for kind, wanted in zip(KINDS, (not words.only, words.changes, words.searches, words.lists)) if wanted]
         counts, differing = compare(runner, words.count, words.seeds, kinds)
     for key in sorted(counts, key=lambda key: (key.split(": ")[0], len(key), key)):
         print(f"{key:28} {counts[key]:7}")

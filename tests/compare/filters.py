@@ -5,6 +5,7 @@ A filter is a list of steps. An item stands for itself; ("&", 2) joins the two f
 before it. So a filter as deep as one likes is read and tested without calls within calls. Truth is True, False, or None where
 it is Undefined.
 """
+import re
 import string
 from dataclasses import dataclass
 
@@ -13,6 +14,7 @@ import values
 MOST_OPEN = 512
 WORD_BYTES = frozenset(string.ascii_letters.encode() + string.digits.encode() + b"-_.;")
 HEXADECIMAL = frozenset(string.hexdigits.encode())
+PLAIN = re.compile(rb"[^\0()*\\]+")     # bytes of a value that stand for themselves
 # what stands in front of the equals sign of items other than a=v
 FORMS = {b"~": "approximate", b">": "at least", b"<": "at most"}
 
@@ -152,20 +154,20 @@ class Reader:
 
     def value(self, takes_stars):
         """-> what stands between stars"""
-        pieces = [b""]
+        pieces = [bytearray()]
         while self.peek() not in (b"", b")"):
-            byte = self.peek()
-            if byte == b"*" and takes_stars:
-                pieces.append(b"")
+            byte, plain = self.peek(), PLAIN.match(self.text, self.at)
+            if plain:
+                pieces[-1] += plain[0]
+                self.at = plain.end()
+            elif byte == b"*" and takes_stars:
+                pieces.append(bytearray())
+                self.at += 1
             elif byte == b"\\":
                 pieces[-1] += self.escaped()
-                continue
-            elif byte in (b"\0", b"(", b"*"):
-                self.fail()
             else:
-                pieces[-1] += byte
-            self.at += 1
-        return pieces
+                self.fail()
+        return [bytes(piece) for piece in pieces]
 
     def escaped(self):
         """A backslash and two digits."""

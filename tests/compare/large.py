@@ -2,11 +2,12 @@
 """Runs what is large through a built program and through a second reading: large.py PROGRAM
 
 Texts over 1 MiB, lines of 100,001 bytes, values over 64 KiB, names of 17 RDNs and more, RDNs of 9 AVAs and more, long filters, a long
-dir.conf and long index texts, each whole and with a fault in its last part. Status, output, messages and the stored data.ldif and index.txt
+dir.conf and long index texts, each whole and with a fault in its last part; lists of a million lines for search -f, and lines of 10 MB. Status, output, messages and the stored data.ldif and index.txt
 must be the same, and none may be out of memory. Prints each difference and at the end the number of runs; the exit status is 0 where nothing differs, else 1.
 """
 import base64
 import hashlib
+import itertools
 import subprocess
 import sys
 import tempfile
@@ -163,6 +164,51 @@ def filters():
         yield f"{depth} deep", "(!" * (depth - 1) + "(cn=a)" + ")" * (depth - 1)
 
 
+def with_lines(lines, data=SUFFIX):
+    return {"dir.conf": CONF, "data.ldif": data, "in": lines}
+
+
+def long_lines():
+    """-> (what it is, the files before, the words of search)"""
+    long = b"x" * 10_000_000
+    data = texts([SUFFIX, entry(b"cn=a,dc=ex", b"l: " + long + b"\n"), entry(b"cn=b,dc=ex")])
+    yield "a line of 10 MB that is there", with_lines(long + b"\n" + long[1:] + b"\r\n" + long, data), ["(l=%s)", "1.1"]
+    yield "a line of 10 MB that isn't there", with_lines(b"a\n" + long + b"\r\nb", data), ["(cn=%s)", "1.1"]
+    yield "a line of 10 MB with a fault at its end", with_lines(long + b"(\na\n", data), ["-c", "-v", "(cn=%s)", "1.1"]
+    yield "a line of 10 MB with a fault at its beginning", with_lines(b"(" + long + b"\na\n", data), ["-c", "-v", "(cn=%s)", "1.1"]
+    yield "a line of 10 MB that is the filter", with_lines(b"(l=" + long + b")", data), ["--count"]
+    yield "a line of 10 MB without an equals sign", with_lines(long + b"\ncn=a\n", data), ["-c", "1.1"]
+    yield "a line of 10 MB in CRs", with_lines(b"\r" * 10_000_000 + b"\n" + b"\r" * 10_000_000, data), ["(cn=%s)", "1.1"]
+    yield "a line of 1 MB in pieces", with_lines(b"ab*" * 333_333 + b"\n*x*" + b"x*" * 500_000, data), ["(l=%s)", "1.1"]
+    yield "a line of 1 MB in escapes", with_lines(b"\\78" * 333_333 + b"\n", data), ["(l=*%s*)", "1.1"]
+    yield "a line of 100,000 items", with_lines(b"(cn=no)" * 100_000 + b"(cn=b)\n" + b"(cn=no)" * 100_000 + b"(cn)\n", data), ["(|%s)", "1.1"]
+
+
+def many_lines():
+    """-> (what it is, the files before, the words of search)"""
+    numbers = range(1_000_000)
+    some = b"".join(b"%d\n" % (number % 1000) for number in numbers)
+    data = texts([SUFFIX] + [entry(b"cn=%d,dc=ex" % number) for number in range(10)])
+    yield "a million lines", with_lines(some, data), ["--count", "(cn=%s)"]
+    yield "a million lines, and their entries", with_lines(some, data), ["(cn=%s)", "1.1"]
+    yield "a million lines that end with CR LF", with_lines(some.replace(b"\n", b"\r\n"), data), ["--count", "(cn=%s)"]
+    yield "a million lines that are empty", with_lines(b"\n" * 1_000_000, data), ["--count", "(cn=%s)"]
+    yield "a million lines and a fault at their end", with_lines(some + b"(", data), ["--count", "-v", "(cn=%s)"]
+    yield "100,000 lines with a fault", with_lines(b"(\n" * 100_000, data), ["-c", "(cn=%s)"]
+    yield "a million lines behind a fault", with_lines(b"(\n" + some, data), ["(cn=%s)"]
+    few, ranks = CONF.split(b"index")[0] + b"index cn eq\n", range(1, 3000)
+    dump = texts([SUFFIX] + [entry(b"cn=%04d,dc=ex" % rank, b"cn: %04d\n" % rank) for rank in ranks]) + b"\n"
+    keys = b"".join(b"%b %d\n" % ((b"%04d" % rank).hex().encode(), rank) for rank in ranks)
+    padded = b"".join(b"%04d\n" % (number % 1000 * 4) for number in numbers)
+    yield "a million lines by an index", {**files_of(few, dump, b"slot cn eq\n" + keys), "in": padded}, ["--count", "(cn=%s)"]
+    lies = keys.replace(b" 4\n", b" 5\n")
+    yield "a million lines by an index that lies", {**files_of(few, dump, b"slot cn eq\n" + lies), "in": padded}, ["--count", "(cn=%s)"]
+    data = texts([SUFFIX] + [entry(b"cn=%d,dc=ex" % number, b"l: all\n") for number in range(5000)])
+    for what, options in [("", []), (" but one", ["-c", "-z", "5000"]), (", of which one is printed", ["-c", "-z", "1"]),
+                          (", of which one is counted", ["-c", "-z", "1", "--count"]), (" but one, which ends the command", ["-z", "5000"])]:
+        yield f"lines that find 5,001 entries{what}", with_lines(b"dc=ex\nl=all\nl=*\n&\n" * 5, data), [*options, "(|(objectClass=*)(%s))"]
+
+
 def differing():
     """-> (what it is, two texts of content records)"""
     sn = [b"sn: value %d\n" % number for number in range(10000)]
@@ -233,6 +279,8 @@ def runs():
         yield what, {"dir.conf": CONF, "data.ldif": text, "index.txt": b"old"}, "slapindex", []
     for what, files, text in index_texts():
         yield what, files, "search", [text, "1.1"]
+    for what, files, words in itertools.chain(long_lines(), many_lines()):
+        yield what, files, "search", ["-f", "db/in", *words]
     for what, conf, one, other in [(what, CONF, *both) for what, *both in differing()] + list(types_that_differ()):
         for options in ([], ["--unordered"]):
             yield what, {"dir.conf": conf, "data.ldif": one, "in": other}, "ldifdiff", ["-v", "-l", "db/in", *options]

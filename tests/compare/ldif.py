@@ -254,13 +254,24 @@ def is_plain(value):
             and not value.startswith((b" ", b":", b"<")) and not value.endswith(b" "))
 
 
-def written_line(name, value):
-    """Folded after 76 bytes, and then after 75 behind the space of each further line."""
+STANDARD_WIDTH = 76
+
+
+def folded(line, width):
+    """Lines of at most so many bytes (RFC 2849, note 2): of each but the first the first one is a space."""
+    pieces, rest = [line[:width]], line[width:]
+    while rest:
+        pieces.append(b" " + rest[:width - 1])
+        rest = rest[width - 1:]
+    return b"".join(piece + b"\n" for piece in pieces)
+
+
+def written_line(name, value, width=STANDARD_WIDTH):
+    """What is in no form to stand as it is stands in base64."""
     if not value:
         line = name + b":"
     elif is_plain(value):
         line = name + b": " + value
     else:
         line = name + b":: " + base64.b64encode(value)
-    pieces = [line[:76]] + [b" " + line[at:at + 75] for at in range(76, len(line), 75)]
-    return b"".join(piece + b"\n" for piece in pieces)
+    return folded(line, width)

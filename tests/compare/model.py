@@ -1,7 +1,11 @@
 """What slapadd, ldapmodify, slapindex, slapcat and search do, byte for byte. `schema.py` reads dir.conf and names, `values.py` compares
 values, `ldif.py` reads and writes records, `filters.py` reads and tests filters, `indexes.py` makes index texts of dumps.
 """
+import functools
 import re
+import sys
+from dataclasses import dataclass
+from typing import Optional
 
 import filters
 import indexes
@@ -18,7 +22,7 @@ CODES = {
 }
 OBJECT_CLASS = 0
 DIGITS = re.compile(rb"[0-9]+")
-MOST_ENTRIES = 2**32 - 1    # that a limit can name
+MOST_ENTRIES = 2**32 - 1    # that a limit can name, and the most bytes of a line
 # which entries are looked at, by their paths (RFC 4511, 4.5.1.2)
 SCOPES = {
     b"base": lambda path, base: path == base,
@@ -359,13 +363,13 @@ class Directory:
         """Every entry as a content record, in the order of paths, which brings parents first."""
         return b"".join(self.printed(path) for path in sorted(self.entries))
 
-    def printed(self, path, is_selected=lambda number: True):
-        """An entry with the types that are selected, in the order in which it has them."""
+    def printed(self, path, is_selected=lambda number: True, width=ldif.STANDARD_WIDTH):
+        """An entry with the types that are selected, in the order in which it has them, in lines of a width."""
         rdns = [self.entries[path[:depth]][0] for depth in range(len(path), 0, -1)] + self.conf.suffix
-        out = [ldif.written_line(b"dn", self.conf.written_name(rdns))]
+        out = [ldif.written_line(b"dn", self.conf.written_name(rdns), width)]
         for number, values in self.entries[path][1].values.items():
             if is_selected(number):
-                out += [ldif.written_line(self.conf.types[number].printed(), value) for value in values.values()]
+                out += [ldif.written_line(self.conf.types[number].printed(), value, width) for value in values.values()]
         return b"".join(out) + b"\n"
 
 
@@ -490,8 +494,12 @@ def base_of(directory, name, command):
         raise Ended(1, f"{command}: {refused}", f"  {refused.why}\n") from None
 
 
-def slapcat(conf_text, data, folder, filter_text=None, below=None, verbose=False):
-    """All entries, or those for which a filter is True, or those at and below a name. -> (status, output, messages)"""
+def slapcat(conf_text, data, folder, filter_text=None, below=None, verbose=False, wrap=None):
+    """All entries, or those for which a filter is True, or those at and below a name. -> (status, output, messages, or None where they are those
+    of the library that reads words)"""
+    width = width_of(wrap)
+    if width is None:
+        return bad_width(wrap)
     try:
         steps = read_filter(b"(&)" if filter_text is None else filter_text)
         directory = load(conf_text, data, folder)
@@ -499,7 +507,7 @@ def slapcat(conf_text, data, folder, filter_text=None, below=None, verbose=False
     except Ended as end:
         return end.status, b"", end.told(verbose)
     paths = directory.matching(SCOPES[b"sub"], base, filters.prepared(directory.conf, steps))
-    return 0, b"".join(directory.printed(path) for path in paths), b""
+    return 0, b"".join(directory.printed(path, width=width) for path in paths), b""
 
 
 def limit_of(text):
@@ -507,6 +515,26 @@ def limit_of(text):
     digits = text.lstrip(b"0") or text[-1:]
     # Python refuses to read thousands of digits
     return int(digits) if DIGITS.fullmatch(text) and len(digits) <= len(str(MOST_ENTRIES)) and int(digits) <= MOST_ENTRIES else None
+
+
+# slapcat(8), ldapsearch(1): -o ldif-wrap=N|no
+
+UNFOLDED = sys.maxsize      # no line is so long
+
+
+def width_of(word):
+    """How many bytes a printed line has at most, by a word behind -o. None where it doesn't say that."""
+    if word is None or word == b"ldif-wrap=no":
+        return ldif.STANDARD_WIDTH if word is None else UNFOLDED
+    name, _, digits = word.partition(b"=")
+    number = limit_of(digits) if name == b"ldif-wrap" else None
+    return {0: ldif.STANDARD_WIDTH, 1: None}.get(number, number)
+
+
+def bad_width(word):
+    if word.startswith(b"-"):
+        return 2, b"", None
+    return bad_value(word, b"-o <ldif-wrap=N|no>", b"ldif-wrap=no, or ldif-wrap= and 0 or a number from 2 to %d" % MOST_ENTRIES)
 
 
 def selection(conf, words):
@@ -550,30 +578,115 @@ def index_rows(directory, index, verbose):
         return None, f"index.txt: {fault}\n{said}".encode()
 
 
-def search(conf_text, data, folder, words, name=None, scope_word=None, limit_word=None, index=None, verbose=False):
-    """Of the words the first one may be a filter, the others are attributes. -> (status, output, messages, or None where they are
-    those of the library that reads words)"""
-    scope = SCOPES.get(b"sub" if scope_word is None else scope_word)
-    limit, text = limit_of(b"0" if limit_word is None else limit_word), b"(objectClass=*)"
+def is_filter(word):
+    return word.startswith(b"(") or b"=" in word
+
+
+def search(conf_text, data, folder, words, name=None, scope_word=None, limit_word=None, index=None, verbose=False, counts=False, lines=None, wrap=None):
+    """Of the words the first one may be a filter, the others are attributes. With `lines`, a Lines, there is a search for each of them. ->
+    (status, output, messages, or None where they are those of the library that reads words)"""
+    scope, limit = SCOPES.get(b"sub" if scope_word is None else scope_word), limit_of(b"0" if limit_word is None else limit_word)
     if scope is None or limit is None:
         return bad_option(scope, scope_word, limit_word)
-    if words and (words[0].startswith(b"(") or b"=" in words[0]):
-        text, words = words[0], words[1:]
+    width = width_of(wrap)
+    if width is None:
+        return bad_width(wrap)
+    pattern, names = (words[0], words[1:]) if words and is_filter(words[0]) else (None, words)
+    if lines is not None and pattern is not None and has_stray_percent(pattern):
+        return bad_pattern(pattern)
+    text = b"(objectClass=*)" if pattern is None else pattern
     try:
-        steps = read_filter(text)
+        if lines is None:
+            read_filter(text)
         directory = load(conf_text, data, folder)
         rows, warning = index_rows(directory, index, verbose)
     except Ended as end:
         return end.status, b"", end.told(verbose)
     try:
-        base = base_of(directory, name, "search")
+        finder = Finder(directory, rows, scope, base_of(directory, name, "search"), limit, selection(directory.conf, names), width)
+        answer = search_once(finder, text, counts, verbose) if lines is None else search_lines(finder, pattern, lines, counts, verbose)
     except Ended as end:
-        return end.status, b"", warning + end.told(verbose)
-    paths = directory.matching(scope, base, filters.prepared(directory.conf, steps), rows)
-    is_selected = selection(directory.conf, words)
-    shown = paths[:limit] if limit else paths
-    output = b"".join(directory.printed(path, is_selected) for path in shown)
-    if len(shown) == len(paths):
-        return 0, output, warning
-    past = Ended(1, f"search: {Refused(4)}", f"  more than {limit} match, and no more are printed\n")
-    return 1, output, warning + past.told(verbose)
+        answer = end.status, b"", end.told(verbose)
+    status, output, messages = answer
+    return status, output, warning + messages
+
+
+class Finder:
+    """All of a search but its filter."""
+
+    def __init__(self, directory, rows, scope, base, limit, is_selected, width):
+        self.directory, self.rows, self.scope, self.base, self.limit = directory, rows, scope, base, limit
+        self.is_selected, self.width = is_selected, width
+        # many lines may be alike
+        self.found = functools.lru_cache(1024)(self.found_anew)
+
+    def found_anew(self, text):
+        """What a filter's text finds. -> (how many entries are printed, their text, whether there are more)"""
+        steps = filters.prepared(self.directory.conf, filters.read_filter(text))
+        paths = self.directory.matching(self.scope, self.base, steps, self.rows)
+        shown = paths[:self.limit] if self.limit else paths
+        return len(shown), b"".join(self.directory.printed(path, self.is_selected, self.width) for path in shown), len(shown) < len(paths)
+
+    def past_limit(self, where):
+        return Ended(1, f"{where}: {Refused(4)}", f"  more than {self.limit} match, and no more are printed\n")
+
+
+def search_once(finder, text, counts, verbose):
+    number, entries, has_more = finder.found(text)
+    output = b"%d\n" % number if counts else entries
+    if not has_more:
+        return 0, output, b""
+    end = finder.past_limit("search")
+    return end.status, output, end.told(verbose)
+
+
+# a search for each line of a text
+
+@dataclass
+class Lines:
+    """A text of lines, None where it can't be read; what it is called in a report; and whether a line that is refused ends the command."""
+    text: Optional[bytes]
+    source: str
+    go_on: bool = False
+
+    def split(self):
+        """An LF ends a line, with a CR right before it. The last line may have no end: a CR there is one of its own bytes."""
+        *ended, last = self.text.split(b"\n")
+        return [line.removesuffix(b"\r") for line in ended] + [last] * (last != b"")
+
+
+def has_stray_percent(pattern):
+    """Whether there is a percent sign that isn't that of the first %s."""
+    first = pattern.find(b"%s")
+    return any(byte == ord("%") and at != first for at, byte in enumerate(pattern))
+
+
+def bad_pattern(word):
+    return 2, b"", (b"error: invalid value '" + word + b"' for '[WORD]...': with -f it may have one %s, which stands for a line; "
+                    b"write another % as \\25\n")
+
+
+def comment(text):
+    """A line of LDIF that is a comment (RFC 2849): what would end it is written as in a filter (RFC 4515)."""
+    return b"# filter: " + text.replace(b"\n", b"\\0A").replace(b"\r", b"\\0D") + b"\n"
+
+
+def search_lines(finder, pattern, lines, counts, verbose):
+    """The first %s of the pattern stands for each line in turn; without a pattern the line is the filter."""
+    if lines.text is None:
+        raise Ended(3, f"{lines.source}: cannot read", "  no such file or folder\n")
+    status, output, messages = 0, [], []
+    for number, line in enumerate(lines.split(), 1):
+        text, end = line if pattern is None else pattern.replace(b"%s", line, 1), None
+        try:
+            found, entries, has_more = finder.found(text)
+            output.append(b"%d\t%b\n" % (found, line) if counts else comment(text) + entries)
+            end = finder.past_limit(f"filter line {number}") if has_more else None
+        except filters.Fault as fault:
+            end = Ended(2, f"filter line {number}: {fault}", sentences.of_filter(text, str(fault)))
+        if end is not None:
+            status = max(status, end.status)
+            messages.append(end.told(verbose))
+            if not lines.go_on:
+                break
+    return status, b"".join(output), b"".join(messages)

@@ -14,7 +14,7 @@ import model
 OPTIONS = {
     "slapadd": ("-l", ["--wait"], ["-c", "-u", "-v"]), "ldapmodify": ("-f", ["--wait"], ["-a", "-c", "-n", "-v"]),
     "slapindex": (None, ["--wait"], ["-v"]),
-    "search": (None, ["-b", "-s", "-z"], ["-v"]), "slapcat": ("-l", ["-a", "-s"], ["-v"]),
+    "search": ("-f", ["-b", "-s", "-z", "-o"], ["-c", "--count", "-v"]), "slapcat": ("-l", ["-a", "-s", "-o"], ["-v"]),
     "ldifdiff": ("-l", ["-a", "-b"], ["--unordered", "-v"]),
 }
 
@@ -127,9 +127,11 @@ def is_own_file(folder, path):
     return name in ("dir.conf", "data.ldif", "index.txt") and os.path.realpath(beside) == os.path.realpath(folder)
 
 
-def slapcat(words):
+def slapcat(words, parser):
     files = read(f"{words.db}/dir.conf"), read(f"{words.db}/data.ldif")
-    status, output, messages = model.slapcat(*files, words.db, encoded(words.a), encoded(words.s), words.v)
+    status, output, messages = model.slapcat(*files, words.db, encoded(words.a), encoded(words.s), words.v, encoded(words.o))
+    if messages is None:
+        parser.error("no width")
     if words.file is None or status != 0:
         return status, output, messages
     if is_own_file(words.db, words.file):
@@ -138,12 +140,18 @@ def slapcat(words):
     return status, b"", messages
 
 
+def lines_of(words):
+    text, source = (sys.stdin.buffer.read(), "input") if words.file == "-" else (read(words.file), words.file)
+    return model.Lines(text, source, words.c)
+
+
 def search(words, parser):
     files = read(f"{words.db}/dir.conf"), read(f"{words.db}/data.ldif")
     asked = [encoded(word) for word in words.words], encoded(words.b), encoded(words.s), encoded(words.z)
-    status, output, messages = model.search(*files, words.db, *asked, index=read(f"{words.db}/index.txt"), verbose=words.v)
+    status, output, messages = model.search(
+        *files, words.db, *asked, read(f"{words.db}/index.txt"), words.v, words.count, None if words.file is None else lines_of(words), encoded(words.o))
     if messages is None:
-        parser.error("no scope, or no limit")
+        parser.error("no scope, no limit, or no width")
     return status, output, messages
 
 
@@ -173,11 +181,10 @@ def main():
         return 0
     if "wait" in words and seconds_of(words) is None:
         status, output, messages = model.bad_number(encoded(words.wait), b"--wait <SECONDS>")
-    elif words.command == "search":
-        status, output, messages = search(words, parsers["search"])
+    elif words.command in ("search", "slapcat"):
+        status, output, messages = {"search": search, "slapcat": slapcat}[words.command](words, parsers[words.command])
     else:
-        run = {"slapcat": slapcat, "slapindex": slapindex, "ldifdiff": ldifdiff}.get(words.command, change)
-        status, output, messages = run(words)
+        status, output, messages = {"slapindex": slapindex, "ldifdiff": ldifdiff}.get(words.command, change)(words)
     sys.stdout.buffer.write(output)
     sys.stderr.buffer.write(messages)
     return status

@@ -8,7 +8,7 @@ from typing import ClassVar, Optional
 
 import model
 import values
-from cases import Changes, alike, mutated
+from cases import Changes, alike, mutated, wrap
 from configs import PLAIN_CONF, SUBSTRINGS_OF, Config, other_case, some
 from pieces import VALUES
 
@@ -36,7 +36,7 @@ ODD_WORDS = [b"no", b"", b"$T;x", b"1.1", b"*", b"+", b"**", b" $T", b"$T ", b" 
 @dataclass(frozen=True)
 class Search:
     """The files of a folder, None for one that isn't there, and the words of a command."""
-    OPTIONS: ClassVar = (("to_file", False), ("scope", None), ("limit", None), ("base", None), ("words", ()))
+    OPTIONS: ClassVar = (("wrap", None), ("to_file", False), ("scope", None), ("limit", None), ("base", None), ("words", ()))
     TEXTS: ClassVar = (("index", None), ("data", None), ("filter", None), ("conf", PLAIN_CONF))
     conf: Optional[bytes]
     data: Optional[bytes]
@@ -48,14 +48,15 @@ class Search:
     words: tuple = ()           # attributes
     to_file: bool = False       # slapcat writes to a file
     index: Optional[bytes] = None
+    wrap: Optional[bytes] = None
 
     def command(self, db, output):
         """The words of the command line."""
         if self.is_slapcat:
-            options = [("-a", self.filter), ("-s", self.base), ("-l", output if self.to_file else None)]
+            options = [("-a", self.filter), ("-s", self.base), ("-l", output if self.to_file else None), ("-o", self.wrap)]
             words = []
         else:
-            options = [("-b", self.base), ("-s", self.scope), ("-z", self.limit)]
+            options = [("-b", self.base), ("-s", self.scope), ("-z", self.limit), ("-o", self.wrap)]
             words = self.asked()
         line = ["slapcat" if self.is_slapcat else "search", "--db", db]
         line += [word for option in options if option[1] is not None for word in option]
@@ -267,9 +268,9 @@ def search_case(rng):
     text = None if some(rng, .08) else searches.text_of_filter()
     index = index_beside(rng, conf, data)
     if is_slapcat:
-        return Search(conf, data, True, sayable(text), sayable(base), to_file=some(rng, .1), index=index)
+        return Search(conf, data, True, sayable(text), sayable(base), to_file=some(rng, .1), index=index, wrap=wrap(rng, .4))
     scope = rng.choice(BAD_SCOPES) if some(rng, .01) else rng.choice(SCOPES)
     limit = rng.choice(BAD_LIMITS) if some(rng, .015) else rng.choice(LIMITS) if some(rng, .3) else None
     words = tuple(word.replace(b"\0", b"0") for word in searches.words())
     # a text that is neither in parentheses nor has an equals sign is an attribute
-    return Search(conf, data, False, sayable(text), sayable(base), scope, limit, words, index=index)
+    return Search(conf, data, False, sayable(text), sayable(base), scope, limit, words, index=index, wrap=wrap(rng, .4))

@@ -49,6 +49,10 @@ other_words = record (new_rule (codes "words")) {
   action = Some Append;
 }
 
+-- `-o ldif-wrap=N|no`, which the commands that print entries have
+abbrev pub wrap_option : Rule
+wrap_option = value_option (codes "wrap") 111
+
 -- `-v`, which each command has
 abbrev pub verbose_option : Rule
 verbose_option = flag (codes "verbose") 118
@@ -87,17 +91,18 @@ ldapmodify = command (codes "ldapmodify")
 abbrev pub slapindex : Shape
 slapindex = command (codes "slapindex") (folder_option ∷ wait_option ∷ verbose_option ∷ [])
 
--- search --db DIR [-b NAME] [-s SCOPE] [-z N] [-v] [WORD..]
+-- search --db DIR [-b NAME] [-s SCOPE] [-z N] [-f FILE] [-c] [--count] [-o ldif-wrap=N|no] [-v] [WORD..]
 abbrev pub search : Shape
 search = command (codes "search")
     (folder_option ∷ value_option (codes "base") 98 ∷ value_option (codes "scope") 115
-    ∷ value_option (codes "limit") 122 ∷ verbose_option ∷ other_words ∷ [])
+    ∷ value_option (codes "limit") 122 ∷ file_option 102 ∷ flag (codes "go_on") 99
+    ∷ long_flag (codes "count") ∷ wrap_option ∷ verbose_option ∷ other_words ∷ [])
 
--- slapcat --db DIR [-l FILE] [-a FILTER] [-s NAME] [-v]
+-- slapcat --db DIR [-l FILE] [-a FILTER] [-s NAME] [-o ldif-wrap=N|no] [-v]
 abbrev pub slapcat : Shape
 slapcat = command (codes "slapcat")
     (folder_option ∷ file_option 108 ∷ value_option (codes "filter") 97
-    ∷ value_option (codes "base") 115 ∷ verbose_option ∷ [])
+    ∷ value_option (codes "base") 115 ∷ wrap_option ∷ verbose_option ∷ [])
 
 -- ldifdiff --db DIR [-l FILE] [-b NAME] [-a FILTER] [--unordered] [-v]
 abbrev pub ldifdiff : Shape

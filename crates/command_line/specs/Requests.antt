@@ -1,6 +1,6 @@
 -- What the words of a command line ask for.
-use Rattle.std.specs.Prelude.{◌≡◌, ◌≢◌, ◌⊎◌, ◌<◌, ◌≤◌, ◌^◌, ◌==◌, ◌||◌, ⊤, ℕ, Bool, true, false, List, []}
-use Rattle.std.specs.Prelude.{◌∷◌, length, map, Option, Some, None, option_copied, unwrap_or, IsSome, IsSomeAnd}
+use Rattle.std.specs.Prelude.{◌≡◌, ◌≢◌, ◌⊎◌, ◌<◌, ◌≤◌, ◌+◌, ◌^◌, ◌==◌, ◌||◌, ⊤, ℕ, Bool, true, false, List, []}
+use Rattle.std.specs.Prelude.{◌∷◌, ◌++◌, length, map, Option, Some, None, option_copied, unwrap_or, IsSome, IsSomeAnd}
 use Rattle.std.specs.Prelude.{Result, Ok, Err, if◌then◌else◌, find, option_and_then, bytes_eq, codes, slice_index}
 use Rattle.std.specs.List.{list_any}
 use Rattle.std.specs.Str.Parse.{IsNumeral, digits_value}
@@ -9,6 +9,8 @@ use Rattle.clap.specs.declared.parser.matches.ValueSource.{ValueSource}
 use Rattle.clap.specs.declared.parser.matches.ValueSource.TheVariants.{CommandLine}
 use Rattle.clap.specs.declared.error.kind.ErrorKind.{ErrorKind}
 use Rattle.clap.specs.declared.error.kind.ErrorKind.TheVariants as kind
+use Rattle.base.specs.Ascii.{line_feed}
+use Rattle.ldif_lines.specs.Folding.{standard_width, folded_line}
 use Rattle.paths.specs.declared.scope.Scope.{Scope}
 use Rattle.paths.specs.declared.scope.Scope.TheVariants.{Base, One, Sub, Children}
 use Rattle.command_line.specs.declared.request.AddOptions.{AddOptions}
@@ -59,6 +61,40 @@ abbrev pub IsWait : Option Text → ℕ → Type 0
 IsWait None seconds = seconds ≡ 0
 IsWait (Some word) seconds = IsNumber word × (seconds ≡ digits_value 10 word)
 
+-- ---- how long a printed line may be (slapcat(8), ldapsearch(1): -o ldif-wrap; RFC 2849, note 2)
+
+-- the word is `ldif-wrap=` and a number: of bytes from 2 on, or 0 for the standard width
+abbrev pub WrapsAt : Text → ℕ → Type 0
+WrapsAt word number = (digits : Text) × (word ≡ codes "ldif-wrap=" ++ digits) × IsNumber digits
+    × (number ≡ digits_value 10 digits) × (number ≢ 1)
+
+-- the word says that no line is folded
+abbrev pub NeverWraps : Text → Type 0
+NeverWraps word = word ≡ codes "ldif-wrap=no"
+
+-- no line that fits into memory is folded to it
+abbrev pub IsUnfolded : ℕ → Type 0
+IsUnfolded width = (line : List ℕ) → length line < 2 ^ 63 → folded_line width line ≡ line ++ line_feed ∷ []
+
+abbrev pub width_by : ℕ → ℕ
+width_by number = if number == 0 then standard_width else number
+
+-- the width that a word says
+abbrev pub IsWidthOf : Text → ℕ → Type 0
+IsWidthOf word width = ((number : ℕ) × WrapsAt word number × (width ≡ width_by number))
+    ⊎ (NeverWraps word × IsUnfolded width)
+
+-- it says one
+abbrev pub SaysWidth : Text → Type 0
+SaysWidth word = ((number : ℕ) × WrapsAt word number) ⊎ NeverWraps word
+
+-- the width that a word says; without one, the standard width
+abbrev pub IsLineWidth : Option Text → ℕ → Type 0
+IsLineWidth None width = width ≡ standard_width
+IsLineWidth (Some word) width = IsWidthOf word width
+
+-- ---- which word is what
+
 -- a word that begins with `(` or holds `=` is a filter, and not the name of an attribute
 abbrev pub is_filter : Text → Bool
 is_filter word = (slice_index word 0 == 40) || list_any (λ byte. byte == 61) word
@@ -71,6 +107,25 @@ filter_of (word ∷ rest) = if is_filter word then Some word else None
 abbrev pub attributes_of : List Text → List Text
 attributes_of [] = []
 attributes_of (word ∷ rest) = if is_filter word then rest else word ∷ rest
+
+-- ---- patterns: filters with a `%s`, which stands for each line of a file in turn
+
+-- `%s` stands at this place of a text
+abbrev pub IsMark : Text → ℕ → Type 0
+IsMark text place = (slice_index text place ≡ 37) × (slice_index text (place + 1) ≡ 115)
+
+-- the first one of the text does
+abbrev pub IsFirstMark : Text → ℕ → Type 0
+IsFirstMark text place = IsMark text place
+    × ((earlier : ℕ) → earlier < place → ¬ (IsMark text earlier))
+
+-- a pattern is faulty where it has a `%` that isn't that of its first `%s`
+abbrev pub IsFaultyPattern : Text → Type 0
+IsFaultyPattern text = (place : ℕ) × (slice_index text place ≡ 37) × (¬ (IsFirstMark text place))
+
+-- a file of lines is given, and the filter, which then is a pattern, is faulty
+abbrev pub TakesFaultyPattern : Option Text → Option Text → Type 0
+TakesFaultyPattern file filter = IsSome file × IsSomeAnd filter IsFaultyPattern
 
 -- ---- what the rows of a command say: clap's note of each option, with its texts and where they come from
 
@@ -94,6 +149,10 @@ is_given id rows = is_from_words
 -- the folder is given
 abbrev pub HasFolder : List Row → Type 0
 HasFolder rows = IsSome (text_of (codes "db") rows)
+
+-- a file of lines is given, with a filter that is no pattern for them
+abbrev pub HasFaultyPattern : List Row → Type 0
+HasFaultyPattern rows = TakesFaultyPattern (text_of (codes "file") rows) (filter_of (words_of rows))
 
 pub record IsAdd (rows : List Row) (asked : AddOptions) : Type 0 where
   pub db_is : text_of (codes "db") rows ≡ Some asked.db.now
@@ -122,7 +181,12 @@ pub record IsSearch (rows : List Row) (asked : SearchOptions) : Type 0 where
   pub base_is : option_copied asked.base ≡ text_of (codes "base") rows
   pub scope_is : scope_of (text_of (codes "scope") rows) ≡ Some asked.scope
   pub limit_is : IsLimit (text_of (codes "limit") rows) asked.limit
+  pub file_is : option_copied asked.file ≡ text_of (codes "file") rows
+  pub go_on_is : asked.go_on ≡ is_given (codes "go_on") rows
+  pub count_is : asked.count ≡ is_given (codes "count") rows
+  pub width_is : IsLineWidth (text_of (codes "wrap") rows) asked.width
   pub filter_is : option_copied asked.filter ≡ filter_of (words_of rows)
+  pub pattern_is_right : ¬ (HasFaultyPattern rows)
   pub attributes_are : map (λ word. word.now) asked.attributes.items ≡ attributes_of (words_of rows)
   pub verbose_is : asked.verbose ≡ is_given (codes "verbose") rows
 
@@ -131,6 +195,7 @@ pub record IsCat (rows : List Row) (asked : CatOptions) : Type 0 where
   pub file_is : option_copied asked.file ≡ text_of (codes "file") rows
   pub filter_is : option_copied asked.filter ≡ text_of (codes "filter") rows
   pub base_is : option_copied asked.base ≡ text_of (codes "base") rows
+  pub width_is : IsLineWidth (text_of (codes "wrap") rows) asked.width
   pub verbose_is : asked.verbose ≡ is_given (codes "verbose") rows
 
 pub record IsDiff (rows : List Row) (asked : DiffOptions) : Type 0 where
@@ -160,10 +225,15 @@ IsRequest met (Diff asked) = IsCommand met (codes "ldifdiff") (λ rows. IsDiff r
 abbrev pub HasNoNumber : Text → List Row → Type 0
 HasNoNumber id rows = IsSomeAnd (text_of id rows) (λ word. ¬ (IsNumber word))
 
--- the scope of a search is none, or its limit, or the seconds that a command is to wait
+-- the word that is to say how long a line may be doesn't
+abbrev pub HasNoWidth : List Row → Type 0
+HasNoWidth rows = IsSomeAnd (text_of (codes "wrap") rows) (λ word. ¬ (SaysWidth word))
+
+-- the scope of a search is none, or its limit, or the seconds that a command is to wait; or its filter is no pattern for the lines of a file; or
+-- it isn't said how long a line may be
 abbrev pub HasFaultyOption : List Row → Type 0
 HasFaultyOption rows = (scope_of (text_of (codes "scope") rows) ≡ None)
-    ⊎ (HasNoNumber (codes "limit") rows ⊎ HasNoNumber (codes "wait") rows)
+    ⊎ (HasNoNumber (codes "limit") rows ⊎ (HasNoNumber (codes "wait") rows ⊎ (HasFaultyPattern rows ⊎ HasNoWidth rows)))
 
 -- the words name a command with such an option
 abbrev pub HasFaultyCommand : Option (Text × List Row) → Type 0

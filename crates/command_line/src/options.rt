@@ -26,6 +26,17 @@ const SCOPE_HELP: &str = "What is searched: base, one, sub (the default) or chil
 
 const LIMIT_HELP: &str = "Prints at most so many entries; 0 is no limit";
 
+const LINES_HELP: &str =
+    "Searches for each line of it: the line stands for the filter's first %s, or is the filter; - is standard input";
+
+const GO_ON_LINES_HELP: &str =
+    "Goes on after a line of -f that makes no filter, or finds more than -z prints";
+
+const COUNT_HELP: &str = "Prints the number of entries, in place of them";
+
+const WRAP_HELP: &str =
+    "How long a printed line may be, in bytes from 2 on; 0 for 76, as without it; no for lines that are not folded";
+
 const WORDS_HELP: &str =
     "The filter, where it begins with ( or holds =, and the attributes to print: names, * or +, or 1.1 for none";
 
@@ -69,7 +80,7 @@ pub(crate) const BESIDE_SEARCH: &str = "In place of options of OpenLDAP's ldapse
   -h, -H, -p                      --db DIR, as no server is asked
   -D, -w, -W, -x, -y              nothing, as nobody has to say who he is
   -I, -N, -O, -Q, -R, -U, -X, -Y  nothing, as nobody has to say who he is
-  -L, -LL, -LLL                   nothing, as LDIF is printed without comments
+  -L, -LL, -LLL                   nothing, as LDIF is printed
   -s onelevel                     -s one
   -s subtree                      -s sub
   -s subordinate                  -s children
@@ -77,15 +88,15 @@ pub(crate) const BESIDE_SEARCH: &str = "In place of options of OpenLDAP's ldapse
   -d                              -v
   -V, -VV                         slaptools --version
   -Z, -ZZ                         nothing, as no server is asked
-  -a, -A, -c, -C, -e, -E, -f, -F  nothing
-  -l, -M, -MM, -n, -o, -P, -S     nothing
-  -t, -tt, -T, -u                 nothing";
+  -a, -A, -C, -e, -E, -F, -l, -M  nothing
+  -MM, -n, -P, -S, -t, -tt, -T    nothing
+  -u                              nothing";
 
 const BESIDE_SLAPCAT: &str = "In place of options of OpenLDAP's slapcat:
   -b, -f, -F, -g, -n  --db DIR, as a folder keeps one directory
   -H                  -s NAME and -a FILTER
   -d                  -v
-  -c, -o              nothing";
+  -c                  nothing";
 
 const BESIDE_LDIFDIFF: &str =
     "As of diff(1), the exit status is 0 where both are alike, and 1 where they differ.
@@ -296,6 +307,10 @@ fn search() -> Tool<'static>
             CommandOption::Value("base", 'b', "NAME", BASE_HELP),
             CommandOption::Value("scope", 's', "SCOPE", SCOPE_HELP),
             CommandOption::Value("limit", 'z', "N", LIMIT_HELP),
+            CommandOption::File('f', LINES_HELP),
+            CommandOption::Flag("go_on", 'c', GO_ON_LINES_HELP),
+            CommandOption::LongFlag("count", COUNT_HELP),
+            CommandOption::Value("wrap", 'o', "ldif-wrap=N|no", WRAP_HELP),
             CommandOption::Flag("verbose", 'v', VERBOSE_HELP),
             CommandOption::OtherWords,
         ],
@@ -314,6 +329,7 @@ fn slapcat() -> Tool<'static>
             CommandOption::File('l', OUTPUT_HELP),
             CommandOption::Value("filter", 'a', "FILTER", FILTER_HELP),
             CommandOption::Value("base", 's', "NAME", SUBTREE_HELP),
+            CommandOption::Value("wrap", 'o', "ldif-wrap=N|no", WRAP_HELP),
             CommandOption::Flag("verbose", 'v', VERBOSE_HELP),
         ],
         beside: BESIDE_SLAPCAT,

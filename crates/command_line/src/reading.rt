@@ -1,6 +1,6 @@
 //! The words of a command line, read with `clap`.
-ghost use Rattle.std.specs.Prelude.{◌≡◌, ◌≤◌, Some, codes, length, map, option_copied, option_map};
-ghost use Rattle.std.specs.Prelude.{IfErr, IfOk, IsSomeAnd, MatchResult};
+ghost use Rattle.std.specs.Prelude.{◌≡◌, ◌≤◌, ◌↔◌, IsTrue, Some, codes, length, map, option_copied, option_map};
+ghost use Rattle.std.specs.Prelude.{IfErr, IfOk, IsSomeAnd, MatchOption, MatchResult};
 ghost use Rattle.clap.specs.Words.{all_of, found_of, kind_of, rows_of, subcommand_rows_of};
 ghost use Rattle.command_line.specs.Requests.{AsksForHelp};
 ghost use Rattle.command_line.specs.Requests as asks;
@@ -14,6 +14,7 @@ use crate::request::{
 use clap::error::ErrorKind;
 use clap::parser::ValueSource;
 use clap::{ArgMatches, Error};
+use ldif::LineWidth;
 use paths::Scope;
 use std::alloc::{AllocError, Global};
 use std::convert::AsStr;
@@ -45,6 +46,12 @@ const LIMIT: Valued<'_> = Valued {
     option: "-z",
     value_name: "N",
     wanted: NUMBERS,
+};
+
+const WRAP: Valued<'_> = Valued {
+    option: "-o",
+    value_name: "ldif-wrap=N|no",
+    wanted: "ldif-wrap=no, or ldif-wrap= and 0 or a number from 2 to 4294967295",
 };
 
 /// The text given for an option.
@@ -175,17 +182,20 @@ fn index_options<'a>(alloc: Global, found: &ArgMatches<'a>) -> Result<IndexOptio
     })
 }
 
-fn cat_options<'a>(found: &ArgMatches<'a>) -> CatOptions<'a>
+fn cat_options<'a>(alloc: Global, found: &ArgMatches<'a>) -> Result<CatOptions<'a>, UsageFault>
     requires { asks.HasFolder (rows_of (found_of found.now)) }
-    ensures { asks.IsCat (rows_of (found_of found.now)) result }
+    ensures asked { IfOk result (asks.IsCat (rows_of (found_of found.now))) }
+    ensures faulty { IfErr result (asks.IsFaultOfOptions (rows_of (found_of found.now))) }
 {
-    CatOptions {
+    let width = width_of(alloc, text_of(found, "wrap"))?;
+    Ok(CatOptions {
         db: folder_of(found),
         file: text_of(found, "file"),
         filter: text_of(found, "filter"),
         base: text_of(found, "base"),
+        width,
         verbose: is_given(found, "verbose"),
-    }
+    })
 }
 
 fn diff_options<'a>(found: &ArgMatches<'a>) -> DiffOptions<'a>
@@ -231,6 +241,37 @@ fn limit_of(alloc: Global, word: Option<&str>) -> Result<Option<u32>, UsageFault
     }
 }
 
+/// How long a printed line may be by a word, if it says that.
+fn width_said(word: &str) -> Option<LineWidth>
+    ensures { MatchOption result (¬ (asks.SaysWidth word.now)) (asks.IsWidthOf word.now) }
+{
+    let Some(said) = word.strip_prefix("ldif-wrap=") else {
+        return None;
+    };
+    if said == "no" {
+        return Some(LineWidth::unfolded());
+    }
+    match number_of(said) {
+        Some(0) => Some(LineWidth::STANDARD),
+        Some(bytes) => LineWidth::of(bytes),
+        None => None,
+    }
+}
+
+/// How long a printed line may be by a word; without one, as long as where none is asked for.
+fn width_of(alloc: Global, word: Option<&str>) -> Result<LineWidth, UsageFault>
+    ensures { MatchResult result (asks.IsLineWidth (option_copied word.entry))
+        (λ _. IsSomeAnd word.entry (λ text. ¬ (asks.SaysWidth text.now))) }
+{
+    let Some(word) = word else {
+        return Ok(LineWidth::STANDARD);
+    };
+    match width_said(word) {
+        Some(width) => Ok(width),
+        None => Err(invalid(alloc, word, WRAP)),
+    }
+}
+
 /// Whether a first word is a filter, and not the name of an attribute.
 fn is_filter(word: &str) -> bool
     ensures { result ≡ asks.is_filter word.now }
@@ -250,6 +291,41 @@ fn split_words<'a, 'w>(words: &'w [&'a str]) -> (Option<&'a str>, &'w [&'a str])
     }
 }
 
+/// Whether a text has a `%` that isn't that of its first `%s`.
+fn is_faulty_pattern(text: &str) -> bool
+    ensures { IsTrue result ↔ asks.IsFaultyPattern text.now }
+{
+    match text.split_once('%') {
+        Some((_, rest)) => !rest.starts_with('s') || rest.as_bytes().contains(&b'%'),
+        None => false,
+    }
+}
+
+/// What is said of a filter that has another `%` than that of its first `%s`.
+fn pattern_text(alloc: Global, filter: &str) -> Result<String, AllocError> {
+    format!(in alloc;
+        "error: invalid value '{filter}' for '[WORD]...': with -f it may have one %s, which stands for a line; write another % as \\25\n"
+    )
+}
+
+fn faulty_pattern(alloc: Global, filter: &str) -> UsageFault {
+    match pattern_text(alloc, filter) {
+        Ok(text) => UsageFault::Words(text),
+        Err(_) => UsageFault::OutOfMemory,
+    }
+}
+
+/// Refuses a filter that is no pattern for the lines of a file. Without a file it is none.
+fn check_pattern(alloc: Global, file: Option<&str>, filter: Option<&str>) -> Result<(), UsageFault>
+    ensures { let is_faulty = asks.TakesFaultyPattern (option_copied file.entry) (option_copied filter.entry) in
+        MatchResult result (λ _. ¬ is_faulty) (λ _. is_faulty) }
+{
+    match (file, filter) {
+        (Some(_), Some(filter)) if is_faulty_pattern(filter) => Err(faulty_pattern(alloc, filter)),
+        _ => Ok(()),
+    }
+}
+
 fn search_options<'a>(
     alloc: Global,
     found: &ArgMatches<'a>,
@@ -260,7 +336,10 @@ fn search_options<'a>(
 {
     let scope = scope_of(alloc, text_of(found, "scope"))?;
     let limit = limit_of(alloc, text_of(found, "limit"))?;
+    let width = width_of(alloc, text_of(found, "wrap"))?;
+    let file = text_of(found, "file");
     let (filter, names) = split_words(words_of(found).unwrap_or(&[]));
+    check_pattern(alloc, file, filter)?;
     let mut attributes = Vec::new(alloc);
     attributes.extend_from_slice(names)?;
     Ok(SearchOptions {
@@ -268,6 +347,10 @@ fn search_options<'a>(
         base: text_of(found, "base"),
         scope,
         limit,
+        file,
+        go_on: is_given(found, "go_on"),
+        count: is_given(found, "count"),
+        width,
         filter,
         attributes,
         verbose: is_given(found, "verbose"),
@@ -298,7 +381,7 @@ fn request_of<'a>(
         "ldapmodify" => Ok(Request::Modify(modify_options(alloc, found)?)),
         "slapindex" => Ok(Request::Index(index_options(alloc, found)?)),
         "search" => Ok(Request::Search(search_options(alloc, found)?)),
-        "slapcat" => Ok(Request::Cat(cat_options(found))),
+        "slapcat" => Ok(Request::Cat(cat_options(alloc, found)?)),
         "ldifdiff" => Ok(Request::Diff(diff_options(found))),
         _ => unreachable!(),
     }

@@ -2,6 +2,7 @@
 ghost use Rattle.std.specs.Prelude.{◌≡◌};
 ghost use Rattle.command_line.specs.declared.request.UsageFault.TheVariants.{OutOfMemory};
 
+use ldif::LineWidth;
 use paths::Scope;
 use std::alloc::{AllocError, AllocFailed};
 
@@ -61,9 +62,18 @@ pub struct SearchOptions<'a> {
     pub base: Option<&'a str>,
     /// Which entries are looked at, from the base on.
     pub scope: Scope,
-    /// How many entries are printed at most, or none for all.
+    /// How many entries are printed at most, or none for all; of each line's where there is a file of lines.
     pub limit: Option<u32>,
-    /// The filter as text, or none for all entries.
+    /// The file of lines, for each of which is searched, `-` being standard input; or none for one search.
+    pub file: Option<&'a str>,
+    /// Whether it goes on after a line that is refused.
+    pub go_on: bool,
+    /// Whether it is printed how many entries there are, in place of them.
+    pub count: bool,
+    /// How long a line of the entries may be.
+    pub width: LineWidth,
+    /// The filter as text, or none for all entries. Where there is a file of lines, its first `%s` stands for a line, and none is for the line
+    /// as the filter.
     pub filter: Option<&'a str>,
     /// The attributes that are printed, by name.
     pub attributes: Vec<&'a str>,
@@ -82,6 +92,8 @@ pub struct CatOptions<'a> {
     pub filter: Option<&'a str>,
     /// The name of the entry that is printed with those below it, or none for all.
     pub base: Option<&'a str>,
+    /// How long a line may be.
+    pub width: LineWidth,
     /// Whether each report is followed by a sentence that says why.
     pub verbose: bool,
 }

@@ -106,6 +106,8 @@ filter_fails asked w (faults.Data line why) h = absurd h
 filter_fails asked w (faults.Content name line why) h = absurd h
 filter_fails asked w (faults.CannotRead name) h = absurd h
 filter_fails asked w (faults.CannotWrite name) h = absurd h
+filter_fails asked w (faults.Line number fault) h = absurd h
+filter_fails asked w (faults.LineCode number code) h = absurd h
 filter_fails asked w (faults.InUse name) h = absurd h
 filter_fails asked w faults.OutOfMemory h = tt
 
@@ -118,6 +120,8 @@ load_fails asked w (faults.Data line why) h = h
 load_fails asked w (faults.Content name line why) h = h
 load_fails asked w (faults.CannotRead name) h = h
 load_fails asked w (faults.CannotWrite name) h = h
+load_fails asked w (faults.Line number fault) h = h
+load_fails asked w (faults.LineCode number code) h = h
 load_fails asked w (faults.InUse name) h = h
 load_fails asked w faults.OutOfMemory h = h
 

@@ -21,7 +21,7 @@ use Rattle.paths.specs.declared.scope.Scope.{Scope}
 use Rattle.databases.specs.Scanned.{scan, scan_among}
 use Rattle.stored_index.specs.Stored.{Stored, shown_by}
 use Rattle.databases.specs.IndexTexts.{index_text}
-use Rattle.databases.specs.Searches.{IsRefused, may_by_rank, ShowsTo, ReflectsDump}
+use Rattle.databases.specs.Searches.{IsRefused, may_by_rank, ShowsTo, ReflectsDump, ShowsIndexText}
 use Rattle.databases.specs.Found.{WritesFound, goes_past}
 use Rattle.commands.specs.Asked.{IsFilter, IsBase}
 use Rattle.commands.specs.Failures.{FailsToWrite}
@@ -31,7 +31,7 @@ use Rattle.commands.specs.IndexFiles.{Said, said_by, found_by}
 use Rattle.commands.specs.Prints.{HasPut, IsExcerpt}
 use Rattle.commands.specs.Queries.{Wanted, Basis, HasBasis, Begins, HasBegun, PrintsPartly}
 use Rattle.commands.specs.Worlds.{World}
-use Rattle.commands.specs.inner.IndexFiles.{Keeps}
+use Rattle.commands.specs.inner.IndexFiles.{Keeps, Serves}
 use Rattle.commands.specs.inner.Printed.{HasPrinted, scanned, found, query_text, scanned_text, IsTextOf, PrintsFound}
 use Rattle.commands.specs.inner.Refusals.{refusal_fault}
 use Rattle.commands.specs.inner.Sought.{excerpt_query}
@@ -41,6 +41,7 @@ use Rattle.commands.specs.declared.index_file.IndexFile.TheVariants as kept_file
 use Rattle.commands.specs.declared.messages.CommandFault.{CommandFault}
 use Rattle.commands.specs.declared.query.Query.{Query}
 use Rattle.command_line.specs.declared.request.CatOptions.{CatOptions}
+use Rattle.commands.proofs.IndexTold.{shows_itself}
 use Rattle.commands.proofs.Stopping.{unwritten_prints, write_told, begun_told}
 
 -- ---- texts
@@ -87,7 +88,7 @@ found_written (Err fault) wanted a b bytes text is h = subst (Writes (Err fault)
 
 -- the excerpt by a query is the one that is asked for
 pub excerpt_by : (asked : CatOptions) (filter : Filter) (t : Tree) (q : Query) → IsBase t.conf (option_copied asked.base) q.base → (is_some asked.base ≡ true → finite.contains_key t.entries q.base ≡ true)
-    → q ≡ excerpt_query t.conf filter q.base → IsExcerpt asked (basis_of filter t) (scanned_text q t)
+    → q ≡ excerpt_query t.conf filter q.base asked.width → IsExcerpt asked (basis_of filter t) (scanned_text q t)
 excerpt_by asked filter t q based there is = record { base = q.base; base_is = based; there = there; text_is = ap (λ (q : Query). scanned_text q t) is }
 
 -- ---- what a query finds
@@ -163,3 +164,20 @@ pub found_by_scan : (q : Query) (t t' : Tree) (es : List (Path × EntryContent))
     → (past : Bool) → past ≡ goes_past q.limit es → IsTextOf q None t past (query_text q t es)
 found_by_scan q t t' es same is there =
     found_so q None t es (sym (there ∙ ap (λ (t : Tree). finite.contains_key t.entries q.base) same)) (is ∙ ap (scanned q) same) (λ own. refl)
+
+-- by an index for every filter: the one that index.txt is, or the directory's own
+pub found_ranked : (q : Query) (t : Tree) (index : Stored) (es : List (Path × EntryContent)) → q.filter.conf ≡ t.conf → FoundIn q index es t t.conf
+    → (ShowsIndexText (shown_by index) t.conf t.entries → es ≡ scanned q t)
+    → (said : Said) → Serves t (Some index) said → (past : Bool) → past ≡ goes_past q.limit es → IsTextOf q said t past (query_text q t es)
+found_ranked q t index es prepared h own said (inl whole) = found_by_part q t index es prepared h said (record { says = (index, whole.0, shows_itself q.filter index); is_true = whole.1 })
+found_ranked q t index es prepared h own None (inr serves) = found_so q None t es h.there (own serves.1) (λ said. refl)
+found_ranked q t index es prepared h own (Some (Err fault)) (inr serves) = found_so q (Some (Err fault)) t es h.there (own serves.1) (λ said. refl)
+found_ranked q t index es prepared h own (Some (Ok whole)) (inr serves) = absurd serves.0
+
+-- what a search found by it in the same tree
+pub own_scanned : (q : Query) (t : Tree) (index : Stored) (es : List (Path × EntryContent)) (t' : Tree) (conf : Conf) → t' ≡ t → conf ≡ t.conf
+    → (ShowsIndexText (shown_by index) conf t'.entries → es ≡ scan conf t'.entries q.base q.scope (view q.filter.filter))
+    → ShowsIndexText (shown_by index) t.conf t.entries → es ≡ scanned q t
+own_scanned q t index es t' conf same same_conf found =
+    subst (λ (k : Conf). ShowsIndexText (shown_by index) k t.entries → es ≡ scan k t.entries q.base q.scope (view q.filter.filter)) same_conf
+    (subst (λ (u : Tree). ShowsIndexText (shown_by index) conf u.entries → es ≡ scan conf u.entries q.base q.scope (view q.filter.filter)) same found)

@@ -21,8 +21,11 @@ use Rattle.databases.specs.IndexTexts.{index_rows, index_text, stamp}
 use Rattle.databases.specs.Searches.{ReflectsDump, ShowsIndexText, ShowsTo}
 use Rattle.index_text.specs.Postings.{Shown, slot_in}
 use Rattle.commands.specs.Failures.{FailsToRead}
-use Rattle.commands.specs.IndexFiles.{SaysOf}
-use Rattle.commands.specs.inner.IndexFiles.{IsTrue}
+use Rattle.commands.specs.IndexFiles.{Said, SaysOf}
+use Rattle.commands.specs.inner.IndexFiles.{IsTrue, Says, IsKindOf, IsWhole, IsNoIndex}
+use Rattle.commands.specs.declared.index_file.IndexFile.{IndexFile}
+use Rattle.commands.specs.declared.index_file.IndexFile.TheVariants as files
+use Rattle.tree.specs.Trees.{Tree}
 use Rattle.commands.specs.declared.messages.CommandFault.{CommandFault}
 
 -- what was read to its end is what stands there
@@ -61,6 +64,32 @@ shows_to f conf asked whole part are under shows = record {
   slots = λ t kind. ap (λ (conf : Conf). slot_in conf.slots t kind) shows.conf;
   keys = subst (λ (keys : List SlotKey). ShowAlike (shown_by part) (shown_by whole) keys) (are ∙ ap (λ (conf : Conf). asked_keys (slot_in conf.slots) (prepared_of f)) (sym under)) shows.keys;
 }
+
+-- what is kept of it for a filter is of its kind, and so is what is kept whole
+pub kind_kept : (f : Made) (file : IndexFile) (said : Said) → Says f file said → IsKindOf file said
+kind_kept f files.Missing said says = says
+kind_kept f (files.Read part) said says = (says.0, says.1)
+kind_kept f (files.Faulty fault) said says = says
+
+pub kind_whole : (t : Tree) (file : IndexFile) (said : Said) → IsWhole t file said → IsKindOf file said
+kind_whole t files.Missing said says = says
+kind_whole t (files.Read whole) said says = (whole, says.0)
+kind_whole t (files.Faulty fault) said says = says
+
+-- where it is kept whole and no index, it says none
+pub none_whole : (said : Said) → said ≡ None → IsNoIndex said
+none_whole said is = subst IsNoIndex (sym is) tt
+
+pub faulty_whole : (fault : IndexFaultKind) (said : Said) → said ≡ Some (Err fault) → IsNoIndex said
+faulty_whole fault said is = subst IsNoIndex (sym is) tt
+
+-- what is kept whole shows to every filter what it shows
+alike : (shown : Shown) (keys : List SlotKey) → ShowAlike shown shown keys
+alike shown [] = tt
+alike shown (key ∷ keys) = (refl, alike shown keys)
+
+pub shows_itself : (f : Made) (whole : Stored) → ShowsTo f (shown_by whole) (shown_by whole)
+shows_itself f whole = record { slots = λ t kind. refl; keys = alike (shown_by whole) (asked_keys (shown_by whole).slot_of (prepared_of f)) }
 
 -- what the text of the directory's own index is read as has each entry under exactly its keys
 pub true_so : (conf : Conf) (d : Entries) (x : Stored) → index_in conf (finite.len d) (stamp conf d) (index_text conf d) ≡ Ok (stored conf (index_rows conf d))

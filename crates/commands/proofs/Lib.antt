@@ -8,5 +8,9 @@ pub mod Stopping
 pub mod StoredFiles
 pub mod IndexTold
 pub mod Searched
+pub mod ListLines
+pub mod Listed
+pub mod ListEnds
+pub mod ListExamples
 pub mod OtherLoaded
 pub mod Compared

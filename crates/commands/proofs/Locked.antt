@@ -43,6 +43,8 @@ module _ (files : Option Files) (others : Option Others) (db : List ℕ) where
   used name (faults.Content file line why) is holds h = absurd h
   used name (faults.CannotRead n) is holds h = absurd h
   used name (faults.CannotWrite n) is holds h = absurd h
+  used name (faults.Line number fault) is holds h = absurd h
+  used name (faults.LineCode number code) is holds h = absurd h
   used name (faults.InUse n) is holds h = (h, subst (IsInUse others) is holds)
   used name faults.OutOfMemory is holds h = tt
 

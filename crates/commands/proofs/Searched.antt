@@ -1,18 +1,22 @@
 -- How a search ends, from what its parts say.
-use Rattle.std.proofs.Common.{◌≡◌, ℕ, inl, inr, Bool, true, false, List, [], map, Some, None, refl, sym, ap, ◌∙◌, subst}
-use Rattle.std.specs.Prelude.{Result, Ok, Err, codes}
+use Rattle.std.proofs.Common.{◌≡◌, ℕ, inl, inr, Bool, true, false, List, [], ◌∷◌, ◌++◌, length, map, Option, Some, None, refl, sym, ap, ◌∙◌, subst}
+use Rattle.std.specs.Prelude.{Result, Ok, Err, if◌then◌else◌, codes}
+use Rattle.std.specs.Fmt.{decimal}
 use Rattle.std.specs.Option.{option_copied}
 use Rattle.std.specs.FinMap as finite
 use Rattle.device.specs.Device.{Written}
+use Rattle.paths.specs.Paths.{Path}
 use Rattle.schema.specs.Conf.{Conf}
 use Rattle.schema.specs.declared.code.Code.TheVariants.{NoSuchObject, SizeLimitExceeded}
 use Rattle.stored_index.specs.declared.fault.IndexFaultKind.{IndexFaultKind}
 use Rattle.command_line.specs.declared.request.SearchOptions.{SearchOptions}
 use Rattle.filter.specs.Made.{Made}
 use Rattle.filter_text.specs.Spells.{view}
+use Rattle.entries.specs.Entries.{EntryContent}
+use Rattle.tree.specs.Directories.{Entries}
 use Rattle.tree.specs.Trees.{Tree}
-use Rattle.ldif_lines.specs.Folding.{standard_width}
-use Rattle.databases.specs.Found.{limited_text, goes_past}
+use Rattle.databases.specs.Found.{up_to, limited_text, goes_past}
+use Rattle.databases.specs.Selections.{Selection}
 use Rattle.databases.specs.Scanned.{scan}
 use Rattle.commands.specs.Asked.{base_of, IsBase, IsSelection}
 use Rattle.commands.specs.IndexFiles.{Said, SaysOf, found_by, ReportsFault, IsFaultReported}
@@ -20,10 +24,11 @@ use Rattle.commands.specs.Messages.{IsReported, code_text}
 use Rattle.commands.specs.Prints.{search_wanted, IsFoundText, SearchText, SearchGoesThrough, IsSaid, ComesFirst, ComesLater, SearchStops}
 use Rattle.commands.specs.Queries.{Basis, LacksBase, StopsWith, HasBegun, PrintsPartly}
 use Rattle.commands.specs.Worlds.{World}
-use Rattle.commands.specs.inner.IndexFiles.{FailsToReport, HasLoaded}
-use Rattle.commands.specs.inner.Printed.{HasPrinted, scanned, found, IsTextOf, FailsToPrint, PrintsFound}
-use Rattle.commands.specs.inner.Refusals.{Refuses, RefusesOrBreaks}
-use Rattle.commands.specs.inner.Sought.{IsQueryOf}
+use Rattle.commands.specs.inner.IndexFiles.{FailsToReport, HasLoaded, IsNoIndex}
+use Rattle.commands.specs.inner.Printed.{HasPrinted, text_as, scanned, found, IsTextOf, FailsToPrint, PrintsFound}
+use Rattle.commands.specs.inner.Refusals.{RefusesOrBreaks}
+use Rattle.commands.specs.Failures.{Refuses}
+use Rattle.commands.specs.inner.Sought.{IsQueryOf, form_of}
 use Rattle.commands.specs.inner.Stopped.{HasStopped}
 use Rattle.commands.specs.inner.Views.{basis_of}
 use Rattle.commands.specs.declared.index_file.IndexFile.{IndexFile}
@@ -116,6 +121,18 @@ beside q t said fault is a b result printed = subst (λ (s : Said). PrintsFound 
           (λ f begun. record { text = begun.text; is = (begun.is.0, beside_a_fault q t fault begun.is.0 begun.text begun.is.1); begins = begun.begins }) f h.1,
     )
 
+-- without an index, whether there is none or a faulty one
+pub without_index : (q : Query) (t : Tree) (said : Said) → IsNoIndex said → (a b : Written) (result : Result Bool CommandFault) → PrintsFound q None t a b result → PrintsFound q said t a b result
+without_index q t None none a b result printed = printed
+without_index q t (Some (Err fault)) none a b result printed = beside q t (Some (Err fault)) fault refl a b result printed
+without_index q t (Some (Ok whole)) none a b result printed = absurd none
+
+-- what is printed of what is found, by its two forms
+by_count : (count : Bool) (width : ℕ) (conf : Conf) (d : Entries) (s : Selection) (limit : Option ℕ) (es : List (Path × EntryContent))
+    → text_as (form_of count) width conf d s limit es ≡ (if count then decimal (length (up_to limit es)) ++ 10 ∷ [] else limited_text width conf d s limit es)
+by_count true width conf d s limit es = refl
+by_count false width conf d s limit es = refl
+
 -- ---- a search of what was loaded, behind the report of what index.txt says
 
 module _ (asked : SearchOptions) (w : World) (f : Made) (t : Tree) (file : IndexFile) (h : HasLoaded asked w.files f t file) where
@@ -158,7 +175,9 @@ module _ (asked : SearchOptions) (w : World) (f : Made) (t : Tree) (file : Index
             there = it.there;
             selects = subst (λ (conf : Conf). IsSelection conf (map (λ w. w.now) asked.attributes.items) q.selection) same is.selection;
             past_is = it.past_is ∙ (λ i. goes_past (is.limit i) (es i));
-            text_is = it.text_is ∙ (λ i. limited_text standard_width t.conf t.entries q.selection (is.limit i) (es i));
+            text_is = it.text_is
+                ∙ (λ i. text_as (is.form i) (is.width i) t.conf t.entries q.selection (is.limit i) (es i))
+                ∙ by_count asked.count asked.width t.conf t.entries q.selection asked.limit (found_by h.index.said t.conf t.entries q.base asked.scope (view f.filter));
             whole = λ own. sym es ∙ it.whole own ∙ all;
           }
 

@@ -28,7 +28,8 @@ use Rattle.commands.specs.Failures.{IsMemory, FailsToRead, FailsToWrite}
 use Rattle.commands.specs.Changes.{Breaks}
 use Rattle.commands.specs.Prints.{ComesFirst, ComesLater}
 use Rattle.commands.specs.Queries.{Wanted, LacksBase, target_of, StopsWith, IsBegun, HasBegun, PrintsPartly, QueryStops}
-use Rattle.commands.specs.inner.Refusals.{FilterFails, Refuses, RefusesOrBreaks}
+use Rattle.commands.specs.inner.Refusals.{FilterFails, RefusesOrBreaks}
+use Rattle.commands.specs.Failures.{Refuses}
 use Rattle.commands.specs.inner.LoadFaults.{TellsLoadFault}
 use Rattle.commands.specs.inner.WriteFaults.{TellsWriteFault}
 use Rattle.commands.specs.inner.Stopped.{CanReport, HasStopped}
@@ -50,6 +51,8 @@ of_memory P p (faults.Data line why) h = absurd h
 of_memory P p (faults.Content file line why) h = absurd h
 of_memory P p (faults.CannotRead n) h = absurd h
 of_memory P p (faults.CannotWrite n) h = absurd h
+of_memory P p (faults.Line number fault) h = absurd h
+of_memory P p (faults.LineCode number code) h = absurd h
 of_memory P p (faults.InUse n) h = absurd h
 of_memory P p faults.OutOfMemory h = p
 
@@ -63,6 +66,8 @@ of_unread P name unread p (faults.Data line why) h = absurd h
 of_unread P name unread p (faults.Content file line why) h = absurd h
 of_unread P name unread p (faults.CannotRead n) h = unread n h
 of_unread P name unread p (faults.CannotWrite n) h = absurd h
+of_unread P name unread p (faults.Line number fault) h = absurd h
+of_unread P name unread p (faults.LineCode number code) h = absurd h
 of_unread P name unread p (faults.InUse n) h = absurd h
 of_unread P name unread p faults.OutOfMemory h = p
 
@@ -76,6 +81,8 @@ of_unwritten P name unwritten p (faults.Data line why) h = absurd h
 of_unwritten P name unwritten p (faults.Content file line why) h = absurd h
 of_unwritten P name unwritten p (faults.CannotRead n) h = absurd h
 of_unwritten P name unwritten p (faults.CannotWrite n) h = unwritten n h
+of_unwritten P name unwritten p (faults.Line number fault) h = absurd h
+of_unwritten P name unwritten p (faults.LineCode number code) h = absurd h
 of_unwritten P name unwritten p (faults.InUse n) h = absurd h
 of_unwritten P name unwritten p faults.OutOfMemory h = p
 
@@ -150,6 +157,8 @@ module _ (q : Wanted) (files : Option Files) where
   filter_stops (faults.Content file line why) h = absurd h
   filter_stops (faults.CannotRead name) h = absurd h
   filter_stops (faults.CannotWrite name) h = absurd h
+  filter_stops (faults.Line number fault) h = absurd h
+  filter_stops (faults.LineCode number code) h = absurd h
   filter_stops (faults.InUse name) h = absurd h
   filter_stops faults.OutOfMemory h = h
 
@@ -170,6 +179,8 @@ module _ (q : Wanted) (files : Option Files) where
     load_stops (faults.Content file line why) h = absurd h
     load_stops (faults.CannotRead name) h = (has, inl h)
     load_stops (faults.CannotWrite name) h = absurd h
+    load_stops (faults.Line number fault) h = absurd h
+    load_stops (faults.LineCode number code) h = absurd h
     load_stops (faults.InUse name) h = absurd h
     load_stops faults.OutOfMemory h = tt
 
@@ -185,6 +196,8 @@ module _ (q : Wanted) (files : Option Files) where
     refused_so conf d loaded (faults.Content file line why) h = absurd h
     refused_so conf d loaded (faults.CannotRead name) h = absurd h
     refused_so conf d loaded (faults.CannotWrite name) h = absurd h
+    refused_so conf d loaded (faults.Line number fault) h = absurd h
+    refused_so conf d loaded (faults.LineCode number code) h = absurd h
     refused_so conf d loaded (faults.InUse name) h = absurd h
     refused_so conf d loaded faults.OutOfMemory h = tt
 
@@ -202,6 +215,8 @@ refuses_more command Less More goes (faults.Data line why) h = h
 refuses_more command Less More goes (faults.Content file line why) h = h
 refuses_more command Less More goes (faults.CannotRead name) h = h
 refuses_more command Less More goes (faults.CannotWrite name) h = h
+refuses_more command Less More goes (faults.Line number fault) h = h
+refuses_more command Less More goes (faults.LineCode number code) h = h
 refuses_more command Less More goes (faults.InUse name) h = h
 refuses_more command Less More goes faults.OutOfMemory h = h
 
@@ -221,6 +236,8 @@ first_of P none unwritten (faults.Data line why) h = tt
 first_of P none unwritten (faults.Content file line why) h = tt
 first_of P none unwritten (faults.CannotRead name) h = tt
 first_of P none unwritten (faults.CannotWrite name) h = unwritten name h
+first_of P none unwritten (faults.Line number fault) h = tt
+first_of P none unwritten (faults.LineCode number code) h = tt
 first_of P none unwritten (faults.InUse name) h = tt
 first_of P none unwritten faults.OutOfMemory h = tt
 
@@ -235,6 +252,8 @@ module _ (Partly : CommandFault → Written → Written → Type 0) (a b : Writt
   nothing_prints P none (faults.Content file line why) h = same
   nothing_prints P none (faults.CannotRead name) h = same
   nothing_prints P none (faults.CannotWrite name) h = absurd (none name h)
+  nothing_prints P none (faults.Line number fault) h = same
+  nothing_prints P none (faults.LineCode number code) h = same
   nothing_prints P none (faults.InUse name) h = same
   nothing_prints P none faults.OutOfMemory h = inl same
 
@@ -273,7 +292,11 @@ refused_later q conf d (faults.Content file line why) (inr h) = h
 refused_later q conf d (faults.CannotRead n) (inl h) = h
 refused_later q conf d (faults.CannotRead n) (inr h) = h
 refused_later q conf d (faults.CannotWrite n) h = tt
+refused_later q conf d (faults.Line number fault) (inl h) = h
+refused_later q conf d (faults.LineCode number code) (inl h) = h
 refused_later q conf d (faults.InUse n) (inl h) = h
+refused_later q conf d (faults.Line number fault) (inr h) = h
+refused_later q conf d (faults.LineCode number code) (inr h) = h
 refused_later q conf d (faults.InUse n) (inr h) = h
 refused_later q conf d faults.OutOfMemory h = tt
 
@@ -294,6 +317,8 @@ prints_more Less More a b goes (faults.Data line why) same = same
 prints_more Less More a b goes (faults.Content file line why) same = same
 prints_more Less More a b goes (faults.CannotRead name) same = same
 prints_more Less More a b goes (faults.CannotWrite name) partly = goes (faults.CannotWrite name) partly
+prints_more Less More a b goes (faults.Line number fault) same = same
+prints_more Less More a b goes (faults.LineCode number code) same = same
 prints_more Less More a b goes (faults.InUse name) same = same
 prints_more Less More a b goes faults.OutOfMemory (inl same) = inl same
 prints_more Less More a b goes faults.OutOfMemory (inr partly) = inr (goes faults.OutOfMemory partly)

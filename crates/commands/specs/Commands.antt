@@ -1,5 +1,6 @@
 -- What a command comes to, by what its words ask for.
 use Rattle.std.specs.Prelude.{◌≡◌, ℕ, ◌≤◌, List, length, Option, None, Some, Result, Ok, Err, IfOk, IfErr, string_bytes, codes}
+use Rattle.std.specs.Option.{option_copied}
 use Rattle.device.specs.Device.{Broke}
 use Rattle.command_line.specs.Requests.{AsksForHelp, AskFor, IsFaultOf}
 use Rattle.command_line.specs.declared.request.Request.{Request}
@@ -12,7 +13,8 @@ use Rattle.commands.specs.Locked.{EndsUnder}
 use Rattle.commands.specs.Failures.{IsMemory, FailsToWrite}
 use Rattle.commands.specs.Changes.{add_task, modify_task, written_by, ChangeGoesThrough, ChangeStops}
 use Rattle.commands.specs.Indexing.{IndexGoesThrough, IndexStops}
-use Rattle.commands.specs.Prints.{CatGoesThrough, CatStops, SearchGoesThrough, SearchStops}
+use Rattle.commands.specs.Prints.{CatGoesThrough, CatStops}
+use Rattle.commands.specs.Lists.{AnyGoesThrough, AnyStops}
 use Rattle.commands.specs.Differences.{DiffGoesThrough, DiffStops}
 use Rattle.commands.specs.Statuses.{status_number}
 use Rattle.commands.specs.declared.messages.Status.{Status}
@@ -43,7 +45,7 @@ RequestGoesThrough (Ok (Help text)) = HelpGoesThrough (string_bytes text)
 RequestGoesThrough (Ok (Add asked)) = ChangeGoesThrough (add_task asked)
 RequestGoesThrough (Ok (Modify asked)) = ChangeGoesThrough (modify_task asked)
 RequestGoesThrough (Ok (Index asked)) = IndexGoesThrough asked
-RequestGoesThrough (Ok (Search asked)) = SearchGoesThrough asked
+RequestGoesThrough (Ok (Search asked)) = AnyGoesThrough (option_copied asked.file) asked
 RequestGoesThrough (Ok (Cat asked)) = CatGoesThrough asked
 RequestGoesThrough (Ok (Diff asked)) = DiffGoesThrough asked
 RequestGoesThrough (Err fault) = λ w w' s. ⊥
@@ -53,7 +55,7 @@ RequestStops (Ok (Help text)) = HelpStops (string_bytes text)
 RequestStops (Ok (Add asked)) = ChangeStops (add_task asked)
 RequestStops (Ok (Modify asked)) = ChangeStops (modify_task asked)
 RequestStops (Ok (Index asked)) = IndexStops asked
-RequestStops (Ok (Search asked)) = SearchStops asked
+RequestStops (Ok (Search asked)) = AnyStops (option_copied asked.file) asked
 RequestStops (Ok (Cat asked)) = CatStops asked
 RequestStops (Ok (Diff asked)) = DiffStops asked
 RequestStops (Err fault) = WordsStop fault

@@ -1,5 +1,6 @@
 -- What failed, where a command fails: a file or a stream, by its name, or memory.
 use Rattle.std.specs.Prelude.{◌≡◌, ℕ, List, ⊤, string_bytes}
+use Rattle.schema.specs.declared.code.Code.{Code}
 use Rattle.commands.specs.declared.messages.CommandFault.{CommandFault}
 use Rattle.commands.specs.declared.messages.CommandFault.TheVariants as faults
 
@@ -27,3 +28,8 @@ TellsInUse name fault = IsMemory fault
 abbrev pub NamesUnwritten : List ℕ → CommandFault → Type 0
 NamesUnwritten name (faults.CannotWrite n) = string_bytes n ≡ name
 NamesUnwritten name fault = ⊥
+
+-- the command of this name ends with a code of which this holds, or memory ran out
+abbrev pub Refuses : List ℕ → (Code → Type 0) → CommandFault → Type 0
+Refuses command Holds (faults.Code by code) = (by.now ≡ command) × Holds code
+Refuses command Holds fault = IsMemory fault

@@ -14,6 +14,7 @@ pub mod IndexFiles
 pub mod Changes
 pub mod Indexing
 pub mod Prints
+pub mod Lists
 pub mod Differences
 pub mod Commands
 pub mod inner

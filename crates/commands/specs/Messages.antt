@@ -25,6 +25,8 @@ code_text command code = command ++ (codes ": " ++ code_report code)
 abbrev pub fault_text : CommandFault → List ℕ
 fault_text faults.Words = codes "command line: not UTF-8"
 fault_text (faults.Filter fault) = codes "filter: " ++ filters.fault_report fault
+fault_text (faults.Line number fault) = codes "filter line " ++ (decimal number ++ (codes ": " ++ filters.fault_report fault))
+fault_text (faults.LineCode number code) = codes "filter line " ++ (decimal number ++ (codes ": " ++ code_report code))
 fault_text (faults.Code command code) = code_text command.now code
 fault_text (faults.Configuration line kind) = codes "dir.conf line " ++ (decimal line ++ (codes ": " ++ kind_report kind))
 fault_text (faults.Data line refusal) = codes "data.ldif line " ++ (decimal line ++ (codes ": " ++ refusal_report refusal))

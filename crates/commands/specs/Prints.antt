@@ -1,19 +1,21 @@
 -- What slapcat and search print, and how they end.
-use Rattle.std.specs.Prelude.{◌≡◌, ℕ, ◌⊎◌, Bool, true, false, ◌&&◌, List, [], Option, None, Some, Err, ⊤, is_none, is_some, map, codes}
+use Rattle.std.specs.Prelude.{◌≡◌, ℕ, ◌⊎◌, Bool, true, false, ◌&&◌, List, [], ◌∷◌, ◌++◌, length, Option, None, Some, Err, ⊤, is_none, is_some, map, if◌then◌else◌, codes}
+use Rattle.std.specs.Fmt.{decimal}
+use Rattle.base.specs.Ascii.{line_feed}
 use Rattle.std.specs.Option.{option_copied}
 use Rattle.std.specs.FinMap as finite
 use Rattle.device.specs.Device.{Broke}
 use Rattle.paths.specs.Paths.{Path}
 use Rattle.schema.specs.Conf.{Conf}
 use Rattle.schema.specs.declared.code.Code.TheVariants.{SizeLimitExceeded}
+use Rattle.entries.specs.Entries.{EntryContent}
 use Rattle.tree.specs.Directories.{Entries}
 use Rattle.databases.specs.Scanned.{scan}
 use Rattle.stored_index.specs.declared.fault.IndexFaultKind.{IndexFaultKind}
 use Rattle.databases.specs.Selections.{Selection}
-use Rattle.ldif_lines.specs.Folding.{standard_width}
-use Rattle.databases.specs.Found.{limited_text, goes_past}
+use Rattle.databases.specs.Found.{up_to, limited_text, goes_past}
 use Rattle.databases.specs.IndexTexts.{index_text}
-use Rattle.databases.specs.Runs.{dump}
+use Rattle.databases.specs.Runs.{dump_to}
 use Rattle.command_line.specs.declared.request.CatOptions.{CatOptions}
 use Rattle.command_line.specs.declared.request.SearchOptions.{SearchOptions}
 use Rattle.commands.specs.Asked.{IsBase, IsSelection}
@@ -55,11 +57,11 @@ pub record IsExcerpt (asked : CatOptions) (basis : Basis) (text : List ℕ) : Ty
   pub base : Path
   pub base_is : IsBase basis.conf (option_copied asked.base) base
   pub there : is_some asked.base ≡ true → finite.contains_key basis.entries base ≡ true
-  pub text_is : text ≡ excerpt_text basis.conf basis.entries base basis.filter
+  pub text_is : text ≡ excerpt_text asked.width basis.conf basis.entries base basis.filter
 
 -- the text of a directory, or of the excerpt that is asked for
 abbrev pub IsCatText : Bool → CatOptions → Basis → List ℕ → Type 0
-IsCatText true asked basis text = text ≡ dump basis.conf basis.entries
+IsCatText true asked basis text = text ≡ dump_to asked.width basis.conf basis.entries
 IsCatText false asked basis text = IsExcerpt asked basis text
 
 -- that of the directory that was loaded
@@ -97,8 +99,12 @@ search_wanted asked = record {
   file = None;
 }
 
--- What the filter finds from the base on by what index.txt says, up to the limit, with the attributes that are asked for; and whether there is
--- more. Where its text is that of the directory's index, that is all that the filter finds.
+-- how many entries were found, up to the limit; or their records with these attributes
+abbrev pub shown_text : SearchOptions → Conf → Entries → Selection → List (Path × EntryContent) → List ℕ
+shown_text asked conf d s es =
+    if asked.count then decimal (length (up_to asked.limit es)) ++ line_feed ∷ [] else limited_text asked.width conf d s asked.limit es
+
+-- What the filter finds from the base on by what index.txt says, up to the limit, as it is asked for; and whether there is more. Where its text is that of the directory's index, that is all that the filter finds.
 pub record IsFoundText (asked : SearchOptions) (said : Said) (basis : Basis) (past : Bool) (text : List ℕ) : Type 0 where
   pub base : Path
   pub selection : Selection
@@ -106,7 +112,7 @@ pub record IsFoundText (asked : SearchOptions) (said : Said) (basis : Basis) (pa
   pub there : finite.contains_key basis.entries base ≡ true
   pub selects : IsSelection basis.conf (map (λ w. w.now) asked.attributes.items) selection
   pub past_is : past ≡ goes_past asked.limit (found_by said basis.conf basis.entries base asked.scope basis.filter)
-  pub text_is : text ≡ limited_text standard_width basis.conf basis.entries selection asked.limit (found_by said basis.conf basis.entries base asked.scope basis.filter)
+  pub text_is : text ≡ shown_text asked basis.conf basis.entries selection (found_by said basis.conf basis.entries base asked.scope basis.filter)
   pub whole : said ≡ said_by basis.conf basis.entries (Some (index_text basis.conf basis.entries))
       → found_by said basis.conf basis.entries base asked.scope basis.filter ≡ scan basis.conf basis.entries base asked.scope basis.filter
 

@@ -30,6 +30,8 @@ status_of_difference false = statuses.Done
 abbrev pub status_of_fault : CommandFault → Status
 status_of_fault faults.Words = statuses.Usage
 status_of_fault (faults.Filter fault) = statuses.Usage
+status_of_fault (faults.Line number fault) = statuses.Usage
+status_of_fault (faults.LineCode number code) = statuses.Refused
 status_of_fault (faults.Code command code) = statuses.Refused
 status_of_fault (faults.Configuration line kind) = statuses.Usage
 status_of_fault (faults.Data line refusal) = statuses.Failed
@@ -38,3 +40,19 @@ status_of_fault (faults.CannotRead name) = statuses.Failed
 status_of_fault (faults.CannotWrite name) = statuses.Failed
 status_of_fault (faults.InUse name) = statuses.Failed
 status_of_fault faults.OutOfMemory = statuses.Failed
+
+-- whether a list goes on behind a line that ended so: where it was refused or is no filter, with -c alone
+abbrev pub goes_on : Bool → Status → Bool
+goes_on c statuses.Done = true
+goes_on c statuses.Refused = c
+goes_on c statuses.Usage = c
+goes_on c statuses.Failed = false
+
+-- the one with the greater number
+abbrev pub worse : Status → Status → Status
+worse statuses.Done s = s
+worse statuses.Refused statuses.Done = statuses.Refused
+worse statuses.Refused s = s
+worse statuses.Usage statuses.Failed = statuses.Failed
+worse statuses.Usage s = statuses.Usage
+worse statuses.Failed s = statuses.Failed

@@ -8,3 +8,4 @@ pub mod Stopped
 pub mod Stores
 pub mod IndexFiles
 pub mod Compared
+pub mod Lists

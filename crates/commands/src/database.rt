@@ -78,7 +78,11 @@ pub fn lock<F: Folder>(
 }
 
 /// All bytes of a source that has this name.
-fn contents<S: Source>(alloc: Global, source: &mut S, name: &str) -> Result<Vec<u8>, CommandFault>
+pub fn contents<S: Source>(
+    alloc: Global,
+    source: &mut S,
+    name: &str,
+) -> Result<Vec<u8>, CommandFault>
     requires { (S.seen source.old).failed < 2 ^ 64 - 1 }
     ensures bytes { IfOk result (λ v. IfSome (S.seen source.old).left (λ bs. v.items ≡ bs)) }
     ensures err { IfErr result (FailsToRead name.now) }

@@ -1,17 +1,20 @@
 //! One command, from its words to its status.
 ghost use Rattle.std.specs.Prelude.{◌<◌, ◌≤◌, ◌-◌, ◌^◌, IfErr, map};
-ghost use Rattle.commands.specs.Worlds.{World, printed_world, world_of};
+ghost use Rattle.std.specs.Option.{option_copied};
+ghost use Rattle.commands.specs.Lists.{AnyGoesThrough, AnyStops};
+ghost use Rattle.commands.specs.Worlds.{World, printed_world, diff_world, world_of};
 ghost use Rattle.commands.specs.Commands.{HelpGoesThrough, HelpStops, RequestGoesThrough, RequestStops, writes_in, RequestEnds, CommandEnds};
 ghost use Rattle.commands.specs.inner.Stopped.{CanReport, HasEnded, HasEndedUnder};
 
 use crate::changes::{Task, change};
 use crate::ldifdiff::ldifdiff;
+use crate::listing::search_list;
 use crate::messages::{CommandFault, Status, Stop, report_stop};
 use crate::searching::search;
 use crate::slapcat::slapcat;
 use crate::slapindex::slapindex;
 use crate::telling::CommandTeller;
-use command_line::{Request, UsageFault, read};
+use command_line::{Request, SearchOptions, UsageFault, read};
 use databases::{Gauge, NoGauge, Silent};
 use device::{Device, Nowhere, Sink, Source, push_all};
 use folders::Folder;
@@ -28,6 +31,31 @@ fn print_help<O: Sink>(alloc: Global, text: &str, out: &mut O) -> Result<Status,
     match push_all(out, text.as_bytes()) {
         Ok(()) => Ok(Status::Done),
         Err(Device) => Err(Stop::Fault(CommandFault::cannot_write(alloc, "output"))),
+    }
+}
+
+/// Searches once, or for each line of a list.
+fn search_any<F: Folder, S: Source, O: Sink, E: Sink, T: CommandTeller>(
+    alloc: Global,
+    asked: &SearchOptions<'_>,
+    folder: &F,
+    input: &mut S,
+    out: &mut O,
+    err: &mut E,
+    teller: &mut T,
+) -> Result<Status, Stop>
+    requires input { (S.seen input.old).failed < 2 ^ 64 - 1 }
+    requires out { (O.written out.old).failed < 2 ^ 64 - 1 }
+    requires err { (E.written err.old).failed < 2 ^ 64 - 1 }
+    ensures ends { (w : World) → HasEnded
+        (AnyGoesThrough (option_copied asked.now.file) asked.now) (AnyStops (option_copied asked.now.file) asked.now)
+        (diff_world w F.files S.seen O.written E.written folder.now input.old out.old err.old)
+        (diff_world w F.files S.seen O.written E.written folder.now input.new out.new err.new) result }
+    ensures can_report { IfErr result (λ why. CanReport why (E.written err.new).failed) }
+{
+    match asked.file {
+        Some(name) => search_list(alloc, asked, name, folder, input, out, err, teller),
+        None => search(alloc, asked, folder, out, err, teller),
     }
 }
 
@@ -57,7 +85,7 @@ fn carry_out<F: Folder, S: Source, O: Sink, E: Sink, T: CommandTeller>(
             change(alloc, &Task::from(asked), folder, input, err, teller)
         }
         Ok(Request::Index(asked)) => slapindex(alloc, &asked, folder, teller),
-        Ok(Request::Search(asked)) => search(alloc, &asked, folder, out, err, teller),
+        Ok(Request::Search(asked)) => { search_any(alloc, &asked, folder, input, out, err, teller) }
         Ok(Request::Cat(asked)) => slapcat(alloc, &asked, folder, out, teller),
         Ok(Request::Diff(asked)) => ldifdiff(alloc, &asked, folder, input, out, err, teller),
         Err(UsageFault::Words(text)) => Err(Stop::Usage(text)),

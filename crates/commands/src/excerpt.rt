@@ -3,10 +3,11 @@ ghost use Rattle.std.specs.Prelude.{◌≡◌, ⊤};
 ghost use Rattle.commands.specs.inner.Printed.{scanned_text};
 
 use crate::query::Query;
+use crate::searching::print_hits;
 use databases::{Database, scan};
 use device::Sink;
 use folders::FileText;
-use ldif::{LineWidth, WriteFault};
+use ldif::WriteFault;
 use std::alloc::Global;
 
 /// What a query finds by a test of each entry in scope.
@@ -35,14 +36,7 @@ impl<'a> FileText for Excerpt<'a> {
             query.scope,
             &query.filter,
         ) {
-            Some(hits) => database.write_found(
-                alloc,
-                sink,
-                hits,
-                query.limit,
-                &query.selection,
-                LineWidth::STANDARD,
-            ),
+            Some(hits) => print_hits(alloc, query, database, hits, sink),
             None => Ok(false),
         }
     }

@@ -1,10 +1,11 @@
 //! What searches are asked for, read under a configuration.
 
-ghost use Rattle.std.specs.Prelude.{◌≡◌, IfOk, IfErr, Err};
+ghost use Rattle.std.specs.Prelude.{◌≡◌, Some, IfOk, IfErr, Err};
 ghost use Rattle.std.specs.Option.{option_copied};
 ghost use Rattle.filter_text.specs.Spells.{view};
 ghost use Rattle.commands.specs.Asked.{IsFilter, base_of, IsBase};
-ghost use Rattle.commands.specs.inner.Refusals.{FilterFails, Refuses, refusal_fault};
+ghost use Rattle.commands.specs.inner.Refusals.{FilterFails, refusal_fault};
+ghost use Rattle.commands.specs.Failures.{Refuses};
 
 use crate::messages::CommandFault;
 use entries::Refusal;
@@ -15,13 +16,20 @@ use std::alloc::Global;
 /// A filter that is True of every entry, since each has an object class (RFC 4512, 2.4).
 const ANY_ENTRY: &str = "(objectClass=*)";
 
-/// The filter of this text (RFC 4515); without one, a filter that is True of every entry. The fault is `Filter` where the text spells none,
-/// or one that is too deep, and else `OutOfMemory`.
+/// The filter of this text (RFC 4515); without one, a filter that is True of every entry. The fault is as of `filter_of_text`.
 pub fn filter_of(alloc: Global, text: Option<&str>) -> Result<Filter, CommandFault>
     ensures found { IfOk result (λ f. IsFilter (option_copied text.entry) (view f)) }
     ensures fault { IfErr result (FilterFails (option_copied text.entry)) }
 {
-    match read_filter(alloc, text.unwrap_or(ANY_ENTRY).as_bytes()) {
+    filter_of_text(alloc, text.unwrap_or(ANY_ENTRY).as_bytes())
+}
+
+/// The filter of this text (RFC 4515). The fault is `Filter` where the text spells none, or one that is too deep, and else `OutOfMemory`.
+pub fn filter_of_text(alloc: Global, text: &[u8]) -> Result<Filter, CommandFault>
+    ensures found { IfOk result (λ f. IsFilter (Some text.now) (view f)) }
+    ensures fault { IfErr result (FilterFails (Some text.now)) }
+{
+    match read_filter(alloc, text) {
         Ok(filter) => Ok(filter),
         Err(FilterFault::At { at, kind }) => {
             Err(CommandFault::Filter(FilterFault::At { at, kind }))

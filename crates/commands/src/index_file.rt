@@ -5,7 +5,8 @@ ghost use Rattle.device.specs.Device.{Took};
 ghost use Rattle.candidates.specs.Asked.{asked_keys};
 ghost use Rattle.candidates.specs.Candidates.{prepared_of};
 ghost use Rattle.databases.specs.IndexTexts.{stamp as stamp_by};
-ghost use Rattle.filter.specs.Made.{Made};
+ghost use Rattle.databases.specs.Searches.{ShowsIndexText};
+ghost use Rattle.stored_index.specs.Stored.{shown_by};
 ghost use Rattle.index_text.specs.Postings.{slot_in};
 ghost use Rattle.stored_index.specs.Rows.{IsByte};
 ghost use Rattle.commands.specs.Failures.{FailsToRead};
@@ -13,7 +14,7 @@ ghost use Rattle.folders.specs.Folders.{Files, Finds};
 ghost use Rattle.commands.specs.DirectoryFiles.{index_name};
 ghost use Rattle.commands.specs.IndexFiles.{Said, index_fault_text, ReportsFault};
 ghost use Rattle.commands.specs.Messages.{line_of};
-ghost use Rattle.commands.specs.inner.IndexFiles.{Says, HasRead, FailsToReportFault, FailsToReport};
+ghost use Rattle.commands.specs.inner.IndexFiles.{IsKindOf, HasRead, HasReadWhole, FailsToReportFault, FailsToReport};
 ghost use Rattle.commands.specs.inner.Stopped.{CanReport};
 
 use crate::database::{open, path};
@@ -27,6 +28,10 @@ use folders::Folder;
 use index_text::SlotKey;
 use std::alloc::{AllocError, Global};
 use stored_index::{IndexFault, IndexFaultKind, StoredIndex};
+use try_device::{TrySink, TrySource};
+
+/// How many bytes of a text in memory are read at a time.
+const PIECE: usize = 65536;
 
 /// What index.txt says of a directory.
 #[derive(Drop)]
@@ -144,6 +149,87 @@ pub fn read_index<F: Folder>(
     read_named(alloc, folder, name.as_str(), database, filter)
 }
 
+/// Reads an index text of a directory from a source that has this name, whole.
+fn read_all_keys<S: Source>(
+    alloc: Global,
+    source: &mut S,
+    name: &str,
+    database: &Database,
+) -> Result<IndexFile, CommandFault>
+    requires { (S.seen source.old).failed < 2 ^ 64 - 1 }
+    ensures read { IfOk result (λ file. (files : Option Files) (db : List ℕ)
+        → Finds files (index_name db) (Some (S.seen source.old).left)
+        → HasReadWhole files db database.now file) }
+    ensures err { IfErr result (FailsToRead name.now) }
+{
+    let Ok(stamp) = database.stamp(alloc) else {
+        return Err(CommandFault::OutOfMemory);
+    };
+    let conf = database.conf();
+    let tree = database.tree();
+    conf.rules_are_kept();
+    tree.entries_are_a_directory();
+    index_texts_reflect_dumps();
+    kept_index_texts_are_read();
+    are_bytes(&stamp);
+    match database.read_index(alloc, source, &stamp) {
+        Ok(stored) => Ok(IndexFile::Read(stored)),
+        Err(IndexFault::Fault(kind)) => Ok(IndexFile::Faulty(kind)),
+        Err(IndexFault::Device) => Err(CommandFault::cannot_read(alloc, name)),
+        Err(IndexFault::OutOfMemory) => Err(CommandFault::OutOfMemory),
+    }
+}
+
+/// Reads the index text of a directory in the file of this name, whole.
+fn read_whole_named<F: Folder>(
+    alloc: Global,
+    folder: &F,
+    name: &str,
+    database: &Database,
+) -> Result<IndexFile, CommandFault>
+    ensures read { IfOk result (λ file. (db : List ℕ) → name.now ≡ index_name db
+        → HasReadWhole (F.files folder.now) db database.now file) }
+    ensures err { IfErr result (FailsToRead name.now) }
+{
+    match open(alloc, folder, name) {
+        Ok(Some(mut source)) => read_all_keys(alloc, &mut source, name, database),
+        Ok(None) => Ok(IndexFile::Missing),
+        Err(fault) => Err(fault),
+    }
+}
+
+/// Reads index.txt in the folder `db`, of the directory that was loaded from there, whole: what is kept of it serves every filter.
+pub fn read_whole_index<F: Folder>(
+    alloc: Global,
+    folder: &F,
+    db: &str,
+    database: &Database,
+) -> Result<IndexFile, CommandFault>
+    ensures read { IfOk result (HasReadWhole (F.files folder.now) db.now database.now) }
+    ensures err { IfErr result (FailsToRead (index_name db.now)) }
+{
+    let Ok(name) = path(alloc, db, "index.txt") else {
+        return Err(CommandFault::OutOfMemory);
+    };
+    read_whole_named(alloc, folder, name.as_str(), database)
+}
+
+/// The index of a directory as its own index text says it. That text is made, and read, in memory alone.
+pub fn make_index(alloc: Global, database: &Database) -> Result<StoredIndex, AllocError>
+    ensures { IfOk result (λ x. ShowsIndexText (shown_by x) database.now.conf database.now.entries) }
+{
+    let stamp = database.stamp(alloc)?;
+    let mut sink = TrySink::new(alloc, usize::MAX, None);
+    if database.write_index_text(alloc, &stamp, &mut sink).is_err() {
+        return Err(AllocError);
+    }
+    let mut source = TrySource::new(sink.bytes(), PIECE, None);
+    match database.read_index(alloc, &mut source, &stamp) {
+        Ok(stored) => Ok(stored),
+        Err(_) => Err(AllocError),
+    }
+}
+
 /// Has a teller take note of what is wrong with index.txt in the folder `db`, if anything is. The file is read once more for this.
 pub fn note_index<F: Folder, T: CommandTeller>(
     alloc: Global,
@@ -197,10 +283,10 @@ fn report_index_fault<E: Sink>(
 /// Reports what is wrong with index.txt, if anything is. Where that can't be reported, the command stops.
 pub fn report_index<E: Sink>(alloc: Global, err: &mut E, file: &IndexFile) -> Result<(), Stop>
     requires { (E.written err.old).failed < 2 ^ 64 - 1 }
-    ensures reports { (f : Made) (said : Said) → Says f file.now said
+    ensures reports { (said : Said) → IsKindOf file.now said
         → OnOk result (ReportsFault said (E.written err.old) (E.written err.new)) }
     ensures failed { OnOk result ((E.written err.new).failed ≡ (E.written err.old).failed) }
-    ensures err { (f : Made) (said : Said) → Says f file.now said
+    ensures err { (said : Said) → IsKindOf file.now said
         → IfErr result (FailsToReport said (E.written err.old) (E.written err.new)) }
     ensures can_report { IfErr result (λ why. CanReport why (E.written err.new).failed) }
 {

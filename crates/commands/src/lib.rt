@@ -8,6 +8,8 @@ mod excerpt;
 mod finding;
 mod index_file;
 mod ldifdiff;
+mod list_text;
+mod listing;
 mod messages;
 mod query;
 mod searching;

@@ -5,7 +5,7 @@ ghost use Rattle.commands.specs.declared.messages.Stop.TheVariants.{Fault};
 ghost use Rattle.commands.specs.Messages.{IsTextReported, IsReported, fault_text, line_of};
 ghost use Rattle.commands.specs.Endings.{ReportsStop};
 ghost use Rattle.commands.specs.Failures.{FailsToRead, FailsToWrite, TellsInUse};
-ghost use Rattle.commands.specs.Statuses.{status_number, status_of_difference, status_of_fault, status_of_tally};
+ghost use Rattle.commands.specs.Statuses.{status_number, status_of_difference, status_of_fault, status_of_tally, goes_on, worse};
 ghost use Rattle.commands.specs.inner.LoadFaults.{TellsLoadFault};
 ghost use Rattle.commands.specs.Differences.{TellsRefusal, TellsContentFault};
 ghost use Rattle.commands.specs.inner.Stopped.{CanReport};
@@ -33,6 +33,31 @@ pub enum Status {
 }
 
 impl Status {
+    /// Whether a list goes on behind a line that ended so; `asked` says whether it is to go on behind one that wasn't answered whole.
+    pub fn goes_on(self, asked: bool) -> bool
+        ensures { result ≡ goes_on asked self }
+    {
+        match self {
+            Status::Done => true,
+            Status::Refused | Status::Usage => asked,
+            Status::Failed => false,
+        }
+    }
+
+    /// The one of two that has the greater number.
+    pub fn worse(self, other: Status) -> Status
+        ensures { result ≡ worse self other }
+    {
+        match (self, other) {
+            (Status::Done, _) => other,
+            (Status::Refused, Status::Done) => Status::Refused,
+            (Status::Refused, _) => other,
+            (Status::Usage, Status::Failed) => Status::Failed,
+            (Status::Usage, _) => Status::Usage,
+            (Status::Failed, _) => Status::Failed,
+        }
+    }
+
     /// The exit status of the process.
     pub fn number(self) -> u8
         ensures value { result ≡ status_number self }
@@ -76,6 +101,16 @@ pub enum CommandFault {
     Words,
     /// A filter that can't be read.
     Filter(FilterFault),
+    /// A line of a list, by its number, that is no filter.
+    Line {
+        number: u64,
+        fault: FilterFault,
+    },
+    /// The result code that the search of a line of a list ends with.
+    LineCode {
+        number: u64,
+        code: Code,
+    },
     /// The result code that a search of this command ends with.
     Code {
         command: &'static str,
@@ -112,9 +147,11 @@ impl CommandFault {
         ensures { result ≡ status_of_fault self.now }
     {
         match self {
-            CommandFault::Words | CommandFault::Filter(_) | CommandFault::Configuration { .. } =>
-                Status::Usage,
-            CommandFault::Code { .. } => Status::Refused,
+            CommandFault::Words
+            | CommandFault::Filter(_)
+            | CommandFault::Line { .. }
+            | CommandFault::Configuration { .. } => Status::Usage,
+            CommandFault::Code { .. } | CommandFault::LineCode { .. } => Status::Refused,
             _ => Status::Failed,
         }
     }
@@ -205,6 +242,8 @@ impl fmt::Display for CommandFault {
         match self {
             CommandFault::Words => f.write_str("command line: not UTF-8"),
             CommandFault::Filter(fault) => write!(f, "filter: {fault}"),
+            CommandFault::Line { number, fault } => write!(f, "filter line {number}: {fault}"),
+            CommandFault::LineCode { number, code } => write!(f, "filter line {number}: {code}"),
             CommandFault::Code { command, code } => write!(f, "{command}: {code}"),
             CommandFault::Configuration { line, kind } => write!(f, "dir.conf line {line}: {kind}"),
             CommandFault::Data { line, refusal } => write!(f, "data.ldif line {line}: {refusal}"),

@@ -1,7 +1,10 @@
 //! search: the entries that a filter finds are printed as LDIF.
-ghost use Rattle.std.specs.Prelude.{◌≡◌, ◌<◌, ◌-◌, ◌^◌, None, Err, IfOk, IfErr, codes};
+ghost use Rattle.std.specs.Prelude.{◌≡◌, ◌<◌, ◌-◌, ◌^◌, ◌++◌, Some, None, Err, IfOk, IfErr, length, map, codes};
 ghost use Rattle.std.specs.Option.{option_copied};
 ghost use Rattle.schema.specs.declared.code.Code.TheVariants.{SizeLimitExceeded};
+ghost use Rattle.std.specs.Fmt.{decimal};
+ghost use Rattle.databases.specs.Found.{AreThere, WritesFound, up_to, goes_past};
+ghost use Rattle.databases.specs.Walks.{seen};
 ghost use Rattle.filter_text.specs.Spells.{view};
 ghost use Rattle.commands.specs.Asked.{IsFilter, base_of};
 ghost use Rattle.commands.specs.Loaded.{IsLoaded};
@@ -9,10 +12,10 @@ ghost use Rattle.commands.specs.Worlds.{World, reported_world, search_world};
 ghost use Rattle.commands.specs.Messages.{code_text, IsReported};
 ghost use Rattle.commands.specs.IndexFiles.{Said};
 ghost use Rattle.commands.specs.Prints.{SearchGoesThrough, SearchStops};
-ghost use Rattle.commands.specs.inner.IndexFiles.{Keeps, HasLoaded};
-ghost use Rattle.commands.specs.inner.Printed.{PrintsFound};
-ghost use Rattle.commands.specs.inner.Refusals.{Refuses};
-ghost use Rattle.commands.specs.inner.Sought.{IsQueryOf};
+ghost use Rattle.commands.specs.inner.IndexFiles.{Keeps, Serves, HasLoaded};
+ghost use Rattle.commands.specs.inner.Printed.{PrintsFound, query_text};
+ghost use Rattle.commands.specs.Failures.{Refuses};
+ghost use Rattle.commands.specs.inner.Sought.{IsQueryOf, form_of};
 ghost use Rattle.commands.specs.inner.Stopped.{CanReport, HasEnded};
 ghost use Rattle.commands.specs.declared.index_file.IndexFile.TheVariants.{Read};
 ghost use Rattle.commands.specs.declared.messages.Status.TheVariants.{Refused};
@@ -21,22 +24,26 @@ use crate::database::load_database;
 use crate::finding::{filter_of, path_of, refused};
 use crate::index_file::{IndexFile, note_index, read_index, report_index};
 use crate::messages::{CommandFault, Status, Stop, report_fault};
-use crate::query::Query;
+use crate::query::{Form, Query};
 use crate::telling::CommandTeller;
+use base::Bytes;
 use command_line::SearchOptions;
-use databases::{Database, Selection, scan, search_with};
-use device::Sink;
+use databases::{
+    Database, EntriesByRank, Hits, Selection, count_found, scan, search_ranked_with, search_with,
+};
+use device::{Sink, push_all};
 use filter::{Prepared, prepare};
 use filter_text::Filter;
 use folders::Folder;
-use ldif::LineWidth;
+use id_sets::ListSet;
+use ldif::WriteFault;
 use schema::{Code, Conf};
-use std::alloc::Global;
+use std::alloc::{AllocError, Global};
 use std::mem;
 use stored_index::StoredIndex;
 
 /// The name that its result codes are printed with.
-const NAME: &str = "search";
+pub const NAME: &str = "search";
 
 /// Reports that more entries match than a search may print (RFC 4511, 4.5.1.4), and answers how it ends.
 fn report_past_limit<E: Sink>(alloc: Global, err: &mut E) -> Status
@@ -51,8 +58,18 @@ fn report_past_limit<E: Sink>(alloc: Global, err: &mut E) -> Status
     report_fault(alloc, err, &fault)
 }
 
+/// What is printed of what one search finds.
+fn form_of(alloc: Global, count: bool) -> Result<Form, AllocError>
+    ensures { IfOk result (λ f. f ≡ form_of count) }
+{
+    if count {
+        return Ok(Form::Count(Bytes::from_slice(alloc, b"\n")?));
+    }
+    Ok(Form::Records(Bytes::from_vec(Vec::new(alloc))))
+}
+
 /// Looks up what is asked for, by this filter. The fault is the code of a base that has no path under the configuration, or `OutOfMemory`.
-fn query_of(
+pub fn query_of(
     alloc: Global,
     asked: &SearchOptions<'_>,
     filter: Prepared,
@@ -64,13 +81,67 @@ fn query_of(
 {
     let base = path_of(alloc, conf, asked.base, NAME)?;
     let selection = Selection::of(alloc, conf, asked.attributes.as_slice())?;
+    let form = form_of(alloc, asked.count)?;
     Ok(Query {
         filter,
         base,
         scope: asked.scope,
         selection,
         limit: asked.limit,
+        form,
+        width: asked.width,
     })
+}
+
+/// Prints how many entries were found, up to a limit, and a text behind that; and answers whether there are more.
+fn print_count<O: Sink>(
+    alloc: Global,
+    out: &mut O,
+    hits: Hits<'_, ListSet>,
+    limit: Option<u32>,
+    tail: &[u8],
+) -> Result<bool, WriteFault>
+    requires can_fail { (O.written out.old).failed < 2 ^ 64 - 1 }
+    ensures { WritesFound result (goes_past limit hits.entry.to_come) (O.written out.old) (O.written out.new)
+        (decimal (length (up_to limit hits.entry.to_come)) ++ tail.now) }
+{
+    let found = count_found(hits, limit);
+    let mut text = Vec::new(alloc);
+    let number = format!(in alloc; "{}", found.entries)?;
+    text.extend_from_slice(number.as_bytes())?;
+    text.extend_from_slice(tail)?;
+    push_all(out, &text)?;
+    Ok(found.past)
+}
+
+/// Prints what was found as a query has it, and answers whether there is more than may be printed.
+pub fn print_hits<O: Sink>(
+    alloc: Global,
+    query: &Query,
+    database: &Database,
+    hits: Hits<'_, ListSet>,
+    out: &mut O,
+) -> Result<bool, WriteFault>
+    requires can_fail { (O.written out.old).failed < 2 ^ 64 - 1 }
+    requires there { AreThere database.now.entries (map seen hits.to_come) }
+    ensures { WritesFound result (goes_past query.now.limit hits.entry.to_come) (O.written out.old) (O.written out.new)
+        (query_text query.now database.now (map seen hits.entry.to_come)) }
+{
+    match &query.form {
+        Form::Records(front) => {
+            let (front, selection) = (front.as_slice(), &query.selection);
+            database.write_found_behind(
+                alloc,
+                out,
+                front,
+                hits,
+                query.limit,
+                selection,
+                query.width,
+            )
+        }
+        Form::Count(tail) => print_count(alloc, out, hits, query.limit, tail.as_slice()),
+    }
 }
 
 /// Prints what a query finds by the rows of an index text that its filter asks for, and answers whether there is more than may be printed.
@@ -96,14 +167,41 @@ fn print_by_text<O: Sink>(
         &query.filter,
     );
     match found {
-        Ok(hits) => match database.write_found(
-            alloc,
-            out,
-            hits,
-            query.limit,
-            &query.selection,
-            LineWidth::STANDARD,
-        ) {
+        Ok(hits) => match print_hits(alloc, query, database, hits, out) {
+            Ok(past) => Ok(past),
+            Err(fault) => Err(CommandFault::of_output(alloc, fault)),
+        },
+        Err(refusal) => Err(refused(refusal, NAME)),
+    }
+}
+
+/// Prints what a query finds by an index, among entries by their ranks, and answers whether there is more than may be printed.
+fn print_by_rank<O: Sink>(
+    alloc: Global,
+    query: &Query,
+    database: &Database,
+    entries: &EntriesByRank<'_>,
+    index: &StoredIndex,
+    out: &mut O,
+) -> Result<bool, CommandFault>
+    requires can_fail { (O.written out.old).failed < 2 ^ 64 - 1 }
+    requires prepared { query.now.filter.conf ≡ database.now.conf }
+    requires entries { entries.now ≡ database.now }
+    ensures prints { (said : Said) → Serves database.now (Some index.now) said
+        → PrintsFound query.now said database.now (O.written out.old) (O.written out.new) result }
+    ensures failed { IfOk result (λ _. (O.written out.new).failed ≡ (O.written out.old).failed) }
+{
+    let found = search_ranked_with(
+        alloc,
+        entries,
+        database.conf(),
+        index,
+        &query.base,
+        query.scope,
+        &query.filter,
+    );
+    match found {
+        Ok(hits) => match print_hits(alloc, query, database, hits, out) {
             Ok(past) => Ok(past),
             Err(fault) => Err(CommandFault::of_output(alloc, fault)),
         },
@@ -120,7 +218,8 @@ fn print_by_scan<O: Sink>(
 ) -> Result<bool, CommandFault>
     requires can_fail { (O.written out.old).failed < 2 ^ 64 - 1 }
     requires prepared { query.now.filter.conf ≡ database.now.conf }
-    ensures { PrintsFound query.now None database.now (O.written out.old) (O.written out.new) result }
+    ensures prints { PrintsFound query.now None database.now (O.written out.old) (O.written out.new) result }
+    ensures failed { IfOk result (λ _. (O.written out.new).failed ≡ (O.written out.old).failed) }
 {
     let scanned = scan(
         alloc,
@@ -130,14 +229,7 @@ fn print_by_scan<O: Sink>(
         &query.filter,
     );
     match scanned {
-        Some(hits) => match database.write_found(
-            alloc,
-            out,
-            hits,
-            query.limit,
-            &query.selection,
-            LineWidth::STANDARD,
-        ) {
+        Some(hits) => match print_hits(alloc, query, database, hits, out) {
             Ok(past) => Ok(past),
             Err(fault) => Err(CommandFault::of_output(alloc, fault)),
         },
@@ -165,6 +257,28 @@ fn print_found<O: Sink>(
         IndexFile::Read(stored) => print_by_text(alloc, query, database, stored, out),
         IndexFile::Faulty(_) => print_by_scan(alloc, query, database, out),
         IndexFile::Missing => print_by_scan(alloc, query, database, out),
+    }
+}
+
+/// Prints what a query finds by an index, among entries by their ranks, or without one.
+pub fn print_ranked<O: Sink>(
+    alloc: Global,
+    query: &Query,
+    database: &Database,
+    entries: &EntriesByRank<'_>,
+    index: &Option<StoredIndex>,
+    out: &mut O,
+) -> Result<bool, CommandFault>
+    requires can_fail { (O.written out.old).failed < 2 ^ 64 - 1 }
+    requires prepared { query.now.filter.conf ≡ database.now.conf }
+    requires entries { entries.now ≡ database.now }
+    ensures prints { (said : Said) → Serves database.now index.now said
+        → PrintsFound query.now said database.now (O.written out.old) (O.written out.new) result }
+    ensures failed { IfOk result (λ _. (O.written out.new).failed ≡ (O.written out.old).failed) }
+{
+    match index {
+        Some(index) => print_by_rank(alloc, query, database, entries, index, out),
+        None => print_by_scan(alloc, query, database, out),
     }
 }
 

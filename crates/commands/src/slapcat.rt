@@ -10,7 +10,8 @@ ghost use Rattle.commands.specs.Asked.{IsBase};
 ghost use Rattle.commands.specs.Failures.{FailsToWrite};
 ghost use Rattle.commands.specs.Queries.{LacksBase, target_of, IsBegun, Begins, HasBegun, PrintsPartly, StopsWith};
 ghost use Rattle.commands.specs.Prints.{cat_wanted, is_whole, IsCatText, CatText, Puts, HasPut, CatGoesThrough, CatStops};
-ghost use Rattle.commands.specs.inner.Refusals.{Refuses, RefusesOrBreaks};
+ghost use Rattle.commands.specs.inner.Refusals.{RefusesOrBreaks};
+ghost use Rattle.commands.specs.Failures.{Refuses};
 ghost use Rattle.commands.specs.inner.Sought.{excerpt_query};
 ghost use Rattle.commands.specs.inner.Views.{basis_of};
 ghost use Rattle.commands.specs.inner.Stopped.{HasEnded};
@@ -151,7 +152,7 @@ fn query_of(
     filter: &Filter,
     database: &Database,
 ) -> Result<Query, CommandFault>
-    ensures found { IfOk result (λ q. q ≡ excerpt_query database.now.conf filter.now q.base) }
+    ensures found { IfOk result (λ q. q ≡ excerpt_query database.now.conf filter.now q.base asked.now.width) }
     ensures base { IfOk result (λ q. IsBase database.now.conf (option_copied asked.now.base) q.base) }
     ensures there { IfOk result (λ q. is_some asked.now.base ≡ true
         → finite.contains_key database.now.entries q.base ≡ true) }
@@ -159,7 +160,7 @@ fn query_of(
         (LacksBase (cat_wanted asked.now) database.now.conf database.now.entries)) }
 {
     let base = base_of(alloc, asked, database)?;
-    match Query::of_excerpt(alloc, filter, base, database.conf()) {
+    match Query::of_excerpt(alloc, filter, base, database.conf(), asked.width) {
         Ok(query) => Ok(query),
         Err(_) => Err(CommandFault::OutOfMemory),
     }
@@ -187,7 +188,11 @@ fn put_entries<F: Folder, O: Sink>(
         (O.written out.old) (O.written out.new)) }
 {
     if asked.filter.is_none() && asked.base.is_none() {
-        return put(alloc, &Dump { database }, asked, folder, out);
+        let dump = Dump {
+            database,
+            width: asked.width,
+        };
+        return put(alloc, &dump, asked, folder, out);
     }
     match query_of(alloc, asked, filter, database) {
         Ok(query) => {

@@ -1,6 +1,6 @@
 //! Files as they are stored: first a draft of each, and then all drafts take their places.
 ghost use Rattle.std.specs.Prelude.{◌≡◌, ℕ, ◌⊎◌, List, [], ◌∷◌, ⊤, IfOk, IfErr, OnOk, OnErr};
-ghost use Rattle.databases.specs.Runs.{dump};
+ghost use Rattle.databases.specs.Runs.{dump, dump_to};
 ghost use Rattle.databases.specs.IndexTexts.{stamp as stamp_by, index_text};
 ghost use Rattle.folders.specs.Folders.{with_file, with_files};
 ghost use Rattle.commands.specs.DirectoryFiles.{file_in};
@@ -12,24 +12,25 @@ use crate::messages::CommandFault;
 use databases::{Database, Stamp};
 use device::Sink;
 use folders::{Drafted, FileText, Folder, FolderFault, Unpublished};
-use ldif::WriteFault;
+use ldif::{LineWidth, WriteFault};
 use std::alloc::Global;
 
-/// The dump of a database.
+/// The dump of a database, with lines of a width.
 #[derive(Clone, Copy, Drop)]
 pub struct Dump<'a> {
     pub database: &'a Database,
+    pub width: LineWidth,
 }
 
 impl FileText for Dump<'_> {
     type Answer = ();
 
-    ghost text = { λ d. dump d.database.now.conf d.database.now.entries };
+    ghost text = { λ d. dump_to d.width d.database.now.conf d.database.now.entries };
 
     ghost answers = { λ _ _. ⊤ };
 
     fn write<W: Sink>(&self, alloc: Global, sink: &mut W) -> Result<(), WriteFault> {
-        self.database.dump(alloc, sink)
+        self.database.dump_to(alloc, self.width, sink)
     }
 }
 

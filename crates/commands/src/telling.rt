@@ -6,6 +6,7 @@ use crate::messages::{CommandFault, Stop};
 use databases::{Gauge, Silent, Tally, Teller};
 use device::{Sink, Source};
 use differences::Counts;
+use filter_text::FilterFault;
 use ldif::Mode;
 use schema::Conf;
 use sentences::Explainer;
@@ -18,6 +19,9 @@ use tree::Tree;
 pub trait CommandTeller: Teller {
     /// Takes note of the text of a filter, which may be at fault.
     fn note_filter(&mut self, alloc: Global, text: Option<&str>);
+
+    /// Tells what is wrong with this text, which is no filter.
+    fn tell_line(&mut self, alloc: Global, text: &[u8], fault: &FilterFault);
 
     /// Takes note of the name of a base, at which no entry may be; the entries are those of this configuration.
     fn note_base(&mut self, alloc: Global, conf: &Conf, tree: &Tree, name: Option<&str>)
@@ -56,6 +60,8 @@ pub trait CommandTeller: Teller {
 impl CommandTeller for Silent {
     fn note_filter(&mut self, _alloc: Global, _text: Option<&str>) {}
 
+    fn tell_line(&mut self, _alloc: Global, _text: &[u8], _fault: &FilterFault) {}
+
     fn note_base(&mut self, _alloc: Global, _conf: &Conf, _tree: &Tree, _name: Option<&str>) {}
 
     fn is_heard(&self) -> bool {
@@ -93,6 +99,10 @@ fn done_word(mode: Mode) -> &'static str {
 impl<V: Sink, G: Gauge> CommandTeller for Explainer<'_, V, G> {
     fn note_filter(&mut self, alloc: Global, text: Option<&str>) {
         Explainer::note_filter(self, alloc, text);
+    }
+
+    fn tell_line(&mut self, alloc: Global, text: &[u8], fault: &FilterFault) {
+        self.tell_filter_text(alloc, text, fault);
     }
 
     fn note_base(&mut self, alloc: Global, conf: &Conf, tree: &Tree, name: Option<&str>) {

@@ -1,5 +1,5 @@
 -- index.txt as the parts of a search have it.
-use Rattle.std.specs.Prelude.{◌≡◌, ℕ, List, Option, None, Some, Ok, Err}
+use Rattle.std.specs.Prelude.{◌≡◌, ◌⊎◌, ℕ, List, Option, None, Some, Ok, Err, ⊤}
 use Rattle.std.specs.Option.{option_copied}
 use Rattle.device.specs.Device.{Written, Broke}
 use Rattle.stored_index.specs.declared.fault.IndexFaultKind.{IndexFaultKind}
@@ -9,7 +9,7 @@ use Rattle.tree.specs.Trees.{Tree}
 use Rattle.filter.specs.Made.{Made}
 use Rattle.stored_index.specs.Stored.{Stored, shown_by}
 use Rattle.databases.specs.IndexTexts.{index_text}
-use Rattle.databases.specs.Searches.{ReflectsDump, ShowsTo}
+use Rattle.databases.specs.Searches.{ReflectsDump, ShowsIndexText, ShowsTo}
 use Rattle.filter_text.specs.Spells.{view}
 use Rattle.command_line.specs.declared.request.SearchOptions.{SearchOptions}
 use Rattle.commands.specs.Asked.{IsFilter}
@@ -44,7 +44,37 @@ pub record HasRead (files : Option Files) (db : List ℕ) (t : Tree) (f : Made) 
   pub in_file : SaysOf files db t.conf t.entries said
   pub kept : Keeps t f file said
 
+-- it says this, and is kept whole; what an index says of a tree is true
+abbrev pub IsWhole : Tree → IndexFile → Said → Type 0
+IsWhole t files.Missing said = said ≡ None
+IsWhole t (files.Read whole) said = (said ≡ Some (Ok whole)) × IsTrue t.conf t.entries said
+IsWhole t (files.Faulty fault) said = said ≡ Some (Err fault)
+
+-- so it was read
+pub record HasReadWhole (files : Option Files) (db : List ℕ) (t : Tree) (file : IndexFile) : Type 0 where
+  pub said : Said
+  pub in_file : SaysOf files db t.conf t.entries said
+  pub kept : IsWhole t file said
+
+-- there is no index, or it has a fault
+abbrev pub IsNoIndex : Said → Type 0
+IsNoIndex None = ⊤
+IsNoIndex (Some (Ok whole)) = ⊥
+IsNoIndex (Some (Err fault)) = ⊤
+
+-- By an index every filter finds what it finds by what index.txt says: it is that whole, or the directory's own in place of one that is missing or at
+-- fault. Without one that is what a scan finds.
+abbrev pub Serves : Tree → Option Stored → Said → Type 0
+Serves t None said = IsNoIndex said
+Serves t (Some index) said = IsWhole t (files.Read index) said ⊎ (IsNoIndex said × ShowsIndexText (shown_by index) t.conf t.entries)
+
 -- ---- what is reported of it
+
+-- it says nothing, an index, or this fault, however much of it is kept
+abbrev pub IsKindOf : IndexFile → Said → Type 0
+IsKindOf files.Missing said = said ≡ None
+IsKindOf (files.Read part) said = (whole : Stored) × (said ≡ Some (Ok whole))
+IsKindOf (files.Faulty fault) said = said ≡ Some (Err fault)
 
 -- the line of a fault was broken off; or memory ran out, and nothing was reported
 abbrev pub FailsToReportFault : IndexFaultKind → Written → Written → Stop → Type 0

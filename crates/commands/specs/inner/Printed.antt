@@ -1,21 +1,26 @@
 -- What a query finds, and what was printed of it.
-use Rattle.std.specs.Prelude.{◌≡◌, ℕ, ◌⊎◌, Bool, true, false, List, [], None, Some, Result, Ok, Err, if◌then◌else◌, codes}
+use Rattle.std.specs.Prelude.{◌≡◌, ℕ, ◌⊎◌, Bool, true, false, List, [], ◌++◌, length, Option, None, Some, Result, Ok, Err, if◌then◌else◌, codes}
+use Rattle.std.specs.Fmt.{decimal}
 use Rattle.std.specs.FinMap as finite
 use Rattle.device.specs.Device.{Written, Took}
 use Rattle.paths.specs.Paths.{Path}
+use Rattle.schema.specs.Conf.{Conf}
 use Rattle.schema.specs.declared.code.Code.TheVariants.{NoSuchObject}
 use Rattle.entries.specs.Entries.{EntryContent}
+use Rattle.tree.specs.Directories.{Entries}
 use Rattle.tree.specs.Trees.{Tree}
 use Rattle.filter_text.specs.Spells.{view}
-use Rattle.ldif_lines.specs.Folding.{standard_width}
-use Rattle.databases.specs.Found.{limited_text, goes_past}
+use Rattle.databases.specs.Found.{up_to, limited_text, goes_past}
 use Rattle.databases.specs.IndexTexts.{index_text}
 use Rattle.databases.specs.Scanned.{scan}
+use Rattle.databases.specs.Selections.{Selection}
 use Rattle.commands.specs.Failures.{FailsToWrite}
 use Rattle.commands.specs.IndexFiles.{Said, said_by, found_by}
 use Rattle.commands.specs.Queries.{HasBegun, PrintsPartly}
-use Rattle.commands.specs.inner.Refusals.{Refuses}
+use Rattle.commands.specs.Failures.{Refuses}
 use Rattle.commands.specs.declared.messages.CommandFault.{CommandFault}
+use Rattle.commands.specs.declared.query.Form.{Form}
+use Rattle.commands.specs.declared.query.Form.TheVariants.{Records, Count}
 use Rattle.commands.specs.declared.query.Query.{Query}
 
 -- a text of which this holds, whole
@@ -34,9 +39,13 @@ scanned q t = scan t.conf t.entries q.base q.scope (view q.filter.filter)
 abbrev pub found : Query → Said → Tree → List (Path × EntryContent)
 found q said t = found_by said t.conf t.entries q.base q.scope (view q.filter.filter)
 
--- the text of entries that were found, up to the limit
+-- the text of entries that were found, up to the limit: their records behind a text, or how many they are, and a text behind that
+abbrev pub text_as : Form → ℕ → Conf → Entries → Selection → Option ℕ → List (Path × EntryContent) → List ℕ
+text_as (Records front) width conf d s limit es = front ++ limited_text width conf d s limit es
+text_as (Count tail) width conf d s limit es = decimal (length (up_to limit es)) ++ tail
+
 abbrev pub query_text : Query → Tree → List (Path × EntryContent) → List ℕ
-query_text q t es = limited_text standard_width t.conf t.entries q.selection q.limit es
+query_text q t es = text_as q.form q.width t.conf t.entries q.selection q.limit es
 
 -- that of a query that is answered by a test of each entry; nothing where the base isn't there
 abbrev pub scanned_text : Query → Tree → List ℕ

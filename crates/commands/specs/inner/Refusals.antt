@@ -7,7 +7,7 @@ use Rattle.tree.specs.Directories.{Entries}
 use Rattle.entries.specs.declared.refusal.Refusal.{Refusal}
 use Rattle.entries.specs.declared.refusal.Refusal.TheVariants as refusals
 use Rattle.commands.specs.Asked.{IsNoFilterFor}
-use Rattle.commands.specs.Failures.{IsMemory, FailsToWrite}
+use Rattle.commands.specs.Failures.{IsMemory, FailsToWrite, Refuses}
 use Rattle.commands.specs.Queries.{Wanted, LacksBase, target_of}
 use Rattle.commands.specs.declared.messages.CommandFault.{CommandFault}
 use Rattle.commands.specs.declared.messages.CommandFault.TheVariants as faults
@@ -21,11 +21,6 @@ refusal_fault command refusals.OutOfMemory = faults.OutOfMemory
 abbrev pub FilterFails : Option (List ℕ) → CommandFault → Type 0
 FilterFails text (faults.Filter fault) = IsNoFilterFor text fault
 FilterFails text fault = IsMemory fault
-
--- the command of this name ends with a code of which this holds, or memory ran out
-abbrev pub Refuses : List ℕ → (Code → Type 0) → CommandFault → Type 0
-Refuses command Holds (faults.Code by code) = (by.now ≡ command) × Holds code
-Refuses command Holds fault = IsMemory fault
 
 -- the directory lacks the base, or what is printed to can't be written, or memory ran out
 abbrev pub RefusesOrBreaks : Wanted → Conf → Entries → CommandFault → Type 0

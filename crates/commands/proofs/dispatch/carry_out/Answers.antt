@@ -41,7 +41,7 @@ returns-in-Ok-Index-clause-ends g c =
 pub returns-in-Ok-Search-clause-ends : goal.returns-in-Ok-Search-clause-ends
 returns-in-Ok-Search-clause-ends g c =
     let w : World = record { files = g.F.Folder.files c.args.folder.now; lock = g.F.Folder.locking c.args.folder.now; input = g.S.Source.seen c.args.input.now; output = g.O.Sink.written c.args.out.now; messages = g.E.Sink.written c.args.err.now } in
-    asked_so _ _ _ _ c.search.result (c.in-Ok-Search.is ∙ ap request c.in-Ok-Search.field-0-is) (c.search.ensures.ends w)
+    asked_so _ _ _ _ c.search_any.result (c.in-Ok-Search.is ∙ ap request c.in-Ok-Search.field-0-is) (c.search_any.ensures.ends w)
 
 pub returns-in-Ok-Cat-clause-ends : goal.returns-in-Ok-Cat-clause-ends
 returns-in-Ok-Cat-clause-ends g c =
@@ -67,7 +67,7 @@ pub returns-in-Ok-Index-clause-can_report : goal.returns-in-Ok-Index-clause-can_
 returns-in-Ok-Index-clause-can_report g c = each_reports c.slapindex.result _ c.requires.err
 
 pub returns-in-Ok-Search-clause-can_report : goal.returns-in-Ok-Search-clause-can_report
-returns-in-Ok-Search-clause-can_report g c = c.search.ensures.can_report
+returns-in-Ok-Search-clause-can_report g c = c.search_any.ensures.can_report
 
 pub returns-in-Ok-Cat-clause-can_report : goal.returns-in-Ok-Cat-clause-can_report
 returns-in-Ok-Cat-clause-can_report g c = each_reports c.slapcat.result _ c.requires.err

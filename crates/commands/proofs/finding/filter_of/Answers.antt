@@ -1,44 +1,44 @@
-use Rattle.std.proofs.Common.{◌≡◌, ℕ, List, Option, None, Some, refl, sym, ap, subst, ◌∙◌, Bor}
-use Rattle.std.specs.Prelude.{◌↔◌, Result, Ok, Err, unwrap_or}
+use Rattle.std.proofs.Common.{◌≡◌, ℕ, List, Option, None, Some, refl, ap, subst, ◌∙◌, Bor}
+use Rattle.std.specs.Prelude.{unwrap_or}
 use Rattle.std.specs.Option.{option_copied}
-use Rattle.filter_text.specs.Depth.{IsShallow, IsDeepAt}
-use Rattle.filter_text.specs.Faults.{IsOutOfMemory, BeginsAt}
-use Rattle.filter_text.specs.Spells.{FilterContent, FilterText, view}
-use Rattle.filter_text.specs.declared.filters.Filter.{Filter}
-use Rattle.filter_text.specs.declared.filter_fault.FilterFault.{FilterFault}
-use Rattle.filter_text.specs.declared.filter_fault.FilterFault.TheVariants.{At}
-use Rattle.filter_text.specs.declared.filter_fault.FilterFaultKind.TheVariants.{Deep}
-use Rattle.commands.specs.Asked.{any_entry, IsNoFilter, IsNoFilterFor}
+use Rattle.std.proofs.lemmas.Result.{IfOk-weaker}
+use Rattle.filter_text.specs.Depth.{IsShallow}
+use Rattle.filter_text.specs.Spells.{FilterText, view}
+use Rattle.commands.specs.Asked.{any_entry}
+use Rattle.commands.specs.inner.Refusals.{FilterFails}
+use Rattle.commands.specs.declared.messages.CommandFault.{CommandFault}
+use Rattle.commands.specs.declared.messages.CommandFault.TheVariants as faults
+use Rattle.commands.proofs.Stopping.{of_faults}
 use Rattle.commands.proofs.finding.filter_of.Goals as goal
 
 copied : (text : Option (Bor (List ℕ))) (other : Bor (List ℕ)) → (unwrap_or text other).now ≡ unwrap_or (option_copied text) other.now
 copied None other = refl
 copied (Some x) other = refl
 
-abbrev failed : FilterFault → Result Filter FilterFault
-failed fault = Err fault
+-- what is said of the text that is read, is said of the text that was asked for
+as_asked : (text : Option (List ℕ)) (fault : CommandFault) → FilterFails (Some (unwrap_or text any_entry)) fault → FilterFails text fault
+as_asked text (faults.Filter fault) h = record { none = h.none; deep = h.deep; front = h.front }
+as_asked text faults.OutOfMemory h = h
+as_asked text faults.Words h = h
+as_asked text (faults.Line number fault) h = h
+as_asked text (faults.LineCode number code) h = h
+as_asked text (faults.Code by code) h = h
+as_asked text (faults.Configuration line kind) h = h
+as_asked text (faults.Data line why) h = h
+as_asked text (faults.Content file line why) h = h
+as_asked text (faults.CannotRead name) h = h
+as_asked text (faults.CannotWrite name) h = h
+as_asked text (faults.InUse name) h = h
 
-module _ (text : Option (List ℕ)) (bytes : List ℕ) (is : bytes ≡ unwrap_or text any_entry) (found told : FilterFault) (same : found ≡ told) where
-  no_filter : ((f : FilterContent) → FilterText f bytes → IsShallow bytes → ⊥) → IsNoFilter text
-  no_filter none f spelled = none f (subst (FilterText f) (sym is) spelled.0) (subst IsShallow (sym is) spelled.1)
+pub returns-clause-found : goal.returns-clause-found
+returns-clause-found c =
+    IfOk-weaker c.filter_of_text.result _ _
+    (λ filter found. subst (λ (b : List ℕ). FilterText (view filter) b × IsShallow b) (c.as_bytes.ensures.value ∙ ap (λ (t : Bor (List ℕ)). t.now) c.unwrap_or.ensures ∙ copied c.args.text _) found)
+    c.filter_of_text.ensures.found
 
-  abbrev fault_of : Result Filter FilterFault → FilterFault
-  fault_of (Ok f) = told
-  fault_of (Err e) = e
-
-  deep_so : ((at : ℕ) → IsDeepAt bytes at ↔ (failed found ≡ failed (At at Deep))) → (at : ℕ) → IsDeepAt (unwrap_or text any_entry) at ↔ (told ≡ At at Deep)
-  deep_so deep at =
-      let on = deep at in
-      (λ d. sym same ∙ ap fault_of (on.0 (subst (λ (b : List ℕ). IsDeepAt b at) (sym is) d)), λ e. subst (λ (b : List ℕ). IsDeepAt b at) is (on.1 (ap failed (same ∙ e))))
-
-  told_so : ((f : FilterContent) → FilterText f bytes → IsShallow bytes → ⊥) → ((at : ℕ) → IsDeepAt bytes at ↔ (failed found ≡ failed (At at Deep))) → BeginsAt bytes found → IsNoFilterFor text told
-  told_so none deep front = record { none = no_filter none; deep = deep_so deep; front = subst (BeginsAt (unwrap_or text any_entry)) same (subst (λ (b : List ℕ). BeginsAt b found) is front) }
-
-pub returns-in-Err-At-clause-fault : goal.returns-in-Err-At-clause-fault
-returns-in-Err-At-clause-fault c =
-    told_so (option_copied c.args.text) _ (c.as_bytes.ensures.value ∙ ap (λ (t : Bor (List ℕ)). t.now) c.unwrap_or.ensures ∙ copied c.args.text _) _ _ c.in-Err-At.field-0-is
-    (λ f spelled shallow. subst IsOutOfMemory c.in-Err-At.field-0-is (c.in-Err-At.ensures.only f spelled shallow)) c.in-Err-At.ensures.deep c.in-Err-At.ensures.front
-
-pub returns-in-Ok-clause-found : goal.returns-in-Ok-clause-found
-returns-in-Ok-clause-found c =
-    subst (λ (b : List ℕ). FilterText (view c.in-Ok.filter) b × IsShallow b) (c.as_bytes.ensures.value ∙ ap (λ (t : Bor (List ℕ)). t.now) c.unwrap_or.ensures ∙ copied c.args.text _) c.in-Ok.ensures.found
+pub returns-clause-fault : goal.returns-clause-fault
+returns-clause-fault c =
+    of_faults c.filter_of_text.result
+    (λ fault fails. as_asked (option_copied c.args.text) fault
+    (subst (λ (b : List ℕ). FilterFails (Some b) fault) (c.as_bytes.ensures.value ∙ ap (λ (t : Bor (List ℕ)). t.now) c.unwrap_or.ensures ∙ copied c.args.text _) fails))
+    c.filter_of_text.ensures.fault

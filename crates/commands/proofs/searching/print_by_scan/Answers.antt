@@ -4,8 +4,8 @@ use Rattle.databases.specs.Walks.{seen}
 use Rattle.commands.proofs.Ends.{found_by_scan, hits_printed, hits_begun}
 use Rattle.commands.proofs.searching.print_by_scan.Goals as goal
 
-pub returns-in-Ok : goal.returns-in-Ok
-returns-in-Ok g c =
+pub returns-in-Ok-clause-prints : goal.returns-in-Ok-clause-prints
+returns-in-Ok-clause-prints g c =
     let q = c.args.query.now in
     let d = c.args.database.now in
     let es = map seen c.in-Some.hits.to_come in
@@ -13,8 +13,8 @@ returns-in-Ok g c =
     (found_by_scan q d c.tree.result.now es c.tree.ensures c.in-Some.ensures.found c.in-Some.ensures.there)
     c.in-Ok.past _ _ c.in-Ok.ensures
 
-pub returns-in-Err : goal.returns-in-Err
-returns-in-Err g c =
+pub returns-in-Err-clause-prints : goal.returns-in-Err-clause-prints
+returns-in-Err-clause-prints g c =
     let q = c.args.query.now in
     let d = c.args.database.now in
     let es = map seen c.in-Some.hits.to_come in

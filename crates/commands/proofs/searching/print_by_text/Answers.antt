@@ -8,8 +8,8 @@ use Rattle.tree.specs.Trees.{Tree}
 use Rattle.commands.proofs.Ends.{found_by_part, found_in, hits_printed, hits_begun, none_found}
 use Rattle.commands.proofs.searching.print_by_text.Goals as goal
 
-pub returns-in-Ok-write_found : goal.returns-in-Ok-write_found
-returns-in-Ok-write_found g c = λ said kept.
+pub returns-in-Ok-print_hits : goal.returns-in-Ok-print_hits
+returns-in-Ok-print_hits g c = λ said kept.
     let q = c.args.query.now in
     let d = c.args.database.now in
     let part = c.args.stored.now in
@@ -18,10 +18,10 @@ returns-in-Ok-write_found g c = λ said kept.
     (found_by_part q d part es c.requires.prepared
     (found_in q part es d c.tree.result.now c.conf.result.now c.tree.ensures c.conf.ensures
     (record { there = c.in-Ok.ensures.there; found = c.in-Ok.ensures.finds.found; same = c.search_with-found.ensures.part; all = c.in-Ok.ensures.whole })) said kept)
-    c.in-Ok-write_found.past _ _ c.in-Ok-write_found.ensures
+    c.in-Ok-print_hits.past _ _ c.in-Ok-print_hits.ensures
 
-pub returns-in-Err-write_found : goal.returns-in-Err-write_found
-returns-in-Err-write_found g c = λ said kept.
+pub returns-in-Err-print_hits : goal.returns-in-Err-print_hits
+returns-in-Err-print_hits g c = λ said kept.
     let q = c.args.query.now in
     let d = c.args.database.now in
     let part = c.args.stored.now in
@@ -30,7 +30,7 @@ returns-in-Err-write_found g c = λ said kept.
     (found_by_part q d part es c.requires.prepared
     (found_in q part es d c.tree.result.now c.conf.result.now c.tree.ensures c.conf.ensures
     (record { there = c.in-Ok.ensures.there; found = c.in-Ok.ensures.finds.found; same = c.search_with-found.ensures.part; all = c.in-Ok.ensures.whole })) said kept)
-    c.in-Err-write_found.fault c.of_output.result _ _ c.of_output.ensures c.in-Err-write_found.ensures
+    c.in-Err-print_hits.fault c.of_output.result _ _ c.of_output.ensures c.in-Err-print_hits.ensures
 
 pub returns-in-Err : goal.returns-in-Err
 returns-in-Err g c = λ said kept.
