@@ -1,5 +1,7 @@
 pub mod Kept
+pub mod Unfolded
 pub mod Members
+pub mod Reportable
 pub mod Told
 pub mod Twins
 pub mod Once

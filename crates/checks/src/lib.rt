@@ -1,21 +1,25 @@
 //! What may be wrong with a directory that no record is refused for: values that name entries that aren't there, and values that several
-//! entries have.
+//! entries have; and how it is reported, in lines that scripts read.
 //!
 //! The functions of `laws` do nothing: a call of one is made for what it states alone.
 #![tactic(auto)]
 
+mod conf_faults;
 mod entry_value;
 mod finder;
 mod holders;
 mod laws;
 mod references;
+mod reports;
 mod shared_value;
 mod sharing;
 mod type_names;
 
+pub use conf_faults::{ConfLineFault, commented, report_faults};
 pub use entry_value::EntryValue;
 pub use laws::{dangling_values_are_told, shared_values_are_told};
 pub use references::find_dangling;
+pub use reports::{put_report, report_dangling, report_refused, report_shared};
 pub use shared_value::SharedValue;
 pub use sharing::find_shared;
 pub use type_names::{TypesFault, types_named};

@@ -27,7 +27,7 @@ fn has_name_syntax(conf: &Conf, t: TypeId) -> bool
 }
 
 /// Whether a type is among those that are named.
-fn is_named(named: &[TypeId], t: TypeId) -> bool
+pub(crate) fn is_named(named: &[TypeId], t: TypeId) -> bool
     ensures { result ≡ list_any (λ n. nat_eq n t) named.now }
 {
     named.iter().any(|other| *other == t)

@@ -1,11 +1,12 @@
 //! Types by their names, as a text has them.
 
-ghost use Rattle.std.specs.Prelude.{◌≡◌, ◌<◌, IfOk, length, map};
+ghost use Rattle.std.specs.Prelude.{◌≡◌, ◌<◌, IfOk, OnOk, length, map};
 ghost use Rattle.std.specs.List.{AllByRecursion, slice_split};
 ghost use Rattle.base.specs.Answers.{each};
-ghost use Rattle.checks.specs.TypeNames.{is_comma, type_named, types_named};
+ghost use Rattle.checks.specs.TypeNames.{is_comma, type_named, types_named, put_once, each_once};
 ghost use Rattle.checks.specs.Gives.{Gives};
 
+use crate::references::is_named;
 use base::Bytes;
 use schema::{Conf, TypeId};
 use std::alloc::{AllocError, AllocFailed, Global};
@@ -77,4 +78,26 @@ pub fn types_named(alloc: Global, conf: &Conf, text: &[u8]) -> Result<Vec<TypeId
 {
     let names = parts_of(alloc, text)?;
     each_named(alloc, conf, names.as_slice())
+}
+
+/// Puts a type behind others, unless it is among them.
+fn put_once(once: &mut Vec<TypeId>, t: TypeId) -> Result<(), AllocError>
+    ensures { OnOk result (once.new.items ≡ put_once once.old.items t) }
+{
+    if is_named(once.as_slice(), t) {
+        return Ok(());
+    }
+    once.push(t)?;
+    Ok(())
+}
+
+/// Each of these types once, where it is named first.
+pub(crate) fn each_once(alloc: Global, types: &[TypeId]) -> Result<Vec<TypeId>, AllocError>
+    ensures { IfOk result (λ v. v.items ≡ each_once types.now) }
+{
+    let mut once = Vec::with_capacity(alloc, types.len())?;
+    for t in types {
+        put_once(&mut once, *t)?;
+    }
+    Ok(once)
 }

@@ -1,0 +1,70 @@
+//! All faults of the text of a dir.conf.
+
+ghost use Rattle.std.specs.Prelude.{◌≡◌, ◌++◌, ◌-◌, ◌<◌, IfOk, OnOk, string_bytes};
+ghost use Rattle.checks.specs.ConfFaults.{commented, fault_text, fault_report, fault_reports};
+
+use crate::reports::put_report;
+use dir_conf::ConfFaultKind;
+use std::alloc::{AllocError, Global};
+
+/// A line of a dir.conf that is at fault, by its number, from 1, or 0 where a line is missing.
+#[derive(Clone, Copy, Drop)]
+pub struct ConfLineFault {
+    pub line: u64,
+    pub kind: ConfFaultKind,
+}
+
+/// A text with a number sign for the first byte of the line with this number, from 1: so it is a comment, with the lines that it goes on on.
+#[tactic(auto, unfolding(crate::specs::ConfFaults::commented))]
+pub fn commented(alloc: Global, text: &[u8], line: u64) -> Result<Vec<u8>, AllocError>
+    requires { 0 < line }
+    ensures { IfOk result (λ v. v.items ≡ commented (line - 1) text.now) }
+{
+    let mut out = Vec::with_capacity(alloc, text.len())?;
+    let mut before = line - 1;
+    let mut rest = text;
+    'bytes: while !rest.is_empty() {
+        if before == 0 {
+            out.push(b'#')?;
+            out.extend_from_slice(&rest[1..])?;
+            return Ok(out);
+        }
+        if rest[0] == b'\n' {
+            before -= 1;
+        }
+        out.push(rest[0])?;
+        rest = &rest[1..];
+    }
+    Ok(out)
+}
+
+/// What is wrong with a line.
+fn fault_text(alloc: Global, fault: ConfLineFault) -> Result<String, AllocError>
+    ensures { IfOk result (λ s. string_bytes s ≡ fault_text fault) }
+{
+    let ConfLineFault { line, kind } = fault;
+    format!(in alloc; "line {line}: {kind}")
+}
+
+/// Puts the report of a fault of dir.conf at the end of a text.
+fn put_fault(alloc: Global, fault: ConfLineFault, out: &mut Vec<u8>) -> Result<(), AllocError>
+    ensures { OnOk result (out.new.items ≡ out.old.items ++ fault_report fault) }
+{
+    let what = fault_text(alloc, fault)?;
+    put_report(out, "faulty", b"dir.conf", what.as_bytes())
+}
+
+/// Puts a report of each fault of a dir.conf at the end of a text: the word `faulty`, the name of the file, and the line and what is wrong with it, as
+/// the other commands report it.
+pub fn report_faults(
+    alloc: Global,
+    faults: &[ConfLineFault],
+    out: &mut Vec<u8>,
+) -> Result<(), AllocError>
+    ensures { OnOk result (out.new.items ≡ out.old.items ++ fault_reports faults.now) }
+{
+    for fault in faults {
+        put_fault(alloc, *fault, out)?;
+    }
+    Ok(())
+}
