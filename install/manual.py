@@ -13,6 +13,7 @@ TOP = HERE.parent
 FAULTS = {
     PROGRAM: ["What a command reports", "Order of checks", "Why: `-v`", "dir.conf"],
     "slapadd": ["LDIF", "Result codes"], "ldapmodify": ["LDIF", "Result codes"], "slapindex": ["index.txt"], "search": ["index.txt"],
+    "check": ["What `check` reports", "dir.conf", "LDIF", "Result codes", "index.txt"],
 }
 
 

@@ -1,13 +1,15 @@
 #!/usr/bin/env python3
-"""Compares a built program with a second reading of the rules: compare.py PROGRAM COUNT SEED .. [--changes] [--searches] [--lists] [--only]
+"""Compares a built program with a second reading of the rules: compare.py PROGRAM COUNT SEED .. [--changes] [--searches] [--lists] [--checks]
+[--only]
 
 The second reading is `model.py` with `schema.py`, `values.py`, `ldif.py`, `filters.py` and `indexes.py`. It was written apart from the program
 and shares no code with it, so that a rule that one of the two reads wrongly shows as a difference. For each SEED, COUNT random folders and
 inputs go through slapadd, slapcat and slapindex, and some through slapindex before all of them; statuses, outputs, messages and all files are
 compared byte for byte. Some print lines of another width than 76; slapadd makes the same directory of what slapcat prints so. With --changes as
-many more go through ldapmodify in place of slapadd, with --searches as many through search or through slapcat with a filter or a name, and with
---lists as many through search -f; with --only slapadd is left out. A case that differs is cut down and printed; at the end stands how often each
-status, code and fault came up, and how many slots of the index texts had keys. The exit status is 0 where nothing differs, else 1.
+many more go through ldapmodify in place of slapadd, with --searches as many through search or through slapcat with a filter or a name, with
+--lists as many through search -f, and with --checks as many through check; with --only slapadd is left out. A case that differs is cut down and
+printed; at the end stands how often each status, code and fault came up, and how many slots of the index texts had keys. The exit status is 0 where
+nothing differs, else 1.
 """
 import argparse
 import collections
@@ -23,6 +25,8 @@ from dataclasses import fields, replace
 from pathlib import Path
 
 import cases
+import checks
+import folders
 import lists
 import model
 import searches
@@ -34,7 +38,7 @@ MOST_SHOWN = 3      # differences that are cut down and printed
 MOST_TRIES = 2000   # cases that are tried to cut down one of them
 # what a case is called, what it is drawn from beside its seed, and how
 KINDS = [("case", "", cases.case), ("change", "{} changes", cases.change_case), ("search", "{} searches", searches.search_case),
-         ("list", "{} lists", lists.list_case)]
+         ("list", "{} lists", lists.list_case), ("check", "{} checks", folders.check_case)]
 
 
 def read(path):
@@ -73,6 +77,9 @@ class Runner:
             return seen, wanted
         if isinstance(case, lists.SearchList):
             self.search_list(case, seen, wanted)
+            return seen, wanted
+        if isinstance(case, folders.Check):
+            self.check(case, seen, wanted)
             return seen, wanted
         if case.index_first:
             self.slapindex(case, "first slapindex", seen, wanted)
@@ -191,6 +198,27 @@ class Runner:
         self.compare_files("", before, seen, wanted)
 
 
+    def check(self, case, seen, wanted):
+        before = self.files()
+        seen["status"], seen["output"], seen["messages"] = self.run(*case.command(self.db))
+        files = case.conf, case.data, case.index, self.db
+        if all(values.is_utf8(text) for text in case.texts()):
+            wanted["status"], wanted["output"], wanted["messages"] = checks.check(*files, case.unique, case.references, case.verbose)
+            if case.verbose and wanted["status"] == 1:
+                checked = checks.checked_files(*files, case.unique, case.references)
+                wanted["messages"] = sentences_as(seen["messages"], checked.said, checked.is_of_conf)
+        else:
+            wanted["status"], wanted["output"], wanted["messages"] = 2, b"", b"command line: not UTF-8\n"
+        self.compare_files("", before, seen, wanted)
+
+
+def sentences_as(seen, said, is_loose):
+    """Of each of the sentences that may be told the one that was, or the first one. A line of dir.conf may be wrong in several ways, of which the
+    second reading knows one: then any line will do that has two spaces in front."""
+    lines = [line + "\n" for line in seen.decode(errors="replace").split("\n")] + [""] * len(said)
+    return "".join(line if line in ways or is_loose and line.startswith("  ") else ways[0] for line, ways in zip(lines, said)).encode()
+
+
 def differences(seen, wanted):
     return [key for key in wanted if seen[key] != wanted[key]]
 
@@ -256,6 +284,9 @@ def show(case, found):
 
 
 def count(counts, case, wanted):
+    if isinstance(case, folders.Check):
+        count_check(counts, case, wanted)
+        return
     count_width(counts, case, wanted)
     if isinstance(case, searches.Search):
         count_search(counts, case, wanted)
@@ -326,6 +357,26 @@ def count_list(counts, case, wanted):
             counts["lists: a file: cannot read"] += 1
 
 
+def count_check(counts, case, wanted):
+    counts[f"check: status {wanted['status']}"] += 1
+    kinds = collections.Counter()
+    # a value may have a tab, and other ends of lines
+    for line in wanted["output"].decode().split("\n")[:-1]:
+        kind, where, what = line.split("\t", 2)
+        if kind in ("faulty", "refused"):
+            counts[f"checks: {where}: {re.sub('^line [0-9]+: ', '', what)}"] += 1
+        kinds[f"{kind} {where}" if kind == "faulty" else kind] += 1
+    for kind, number in kinds.items():
+        counts[f"checks: {kind}: {min(number, 3)} {'lines or more' if number > 2 else 'line' if number == 1 else 'lines'}"] += 1
+    if case.verbose and wanted["status"] == 1:
+        counts["checks: with sentences"] += 1
+    if case.index is not None and wanted["status"] < 2 and not any(kind.startswith("faulty") for kind in kinds):
+        counts["checks: index.txt: right"] += 1
+    if wanted["status"] > 1:
+        what, _, _ = wanted["messages"].decode().split(": ")[-1].partition("\n")
+        counts[f"checks: {what}"] += 1
+
+
 def count_messages(counts, source, messages):
     for line in messages.decode().splitlines():
         found = re.fullmatch(r"(?:(dir\.conf|data\.ldif) )?line \d+: (\w+) .*|.*: cannot read|((?:filter|search|slapcat): .*)", line)
@@ -371,6 +422,7 @@ def main():
     parser.add_argument("--changes", action="store_true")
     parser.add_argument("--searches", action="store_true")
     parser.add_argument("--lists", action="store_true")
+    parser.add_argument("--checks", action="store_true")
     parser.add_argument("--only", action="store_true", help="no cases of slapadd beside those")
     words = parser.parse_args()
     program = shutil.which(words.program)
@@ -379,7 +431,7 @@ def main():
     memory = "/dev/shm" if os.access("/dev/shm", os.W_OK) else None
     with tempfile.TemporaryDirectory(prefix="compare.", dir=memory) as home:
         runner = Runner(os.path.abspath(program), Path(home))
-        kinds = [kind for kind, wanted in zip(KINDS, (not words.only, words.changes, words.searches, words.lists)) if wanted]
+        kinds = [kind for kind, wanted in zip(KINDS, (not words.only, words.changes, words.searches, words.lists, words.checks)) if wanted]
         counts, differing = compare(runner, words.count, words.seeds, kinds)
     for key in sorted(counts, key=lambda key: (key.split(": ")[0], len(key), key)):
         print(f"{key:28} {counts[key]:7}")

@@ -4,7 +4,8 @@
 Alone: at the first line, at the last, and with its line continued at each blank. Together: on two lines in both orders, and on one
 line where one can have both. What must be reported follows from the order of faults alone: lines answer in their order, those of the
 suffix and of indexes after all others; a definition C2, C10, C3, C9, C4, C5, C6; an index line C2, C4, C8. The second reading must say
-the same. slapcat and slapindex are asked in turn, and neither may make a file. Prints each difference and at the end the number of texts; the exit status is 0 where nothing differs, else 1.
+the same. slapcat and slapindex are asked in turn, and check, which reports every line at fault, and that the suffix is missing where no line
+has a good one; none may make a file. Prints each difference and at the end the number of texts; the exit status is 0 where nothing differs, else 1.
 """
 import concurrent.futures
 import itertools
@@ -70,10 +71,12 @@ def is_later(line):
 
 
 def told(lines, faulty):
-    """lines, [(which line, its fault)] -> (the text, which line must be reported, with which fault)"""
-    at, fault = min(faulty, key=lambda pair: (is_later(lines[pair[0]]), pair[0]))
-    before = b"".join(line + b"\n" for line in lines[:at])
-    return b"".join(line + b"\n" for line in lines), before.count(b"\n") + 1, fault
+    """lines, [(which line, its fault)] -> (the text, [(which line must be reported, with which fault)])"""
+    faults = []
+    for at, fault in sorted(faulty, key=lambda pair: (is_later(lines[pair[0]]), pair[0])):
+        before = b"".join(line + b"\n" for line in lines[:at])
+        faults.append((before.count(b"\n") + 1, fault))
+    return b"".join(line + b"\n" for line in lines), faults + [(0, "C7")] * (GOOD[1] not in lines)
 
 
 def definitions():
@@ -88,7 +91,7 @@ def definitions():
 
 
 def texts():
-    """-> (the text, which line must be reported, with which fault)"""
+    """-> (the text, [(which line must be reported, with which fault)])"""
     alone = [(line, fault) for fault, lines in ALONE.items() for line in lines]
     for line, fault in alone:
         without = [good for good in GOOD if fault != "C7" or not good.startswith(b"suffix")]
@@ -128,17 +131,24 @@ def full_texts():
 
 
 def differences(work):
-    """-> what differs: (the text's last lines, what was seen, what is wanted)"""
+    """-> what differs: (the text's last lines, who answers, what was seen, what is wanted)"""
     program, home, batch = work
     with tempfile.TemporaryDirectory(dir=home) as db:
-        for number, (text, line, fault) in enumerate(batch):
+        for number, (text, faults) in enumerate(batch):
             Path(db, "dir.conf").write_bytes(text)
-            done = subprocess.run([program, ("slapcat", "slapindex")[number % 2], "--db", db], capture_output=True, timeout=60)
-            wanted = 2, b"", f"dir.conf line {line}: {fault} {FAULTS[fault]}\n".encode()
-            for who, seen in ("program", (done.returncode, done.stdout, done.stderr)), ("second reading", model.slapcat(text, None, db)):
-                if seen != wanted or os.listdir(db) != ["dir.conf"]:
-                    return [(text[-300:], who, seen, wanted)]
+            first, *_ = lines = [f"line {line}: {fault} {FAULTS[fault]}\n" for line, fault in faults]
+            wanted = 2, b"", f"dir.conf {first}".encode()
+            every = 1, "".join(f"faulty\tdir.conf\t{line}" for line in lines).encode(), b""
+            for who, seen, due in [("program", answer(program, ("slapcat", "slapindex")[number % 2], db), wanted),
+                                   ("second reading", model.slapcat(text, None, db), wanted), ("check", answer(program, "check", db), every)]:
+                if seen != due or os.listdir(db) != ["dir.conf"]:
+                    return [(text[-300:], who, seen, due)]
     return []
+
+
+def answer(program, command, db):
+    done = subprocess.run([program, command, "--db", db], capture_output=True, timeout=60)
+    return done.returncode, done.stdout, done.stderr
 
 
 def main():

@@ -266,6 +266,27 @@ def types_that_differ():
         yield what, conf, *(texts([SUFFIX, entry(b"cn=a,dc=ex", b"".join(some))]) for some in (one, other))
 
 
+def checked():
+    """-> (what it is, the files before, the options of check)"""
+    conf = CONF + b"attributetype ( 1.3.98 NAME 'member' EQUALITY distinguishedNameMatch SYNTAX 1.3.6.1.4.1.1466.115.121.1.12 )\n"
+    numbers = range(10000)
+    people = [entry(b"cn=%d,dc=ex" % number, b"l: %d\nsn: %d\nmember: cn=%d,dc=ex\n" % (number, number % 700, number * 3)) for number in numbers]
+    some = {"dir.conf": conf, "data.ldif": texts([SUFFIX] + people)}
+    yield "10,000 entries that share values, and of which two thirds name no entry", some, ["--unique", "sn,objectClass,l"]
+    yield "10,000 references, of which none is meant", some, ["--references", "sn", "--unique", "l"]
+    yield "the same types 5,000 times", some, ["--unique", "l,sn," * 5000 + "l"]
+    long, names = b"x" * 100001, list(chain(40, 3))
+    for what, lines in [("over 64 KiB", b"l: " + long + b"\nmember: cn=" + long + b",dc=ex\n"),
+                        ("over 64 KiB in base64", b"photo:: " + base64.b64encode(long + b"\n") + b"\nmember:: " + base64.b64encode(b"cn=\n" + long + b",dc=ex") + b"\n"),
+                        ("of 5,000 parts", b"".join(b"l: %d\nmember: cn=%d,dc=ex\n" % (number, number) for number in range(5000))),
+                        ("of 40 RDNs", b"".join(b"member: " + name + b"\n" for name in names))]:
+        both = texts([SUFFIX, entry(b"cn=a,dc=ex", lines), entry(b"cn=b,cn=a,dc=ex", lines.replace(b"l: x", b"l: X"))])
+        yield f"values {what}", {"dir.conf": conf, "data.ldif": both}, ["--unique", "photo,l,member"]
+    yield "a name over 64 KiB", {"dir.conf": conf, "data.ldif": texts([SUFFIX, entry(b"cn=" + long + b",dc=ex", b"member: cn=b,dc=ex\n")])}, ["--unique", "objectClass"]
+    yield "10,000 records that are refused", {"dir.conf": conf, "data.ldif": texts(people)}, ["--unique", "sn"]
+    yield "1,000 faults of a dir.conf", {"dir.conf": b"overlay x\n" * 500 + conf + b"index none eq\n" * 500, "data.ldif": SUFFIX}, []
+
+
 def runs():
     """-> (what it is, the files before, the words behind the folder's option)"""
     for what, text in content():
@@ -286,6 +307,16 @@ def runs():
             yield what, {"dir.conf": conf, "data.ldif": one, "in": other}, "ldifdiff", ["-v", "-l", "db/in", *options]
     for what, one, other, options in parts():
         yield what, {"dir.conf": CONF, "data.ldif": one, "in": other}, "ldifdiff", ["-v", "-l", "db/in", *options]
+    for what, text in content():
+        yield what, {"dir.conf": CONF, "data.ldif": text}, "check", ["--unique", "photo,sn,l"]
+    for what, conf, name in confs():
+        yield what, {"dir.conf": conf, "data.ldif": SUFFIX.replace(b"top", name)}, "check", []
+    for what, files, _ in index_texts():
+        # the second reading makes one of 100 MB in minutes
+        if len(files["index.txt"]) < 1 << 24:
+            yield what, files, "check", []
+    for what, files, options in checked():
+        yield what, files, "check", options
     data = texts([SUFFIX] + [entry(b"cn=%d,dc=ex" % number) for number in range(50)] + [entry(b"cn=" + b"a" * 70000 + b",dc=ex")])
     for what, text in filters():
         yield what, {"dir.conf": CONF, "data.ldif": data}, "slapcat", ["-a", text]

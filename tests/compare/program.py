@@ -6,6 +6,7 @@ import os
 import sys
 import time
 
+import checks
 import differences
 import model
 
@@ -15,7 +16,7 @@ OPTIONS = {
     "slapadd": ("-l", ["--wait"], ["-c", "-u", "-v"]), "ldapmodify": ("-f", ["--wait"], ["-a", "-c", "-n", "-v"]),
     "slapindex": (None, ["--wait"], ["-v"]),
     "search": ("-f", ["-b", "-s", "-z", "-o"], ["-c", "--count", "-v"]), "slapcat": ("-l", ["-a", "-s", "-o"], ["-v"]),
-    "ldifdiff": ("-l", ["-a", "-b"], ["--unordered", "-v"]),
+    "ldifdiff": ("-l", ["-a", "-b"], ["--unordered", "-v"]), "check": (None, ["--unique", "--references"], ["-v"]),
 }
 
 
@@ -161,6 +162,11 @@ def ldifdiff(words):
     return differences.ldifdiff(*files, words.db, source, encoded(words.a), encoded(words.b), words.unordered, words.v)
 
 
+def check(words):
+    files = (read(f"{words.db}/{name}") for name in ("dir.conf", "data.ldif", "index.txt"))
+    return checks.check(*files, words.db, encoded(words.unique), encoded(words.references), words.v)
+
+
 def is_utf_8(word):
     try:
         word.encode()
@@ -184,7 +190,8 @@ def main():
     elif words.command in ("search", "slapcat"):
         status, output, messages = {"search": search, "slapcat": slapcat}[words.command](words, parsers[words.command])
     else:
-        status, output, messages = {"slapindex": slapindex, "ldifdiff": ldifdiff}.get(words.command, change)(words)
+        others = {"slapindex": slapindex, "ldifdiff": ldifdiff, "check": check}
+        status, output, messages = others.get(words.command, change)(words)
     sys.stdout.buffer.write(output)
     sys.stderr.buffer.write(messages)
     return status

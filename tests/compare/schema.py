@@ -53,6 +53,7 @@ class Fault(Exception):
     """What is wrong, where the line is known; `why` is said with `-v`."""
     def __init__(self, line, code, why="", word_line=0):
         super().__init__(f"dir.conf line {line}: {code} {FAULTS[code]}")
+        self.line = line
         self.why = f"  line {word_line}: {why}\n" if word_line else f"  {why}\n"
 
 
@@ -414,19 +415,13 @@ class Conf:
         text = text.rstrip(b" ")
         if len(text) >= 2 and text.startswith(b'"') and text.endswith(b'"'):
             text = text[1:-1]
-        name = read_name(text)
         if self.suffix is not None:
             raise Wrong("C7", "a suffix stands above; one is kept")
-        if not name:
-            raise Wrong("C7", f"{sentences.value(text)} is no name of attribute types that are defined")
-        for rdn in name:
-            try:
-                self.pairs_of_rdn(rdn)
-            except BadName:
-                # the first RDN that isn't one, as it is written
-                part = b"+".join(kind + b"=" + written_value(value) for kind, value in rdn)
-                raise Wrong("C7", f"{sentences.value(part)} is no name of attribute types that are defined") from None
-        self.suffix = self.pairs_of(name)
+        self.suffix = self.avas_of(text)
+        if not self.suffix:
+            # the first RDN that isn't one, as it stands there, or all of it
+            part = next((part for part in sentences.rdns_of(text) if not self.avas_of(part)), text)
+            raise Wrong("C7", f"{sentences.value(part)} is no name of attribute types that are defined")
 
     def add_index(self, text):
         """An index line: a list of types, and a list of kinds."""

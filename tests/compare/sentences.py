@@ -188,6 +188,17 @@ def unreadable(what, text):
     return f"{what} can't be read: {TEXTS[fault_of_name(text)]}" if is_utf8(text) else f"{what} isn't UTF-8"
 
 
+def rdns_of(text):
+    """What stands between commas that aren't escaped."""
+    parts = [b""]
+    for piece in re.findall(rb"(?s)\\.?|,|[^\\,]+", text):
+        if piece == b",":
+            parts.append(b"")
+        else:
+            parts[-1] += piece
+    return parts
+
+
 def parent(dn):
     """What stands behind the first comma that isn't escaped."""
     found = re.compile(rb"(?:[^\\,]|\\.|\\$)*,", re.DOTALL).match(dn)

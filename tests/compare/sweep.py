@@ -4,9 +4,9 @@ reading: sweep.py PROGRAM [--all]
 
 Each beginning of a text, and each single byte changed into others (with --all: into all that it may be), is a dir.conf of its own, with no
 data.ldif; a data.ldif of its own; an index.txt of its own, by which a few entries are searched; an input of slapadd, ldapmodify or ldifdiff of its
-own, over a few entries; or a filter of its own over such. What the commands answer, print, say and store must be what `model.py` says, byte for
-byte: a configuration, a directory and its index, or numbered faults with their lines; entries or a fault at a place. Prints each difference and at the end the number of texts; the exit status
-is 0 where nothing differs, else 1.
+own, over a few entries; a file of a folder that check looks at; or a filter of its own over a few entries. What the commands answer, print, say and
+store must be what `model.py` says, byte for byte: a configuration, a directory and its index, or numbered faults with their lines; entries or a
+fault at a place. Prints each difference and at the end the number of texts; the exit status is 0 where nothing differs, else 1.
 """
 import argparse
 import collections
@@ -18,6 +18,7 @@ import sys
 import tempfile
 from pathlib import Path
 
+import checks
 import differences
 import model
 
@@ -167,6 +168,11 @@ cn: n,
 """
 
 
+# in a dir.conf of which each fault is told
+FAULT_OTHERS = b"\n #()'ax"
+
+INDEX = model.slapindex(ENTRIES_CONF, DUMP, "")[2]["index.txt"]
+
 INDEX_OTHERS = b"\0\n\r -0129:Aafg\x80\xff"
 
 INDEX_FILTER = b"(|(&(cn=*ba*)(!(cn=Bob, B)))(member=cn=a,dc=ex)(!(cn=*)))"
@@ -243,6 +249,17 @@ def other_answers(program, home, text):
     return (done.returncode, done.stdout, done.stderr), differences.ldifdiff(ENTRIES_CONF, DUMP, text, db, "input")
 
 
+def check_answers(name, program, home, text):
+    """-> (what check reports where a file of this name has this text, what the second reading does)"""
+    db = home / f"check{os.getpid()}"
+    db.mkdir(exist_ok=True)
+    files = {"dir.conf": ENTRIES_CONF, "data.ldif": DUMP, "index.txt": INDEX, name: text}
+    for one, content in files.items():
+        (db / one).write_bytes(content)
+    done = subprocess.run([program, "check", "--db", db, "--unique", "objectClass,description"], capture_output=True, timeout=10)
+    return (done.returncode, done.stdout, done.stderr), checks.check(*files.values(), db, b"objectClass,description")
+
+
 def filter_answers(program, home, text):
     """-> (what the program answers to a filter, what the second reading answers)"""
     db = home / f"filter{os.getpid()}"
@@ -277,12 +294,13 @@ def main():
     words.add_argument("--all", action="store_true")
     words = words.parse_args()
     all_bytes = [bytes([b]) for b in range(256)]
-    index = model.slapindex(ENTRIES_CONF, DUMP, "")[2]["index.txt"]
     sweeps = [
         (conf_answers, list(broken(CONF, all_bytes if words.all else [bytes([b]) for b in OTHERS]))),
         *((answers, list(broken(text, all_bytes if words.all else [bytes([b]) for b in RECORD_OTHERS])))
           for answers, text in [(dump_answers, DUMP), (ADD_ANSWERS, ADDED), (CHANGE_ANSWERS, CHANGED), (other_answers, OTHER)]),
-        (index_answers, list(broken(index, all_bytes if words.all else [bytes([b]) for b in INDEX_OTHERS]))),
+        (index_answers, list(broken(INDEX, all_bytes if words.all else [bytes([b]) for b in INDEX_OTHERS]))),
+        *((functools.partial(check_answers, name), list(broken(text, all_bytes if words.all else [bytes([b]) for b in others])))
+          for name, text, others in [("dir.conf", ENTRIES_CONF, FAULT_OTHERS), ("data.ldif", DUMP, RECORD_OTHERS), ("index.txt", INDEX, INDEX_OTHERS)]),
         (filter_answers, list(broken(FILTER, all_bytes[1:128] + FILTER_OTHERS[-2:] if words.all else FILTER_OTHERS))),
     ]
     told, different = collections.Counter(), []

@@ -176,5 +176,5 @@ ours s name needs begins negates = inl (record { name = name; needs = needs; beg
 pub whole : (words : List Text) → fault_of slaptools words ≡ [] → IsWhole (subcommand_of slaptools words)
 whole words none =
     whole_of (built slaptools) (argument_words slaptools words) refl refl
-    (ours _ refl refl (refl, refl) refl, (ours _ refl refl (refl, refl) refl, (ours _ refl refl (refl, refl) refl, (ours _ refl refl (refl, refl) refl, (ours _ refl refl (refl, refl) refl, (ours _ refl refl (refl, refl) refl, (inr (refl, refl), tt)))))))
+    (ours _ refl refl (refl, refl) refl, (ours _ refl refl (refl, refl) refl, (ours _ refl refl (refl, refl) refl, (ours _ refl refl (refl, refl) refl, (ours _ refl refl (refl, refl) refl, (ours _ refl refl (refl, refl) refl, (ours _ refl refl (refl, refl) refl, (inr (refl, refl), tt))))))))
     none

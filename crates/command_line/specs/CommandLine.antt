@@ -5,12 +5,12 @@ use Rattle.clap.specs.Words.{App, Rule, Shape, Text, new_rule}
 use Rattle.clap.specs.Simple.{new_shape}
 use Rattle.clap.specs.declared.builder.action.ArgAction.TheVariants.{Set, SetTrue, Append}
 use Rattle.command_line.specs.declared.options.CommandOption.{CommandOption}
-use Rattle.command_line.specs.declared.options.CommandOption.TheVariants.{Folder, Wait, File, Value, Flag, LongFlag, OtherWords}
+use Rattle.command_line.specs.declared.options.CommandOption.TheVariants.{Folder, Wait, File, Value, LongValue, Flag, LongFlag, OtherWords}
 use Rattle.command_line.specs.declared.options.Tool.{Tool}
 
 -- ---- options
 
--- an option with a name and a value, as `--db DIR`
+-- an option with a name and a value, as `--unique TYPES`
 abbrev pub long_option : Text → Rule
 long_option id = record (new_rule id) { long = Some id; value_names = 1; action = Some Set }
 
@@ -68,6 +68,7 @@ rule Folder = folder_option
 rule Wait = wait_option
 rule (File short help) = file_option short
 rule (Value id short value_name help) = value_option id.now short
+rule (LongValue id value_name help) = long_option id.now
 rule (Flag id short help) = flag id.now short
 rule (LongFlag id help) = long_flag id.now
 rule OtherWords = other_words
@@ -110,9 +111,14 @@ ldifdiff = command (codes "ldifdiff")
     (folder_option ∷ file_option 108 ∷ value_option (codes "base") 98
     ∷ value_option (codes "filter") 97 ∷ long_flag (codes "unordered") ∷ verbose_option ∷ [])
 
+-- check --db DIR [--unique TYPES] [--references TYPES] [-v]
+abbrev pub check : Shape
+check = command (codes "check")
+    (folder_option ∷ long_option (codes "unique") ∷ long_option (codes "references") ∷ verbose_option ∷ [])
+
 -- one of them has to be named, or else `--help` or `--version`
 abbrev pub slaptools : App
 slaptools = record {
   top = record (new_shape (codes "slaptools")) { is_leaf = false; has_version = true; subcommand_required = true };
-  subs = slapadd ∷ ldapmodify ∷ slapindex ∷ search ∷ slapcat ∷ ldifdiff ∷ [];
+  subs = slapadd ∷ ldapmodify ∷ slapindex ∷ search ∷ slapcat ∷ ldifdiff ∷ check ∷ [];
 }

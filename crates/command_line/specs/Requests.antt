@@ -19,8 +19,9 @@ use Rattle.command_line.specs.declared.request.IndexOptions.{IndexOptions}
 use Rattle.command_line.specs.declared.request.SearchOptions.{SearchOptions}
 use Rattle.command_line.specs.declared.request.CatOptions.{CatOptions}
 use Rattle.command_line.specs.declared.request.DiffOptions.{DiffOptions}
+use Rattle.command_line.specs.declared.request.CheckOptions.{CheckOptions}
 use Rattle.command_line.specs.declared.request.Request.{Request}
-use Rattle.command_line.specs.declared.request.Request.TheVariants.{Help, Add, Modify, Index, Search, Cat, Diff}
+use Rattle.command_line.specs.declared.request.Request.TheVariants.{Help, Add, Modify, Index, Search, Cat, Diff, Check}
 use Rattle.command_line.specs.declared.request.UsageFault.{UsageFault}
 use Rattle.command_line.specs.declared.request.UsageFault.TheVariants.{Words, OutOfMemory}
 use Rattle.command_line.specs.CommandLine.{slaptools}
@@ -206,6 +207,12 @@ pub record IsDiff (rows : List Row) (asked : DiffOptions) : Type 0 where
   pub unordered_is : asked.unordered ≡ is_given (codes "unordered") rows
   pub verbose_is : asked.verbose ≡ is_given (codes "verbose") rows
 
+pub record IsCheck (rows : List Row) (asked : CheckOptions) : Type 0 where
+  pub db_is : text_of (codes "db") rows ≡ Some asked.db.now
+  pub unique_is : option_copied asked.unique ≡ text_of (codes "unique") rows
+  pub references_is : option_copied asked.references ≡ text_of (codes "references") rows
+  pub verbose_is : asked.verbose ≡ is_given (codes "verbose") rows
+
 -- ---- what a command and its rows ask for
 
 -- the command has this name, and its rows are such
@@ -220,6 +227,7 @@ IsRequest met (Index asked) = IsCommand met (codes "slapindex") (λ rows. IsInde
 IsRequest met (Search asked) = IsCommand met (codes "search") (λ rows. IsSearch rows asked)
 IsRequest met (Cat asked) = IsCommand met (codes "slapcat") (λ rows. IsCat rows asked)
 IsRequest met (Diff asked) = IsCommand met (codes "ldifdiff") (λ rows. IsDiff rows asked)
+IsRequest met (Check asked) = IsCommand met (codes "check") (λ rows. IsCheck rows asked)
 
 -- the option has a text that is no number
 abbrev pub HasNoNumber : Text → List Row → Type 0

@@ -8,6 +8,6 @@ mod request;
 
 pub use reading::read;
 pub use request::{
-    AddOptions, CatOptions, DiffOptions, IndexOptions, ModifyOptions, Request, SearchOptions,
-    UsageFault,
+    AddOptions, CatOptions, CheckOptions, DiffOptions, IndexOptions, ModifyOptions, Request,
+    SearchOptions, UsageFault,
 };

@@ -52,7 +52,16 @@ const COMPARED_FILTER_HELP: &str =
 const UNORDERED_HELP: &str =
     "Compares attributes and values as sets, by their equality rules, in place of their order";
 
+const UNIQUE_HELP: &str =
+    "Reports values of these types that several entries have: names or OIDs, with commas between";
+
+const REFERENCES_HELP: &str =
+    "Looks at references of these types, in place of all types of DN syntax: names or OIDs, with commas between";
+
 const VERBOSE_HELP: &str = "Says why, behind each line that reports a fault or a refusal";
+
+const CHECK_VERBOSE_HELP: &str =
+    "Says on standard error why, of each fault of dir.conf and each refused record";
 
 const BESIDE_SLAPADD: &str = "In place of options of OpenLDAP's slapadd:
   -b, -f, -F, -g, -n  --db DIR, as a folder keeps one directory
@@ -110,6 +119,15 @@ In place of options of OpenLDAP's tools:
   -c          nothing, as a refused record ends it
   -q, -u      nothing, as no file is changed";
 
+const BESIDE_CHECK: &str =
+    "The exit status is 0 where nothing is wrong, and 1 where something is reported.
+
+In place of options of OpenLDAP's slaptest and slapschema:
+  -b, -f, -F, -g, -n  --db DIR, as a folder keeps one directory
+  -d                  -v
+  -c                  nothing, as everything is checked
+  -Q, -u              nothing, as no file is changed";
+
 /// An option of a command.
 #[derive(Clone, Copy)]
 enum CommandOption<'a> {
@@ -121,6 +139,8 @@ enum CommandOption<'a> {
     File(char, &'a str),
     /// One with a value: its id, its letter, the name of the value and its help.
     Value(&'a str, char, &'a str, &'a str),
+    /// One with a value, but without a letter: its id, which is its name, the name of the value and its help.
+    LongValue(&'a str, &'a str, &'a str),
     /// One without a value: its id, its letter and its help.
     Flag(&'a str, char, &'a str),
     /// One without a value or a letter: its id, which is its name, and its help.
@@ -224,6 +244,9 @@ fn arg_of<'a>(alloc: Global, option: CommandOption<'a>) -> Arg<'a>
         CommandOption::File(short, help) => file_option(alloc, short, help),
         CommandOption::Value(id, short, value_name, help) => {
             value_option(alloc, id, short, value_name, help)
+        }
+        CommandOption::LongValue(id, value_name, help) => {
+            long_option(alloc, id, value_name, help)
         }
         CommandOption::Flag(id, short, help) => flag(alloc, id, short, help),
         CommandOption::LongFlag(id, help) => long_flag(alloc, id, help),
@@ -354,6 +377,22 @@ fn ldifdiff() -> Tool<'static>
     }
 }
 
+fn check() -> Tool<'static>
+    ensures { commands.shape result ≡ commands.check }
+{
+    Tool {
+        name: "check",
+        about: "Reports what is wrong with the files of the directory",
+        options: &[
+            CommandOption::Folder,
+            CommandOption::LongValue("unique", "TYPES", UNIQUE_HELP),
+            CommandOption::LongValue("references", "TYPES", REFERENCES_HELP),
+            CommandOption::Flag("verbose", 'v', CHECK_VERBOSE_HELP),
+        ],
+        beside: BESIDE_CHECK,
+    }
+}
+
 /// A command with one more below it.
 fn with_tool<'a>(
     alloc: Global,
@@ -366,7 +405,7 @@ fn with_tool<'a>(
 }
 
 /// The commands, in the order in which the help has them.
-fn tools() -> [Tool<'static>; 6]
+fn tools() -> [Tool<'static>; 7]
     ensures { map commands.shape result ≡ commands.slaptools.subs }
 {
     [
@@ -376,6 +415,7 @@ fn tools() -> [Tool<'static>; 6]
         search(),
         slapcat(),
         ldifdiff(),
+        check(),
     ]
 }
 

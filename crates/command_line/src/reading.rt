@@ -8,8 +8,8 @@ ghost use Rattle.command_line.specs.Requests as asks;
 use crate::hints::{hint, with_hint};
 use crate::options::{BESIDE_SEARCH, beside, slaptools};
 use crate::request::{
-    AddOptions, CatOptions, DiffOptions, IndexOptions, ModifyOptions, Request, SearchOptions,
-    UsageFault,
+    AddOptions, CatOptions, CheckOptions, DiffOptions, IndexOptions, ModifyOptions, Request,
+    SearchOptions, UsageFault,
 };
 use clap::error::ErrorKind;
 use clap::parser::ValueSource;
@@ -212,6 +212,18 @@ fn diff_options<'a>(found: &ArgMatches<'a>) -> DiffOptions<'a>
     }
 }
 
+fn check_options<'a>(found: &ArgMatches<'a>) -> CheckOptions<'a>
+    requires { asks.HasFolder (rows_of (found_of found.now)) }
+    ensures { asks.IsCheck (rows_of (found_of found.now)) result }
+{
+    CheckOptions {
+        db: folder_of(found),
+        unique: text_of(found, "unique"),
+        references: text_of(found, "references"),
+        verbose: is_given(found, "verbose"),
+    }
+}
+
 /// The scope that a word names; without one, the base and all below it.
 fn scope_of(alloc: Global, word: Option<&str>) -> Result<Scope, UsageFault>
     ensures { let named = asks.scope_of (option_copied word.entry) in
@@ -383,6 +395,7 @@ fn request_of<'a>(
         "search" => Ok(Request::Search(search_options(alloc, found)?)),
         "slapcat" => Ok(Request::Cat(cat_options(alloc, found)?)),
         "ldifdiff" => Ok(Request::Diff(diff_options(found))),
+        "check" => Ok(Request::Check(check_options(found))),
         _ => unreachable!(),
     }
 }

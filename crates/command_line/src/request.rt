@@ -115,6 +115,19 @@ pub struct DiffOptions<'a> {
     pub verbose: bool,
 }
 
+/// What check is asked for.
+#[derive(Clone, Copy, Drop)]
+pub struct CheckOptions<'a> {
+    /// The folder of the directory.
+    pub db: &'a str,
+    /// The types of which no two entries should have equal values, by names or OIDs with commas between; or none.
+    pub unique: Option<&'a str>,
+    /// The types whose references are looked at, in the same form, or none for all types of DN syntax.
+    pub references: Option<&'a str>,
+    /// Whether sentences say why, of each fault of dir.conf and each refused record.
+    pub verbose: bool,
+}
+
 /// What a command line asks for.
 #[derive(Drop)]
 pub enum Request<'a> {
@@ -126,6 +139,7 @@ pub enum Request<'a> {
     Search(SearchOptions<'a>),
     Cat(CatOptions<'a>),
     Diff(DiffOptions<'a>),
+    Check(CheckOptions<'a>),
 }
 
 /// Why a command line asks for nothing that can be done.

@@ -14,3 +14,4 @@ pub mod ListEnds
 pub mod ListExamples
 pub mod OtherLoaded
 pub mod Compared
+pub mod Checked

@@ -4,7 +4,7 @@ use Rattle.std.specs.Option.{option_copied}
 use Rattle.device.specs.Device.{Broke}
 use Rattle.command_line.specs.Requests.{AsksForHelp, AskFor, IsFaultOf}
 use Rattle.command_line.specs.declared.request.Request.{Request}
-use Rattle.command_line.specs.declared.request.Request.TheVariants.{Help, Add, Modify, Index, Search, Cat, Diff}
+use Rattle.command_line.specs.declared.request.Request.TheVariants.{Help, Add, Modify, Index, Search, Cat, Diff, Check}
 use Rattle.command_line.specs.declared.request.UsageFault.{UsageFault}
 use Rattle.command_line.specs.declared.request.UsageFault.TheVariants.{Words, OutOfMemory}
 use Rattle.commands.specs.Worlds.{World, IsPrinted}
@@ -16,6 +16,7 @@ use Rattle.commands.specs.Indexing.{IndexGoesThrough, IndexStops}
 use Rattle.commands.specs.Prints.{CatGoesThrough, CatStops}
 use Rattle.commands.specs.Lists.{AnyGoesThrough, AnyStops}
 use Rattle.commands.specs.Differences.{DiffGoesThrough, DiffStops}
+use Rattle.commands.specs.Checks.{CheckGoesThrough, CheckStops}
 use Rattle.commands.specs.Statuses.{status_number}
 use Rattle.commands.specs.declared.messages.Status.{Status}
 use Rattle.commands.specs.declared.messages.Status.TheVariants.{Done}
@@ -48,6 +49,7 @@ RequestGoesThrough (Ok (Index asked)) = IndexGoesThrough asked
 RequestGoesThrough (Ok (Search asked)) = AnyGoesThrough (option_copied asked.file) asked
 RequestGoesThrough (Ok (Cat asked)) = CatGoesThrough asked
 RequestGoesThrough (Ok (Diff asked)) = DiffGoesThrough asked
+RequestGoesThrough (Ok (Check asked)) = CheckGoesThrough asked
 RequestGoesThrough (Err fault) = λ w w' s. ⊥
 
 abbrev pub RequestStops : Result Request UsageFault → World → StoppedAt → Type 0
@@ -58,6 +60,7 @@ RequestStops (Ok (Index asked)) = IndexStops asked
 RequestStops (Ok (Search asked)) = AnyStops (option_copied asked.file) asked
 RequestStops (Ok (Cat asked)) = CatStops asked
 RequestStops (Ok (Diff asked)) = DiffStops asked
+RequestStops (Ok (Check asked)) = CheckStops asked
 RequestStops (Err fault) = WordsStop fault
 
 -- the folder whose directory is to be written, if one is
@@ -69,6 +72,7 @@ writes_in (Ok (Index asked)) = Some asked.db.now
 writes_in (Ok (Search asked)) = None
 writes_in (Ok (Cat asked)) = None
 writes_in (Ok (Diff asked)) = None
+writes_in (Ok (Check asked)) = None
 writes_in (Err fault) = None
 
 -- What was asked for was done, under a lock where a directory is written, or the command stopped, and this is the number of its status.

@@ -16,5 +16,6 @@ pub mod Indexing
 pub mod Prints
 pub mod Lists
 pub mod Differences
+pub mod Checks
 pub mod Commands
 pub mod inner

@@ -1,5 +1,5 @@
 -- How a command ends.
-use Rattle.std.specs.Prelude.{ℕ, zero, suc, Bool, true, false}
+use Rattle.std.specs.Prelude.{ℕ, zero, suc, Bool, true, false, List, [], ◌∷◌}
 use Rattle.databases.specs.declared.runs.Tally.{Tally}
 use Rattle.commands.specs.declared.messages.Status.{Status}
 use Rattle.commands.specs.declared.messages.Status.TheVariants as statuses
@@ -25,6 +25,11 @@ status_of_tally t = status_of_count t.refused
 abbrev pub status_of_difference : Bool → Status
 status_of_difference true = statuses.Refused
 status_of_difference false = statuses.Done
+
+-- of a check: whether something was reported
+abbrev pub status_of_reports : List ℕ → Status
+status_of_reports [] = statuses.Done
+status_of_reports (b ∷ bs) = statuses.Refused
 
 -- a fault of the command line, of a filter or of the configuration is one of usage
 abbrev pub status_of_fault : CommandFault → Status

@@ -9,3 +9,4 @@ pub mod Stores
 pub mod IndexFiles
 pub mod Compared
 pub mod Lists
+pub mod Checked

@@ -98,6 +98,22 @@ pub fn contents<S: Source>(
     }
 }
 
+/// The text of the dir.conf in the folder `db`, which has to be there.
+pub fn read_conf_text<F: Folder>(
+    alloc: Global,
+    folder: &F,
+    db: &str,
+) -> Result<Vec<u8>, CommandFault>
+    ensures there { IfOk result (λ text. Finds (F.files folder.now) (conf_name db.now) (Some (Some text.items))) }
+    ensures err { IfErr result (FailsToRead (conf_name db.now)) }
+{
+    let name = path(alloc, db, "dir.conf")?;
+    match open_present(alloc, folder, name.as_str()) {
+        Ok(mut source) => contents(alloc, &mut source, name.as_str()),
+        Err(fault) => Err(fault),
+    }
+}
+
 /// The configuration that the dir.conf in the folder `db` says, which has to be there.
 fn read_configuration<F: Folder, T: CommandTeller>(
     alloc: Global,
@@ -108,9 +124,7 @@ fn read_configuration<F: Folder, T: CommandTeller>(
     ensures ok { IfOk result (IsConfigured (F.files folder.now) (conf_name db.now)) }
     ensures err { IfErr result (LoadFails (F.files folder.now) db.now) }
 {
-    let name = path(alloc, db, "dir.conf")?;
-    let mut source = open_present(alloc, folder, name.as_str())?;
-    let text = contents(alloc, &mut source, name.as_str())?;
+    let text = read_conf_text(alloc, folder, db)?;
     match read_conf(alloc, &text) {
         Ok(conf) => Ok(conf),
         Err(ConfFault::Line { line, kind }) => {

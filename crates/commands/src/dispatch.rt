@@ -7,6 +7,7 @@ ghost use Rattle.commands.specs.Commands.{HelpGoesThrough, HelpStops, RequestGoe
 ghost use Rattle.commands.specs.inner.Stopped.{CanReport, HasEnded, HasEndedUnder};
 
 use crate::changes::{Task, change};
+use crate::check::check;
 use crate::ldifdiff::ldifdiff;
 use crate::listing::search_list;
 use crate::messages::{CommandFault, Status, Stop, report_stop};
@@ -88,6 +89,7 @@ fn carry_out<F: Folder, S: Source, O: Sink, E: Sink, T: CommandTeller>(
         Ok(Request::Search(asked)) => { search_any(alloc, &asked, folder, input, out, err, teller) }
         Ok(Request::Cat(asked)) => slapcat(alloc, &asked, folder, out, teller),
         Ok(Request::Diff(asked)) => ldifdiff(alloc, &asked, folder, input, out, err, teller),
+        Ok(Request::Check(asked)) => check(alloc, &asked, folder, out, teller),
         Err(UsageFault::Words(text)) => Err(Stop::Usage(text)),
         Err(UsageFault::OutOfMemory) => Err(Stop::Fault(CommandFault::OutOfMemory)),
     }
@@ -131,6 +133,7 @@ fn is_verbose(asked: &Result<Request<'_>, UsageFault>) -> bool {
         Ok(Request::Search(asked)) => asked.verbose,
         Ok(Request::Cat(asked)) => asked.verbose,
         Ok(Request::Diff(asked)) => asked.verbose,
+        Ok(Request::Check(asked)) => asked.verbose,
         Ok(Request::Help(_)) | Err(_) => false,
     }
 }

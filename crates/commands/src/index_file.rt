@@ -4,11 +4,12 @@ ghost use Rattle.std.specs.List.{AllByRecursion};
 ghost use Rattle.device.specs.Device.{Took};
 ghost use Rattle.candidates.specs.Asked.{asked_keys};
 ghost use Rattle.candidates.specs.Candidates.{prepared_of};
-ghost use Rattle.databases.specs.IndexTexts.{stamp as stamp_by};
+ghost use Rattle.databases.specs.IndexTexts.{stamp as stamp_by, index_text};
 ghost use Rattle.databases.specs.Searches.{ShowsIndexText};
 ghost use Rattle.stored_index.specs.Stored.{shown_by};
 ghost use Rattle.index_text.specs.Postings.{slot_in};
 ghost use Rattle.stored_index.specs.Rows.{IsByte};
+ghost use Rattle.try_device.specs.Memory.{sink_written};
 ghost use Rattle.commands.specs.Failures.{FailsToRead};
 ghost use Rattle.folders.specs.Folders.{Files, Finds};
 ghost use Rattle.commands.specs.DirectoryFiles.{index_name};
@@ -31,7 +32,7 @@ use stored_index::{IndexFault, IndexFaultKind, StoredIndex};
 use try_device::{TrySink, TrySource};
 
 /// How many bytes of a text in memory are read at a time.
-const PIECE: usize = 65536;
+pub const PIECE: usize = 65536;
 
 /// What index.txt says of a directory.
 #[derive(Drop)]
@@ -214,16 +215,25 @@ pub fn read_whole_index<F: Folder>(
     read_whole_named(alloc, folder, name.as_str(), database)
 }
 
+/// The text of a directory's index, in memory.
+pub fn own_text(alloc: Global, database: &Database) -> Result<TrySink, AllocError>
+    ensures { IfOk result (λ s. (sink_written s).bytes ≡ Some (index_text database.now.conf database.now.entries)) }
+{
+    let stamp = database.stamp(alloc)?;
+    let mut sink = TrySink::new(alloc, usize::MAX, None);
+    match database.write_index_text(alloc, &stamp, &mut sink) {
+        Ok(()) => Ok(sink),
+        Err(_) => Err(AllocError),
+    }
+}
+
 /// The index of a directory as its own index text says it. That text is made, and read, in memory alone.
 pub fn make_index(alloc: Global, database: &Database) -> Result<StoredIndex, AllocError>
     ensures { IfOk result (λ x. ShowsIndexText (shown_by x) database.now.conf database.now.entries) }
 {
+    let own = own_text(alloc, database)?;
     let stamp = database.stamp(alloc)?;
-    let mut sink = TrySink::new(alloc, usize::MAX, None);
-    if database.write_index_text(alloc, &stamp, &mut sink).is_err() {
-        return Err(AllocError);
-    }
-    let mut source = TrySource::new(sink.bytes(), PIECE, None);
+    let mut source = TrySource::new(own.bytes(), PIECE, None);
     match database.read_index(alloc, &mut source, &stamp) {
         Ok(stored) => Ok(stored),
         Err(_) => Err(AllocError),

@@ -2,10 +2,13 @@
 #![tactic(auto)]
 
 mod changes;
+mod check;
+mod conf_check;
 mod database;
 mod dispatch;
 mod excerpt;
 mod finding;
+mod index_check;
 mod index_file;
 mod ldifdiff;
 mod list_text;

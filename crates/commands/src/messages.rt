@@ -5,7 +5,7 @@ ghost use Rattle.commands.specs.declared.messages.Stop.TheVariants.{Fault};
 ghost use Rattle.commands.specs.Messages.{IsTextReported, IsReported, fault_text, line_of};
 ghost use Rattle.commands.specs.Endings.{ReportsStop};
 ghost use Rattle.commands.specs.Failures.{FailsToRead, FailsToWrite, TellsInUse};
-ghost use Rattle.commands.specs.Statuses.{status_number, status_of_difference, status_of_fault, status_of_tally, goes_on, worse};
+ghost use Rattle.commands.specs.Statuses.{status_number, status_of_difference, status_of_reports, status_of_fault, status_of_tally, goes_on, worse};
 ghost use Rattle.commands.specs.inner.LoadFaults.{TellsLoadFault};
 ghost use Rattle.commands.specs.Differences.{TellsRefusal, TellsContentFault};
 ghost use Rattle.commands.specs.inner.Stopped.{CanReport};
@@ -24,7 +24,7 @@ use std::fmt;
 #[derive(Clone, Copy)]
 pub enum Status {
     Done,
-    /// A record was refused, a search ended with a result code, or two directories differ.
+    /// A record was refused, a search ended with a result code, two directories differ, or a check found something wrong.
     Refused,
     /// The command line, a filter or the configuration is at fault.
     Usage,
@@ -79,6 +79,17 @@ impl Status {
             Status::Refused
         } else {
             Status::Done
+        }
+    }
+
+    /// How a check ends that reports this: as `Refused` where it is something.
+    pub fn of_reports(text: &[u8]) -> Status
+        ensures { result ≡ status_of_reports text.now }
+    {
+        if text.is_empty() {
+            Status::Done
+        } else {
+            Status::Refused
         }
     }
 

@@ -54,6 +54,11 @@ returns-in-Ok-Diff-clause-ends g c =
     let w : World = record { files = g.F.Folder.files c.args.folder.now; lock = g.F.Folder.locking c.args.folder.now; input = g.S.Source.seen c.args.input.now; output = g.O.Sink.written c.args.out.now; messages = g.E.Sink.written c.args.err.now } in
     asked_so _ _ _ _ c.ldifdiff.result (c.in-Ok-Diff.is ∙ ap request c.in-Ok-Diff.field-0-is) (c.ldifdiff.ensures.ends w)
 
+pub returns-in-Ok-Check-clause-ends : goal.returns-in-Ok-Check-clause-ends
+returns-in-Ok-Check-clause-ends g c =
+    let w : World = record { files = g.F.Folder.files c.args.folder.now; lock = g.F.Folder.locking c.args.folder.now; input = g.S.Source.seen c.args.input.now; output = g.O.Sink.written c.args.out.now; messages = g.E.Sink.written c.args.err.now } in
+    asked_so _ _ _ _ c.check.result (c.in-Ok-Check.is ∙ ap request c.in-Ok-Check.field-0-is) (c.check.ensures w)
+
 pub returns-in-Ok-Help-clause-can_report : goal.returns-in-Ok-Help-clause-can_report
 returns-in-Ok-Help-clause-can_report g c = each_reports c.print_help.result _ c.requires.err
 
@@ -74,3 +79,6 @@ returns-in-Ok-Cat-clause-can_report g c = each_reports c.slapcat.result _ c.requ
 
 pub returns-in-Ok-Diff-clause-can_report : goal.returns-in-Ok-Diff-clause-can_report
 returns-in-Ok-Diff-clause-can_report g c = c.ldifdiff.ensures.can_report
+
+pub returns-in-Ok-Check-clause-can_report : goal.returns-in-Ok-Check-clause-can_report
+returns-in-Ok-Check-clause-can_report g c = each_reports c.check.result _ c.requires.err

@@ -1,0 +1,31 @@
+use Rattle.std.proofs.Common.{◌≡◌, ◌<◌, ◌-◌, ◌++◌, ◌∙◌, List, ℕ, Ok, sym, ap, subst, arith}
+use Rattle.std.proofs.lemmas.Grind.{common_steps}
+use Rattle.dir_conf.specs.Configurations.{conf_of}
+use Rattle.checks.specs.declared.conf_faults.ConfLineFault.{ConfLineFault}
+use Rattle.checks.specs.ConfFaults.{commented, AreFaults}
+use Rattle.commands.proofs.Checked.{no_fault, last_fault, next_fault, fails_so}
+use Rattle.commands.proofs.conf_check.find_faults.Goals as goal
+
+pub returns-in-Ok : goal.returns-in-Ok
+returns-in-Ok g c =
+    let conf = c.in-Ok.field-0 in
+    no_fault c.args.text.now c.loop.left.items c.loop.faults.items c.loop.invariant conf
+    (subst (λ (t : List ℕ). conf_of t ≡ Ok conf) c.as_slice.ensures.value c.in-Ok.ensures)
+
+pub returns-then-line-eq0 : goal.returns-then-line-eq0
+returns-then-line-eq0 g c =
+    let fault : ConfLineFault = record { line = c.in-Err-Line.line; kind = c.in-Err-Line.kind } in
+    let none : fault.line ≡ 0 = grind (arith, common_steps) in
+    subst (λ (fs : List ConfLineFault). AreFaults c.args.text.now fs) (sym c.in_ok-push-in-Err-Line.ensures.items)
+    (last_fault c.args.text.now c.loop.left.items c.loop.faults.items c.loop.invariant fault
+    (fails_so c.as_slice.result.now c.loop.left.items c.as_slice.ensures.value _ fault.line fault.kind c.in-Err-Line.field-0-is c.in-Err-Line.ensures) none)
+
+pub loop-preserved : goal.loop-preserved
+loop-preserved g c = λ others are.
+    let fault : ConfLineFault = record { line = c.in-Err-Line.line; kind = c.in-Err-Line.kind } in
+    let some : 0 < fault.line = grind (arith, common_steps) in
+    let left = c.in_ok-left-in-Err-Line.ensures ∙ ap (commented (fault.line - 1)) c.as_slice-in-Err-Line-2.ensures.value in
+    subst (λ (fs : List ConfLineFault). AreFaults c.args.text.now (fs ++ others)) (sym c.in_ok-push-in-Err-Line.ensures.items)
+    (next_fault c.args.text.now c.loop.left.items c.loop.faults.items c.loop.invariant fault
+    (fails_so c.as_slice.result.now c.loop.left.items c.as_slice.ensures.value _ fault.line fault.kind c.in-Err-Line.field-0-is c.in-Err-Line.ensures) some others
+    (subst (λ (t : List ℕ). AreFaults t others) left are))

@@ -1,0 +1,250 @@
+//! check: what is wrong with the files of a directory is reported.
+ghost use Rattle.std.specs.Prelude.{◌≡◌, ℕ, List, ◌⊎◌, ◌<◌, ◌-◌, ◌^◌, ◌++◌, Ok, Some, IfOk, IfErr, OnOk, codes, length};
+ghost use Rattle.std.specs.List.{AllByRecursion};
+ghost use Rattle.std.specs.FinMap as finite;
+ghost use Rattle.std.specs.Option.{option_copied, option_map};
+ghost use Rattle.device.specs.Device.{Took, Broke};
+ghost use Rattle.checks.specs.declared.conf_faults.ConfLineFault.{ConfLineFault};
+ghost use Rattle.checks.specs.ConfFaults.{AreFaults, fault_reports};
+ghost use Rattle.folders.specs.Folders.{Finds};
+ghost use Rattle.commands.specs.DirectoryFiles.{conf_name, data_name, index_name};
+ghost use Rattle.commands.specs.Worlds.{World, put_world};
+ghost use Rattle.commands.specs.Endings.{IsFault};
+ghost use Rattle.commands.specs.Loaded.{IsConfigured};
+ghost use Rattle.commands.specs.Failures.{FailsToRead, FailsToWrite};
+ghost use Rattle.commands.specs.Statuses.{status_of_reports};
+ghost use Rattle.commands.specs.Checks.{types_asked, AddsFound, Checks, TellsOthers, TellsNoType, LacksTypes, CheckFails, IsUncheckable, CheckGoesThrough, CheckStops};
+ghost use Rattle.commands.specs.inner.Checked.{AreTypesAsked, HasAdded, HasReported};
+ghost use Rattle.commands.specs.inner.Stopped.{HasEnded};
+
+use crate::conf_check::find_faults;
+use crate::database::{open, path, read_conf_text};
+use crate::index_check::report_index_file;
+use crate::messages::{CommandFault, Status, Stop};
+use crate::telling::CommandTeller;
+use checks::{
+    TypesFault, report_dangling, report_faults, report_refused, report_shared, types_named,
+};
+use command_line::CheckOptions;
+use databases::{Database, RunFault, run_telling};
+use device::{Device, Sink, Source, push_all};
+use dir_conf::{ConfFault, read_conf};
+use folders::Folder;
+use ldif::Mode;
+use schema::{Code, Conf, TypeId};
+use std::alloc::{AllocError, Global};
+use std::mem;
+use try_device::TrySink;
+
+/// The types that are asked for.
+#[derive(Drop)]
+struct CheckedTypes {
+    /// Those of which references are looked at; all of DN syntax, where there is none.
+    references: Vec<TypeId>,
+    /// Those of which no two entries should have equal values.
+    unique: Vec<TypeId>,
+}
+
+/// The fault of an option that names a type which isn't known.
+fn no_type(alloc: Global, named: &str) -> Stop
+    ensures { TellsNoType named.now result }
+{
+    let code = Code::UndefinedAttributeType;
+    match format!(in alloc; "check: {named}: {code}\n") {
+        Ok(text) => Stop::Usage(text),
+        Err(_) => Stop::Fault(CommandFault::OutOfMemory),
+    }
+}
+
+/// The types that the text of an option names, or none without one.
+fn types_by(alloc: Global, conf: &Conf, named: Option<&str>) -> Result<Vec<TypeId>, Stop>
+    ensures asked { IfOk result (λ v. types_asked conf.now.types (option_copied named.entry) ≡ Ok v.items) }
+    ensures known { IfOk result (λ v. AllByRecursion (λ t. t < length conf.now.types) v.items) }
+    ensures lacks { IfErr result (LacksTypes conf.now.types (option_copied named.entry)) }
+{
+    let Some(text) = named else {
+        return Ok(Vec::new(alloc));
+    };
+    match types_named(alloc, conf, text.as_bytes()) {
+        Ok(types) => Ok(types),
+        Err(TypesFault::Unknown(_)) => Err(no_type(alloc, text)),
+        Err(TypesFault::OutOfMemory) => Err(Stop::Fault(CommandFault::OutOfMemory)),
+    }
+}
+
+/// The types that are asked for.
+fn checked_types(alloc: Global, asked: &CheckOptions<'_>, conf: &Conf) -> Result<CheckedTypes, Stop>
+    ensures asked { IfOk result (AreTypesAsked asked.now conf.now.types) }
+    ensures lacks { IfErr result (λ why. LacksTypes conf.now.types (option_copied asked.now.references) why
+        ⊎ LacksTypes conf.now.types (option_copied asked.now.unique) why) }
+{
+    let references = types_by(alloc, conf, asked.references)?;
+    let unique = types_by(alloc, conf, asked.unique)?;
+    Ok(CheckedTypes { references, unique })
+}
+
+/// Adds the records of a source that has this name, one after the other, and answers what is reported of those that are refused.
+fn add_records<S: Source, T: CommandTeller>(
+    alloc: Global,
+    database: &mut Database,
+    source: &mut S,
+    name: &str,
+    teller: &mut T,
+) -> Result<Vec<u8>, CommandFault>
+    requires source { (S.seen source.old).failed < 2 ^ 64 - 1 }
+    requires empty { database.old.entries ≡ finite.empty }
+    ensures same_conf { database.new.conf ≡ database.old.conf }
+    ensures adds { IfOk result (λ told. AddsFound database.old.conf (Some (S.seen source.old).left) database.new.entries told.items) }
+    ensures err { IfErr result (FailsToRead name.now) }
+{
+    let mut told = TrySink::new(alloc, usize::MAX, None);
+    match run_telling(
+        alloc,
+        database,
+        source,
+        &mut told,
+        teller,
+        Mode::Content,
+        true,
+    ) {
+        Ok(_) => Ok(Vec::from_slice(alloc, told.bytes())?),
+        Err(RunFault::Read(_)) => Err(CommandFault::cannot_read(alloc, name)),
+        Err(_) => Err(CommandFault::OutOfMemory),
+    }
+}
+
+/// Adds the records of data.ldif in the folder `db` to no entry, and answers what is reported of those that are refused. Where there is no such file,
+/// there is none.
+fn load_records<F: Folder, T: CommandTeller>(
+    alloc: Global,
+    folder: &F,
+    db: &str,
+    database: &mut Database,
+    teller: &mut T,
+) -> Result<Vec<u8>, CommandFault>
+    requires empty { database.old.entries ≡ finite.empty }
+    ensures same_conf { database.new.conf ≡ database.old.conf }
+    ensures adds { IfOk result (λ told. HasAdded (F.files folder.now) db.now database.old.conf database.new.entries told.items) }
+    ensures err { IfErr result (FailsToRead (data_name db.now)) }
+{
+    let name = path(alloc, db, "data.ldif")?;
+    match open(alloc, folder, name.as_str()) {
+        Ok(Some(mut source)) => add_records(alloc, database, &mut source, name.as_str(), teller),
+        Ok(None) => Ok(Vec::new(alloc)),
+        Err(fault) => Err(fault),
+    }
+}
+
+/// All that is reported of a directory in the folder `db`, of what was told of its records, and of its index.txt.
+fn reports<F: Folder>(
+    alloc: Global,
+    folder: &F,
+    db: &str,
+    types: &CheckedTypes,
+    database: &Database,
+    told: &[u8],
+) -> Result<Vec<u8>, CommandFault>
+    requires known { AllByRecursion (λ t. t < length database.now.conf.types) types.now.unique.items }
+    ensures reports { IfOk result (λ text. HasReported (F.files folder.now) db.now types.now database.now.conf database.now.entries told.now text.items) }
+    ensures err { IfErr result (FailsToRead (index_name db.now)) }
+{
+    let (conf, tree) = (database.conf(), database.tree());
+    let mut text = Vec::new(alloc);
+    report_refused(told, &mut text)?;
+    report_index_file(alloc, folder, db, database, &mut text)?;
+    report_dangling(alloc, conf, tree, types.references.as_slice(), &mut text)?;
+    report_shared(alloc, conf, tree, types.unique.as_slice(), &mut text)?;
+    Ok(text)
+}
+
+/// All that is reported of the files in a folder, whose dir.conf says this configuration.
+fn check_under<F: Folder, T: CommandTeller>(
+    alloc: Global,
+    asked: &CheckOptions<'_>,
+    folder: &F,
+    conf: Conf,
+    types: &CheckedTypes,
+    teller: &mut T,
+) -> Result<Vec<u8>, CommandFault>
+    requires configured { IsConfigured (F.files folder.now) (conf_name asked.now.db.now) conf }
+    requires types { AreTypesAsked asked.now conf.types types.now }
+    ensures checks { IfOk result (λ text. TellsOthers asked.now (F.files folder.now) text.items) }
+    ensures err { IfErr result (CheckFails asked.now) }
+{
+    let mut database = Database::new(alloc, conf);
+    let told = load_records(alloc, folder, asked.db, &mut database, teller)?;
+    let text = reports(alloc, folder, asked.db, types, &database, told.as_slice());
+    // The program ends with its command, and that frees the entries at once.
+    mem::forget(database);
+    text
+}
+
+/// A report of each fault of the text of a dir.conf.
+fn conf_reports<T: CommandTeller>(
+    alloc: Global,
+    text: &[u8],
+    teller: &mut T,
+) -> Result<Vec<u8>, AllocError>
+    ensures { IfOk result (λ v. (faults : List ConfLineFault) × AreFaults text.now faults × (v.items ≡ fault_reports faults)) }
+{
+    let faults = find_faults(alloc, text, teller)?;
+    let mut reports = Vec::new(alloc);
+    report_faults(alloc, faults.as_slice(), &mut reports)?;
+    Ok(reports)
+}
+
+/// All that is reported of the files in a folder.
+fn check_folder<F: Folder, T: CommandTeller>(
+    alloc: Global,
+    asked: &CheckOptions<'_>,
+    folder: &F,
+    teller: &mut T,
+) -> Result<Vec<u8>, Stop>
+    ensures checks { IfOk result (λ text. Checks asked.now (F.files folder.now) text.items) }
+    ensures stops { IfErr result (IsUncheckable asked.now (F.files folder.now)) }
+{
+    let text = read_conf_text(alloc, folder, asked.db)?;
+    match read_conf(alloc, text.as_slice()) {
+        Ok(conf) => {
+            let types = checked_types(alloc, asked, &conf)?;
+            Ok(check_under(alloc, asked, folder, conf, &types, teller)?)
+        }
+        Err(ConfFault::Line { .. }) => Ok(conf_reports(alloc, text.as_slice(), teller)?),
+        Err(ConfFault::OutOfMemory) => Err(Stop::Fault(CommandFault::OutOfMemory)),
+    }
+}
+
+/// Prints what is reported, and answers whether that is something.
+fn print_reports<O: Sink>(alloc: Global, text: &[u8], out: &mut O) -> Result<Status, Stop>
+    requires { (O.written out.old).failed < 2 ^ 64 - 1 }
+    ensures status { IfOk result (λ s. s ≡ status_of_reports text.now) }
+    ensures printed { OnOk result (Took (O.written out.old) (O.written out.new) text.now) }
+    ensures broke { IfErr result (λ why. IsFault (FailsToWrite (codes "output")) why × Broke (O.written out.old) (O.written out.new) text.now) }
+{
+    match push_all(out, text) {
+        Ok(()) => Ok(Status::of_reports(text)),
+        Err(Device) => Err(Stop::Fault(CommandFault::cannot_write(alloc, "output"))),
+    }
+}
+
+/// Prints what is wrong with the files of the directory in a folder, each with a word for its kind, where it is, and what it is, with tabs between: all
+/// faults of dir.conf; or, where that has none, the records of data.ldif that are refused, index.txt where it isn't what slapindex writes, references that name no entry, and values of several
+/// entries of the types that are asked for. It ends as `Refused` where something is wrong, and else as `Done`. It stops where a type isn't
+/// known, or a file, the output or memory fails.
+pub fn check<F: Folder, O: Sink, T: CommandTeller>(
+    alloc: Global,
+    asked: &CheckOptions<'_>,
+    folder: &F,
+    out: &mut O,
+    teller: &mut T,
+) -> Result<Status, Stop>
+    requires { (O.written out.old).failed < 2 ^ 64 - 1 }
+    ensures { (w : World) → HasEnded (CheckGoesThrough asked.now) (CheckStops asked.now)
+        (put_world w F.files O.written folder.now out.old)
+        (put_world w F.files O.written folder.now out.new) result }
+{
+    match check_folder(alloc, asked, folder, teller) {
+        Ok(text) => print_reports(alloc, text.as_slice(), out),
+        Err(stop) => Err(stop),
+    }
+}

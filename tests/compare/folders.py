@@ -1,0 +1,197 @@
+"""Random folders for check, the same for the same seed: a dir.conf, mostly without a fault, a data.ldif, of which some records may be refused, an
+index.txt that is right, missing, stale, broken, lying or of another dir.conf, and options.
+
+Many values name entries, of which some aren't there, and many are like those of other entries.
+"""
+from dataclasses import dataclass
+from typing import ClassVar, Optional
+
+import checks
+import indexes
+import model
+import schema
+from cases import Records, alike, mutated
+from configs import NAME_RULES, PLAIN_CONF, Config, some
+from searches import NO_NAMES, SearchConfig, Searches, lying, sayable
+
+# what is no list of types; $T is a type
+BAD_LISTS = [b"", b",", b" ", b"$T,", b",$T", b"$T,,$T", b"$T, $T", b"$T ,$T", b"$T ", b" $T", b"$T;$T", b"$T $T", b"*", b"+", b"1.1", b"top",
+             b"$T\t", b"$T\n", b"\xc3\x89", b"\xff", b"$T,\xff", b"2.5.4.", b"2.5.4.0,no"]
+# what makes another dir.conf, mostly of the same slots
+OTHER_RULES = [
+    (b"caseIgnoreMatch", b"caseExactMatch"), (b"caseExactMatch", b"caseIgnoreMatch"), (b"Match", b"NoMatch"),
+    (b"distinguishedNameMatch", b"caseExactMatch"), (b"numericStringMatch", b"telephoneNumberMatch"),
+    (b"SUP ", b"SYNTAX 1.3.6.1.4.1.1466.115.121.1.15 DESC 'c' X-SUP '"), (b"index ", b"index objectClass eq\n#"), (b",pres", b""), (b",eq", b""),
+    (b"eq,", b"")]
+
+
+@dataclass(frozen=True)
+class Check:
+    """The files of a folder, None for one that isn't there, and the options of check."""
+    OPTIONS: ClassVar = (("verbose", False), ("unique", None), ("references", None))
+    TEXTS: ClassVar = (("index", None), ("data", None), ("conf", PLAIN_CONF), ("unique", None), ("references", None))
+    conf: Optional[bytes]
+    data: Optional[bytes]
+    index: Optional[bytes]
+    unique: Optional[bytes] = None
+    references: Optional[bytes] = None
+    verbose: bool = False
+
+    def command(self, db):
+        """The words of the command line."""
+        options = [("--unique", self.unique), ("--references", self.references)]
+        return ["check", "--db", db, *(word for option in options if option[1] is not None for word in option)] + ["-v"] * self.verbose
+
+    def texts(self):
+        return [text for text in (self.unique, self.references) if text is not None]
+
+
+class CheckConfig(SearchConfig):
+    """With more types whose values are names, many of them of entries, or near those."""
+    there = ()      # names of entries
+
+    def define(self, name, plain, pair=None):
+        if pair is None and not plain and some(self.rng, .2):
+            pair = b"12", self.rng.choice(NAME_RULES)
+        super().define(name, plain, pair)
+
+    def any_name(self):
+        rng = self.rng
+        if not self.there or some(rng, .15):
+            return super().any_name()
+        name = rng.choice(self.there)
+        name = rng.choice([name, name, name[1:], [self.rdn(rng.choice(self.naming))] + name, self.near(name), self.suffix])
+        return self.respelled_name(name) if some(rng, .3) else name
+
+
+class Folders(Searches):
+    """Makes entries that name each other and have values of each other."""
+
+    def fill(self, number):
+        for _ in range(number):
+            super().fill(1)
+            self.config.there = self.names
+        for path in list(self.directory.entries):
+            if some(self.rng, .4):
+                self.take_values(path)
+
+    def take_values(self, path):
+        """More values for an entry, of others and of its own, where it can have them."""
+        rng, entries = self.rng, self.directory.entries
+        for _ in range(rng.choice([1, 1, 2, 4])):
+            others = entries[rng.choice(list(entries))][1].values
+            number = rng.choice(list(others))
+            texts = list(others[number].values()) if some(rng, .7) else [self.new_value(number)]
+            rdn, changed = entries[path][0], entries[path][1].copy()
+            for text in texts:
+                text = alike(rng, text)
+                if self.directory.conf.is_valid(number, text) and not changed.has(number, text):
+                    changed.add(number, text)
+            try:
+                changed.check()
+            except model.Refused:
+                continue
+            entries[path] = rdn, changed
+
+    def data(self):
+        """A dump, or one with other records or with faults, or texts that a server has or that are none."""
+        rng, dump, kind = self.rng, self.directory.dump(), self.rng.randrange(20)
+        others = Records(rng, self.config)
+        if kind < 10:
+            return dump or rng.choice([None, b""])
+        if kind < 15:
+            others.names = list(self.names)
+            text = others.text(rng.choice([1, 1, 2, 4, 8]))
+            return rng.choice([dump + b"\n" + text, dump + text, text + b"\n\n" + dump])
+        if kind < 17:
+            return mutated(rng, dump or b"x")
+        if kind == 17:
+            text = others.good_text(rng.choice([1, 4, 8]))
+            return text if some(rng, .5) else mutated(rng, text)
+        if kind == 18:
+            return others.server_text(rng.choice([1, 4, 8]))
+        return rng.choice([None, b"", others.text(rng.choice([1, 4, 8, 12]))])
+
+    def types_list(self, pool):
+        """What may stand behind an option."""
+        rng, config = self.rng, self.config
+        if some(rng, .08):
+            return sayable(config.filled(rng.choice(BAD_LISTS)))
+        names = [config.type_text(rng.choice(pool)) for _ in range(rng.choice([1, 1, 2, 3, 5]))]
+        if some(rng, .05):
+            names[rng.randrange(len(names))] = config.filled(rng.choice(NO_NAMES))
+        if some(rng, .15):
+            names.append(rng.choice(names))
+        return sayable(b",".join(names))
+
+
+def many_faults(config):
+    """A dir.conf with faults on several lines."""
+    for _ in range(config.rng.choice([1, 2, 4, 8])):
+        config.lines = config.broken_text().replace(b"\r\n", b"\n").split(b"\n")
+    return config.joined(config.lines)
+
+
+def broken_conf(config, text):
+    rng = config.rng
+    return rng.choice([lambda: config.broken_text(), lambda: many_faults(config), lambda: mutated(rng, text)])()
+
+
+def loaded(conf, data):
+    """The directory of those records that aren't refused, or None where there is no configuration."""
+    try:
+        directory = model.load(conf, None, "")
+    except model.Ended:
+        return None
+    model.run(directory, data or b"", True)
+    return directory
+
+
+def other_rules(rng, conf):
+    """A dir.conf where a type has another rule, or is no subtype, or of other index lines."""
+    lines = conf.split(b"\n")
+    for _ in range(rng.choice([1, 3, 6])):
+        at = rng.randrange(len(lines))
+        lines[at] = lines[at].replace(*rng.choice(OTHER_RULES))
+    return b"\n".join(lines)
+
+
+def index_for(rng, conf, data):
+    """No index.txt, or that of the accepted entries, or of others, or with faults, or one that lies, or one of another dir.conf."""
+    directory, kind = loaded(conf, data), rng.choice(["none", "other", "broken"] + ["right"] * 3 + ["lying", "rules"] * 2)
+    if directory is None or kind == "none":
+        return None if some(rng, .7) else rng.choice([b"", b"old\n", b"end\n"])
+    dump = directory.dump()
+    stored = indexes.index_text(directory.conf, dump)
+    if kind in ("broken", "lying"):
+        return {"broken": mutated, "lying": lying}[kind](rng, stored)
+    if kind == "other":
+        # of none, or of all but the last one
+        *others, _ = [b"", *(directory.printed(path) for path in sorted(directory.entries))]
+        return indexes.index_text(directory.conf, b"".join(others) if some(rng, .7) else b"")
+    if kind == "rules":
+        other = loaded(other_rules(rng, conf), None)
+        return stored if other is None else index_under(other.conf, dump, stored)
+    return stored
+
+
+def index_under(conf, dump, stored):
+    """The index text of a dump under another configuration, where that takes its values."""
+    try:
+        return indexes.index_text(conf, dump)
+    except (TypeError, ValueError):
+        return stored
+
+
+def check_case(rng):
+    config = CheckConfig(rng)
+    folders = Folders(rng, config, False)
+    folders.fill(rng.choice([0] + [1, 3, 6, 10, 14] * 4))
+    conf, data = config.text, folders.data()
+    if some(rng, .2):
+        conf = None if some(rng, .03) else broken_conf(config, conf)
+    everything = config.types + [b"objectClass"]
+    return Check(conf, data, index_for(rng, conf, data),
+                 folders.types_list(everything) if some(rng, .7) else None,
+                 folders.types_list(config.named if config.named and some(rng, .7) else everything) if some(rng, .45) else None,
+                 some(rng, .3))
