@@ -4,8 +4,6 @@
 #![tactic(auto)]
 
 #[cfg(test)]
-mod integrity;
-#[cfg(test)]
 mod directories;
 #[cfg(test)]
 mod entry_values;
@@ -13,6 +11,8 @@ mod entry_values;
 mod failing_devices;
 #[cfg(test)]
 mod indexes;
+#[cfg(test)]
+mod integrity;
 #[cfg(test)]
 mod lone_index;
 #[cfg(test)]
