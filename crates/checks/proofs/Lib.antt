@@ -9,3 +9,4 @@ pub mod Holding
 pub mod Sharings
 pub mod SharedTold
 pub mod Examples
+pub mod ReportExamples
