@@ -13,7 +13,7 @@ use Rattle.clap.specs.Faults.{built_fault, check_fault, defaults_fault, entered_
 use Rattle.clap.specs.Words.{fault_of, subcommand_of}
 use Rattle.clap.specs.declared.error.kind.ErrorKind.TheVariants as kind
 use Rattle.command_line.specs.CommandLine.{slaptools}
-use Rattle.command_line.specs.Requests.{IsWhole}
+use Rattle.command_line.specs.Requests.{IsWhole, TakesFolder}
 use Rattle.command_line.proofs.Folders.{BeginsWithFolder, first, has_folder, needs_value, second}
 
 -- ---- the command is not `help`
@@ -101,7 +101,7 @@ module _ (s : Shape) (names : Names) (has_help : s.disable_help_subcommand ≡ f
 record IsOurs (s : Shape) : Type 0 where
   name : list_any (λ t. bytes_eq t.name s.name) slaptools.subs ≡ true
   needs : list_all needs_value s.rules ≡ true
-  begins : BeginsWithFolder s.rules
+  begins : TakesFolder s.name → BeginsWithFolder s.rules
   negates : s.subcommand_negates_reqs ≡ false
 
 abbrev IsSub : Shape → Type 0
@@ -135,7 +135,7 @@ whole_at p None found other none some = cc
 whole_at p (Some s) found other none some = go found.1
   where
     go : IsSub s → IsWhole (Some (rows_at s p.1))
-    go (inl ours) = (ours.name, has_folder s p.1 ours.needs ours.begins ours.negates none)
+    go (inl ours) = (ours.name, λ takes. has_folder s p.1 ours.needs (ours.begins takes) ours.negates none)
     go (inr help) =
         let answers : (bytes_eq (codes "help") p.0 || false) ≡ true = rw (help.0, help.1) at found.0 in
         let same : codes "help" ≡ p.0 = (bytes_eq-Decides (codes "help") p.0).0 (or_nothing (bytes_eq (codes "help") p.0) answers) in
@@ -169,12 +169,35 @@ whole_of a words needs has_help all none =
     whole_stop a stop all (walk-stops s names has_help words (walk_from nothing_held) walks tt) below
     (entered_one _ s.subcommand_required (is_some (entered a stop)) _ needs checks)
 
-ours : (s : Shape) → list_any (λ t. bytes_eq t.name s.name) slaptools.subs ≡ true → list_all needs_value s.rules ≡ true → BeginsWithFolder s.rules
+ours : (s : Shape) → list_any (λ t. bytes_eq t.name s.name) slaptools.subs ≡ true → list_all needs_value s.rules ≡ true → (TakesFolder s.name → BeginsWithFolder s.rules)
     → s.subcommand_negates_reqs ≡ false → IsSub s
 ours s name needs begins negates = inl (record { name = name; needs = needs; begins = begins; negates = negates })
 
 pub whole : (words : List Text) → fault_of slaptools words ≡ [] → IsWhole (subcommand_of slaptools words)
 whole words none =
-    whole_of (built slaptools) (argument_words slaptools words) refl refl
-    (ours _ refl refl (refl, refl) refl, (ours _ refl refl (refl, refl) refl, (ours _ refl refl (refl, refl) refl, (ours _ refl refl (refl, refl) refl, (ours _ refl refl (refl, refl) refl, (ours _ refl refl (refl, refl) refl, (ours _ refl refl (refl, refl) refl, (inr (refl, refl), tt))))))))
+    whole_of (built slaptools) (argument_words slaptools words) refl refl (
+      ours _ refl refl (λ _. (refl, refl)) refl,
+      (
+        ours _ refl refl (λ _. (refl, refl)) refl,
+        (
+          ours _ refl refl (λ _. (refl, refl)) refl,
+          (
+            ours _ refl refl (λ _. (refl, refl)) refl,
+            (
+              ours _ refl refl (λ _. (refl, refl)) refl,
+              (
+                ours _ refl refl (λ _. (refl, refl)) refl,
+                (
+                  ours _ refl refl (λ _. (refl, refl)) refl,
+                  (
+                    ours _ refl refl (λ takes. absurd (takes refl)) refl,
+                    (inr (refl, refl), tt),
+                  ),
+                ),
+              ),
+            ),
+          ),
+        ),
+      ),
+    )
     none

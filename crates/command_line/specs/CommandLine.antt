@@ -14,7 +14,7 @@ use Rattle.command_line.specs.declared.options.Tool.{Tool}
 abbrev pub long_option : Text → Rule
 long_option id = record (new_rule id) { long = Some id; value_names = 1; action = Some Set }
 
--- `--db DIR`, which each command needs
+-- `--db DIR`, which each command needs but sort
 abbrev pub folder_option : Rule
 folder_option = record (long_option (codes "db")) { required = true }
 
@@ -53,7 +53,7 @@ other_words = record (new_rule (codes "words")) {
 abbrev pub wrap_option : Rule
 wrap_option = value_option (codes "wrap") 111
 
--- `-v`, which each command has
+-- `-v`, which each command has but sort
 abbrev pub verbose_option : Rule
 verbose_option = flag (codes "verbose") 118
 
@@ -111,14 +111,19 @@ ldifdiff = command (codes "ldifdiff")
     (folder_option ∷ file_option 108 ∷ value_option (codes "base") 98
     ∷ value_option (codes "filter") 97 ∷ long_flag (codes "unordered") ∷ verbose_option ∷ [])
 
--- check --db DIR [--unique TYPES] [--references TYPES] [-v]
+-- check --db DIR [--unique TYPES] [--references TYPES] [-l FILE] [-v]
 abbrev pub check : Shape
 check = command (codes "check")
-    (folder_option ∷ long_option (codes "unique") ∷ long_option (codes "references") ∷ verbose_option ∷ [])
+    (folder_option ∷ long_option (codes "unique") ∷ long_option (codes "references") ∷ file_option 108
+    ∷ verbose_option ∷ [])
+
+-- sort [-l FILE]
+abbrev pub sort : Shape
+sort = command (codes "sort") (file_option 108 ∷ [])
 
 -- one of them has to be named, or else `--help` or `--version`
 abbrev pub slaptools : App
 slaptools = record {
   top = record (new_shape (codes "slaptools")) { is_leaf = false; has_version = true; subcommand_required = true };
-  subs = slapadd ∷ ldapmodify ∷ slapindex ∷ search ∷ slapcat ∷ ldifdiff ∷ check ∷ [];
+  subs = slapadd ∷ ldapmodify ∷ slapindex ∷ search ∷ slapcat ∷ ldifdiff ∷ check ∷ sort ∷ [];
 }

@@ -20,8 +20,9 @@ use Rattle.command_line.specs.declared.request.SearchOptions.{SearchOptions}
 use Rattle.command_line.specs.declared.request.CatOptions.{CatOptions}
 use Rattle.command_line.specs.declared.request.DiffOptions.{DiffOptions}
 use Rattle.command_line.specs.declared.request.CheckOptions.{CheckOptions}
+use Rattle.command_line.specs.declared.request.SortOptions.{SortOptions}
 use Rattle.command_line.specs.declared.request.Request.{Request}
-use Rattle.command_line.specs.declared.request.Request.TheVariants.{Help, Add, Modify, Index, Search, Cat, Diff, Check}
+use Rattle.command_line.specs.declared.request.Request.TheVariants.{Help, Add, Modify, Index, Search, Cat, Diff, Check, Sort}
 use Rattle.command_line.specs.declared.request.UsageFault.{UsageFault}
 use Rattle.command_line.specs.declared.request.UsageFault.TheVariants.{Words, OutOfMemory}
 use Rattle.command_line.specs.CommandLine.{slaptools}
@@ -211,7 +212,11 @@ pub record IsCheck (rows : List Row) (asked : CheckOptions) : Type 0 where
   pub db_is : text_of (codes "db") rows ≡ Some asked.db.now
   pub unique_is : option_copied asked.unique ≡ text_of (codes "unique") rows
   pub references_is : option_copied asked.references ≡ text_of (codes "references") rows
+  pub file_is : option_copied asked.file ≡ text_of (codes "file") rows
   pub verbose_is : asked.verbose ≡ is_given (codes "verbose") rows
+
+pub record IsSort (rows : List Row) (asked : SortOptions) : Type 0 where
+  pub file_is : option_copied asked.file ≡ text_of (codes "file") rows
 
 -- ---- what a command and its rows ask for
 
@@ -228,6 +233,7 @@ IsRequest met (Search asked) = IsCommand met (codes "search") (λ rows. IsSearch
 IsRequest met (Cat asked) = IsCommand met (codes "slapcat") (λ rows. IsCat rows asked)
 IsRequest met (Diff asked) = IsCommand met (codes "ldifdiff") (λ rows. IsDiff rows asked)
 IsRequest met (Check asked) = IsCommand met (codes "check") (λ rows. IsCheck rows asked)
+IsRequest met (Sort asked) = IsCommand met (codes "sort") (λ rows. IsSort rows asked)
 
 -- the option has a text that is no number
 abbrev pub HasNoNumber : Text → List Row → Type 0
@@ -280,11 +286,15 @@ IsFaultOf words OutOfMemory = ⊤
 
 -- ---- on the way there: what one function tells the next
 
--- the command is one of slaptools', with its folder
+-- the command of this name takes a folder
+abbrev pub TakesFolder : Text → Type 0
+TakesFolder name = name ≢ codes "sort"
+
+-- the command is one of slaptools', with its folder if it takes one
 abbrev pub IsWhole : Option (Text × List Row) → Type 0
 IsWhole met = IsSomeAnd met (λ command.
     (list_any (λ s. bytes_eq s.name command.0) slaptools.subs ≡ true)
-    × HasFolder command.1)
+    × (TakesFolder command.0 → HasFolder command.1))
 
 -- a fault of the words of a command comes of such an option
 abbrev pub IsFaultOfOptions : List Row → UsageFault → Type 0

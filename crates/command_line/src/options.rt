@@ -58,6 +58,9 @@ const UNIQUE_HELP: &str =
 const REFERENCES_HELP: &str =
     "Looks at references of these types, in place of all types of DN syntax: names or OIDs, with commas between";
 
+const CHECKED_FILE_HELP: &str =
+    "The LDIF file of which the records are checked over those of data.ldif; - is standard input";
+
 const VERBOSE_HELP: &str = "Says why, behind each line that reports a fault or a refusal";
 
 const CHECK_VERBOSE_HELP: &str =
@@ -128,10 +131,19 @@ In place of options of OpenLDAP's slaptest and slapschema:
   -c                  nothing, as everything is checked
   -Q, -u              nothing, as no file is changed";
 
+const BESIDE_SORT: &str = "No record is judged, and none is lost: slapadd refuses what is wrong.
+
+In place of options of the other commands and of OpenLDAP's tools:
+  --db, -b, -F, -g, -n  nothing, as no directory is read
+  -f                    -l FILE
+  -d, -v                nothing, as no record is judged
+  -c                    nothing, as no record is refused
+  -q, -u                nothing, as no file is changed";
+
 /// An option of a command.
 #[derive(Clone, Copy)]
 enum CommandOption<'a> {
-    /// `--db DIR`, which each command needs.
+    /// `--db DIR`, which each command needs but sort.
     Folder,
     /// `--wait SECONDS`, which each command that writes the directory takes.
     Wait,
@@ -387,9 +399,21 @@ fn check() -> Tool<'static>
             CommandOption::Folder,
             CommandOption::LongValue("unique", "TYPES", UNIQUE_HELP),
             CommandOption::LongValue("references", "TYPES", REFERENCES_HELP),
+            CommandOption::File('l', CHECKED_FILE_HELP),
             CommandOption::Flag("verbose", 'v', CHECK_VERBOSE_HELP),
         ],
         beside: BESIDE_CHECK,
+    }
+}
+
+fn sort() -> Tool<'static>
+    ensures { commands.shape result ≡ commands.sort }
+{
+    Tool {
+        name: "sort",
+        about: "Prints an LDIF text with its records so ordered that parents come first",
+        options: &[CommandOption::File('l', INPUT_HELP)],
+        beside: BESIDE_SORT,
     }
 }
 
@@ -405,7 +429,7 @@ fn with_tool<'a>(
 }
 
 /// The commands, in the order in which the help has them.
-fn tools() -> [Tool<'static>; 7]
+fn tools() -> [Tool<'static>; 8]
     ensures { map commands.shape result ≡ commands.slaptools.subs }
 {
     [
@@ -416,6 +440,7 @@ fn tools() -> [Tool<'static>; 7]
         slapcat(),
         ldifdiff(),
         check(),
+        sort(),
     ]
 }
 

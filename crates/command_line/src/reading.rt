@@ -9,7 +9,7 @@ use crate::hints::{hint, with_hint};
 use crate::options::{BESIDE_SEARCH, beside, slaptools};
 use crate::request::{
     AddOptions, CatOptions, CheckOptions, DiffOptions, IndexOptions, ModifyOptions, Request,
-    SearchOptions, UsageFault,
+    SearchOptions, SortOptions, UsageFault,
 };
 use clap::error::ErrorKind;
 use clap::parser::ValueSource;
@@ -220,7 +220,16 @@ fn check_options<'a>(found: &ArgMatches<'a>) -> CheckOptions<'a>
         db: folder_of(found),
         unique: text_of(found, "unique"),
         references: text_of(found, "references"),
+        file: text_of(found, "file"),
         verbose: is_given(found, "verbose"),
+    }
+}
+
+fn sort_options<'a>(found: &ArgMatches<'a>) -> SortOptions<'a>
+    ensures { asks.IsSort (rows_of (found_of found.now)) result }
+{
+    SortOptions {
+        file: text_of(found, "file"),
     }
 }
 
@@ -377,13 +386,14 @@ fn command_of<'a, 'm>(matches: &'m ArgMatches<'a>) -> Option<(&'a str, &'m ArgMa
     matches.subcommand()
 }
 
-/// What a command and its own matches ask for.
-fn request_of<'a>(
+/// What a command that has a folder and its own matches ask for.
+fn folder_request_of<'a>(
     alloc: Global,
     name: &str,
     found: &ArgMatches<'a>,
 ) -> Result<Request<'a>, UsageFault>
-    requires { asks.IsWhole (Some (name.now, rows_of (found_of found.now))) }
+    requires whole { asks.IsWhole (Some (name.now, rows_of (found_of found.now))) }
+    requires has_folder { asks.TakesFolder name.now }
     ensures asked { IfOk result (asks.IsRequest (Some (name.now, rows_of (found_of found.now)))) }
     ensures faulty { IfErr result
         (asks.IsFaultOfCommand (Some (name.now, rows_of (found_of found.now)))) }
@@ -397,6 +407,23 @@ fn request_of<'a>(
         "ldifdiff" => Ok(Request::Diff(diff_options(found))),
         "check" => Ok(Request::Check(check_options(found))),
         _ => unreachable!(),
+    }
+}
+
+/// What a command and its own matches ask for.
+fn request_of<'a>(
+    alloc: Global,
+    name: &str,
+    found: &ArgMatches<'a>,
+) -> Result<Request<'a>, UsageFault>
+    requires { asks.IsWhole (Some (name.now, rows_of (found_of found.now))) }
+    ensures asked { IfOk result (asks.IsRequest (Some (name.now, rows_of (found_of found.now)))) }
+    ensures faulty { IfErr result
+        (asks.IsFaultOfCommand (Some (name.now, rows_of (found_of found.now)))) }
+{
+    match name {
+        "sort" => Ok(Request::Sort(sort_options(found))),
+        _ => folder_request_of(alloc, name, found),
     }
 }
 

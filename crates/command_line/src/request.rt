@@ -124,8 +124,17 @@ pub struct CheckOptions<'a> {
     pub unique: Option<&'a str>,
     /// The types whose references are looked at, in the same form, or none for all types of DN syntax.
     pub references: Option<&'a str>,
+    /// The LDIF file of which the records are checked over those of data.ldif, `-` being standard input; or none.
+    pub file: Option<&'a str>,
     /// Whether sentences say why, of each fault of dir.conf and each refused record.
     pub verbose: bool,
+}
+
+/// What sort is asked for.
+#[derive(Clone, Copy, Drop)]
+pub struct SortOptions<'a> {
+    /// The LDIF file, or none for standard input.
+    pub file: Option<&'a str>,
 }
 
 /// What a command line asks for.
@@ -140,6 +149,7 @@ pub enum Request<'a> {
     Cat(CatOptions<'a>),
     Diff(DiffOptions<'a>),
     Check(CheckOptions<'a>),
+    Sort(SortOptions<'a>),
 }
 
 /// Why a command line asks for nothing that can be done.
