@@ -15,3 +15,4 @@ pub mod ListExamples
 pub mod OtherLoaded
 pub mod Compared
 pub mod Checked
+pub mod CheckExamples

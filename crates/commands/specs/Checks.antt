@@ -21,7 +21,7 @@ use Rattle.stored_index.specs.Faults.{fault_report}
 use Rattle.stored_index.specs.Stored.{Stored, index_in}
 use Rattle.stored_index.specs.declared.fault.IndexFaultKind.{IndexFaultKind}
 use Rattle.databases.specs.IndexTexts.{index_text, stamp}
-use Rattle.databases.specs.Runs.{State, state_after}
+use Rattle.databases.specs.Runs.{state_after}
 use Rattle.databases.specs.Reports as runs
 use Rattle.databases.specs.Folds.{Over}
 use Rattle.command_line.specs.declared.request.CheckOptions.{CheckOptions}
@@ -132,10 +132,10 @@ pub record CheckGoesThrough (asked : CheckOptions) (w w' : World) (s : Status) :
 
 -- ---- where it stops
 
--- a file can't be read, or memory ran out
-abbrev pub CheckFails : CheckOptions → CommandFault → Type 0
-CheckFails asked fault = FailsToRead (conf_name asked.db.now) fault
-    ⊎ (FailsToRead (data_name asked.db.now) fault ⊎ FailsToRead (index_name asked.db.now) fault)
+-- dir.conf can't be read; or it says a configuration, and one of the other files can't be read; or memory ran out
+abbrev pub CheckFails : CheckOptions → Option Files → CommandFault → Type 0
+CheckFails asked files fault = FailsToRead (conf_name asked.db.now) fault
+    ⊎ (((conf : Conf) × IsConfigured files (conf_name asked.db.now) conf) × (FailsToRead (data_name asked.db.now) fault ⊎ FailsToRead (index_name asked.db.now) fault))
 
 -- the text of an option names a type that isn't known, as `check: uid,mial: 17 undefinedAttributeType`
 abbrev pub TellsNoType : List ℕ → Stop → Type 0
@@ -148,13 +148,18 @@ abbrev pub LacksTypes : List AttributeType → Option (List ℕ) → Stop → Ty
 LacksTypes types named (stops.Fault fault) = IsMemory fault
 LacksTypes types named why = (text : List ℕ) × (named ≡ Some text) × ((name : List ℕ) × (types_named types text ≡ Err name)) × TellsNoType text why
 
+-- the types of which references are looked at come first
+abbrev pub LacksFirst : CheckOptions → List AttributeType → Stop → Type 0
+LacksFirst asked types why = LacksTypes types (option_copied asked.references) why
+    ⊎ (((references : List ℕ) × (types_asked types (option_copied asked.references) ≡ Ok references)) × LacksTypes types (option_copied asked.unique) why)
+
 pub record LacksTypesAsked (asked : CheckOptions) (files : Option Files) (why : Stop) : Type 0 where
   pub conf : Conf
   pub configured : IsConfigured files (conf_name asked.db.now) conf
-  pub lacks : LacksTypes conf.types (option_copied asked.references) why ⊎ LacksTypes conf.types (option_copied asked.unique) why
+  pub lacks : LacksFirst asked conf.types why
 
 abbrev pub IsUncheckable : CheckOptions → Option Files → Stop → Type 0
-IsUncheckable asked files why = IsFault (CheckFails asked) why ⊎ LacksTypesAsked asked files why
+IsUncheckable asked files why = IsFault (CheckFails asked files) why ⊎ LacksTypesAsked asked files why
 
 -- so nothing was printed
 abbrev pub IsUnchecked : CheckOptions → World → StoppedAt → Type 0

@@ -13,7 +13,7 @@ ghost use Rattle.commands.specs.Endings.{IsFault};
 ghost use Rattle.commands.specs.Loaded.{IsConfigured};
 ghost use Rattle.commands.specs.Failures.{FailsToRead, FailsToWrite};
 ghost use Rattle.commands.specs.Statuses.{status_of_reports};
-ghost use Rattle.commands.specs.Checks.{types_asked, AddsFound, Checks, TellsOthers, TellsNoType, LacksTypes, CheckFails, IsUncheckable, CheckGoesThrough, CheckStops};
+ghost use Rattle.commands.specs.Checks.{types_asked, AddsFound, Checks, TellsOthers, TellsNoType, LacksTypes, LacksFirst, CheckFails, IsUncheckable, CheckGoesThrough, CheckStops};
 ghost use Rattle.commands.specs.inner.Checked.{AreTypesAsked, HasAdded, HasReported};
 ghost use Rattle.commands.specs.inner.Stopped.{HasEnded};
 
@@ -75,8 +75,7 @@ fn types_by(alloc: Global, conf: &Conf, named: Option<&str>) -> Result<Vec<TypeI
 /// The types that are asked for.
 fn checked_types(alloc: Global, asked: &CheckOptions<'_>, conf: &Conf) -> Result<CheckedTypes, Stop>
     ensures asked { IfOk result (AreTypesAsked asked.now conf.now.types) }
-    ensures lacks { IfErr result (λ why. LacksTypes conf.now.types (option_copied asked.now.references) why
-        ⊎ LacksTypes conf.now.types (option_copied asked.now.unique) why) }
+    ensures lacks { IfErr result (LacksFirst asked.now conf.now.types) }
 {
     let references = types_by(alloc, conf, asked.references)?;
     let unique = types_by(alloc, conf, asked.unique)?;
@@ -113,8 +112,8 @@ fn add_records<S: Source, T: CommandTeller>(
     }
 }
 
-/// Adds the records of data.ldif in the folder `db` to no entry, and answers what is reported of those that are refused. Where there is no such file,
-/// there is none.
+/// Adds the records of data.ldif in the folder `db` to no entry, and answers what is reported of those that are refused. Where there is no such
+/// file, there is no record.
 fn load_records<F: Folder, T: CommandTeller>(
     alloc: Global,
     folder: &F,
@@ -169,7 +168,7 @@ fn check_under<F: Folder, T: CommandTeller>(
     requires configured { IsConfigured (F.files folder.now) (conf_name asked.now.db.now) conf }
     requires types { AreTypesAsked asked.now conf.types types.now }
     ensures checks { IfOk result (λ text. TellsOthers asked.now (F.files folder.now) text.items) }
-    ensures err { IfErr result (CheckFails asked.now) }
+    ensures err { IfErr result (CheckFails asked.now (F.files folder.now)) }
 {
     let mut database = Database::new(alloc, conf);
     let told = load_records(alloc, folder, asked.db, &mut database, teller)?;
@@ -228,9 +227,9 @@ fn print_reports<O: Sink>(alloc: Global, text: &[u8], out: &mut O) -> Result<Sta
 }
 
 /// Prints what is wrong with the files of the directory in a folder, each with a word for its kind, where it is, and what it is, with tabs between: all
-/// faults of dir.conf; or, where that has none, the records of data.ldif that are refused, index.txt where it isn't what slapindex writes, references that name no entry, and values of several
-/// entries of the types that are asked for. It ends as `Refused` where something is wrong, and else as `Done`. It stops where a type isn't
-/// known, or a file, the output or memory fails.
+/// faults of dir.conf; or, where that has none, the records of data.ldif that are refused, index.txt where it isn't what slapindex writes, references
+/// that name no entry, and values of several entries of the types that are asked for. It ends as `Refused` where something is wrong, and else as
+/// `Done`. It stops where a type isn't known, or a file, the output or memory fails.
 pub fn check<F: Folder, O: Sink, T: CommandTeller>(
     alloc: Global,
     asked: &CheckOptions<'_>,
