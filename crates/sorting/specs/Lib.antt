@@ -1,0 +1,6 @@
+pub mod Pieces
+pub mod Heads
+pub mod NormalNames
+pub mod Turns
+pub mod Sorted
+pub mod inner
