@@ -1,12 +1,12 @@
 -- A text cut into lines and pieces.
-use Rattle.std.proofs.Common.{◌≡◌, ℕ, suc, ◌+◌, ◌-◌, ◌<◌, ◌≤◌, Bool, true, false, cond, List, [], ◌∷◌, ◌++◌, length, length-append, get_or, take, drop, Option, Some, None, All, refl, sym, ap, ◌∙◌, append_assoc, append-nil, arith}
-use Rattle.std.specs.Prelude.{◌&&◌, ◌==◌}
+use Rattle.std.proofs.Common.{◌≡◌, ℕ, suc, ◌+◌, ◌-◌, ◌<◌, ◌≤◌, Bool, true, false, cond, List, [], ◌∷◌, ◌++◌, length, length-append, get_or, take, drop, Some, None, All, refl, sym, ap, ◌∙◌, append_assoc, append-nil, arith}
+use Rattle.std.specs.Prelude.{◌==◌}
 use Rattle.std.specs.List.{onto_first}
-use Rattle.std.proofs.lemmas.List.{take-append-drop, drop_more, get_or-take, get_or_default, length-take, length-drop, take_all, drop_all, take_more}
+use Rattle.std.proofs.lemmas.List.{take-append-drop, drop_more, get_or-take, get_or_default, length-take, take_all, drop_all, take_more}
 use Rattle.std.proofs.Math.Seq.{take-append_seam, drop-append_seam}
 use Rattle.std.proofs.lemmas.Bool.{eqb-true, false_from_ne_true}
 use Rattle.memchr.specs.Find.{IsFirstByte, is_byte, Passes}
-use Rattle.sorting.specs.Pieces.{before_first, ended_lines, is_empty, behind, unbegun, ends_piece, pieces_from, pieces}
+use Rattle.sorting.specs.Pieces.{before_first, ended_lines, behind, unbegun, ends_piece, pieces_from, pieces}
 use Rattle.sorting.specs.declared.pieces.Begun.{Begun}
 use Rattle.sorting.specs.inner.Pieces.{IsFirstPiece, with_taken, GoesOn}
 

@@ -2,3 +2,10 @@ pub mod Cutting
 pub mod Fronts
 pub mod Numbered
 pub mod Upwards
+pub mod Texts
+pub mod Aboves
+pub mod InTurn
+pub mod Kept
+pub mod Complete
+pub mod Examples
+pub mod OrderExamples

@@ -1,5 +1,5 @@
 -- What stands at the front of an LDIF text whatever follows: its version line with what is before it (RFC 2849, "version-spec").
-use Rattle.std.specs.Prelude.{ℕ, Bool, true, false, ◌==◌, if◌then◌else◌, List, [], ◌∷◌, ◌++◌, Option, Some, None, Result, Ok, Err}
+use Rattle.std.specs.Prelude.{ℕ, Bool, true, false, if◌then◌else◌, List, [], ◌∷◌, ◌++◌, Option, Some, None, Result, Ok}
 use Rattle.base.specs.Ascii.{space}
 use Rattle.base.specs.Ends.{begins_with}
 use Rattle.ldif_lines.specs.Records.{RawRecord, records}

@@ -2,5 +2,6 @@ pub mod Pieces
 pub mod Heads
 pub mod NormalNames
 pub mod Turns
+pub mod Orders
 pub mod Sorted
 pub mod inner

@@ -5,11 +5,11 @@ use Rattle.std.specs.BTreeSet.{insert_key}
 use Rattle.std.specs.Cmp.Lexicographic.{slice_cmp}
 use Rattle.std.specs.Ordering.{nat_cmp}
 use Rattle.std.specs.List.{flat_map}
-use Rattle.base.specs.Ascii.{comma, plus_sign}
+use Rattle.base.specs.Ascii.{line_feed, plus_sign, equals_sign}
 use Rattle.matching.specs.Forms.{norm, lower}
 use Rattle.matching.specs.declared.family.Family.TheVariants.{Ignore}
 use Rattle.dn.specs.Names.{Ava, Rdn, Name}
-use Rattle.dn.specs.Writing.{ava_text}
+use Rattle.dn.specs.Writing.{value_text}
 use Rattle.ldif_lines.specs.Records.{RawRecord, records}
 use Rattle.ldif.specs.Reading.{reading}
 use Rattle.ldif.specs.declared.fault.LdifFaultKind.{LdifFaultKind}
@@ -26,8 +26,9 @@ ended_by end texts = flat_map (λ text. text ++ end ∷ []) texts
 
 -- ---- an RDN
 
+-- its type and its value, each written as a value is, so that the bytes that end a text stand in none
 abbrev pub normal_ava : Ava → List ℕ
-normal_ava p = ava_text (lower p.0, norm Ignore p.1)
+normal_ava p = value_text (lower p.0) ++ equals_sign ∷ value_text (norm Ignore p.1)
 
 -- texts with all of these, in the order of their bytes, each once
 unfoldable pub with_texts : List (List ℕ) → List (List ℕ) → List (List ℕ)
@@ -41,7 +42,7 @@ normal_rdn r = ended_by plus_sign (with_texts [] (map normal_ava r))
 
 -- the text of the name that has RDNs of these normal forms
 abbrev pub name_text : List (List ℕ) → List ℕ
-name_text rdns = ended_by comma rdns
+name_text rdns = ended_by line_feed rdns
 
 -- that of it and of each name above it
 abbrev pub texts_up : List (List ℕ) → List (List ℕ)

@@ -1,5 +1,5 @@
 -- An LDIF text with its records so ordered that each comes behind those above it.
-use Rattle.std.specs.Prelude.{ℕ, nat_eq, Bool, ◌&&◌, ◌||◌, if◌then◌else◌, List, [], ◌∷◌, ◌++◌, map, drop, length, Option, slice_index_or}
+use Rattle.std.specs.Prelude.{ℕ, nat_eq, Bool, ◌||◌, if◌then◌else◌, List, [], ◌∷◌, ◌++◌, map, drop, length, Option, slice_index_or}
 use Rattle.std.specs.List.{ends_with}
 use Rattle.base.specs.Ascii.{line_feed, carriage_return}
 use Rattle.sorting.specs.Pieces.{pieces}

@@ -1,11 +1,15 @@
 //! The records of an LDIF text in another order: each behind those of the entries above it.
+//!
+//! The functions of `laws` do nothing: a call of one is made for what it states alone.
 #![tactic(auto)]
 
 mod heads;
+mod laws;
 mod normal_names;
 mod pieces;
 mod records;
 mod sorted;
 mod turns;
 
+pub use laws::{pieces_in_order_stay, those_above_come_first};
 pub use sorted::sort_records;

@@ -24,10 +24,12 @@ pub(crate) struct NormalName {
 fn normal_ava(alloc: Global, ava: &Ava) -> Result<Bytes, AllocError>
     ensures { IfOk result (λ text. text ≡ normal_ava ava.now) }
 {
-    let mut text = Vec::from_slice(alloc, ava.type_text())?;
-    text.make_ascii_lowercase();
-    text.push(b'=')?;
+    let mut lower = Vec::from_slice(alloc, ava.type_text())?;
+    lower.make_ascii_lowercase();
     let value = normal_form(alloc, Family::Ignore, ava.value())?;
+    let mut text = Vec::new(alloc);
+    put_value(&mut text, lower.as_slice())?;
+    text.push(b'=')?;
     put_value(&mut text, value.as_slice())?;
     Ok(Bytes::from_vec(text))
 }
@@ -85,7 +87,7 @@ fn texts_up(alloc: Global, rdns: &[Bytes]) -> Result<Sequence<Bytes>, AllocError
 {
     let mut texts = Sequence::new(alloc);
     for index in 0..rdns.len() {
-        texts.push(ended_by(alloc, b',', &rdns[index..])?)?;
+        texts.push(ended_by(alloc, b'\n', &rdns[index..])?)?;
     }
     Ok(texts)
 }
@@ -98,7 +100,7 @@ fn normal_name(alloc: Global, name: &Name) -> Result<Option<NormalName>, AllocEr
     match rdns.as_slice() {
         [] => Ok(None),
         [_, above @ ..] => Ok(Some(NormalName {
-            text: ended_by(alloc, b',', rdns.as_slice())?,
+            text: ended_by(alloc, b'\n', rdns.as_slice())?,
             above: texts_up(alloc, above)?,
         })),
     }

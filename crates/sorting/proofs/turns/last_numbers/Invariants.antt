@@ -1,5 +1,4 @@
-use Rattle.std.proofs.Common.{◌≡◌, ℕ, List, take}
-use Rattle.sorting.specs.Turns.{last_named}
+use Rattle.std.proofs.Common.{take}
 use Rattle.sorting.specs.inner.Numbers.{AreLastNumbers}
 use Rattle.sorting.proofs.turns.last_numbers.Given as goal
 

@@ -1,4 +1,4 @@
-use Rattle.std.proofs.Common.{◌≡◌, [], drop}
+use Rattle.std.proofs.Common.{◌≡◌, drop}
 use Rattle.sorting.specs.Turns.{turns_from, with_turns, turns}
 use Rattle.sorting.proofs.turns.turns.Given as goal
 

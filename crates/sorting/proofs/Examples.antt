@@ -1,0 +1,38 @@
+-- Worked examples of how a text is cut, of names, and of the order, by computation.
+use Rattle.std.proofs.Common.{◌≡◌, [], ◌∷◌, codes, refl}
+use Rattle.sorting.specs.Pieces.{ended_lines, pieces_from, pieces}
+use Rattle.sorting.specs.Sorted.{lacking, joined}
+
+-- a piece ends with the first empty line behind a line of a record; what stands before it is its own
+two_pieces : pieces (codes "# a\n\ndn: a\n\n\ndn: b\n") ≡ codes "# a\n\ndn: a\n\n" ∷ codes "\ndn: b\n" ∷ []
+unfolding pieces_from ended_lines
+two_pieces = refl
+
+-- a comment that is continued is no record, and a block's first line is one, however it begins
+continued : pieces (codes "# a\n b\n\n c\n\n") ≡ codes "# a\n b\n\n c\n\n" ∷ []
+unfolding pieces_from ended_lines
+continued = refl
+
+returns : pieces (codes "dn: a\r\n\r\ndn: b") ≡ codes "dn: a\r\n\r\n" ∷ codes "dn: b" ∷ []
+unfolding pieces_from ended_lines
+returns = refl
+
+closed : lacking (codes "dn: a\n\n") ≡ []
+unfolding lacking
+closed = refl
+
+closed_by_returns : lacking (codes "dn: a\r\n\r\n") ≡ []
+unfolding lacking
+closed_by_returns = refl
+
+one_end : lacking (codes "dn: a\n") ≡ codes "\n"
+unfolding lacking
+one_end = refl
+
+no_end : lacking (codes "dn: a") ≡ codes "\n\n"
+unfolding lacking
+no_end = refl
+
+moved : joined (codes "dn: b" ∷ codes "dn: a\n\n" ∷ []) ≡ codes "dn: b\n\ndn: a\n\n"
+unfolding joined lacking
+moved = refl
