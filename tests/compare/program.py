@@ -9,6 +9,7 @@ import time
 import checks
 import differences
 import model
+import sorting
 
 
 # the options of each command: the one that names a file, those that have another value, and those that stand alone
@@ -16,8 +17,9 @@ OPTIONS = {
     "slapadd": ("-l", ["--wait"], ["-c", "-u", "-v"]), "ldapmodify": ("-f", ["--wait"], ["-a", "-c", "-n", "-v"]),
     "slapindex": (None, ["--wait"], ["-v"]),
     "search": ("-f", ["-b", "-s", "-z", "-o"], ["-c", "--count", "-v"]), "slapcat": ("-l", ["-a", "-s", "-o"], ["-v"]),
-    "ldifdiff": ("-l", ["-a", "-b"], ["--unordered", "-v"]), "check": (None, ["--unique", "--references"], ["-v"]),
+    "ldifdiff": ("-l", ["-a", "-b"], ["--unordered", "-v"]), "check": (None, ["--unique", "--references"], ["-v"]), "sort": ("-l", [], []),
 }
+WITHOUT_FOLDER = ("sort",)
 
 
 def parser_of_words():
@@ -26,7 +28,8 @@ def parser_of_words():
     commands = parser.add_subparsers(dest="command", required=True)
     parsers = {name: commands.add_parser(name, allow_abbrev=False) for name in OPTIONS}
     for name, (file, others, flags) in OPTIONS.items():
-        parsers[name].add_argument("--db", required=True, action=Once)
+        if name not in WITHOUT_FOLDER:
+            parsers[name].add_argument("--db", required=True, action=Once)
         if file is not None:
             parsers[name].add_argument(file, dest="file", action=Once)
         for option in others:
@@ -167,6 +170,11 @@ def check(words):
     return checks.check(*files, words.db, encoded(words.unique), encoded(words.references), words.v)
 
 
+def sort(words):
+    text, source = (read(words.file), words.file) if words.file is not None else (sys.stdin.buffer.read(), "input")
+    return sorting.sort(text, source)
+
+
 def is_utf_8(word):
     try:
         word.encode()
@@ -190,7 +198,7 @@ def main():
     elif words.command in ("search", "slapcat"):
         status, output, messages = {"search": search, "slapcat": slapcat}[words.command](words, parsers[words.command])
     else:
-        others = {"slapindex": slapindex, "ldifdiff": ldifdiff, "check": check}
+        others = {"slapindex": slapindex, "ldifdiff": ldifdiff, "check": check, "sort": sort}
         status, output, messages = others.get(words.command, change)(words)
     sys.stdout.buffer.write(output)
     sys.stderr.buffer.write(messages)
