@@ -1,15 +1,15 @@
 #!/usr/bin/env python3
 """Compares a built program with a second reading of the rules: compare.py PROGRAM COUNT SEED .. [--changes] [--searches] [--lists] [--checks]
-[--only]
+[--sorts] [--only]
 
-The second reading is `model.py` with `schema.py`, `values.py`, `ldif.py`, `filters.py` and `indexes.py`. It was written apart from the program
-and shares no code with it, so that a rule that one of the two reads wrongly shows as a difference. For each SEED, COUNT random folders and
-inputs go through slapadd, slapcat and slapindex, and some through slapindex before all of them; statuses, outputs, messages and all files are
-compared byte for byte. Some print lines of another width than 76; slapadd makes the same directory of what slapcat prints so. With --changes as
-many more go through ldapmodify in place of slapadd, with --searches as many through search or through slapcat with a filter or a name, with
---lists as many through search -f, and with --checks as many through check; with --only slapadd is left out. A case that differs is cut down and
-printed; at the end stands how often each status, code and fault came up, and how many slots of the index texts had keys. The exit status is 0 where
-nothing differs, else 1.
+The second reading is `model.py` with `schema.py`, `values.py`, `ldif.py`, `filters.py` and `indexes.py`, and `sorting.py`. It was written apart from
+the program and shares no code with it, so that a rule that one of the two reads wrongly shows as a difference. For each SEED, COUNT random folders
+and inputs go through slapadd, slapcat and slapindex, and some through slapindex before all of them; statuses, outputs, messages and all files are
+compared byte for byte. Some print lines of another width than 76; slapadd makes the same directory of what slapcat prints so. With --changes as many
+more go through ldapmodify in place of slapadd, with --searches as many through search or through slapcat with a filter or a name, with --lists as
+many through search -f, with --checks as many through check, and with --sorts as many texts through sort, of which the laws of its order have to hold,
+too; with --only slapadd is left out. A case that differs is cut down and printed; at the end stands how often each status, code and fault came up,
+and how many slots of the index texts had keys. The exit status is 0 where nothing differs, else 1.
 """
 import argparse
 import collections
@@ -30,6 +30,8 @@ import folders
 import lists
 import model
 import searches
+import sorting
+import trees
 import values
 
 FILES = ("dir.conf", "data.ldif", "index.txt")
@@ -38,7 +40,8 @@ MOST_SHOWN = 3      # differences that are cut down and printed
 MOST_TRIES = 2000   # cases that are tried to cut down one of them
 # what a case is called, what it is drawn from beside its seed, and how
 KINDS = [("case", "", cases.case), ("change", "{} changes", cases.change_case), ("search", "{} searches", searches.search_case),
-         ("list", "{} lists", lists.list_case), ("check", "{} checks", folders.check_case)]
+         ("list", "{} lists", lists.list_case), ("check", "{} checks", folders.check_case),
+         ("sort", "{} sorts", trees.sort_case)]
 
 
 def read(path):
@@ -69,9 +72,12 @@ class Runner:
         """-> (seen, wanted)"""
         shutil.rmtree(self.db, ignore_errors=True)
         self.db.mkdir()
+        seen, wanted = {}, {}
+        if isinstance(case, trees.Sort):
+            self.sort(case, seen, wanted)
+            return seen, wanted
         for name, text in zip(FILES, (case.conf, case.data, case.index)):
             write(self.db / name, text)
-        seen, wanted = {}, {}
         if isinstance(case, searches.Search):
             self.search(case, seen, wanted)
             return seen, wanted
@@ -211,6 +217,18 @@ class Runner:
             wanted["status"], wanted["output"], wanted["messages"] = 2, b"", b"command line: not UTF-8\n"
         self.compare_files("", before, seen, wanted)
 
+    def sort(self, case, seen, wanted):
+        """sort, of a file or of its input"""
+        file = self.missing if case.text is None else self.input
+        if case.by_file and case.text is not None:
+            write(self.input, case.text)
+        words, text, source = (["-l", file], b"", file) if case.by_file else ([], case.text, "input")
+        seen["status"], seen["output"], seen["messages"] = self.run("sort", *words, text=text)
+        wanted["status"], wanted["output"], wanted["messages"] = sorting.sort(case.text, source)
+        seen["broken laws"] = [] if case.text is None else sorting.broken_laws(case.text, seen["output"])
+        wanted["broken laws"] = []
+        seen["file"], wanted["file"] = read(file) if case.by_file else None, case.text if case.by_file else None
+
 
 def sentences_as(seen, said, is_loose):
     """Of each of the sentences that may be told the one that was, or the first one. A line of dir.conf may be wrong in several ways, of which the
@@ -286,6 +304,9 @@ def show(case, found):
 def count(counts, case, wanted):
     if isinstance(case, folders.Check):
         count_check(counts, case, wanted)
+        return
+    if isinstance(case, trees.Sort):
+        count_sort(counts, case, wanted)
         return
     count_width(counts, case, wanted)
     if isinstance(case, searches.Search):
@@ -377,6 +398,19 @@ def count_check(counts, case, wanted):
         counts[f"checks: {what}"] += 1
 
 
+def count_sort(counts, case, wanted):
+    counts[f"sort: status {wanted['status']}"] += 1
+    if case.text is None:
+        return
+    head, pieces = sorting.cut(case.text)
+    named = sum(sorting.name_of(piece) != () for piece in pieces)
+    counts[f"sorts: {min(len(pieces), 3)} {'pieces or more' if len(pieces) > 2 else 'piece' if len(pieces) == 1 else 'pieces'}"] += 1
+    counts[f"sorts: {'printed as it is' if wanted['output'] == case.text else 'in another order'}, {'with' if head else 'without'} a head"] += 1
+    counts["sorts: pieces with a name"] += named
+    counts["sorts: pieces without a name"] += len(pieces) - named
+    counts["sorts: a piece is read otherwise in its place"] += sorting.is_read_otherwise(case.text, wanted["output"])
+
+
 def count_messages(counts, source, messages):
     for line in messages.decode().splitlines():
         found = re.fullmatch(r"(?:(dir\.conf|data\.ldif) )?line \d+: (\w+) .*|.*: cannot read|((?:filter|search|slapcat): .*)", line)
@@ -423,6 +457,7 @@ def main():
     parser.add_argument("--searches", action="store_true")
     parser.add_argument("--lists", action="store_true")
     parser.add_argument("--checks", action="store_true")
+    parser.add_argument("--sorts", action="store_true")
     parser.add_argument("--only", action="store_true", help="no cases of slapadd beside those")
     words = parser.parse_args()
     program = shutil.which(words.program)
@@ -431,7 +466,8 @@ def main():
     memory = "/dev/shm" if os.access("/dev/shm", os.W_OK) else None
     with tempfile.TemporaryDirectory(prefix="compare.", dir=memory) as home:
         runner = Runner(os.path.abspath(program), Path(home))
-        kinds = [kind for kind, wanted in zip(KINDS, (not words.only, words.changes, words.searches, words.lists, words.checks)) if wanted]
+        asked = not words.only, words.changes, words.searches, words.lists, words.checks, words.sorts
+        kinds = [kind for kind, wanted in zip(KINDS, asked) if wanted]
         counts, differing = compare(runner, words.count, words.seeds, kinds)
     for key in sorted(counts, key=lambda key: (key.split(": ")[0], len(key), key)):
         print(f"{key:28} {counts[key]:7}")
