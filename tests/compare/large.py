@@ -287,8 +287,31 @@ def checked():
     yield "1,000 faults of a dir.conf", {"dir.conf": b"overlay x\n" * 500 + conf + b"index none eq\n" * 500, "data.ldif": SUFFIX}, []
 
 
+def turned(text):
+    """A text whose last record comes first."""
+    return b"\n\n".join(text.rstrip(b"\n").split(b"\n\n")[::-1]) + b"\n"
+
+
+def unsorted():
+    """-> (what it is, a text)"""
+    for what, text in content():
+        yield what, text
+        yield f"{what}, turned around", turned(text)
+    numbers, names = range(5000), list(chain(300))
+    few = [entry(b"cn=%d,dc=ex" % number) for number in numbers]
+    yield "5,000 records above which one comes last", texts(few + [SUFFIX])
+    yield "one above 5,000 records, and as many of its name, by turns", texts([record for one in few for record in (one, SUFFIX)])
+    yield "5,000 pairs, the lower one first", texts([record for number in numbers for record in (entry(b"cn=x,cn=%d" % number), entry(b"cn=%d" % number))])
+    yield "a chain of 300 RDNs by turns from both ends", texts([entry(name) for pair in zip(names, names[::-1]) for name in pair])
+    yield "5,000 records of one name in other words", texts([entry(b"cn=%ba%b, DC = ex" % (b" " * number, b"\\20" * (number % 7))) for number in numbers] + [SUFFIX])
+    yield "comments and empty lines over 1 MiB", b"# a\n\n" * 300000 + entry(b"cn=a,dc=ex") + b"\n" * (1 << 20) + SUFFIX + b"\n# b" * 300000
+    yield "a version behind comments over 1 MiB", b"# a\n\n" * 300000 + b"ver\n sion:\n" + b"  \n" * 1000 + b" 1\n" + b"\n" * (1 << 20) + turned(texts([SUFFIX] + few))
+
+
 def runs():
     """-> (what it is, the files before, the words behind the folder's option)"""
+    for what, text in unsorted():
+        yield what, {"in": text}, "sort", ["-l", "db/in"]
     for what, text in content():
         yield what, {"dir.conf": CONF, "in": text}, "slapadd", ["-c", "-l", "db/in"]
     for what, text in changes():
@@ -331,7 +354,8 @@ def outcome(program, home, files, command, words):
         db.mkdir()
         for name, text in files.items():
             (db / name).write_bytes(text)
-        done = subprocess.run([program, command, "--db", "db"] + words, cwd=work, capture_output=True, timeout=300)
+        folder = [] if command == "sort" else ["--db", "db"]
+        done = subprocess.run([program, command, *folder, *words], cwd=work, capture_output=True, timeout=300)
         return done.returncode, done.stdout, done.stderr, {path.name: path.read_bytes() for path in db.iterdir()}
 
 

@@ -1,11 +1,11 @@
 #!/usr/bin/env python3
-"""Reads a dir.conf, a dump, an index text, records and a filter that have all forms, broken at each byte, by a built program and by a second
-reading: sweep.py PROGRAM [--all]
+"""Reads a dir.conf, a dump, an index text, records, a text to sort and a filter that have all forms, broken at each byte, by a built program and by a
+second reading: sweep.py PROGRAM [--all]
 
-Each beginning of a text, and each single byte changed into others (with --all: into all that it may be), is a dir.conf of its own, with no
-data.ldif; a data.ldif of its own; an index.txt of its own, by which a few entries are searched; an input of slapadd, ldapmodify or ldifdiff of its
-own, over a few entries; a file of a folder that check looks at; or a filter of its own over a few entries. What the commands answer, print, say and
-store must be what `model.py` says, byte for byte: a configuration, a directory and its index, or numbered faults with their lines; entries or a
+Each beginning of a text, and each single byte changed into others (with --all: into all that it may be), is a dir.conf of its own, with no data.ldif;
+a data.ldif of its own; an index.txt of its own, by which a few entries are searched; an input of slapadd, ldapmodify or ldifdiff of its own, over a
+few entries; a file of a folder that check looks at; an input of sort; or a filter of its own over a few entries. What the commands answer, print, say
+and store must be what `model.py` says, byte for byte: a configuration, a directory and its index, or numbered faults with their lines; entries or a
 fault at a place. Prints each difference and at the end the number of texts; the exit status is 0 where nothing differs, else 1.
 """
 import argparse
@@ -21,6 +21,7 @@ from pathlib import Path
 import checks
 import differences
 import model
+import sorting
 
 CONF = b"""\
 # all fields
@@ -168,6 +169,32 @@ cn: n,
 """
 
 
+UNSORTED = b"""\
+# note
+version: 1
+
+dn: cn=b+ou=X,ou=a,dc=ex
+# note
+ more
+cn: b
+
+
+dn:: b3U9YSxkYz1leA==
+cn:: YiA=
+
+dn: cn=a,OU = x + cn=\\42,ou=
+  A,dc=ex
+objectClass: x
+
+dn: cn=n,dc=ex
+changetype: add
+
+# last
+
+dn: DC=ex
+description: fol
+ ded"""
+
 # in a dir.conf of which each fault is told
 FAULT_OTHERS = b"\n #()'ax"
 
@@ -260,6 +287,12 @@ def check_answers(name, program, home, text):
     return (done.returncode, done.stdout, done.stderr), checks.check(*files.values(), db, b"objectClass,description")
 
 
+def sort_answers(program, home, text):
+    """-> (what sort answers to a text, what the second reading answers), and the laws that don't hold of it"""
+    done = subprocess.run([program, "sort"], input=text, capture_output=True, timeout=10)
+    return (done.returncode, done.stdout, done.stderr, sorting.broken_laws(text, done.stdout)), (*sorting.sort(text, "input"), [])
+
+
 def filter_answers(program, home, text):
     """-> (what the program answers to a filter, what the second reading answers)"""
     db = home / f"filter{os.getpid()}"
@@ -297,7 +330,7 @@ def main():
     sweeps = [
         (conf_answers, list(broken(CONF, all_bytes if words.all else [bytes([b]) for b in OTHERS]))),
         *((answers, list(broken(text, all_bytes if words.all else [bytes([b]) for b in RECORD_OTHERS])))
-          for answers, text in [(dump_answers, DUMP), (ADD_ANSWERS, ADDED), (CHANGE_ANSWERS, CHANGED), (other_answers, OTHER)]),
+          for answers, text in [(dump_answers, DUMP), (ADD_ANSWERS, ADDED), (CHANGE_ANSWERS, CHANGED), (other_answers, OTHER), (sort_answers, UNSORTED)]),
         (index_answers, list(broken(INDEX, all_bytes if words.all else [bytes([b]) for b in INDEX_OTHERS]))),
         *((functools.partial(check_answers, name), list(broken(text, all_bytes if words.all else [bytes([b]) for b in others])))
           for name, text, others in [("dir.conf", ENTRIES_CONF, FAULT_OTHERS), ("data.ldif", DUMP, RECORD_OTHERS), ("index.txt", INDEX, INDEX_OTHERS)]),
