@@ -31,14 +31,19 @@ no_line = refl
 three_fields : report (codes "faulty") (codes "index.txt") (codes "I2 stale") ≡ codes "faulty\tindex.txt\tI2 stale\n"
 three_fields = refl
 
-two_refused : refused_reports (codes "line 1: 32 noSuchObject\nline 9: L4 base64\n")
+two_refused : refused_reports (codes "data.ldif") (codes "line 1: 32 noSuchObject\nline 9: L4 base64\n")
     ≡ codes "refused\tdata.ldif\tline 1: 32 noSuchObject\nrefused\tdata.ldif\tline 9: L4 base64\n"
 unfolding lines_behind
 two_refused = refl
 
-none_refused : refused_reports [] ≡ []
+none_refused : refused_reports (codes "data.ldif") [] ≡ []
 unfolding lines_behind
 none_refused = refl
+
+-- what would end a line or a field is written as in a name
+other_file : refused_reports (codes "a\tb\nc\u{7f}.ldif") (codes "line 1: L3 version\n") ≡ codes "refused\ta\\09b\\0Ac\\7F.ldif\tline 1: L3 version\n"
+unfolding lines_behind
+other_file = refl
 
 -- ---- types that are named
 

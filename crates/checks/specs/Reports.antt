@@ -1,7 +1,8 @@
 -- What is reported: a line for each thing that is wrong, in a form that scripts read.
-use Rattle.std.specs.Prelude.{ℕ, Bool, true, ◌==◌, List, [], ◌∷◌, ◌++◌, if◌then◌else◌, codes}
+use Rattle.std.specs.Prelude.{ℕ, ◌/◌, ◌%◌, Bool, true, ◌||◌, ◌==◌, nat_lt, List, [], ◌∷◌, ◌++◌, if◌then◌else◌, codes}
 use Rattle.std.specs.List.{flat_map}
-use Rattle.base.specs.Ascii.{tab, line_feed}
+use Rattle.base.specs.Ascii.{tab, line_feed, backslash}
+use Rattle.dn.specs.Writing.{digit}
 use Rattle.ldif.specs.Writing.{line_text}
 use Rattle.values.specs.Types.{name_of}
 use Rattle.paths.specs.Paths.{Path}
@@ -17,6 +18,22 @@ use Rattle.checks.specs.TypeNames.{each_once}
 abbrev pub report : List ℕ → List ℕ → List ℕ → List ℕ
 report kind place what = kind ++ tab ∷ (place ++ tab ∷ (what ++ line_feed ∷ []))
 
+-- what stands before that
+abbrev pub place_front : List ℕ → List ℕ → List ℕ
+place_front kind place = kind ++ tab ∷ (place ++ tab ∷ [])
+
+-- a byte that may end a line or a field, or that a terminal obeys
+abbrev pub is_control : ℕ → Bool
+is_control b = nat_lt b 32 || b == 127
+
+-- a byte of the name of a file: a control character is a backslash and two hexadecimal digits, as in a name (RFC 4514, 2.4)
+abbrev pub name_byte : ℕ → List ℕ
+name_byte b = if is_control b then backslash ∷ digit (b / 16) ∷ digit (b % 16) ∷ [] else b ∷ []
+
+-- the name of a file, in one field of one line
+abbrev pub shown_name : List ℕ → List ℕ
+shown_name name = flat_map name_byte name
+
 -- of a value of an entry: the entry's name, and the value as a line of LDIF that isn't folded (RFC 2849)
 abbrev pub value_report : List ℕ → Conf → Entries → Path → ℕ → List ℕ → List ℕ
 value_report kind conf d p t value = report kind (name_of_entry conf d p) (line_text (name_of conf.types t) value)
@@ -28,9 +45,9 @@ unfoldable pub lines_behind : List ℕ → Bool → List ℕ → List ℕ
 lines_behind front begins [] = []
 lines_behind front begins (b ∷ bs) = (if begins then front else []) ++ b ∷ lines_behind front (b == line_feed) bs
 
--- each line that reports a refused record of data.ldif, where the records are added one after the other
-abbrev pub refused_reports : List ℕ → List ℕ
-refused_reports text = lines_behind (codes "refused\tdata.ldif\t") true text
+-- each line that reports a refused record of the file of this name, where the records are added one after the other
+abbrev pub refused_reports : List ℕ → List ℕ → List ℕ
+refused_reports name text = lines_behind (place_front (codes "refused") (shown_name name)) true text
 
 -- ---- references that dangle
 

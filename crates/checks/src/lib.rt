@@ -6,6 +6,7 @@
 
 mod conf_faults;
 mod entry_value;
+mod file_names;
 mod finder;
 mod holders;
 mod laws;

@@ -10,6 +10,7 @@ ghost use Rattle.checks.specs.TypeNames.{each_once};
 ghost use Rattle.checks.specs.inner.Reports.{IsReportable, AreReportable, AreThere, EachIsThere};
 
 use crate::entry_value::EntryValue;
+use crate::file_names::shown_name;
 use crate::references::find_dangling;
 use crate::shared_value::SharedValue;
 use crate::sharing::find_shared;
@@ -61,12 +62,20 @@ fn put_lines(out: &mut Vec<u8>, front: &[u8], text: &[u8]) -> Result<(), AllocEr
     Ok(())
 }
 
-/// Puts a report of each record of data.ldif that is refused at the end of a text: the word `refused`, the name of the file, and a line of `text`, as
-/// a run that adds the records reports them.
-pub fn report_refused(text: &[u8], out: &mut Vec<u8>) -> Result<(), AllocError>
-    ensures { OnOk result (out.new.items ≡ out.old.items ++ refused_reports text.now) }
+/// Puts a report of each record of a file that is refused at the end of a text: the word `refused`, the name of the file, and a line of `text`, as a
+/// run that adds the records reports them. A control character of the name is a backslash and two hexadecimal digits.
+pub fn report_refused(
+    alloc: Global,
+    name: &str,
+    text: &[u8],
+    out: &mut Vec<u8>,
+) -> Result<(), AllocError>
+    ensures { OnOk result (out.new.items ≡ out.old.items ++ refused_reports name.now text.now) }
 {
-    put_lines(out, b"refused\tdata.ldif\t", text)
+    let shown = shown_name(alloc, name.as_bytes())?;
+    let mut front = Vec::new(alloc);
+    put_place(&mut front, "refused", shown.as_slice())?;
+    put_lines(out, front.as_slice(), text)
 }
 
 /// Puts the line of a name and a value at the end of a text (RFC 2849), without folding it.
