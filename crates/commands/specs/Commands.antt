@@ -4,7 +4,7 @@ use Rattle.std.specs.Option.{option_copied}
 use Rattle.device.specs.Device.{Broke}
 use Rattle.command_line.specs.Requests.{AsksForHelp, AskFor, IsFaultOf}
 use Rattle.command_line.specs.declared.request.Request.{Request}
-use Rattle.command_line.specs.declared.request.Request.TheVariants.{Help, Add, Modify, Index, Search, Cat, Diff, Check}
+use Rattle.command_line.specs.declared.request.Request.TheVariants.{Help, Add, Modify, Index, Search, Cat, Diff, Check, Sort}
 use Rattle.command_line.specs.declared.request.UsageFault.{UsageFault}
 use Rattle.command_line.specs.declared.request.UsageFault.TheVariants.{Words, OutOfMemory}
 use Rattle.commands.specs.Worlds.{World, IsPrinted}
@@ -17,6 +17,7 @@ use Rattle.commands.specs.Prints.{CatGoesThrough, CatStops}
 use Rattle.commands.specs.Lists.{AnyGoesThrough, AnyStops}
 use Rattle.commands.specs.Differences.{DiffGoesThrough, DiffStops}
 use Rattle.commands.specs.Checks.{CheckGoesThrough, CheckStops}
+use Rattle.commands.specs.Sorting.{SortGoesThrough, SortStops}
 use Rattle.commands.specs.Statuses.{status_number}
 use Rattle.commands.specs.declared.messages.Status.{Status}
 use Rattle.commands.specs.declared.messages.Status.TheVariants.{Done}
@@ -50,6 +51,7 @@ RequestGoesThrough (Ok (Search asked)) = AnyGoesThrough (option_copied asked.fil
 RequestGoesThrough (Ok (Cat asked)) = CatGoesThrough asked
 RequestGoesThrough (Ok (Diff asked)) = DiffGoesThrough asked
 RequestGoesThrough (Ok (Check asked)) = CheckGoesThrough asked
+RequestGoesThrough (Ok (Sort asked)) = SortGoesThrough asked
 RequestGoesThrough (Err fault) = λ w w' s. ⊥
 
 abbrev pub RequestStops : Result Request UsageFault → World → StoppedAt → Type 0
@@ -61,6 +63,7 @@ RequestStops (Ok (Search asked)) = AnyStops (option_copied asked.file) asked
 RequestStops (Ok (Cat asked)) = CatStops asked
 RequestStops (Ok (Diff asked)) = DiffStops asked
 RequestStops (Ok (Check asked)) = CheckStops asked
+RequestStops (Ok (Sort asked)) = SortStops asked
 RequestStops (Err fault) = WordsStop fault
 
 -- the folder whose directory is to be written, if one is
@@ -73,6 +76,7 @@ writes_in (Ok (Search asked)) = None
 writes_in (Ok (Cat asked)) = None
 writes_in (Ok (Diff asked)) = None
 writes_in (Ok (Check asked)) = None
+writes_in (Ok (Sort asked)) = None
 writes_in (Err fault) = None
 
 -- What was asked for was done, under a lock where a directory is written, or the command stopped, and this is the number of its status.

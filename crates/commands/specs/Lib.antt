@@ -14,7 +14,9 @@ pub mod IndexFiles
 pub mod Changes
 pub mod Indexing
 pub mod Prints
+pub mod Texts
 pub mod Lists
+pub mod Sorting
 pub mod Differences
 pub mod Checks
 pub mod Commands

@@ -1,12 +1,11 @@
 -- Searches of a list: one for each line of a file, on one load of the directory (ldapsearch(1), -f).
-use Rattle.std.specs.Prelude.{◌≡◌, ℕ, ◌+◌, ◌⊎◌, Bool, true, false, ◌&&◌, ◌==◌, List, [], ◌∷◌, ◌++◌, length, drop, map, bytes_eq, Option, None, Some, Err, IfSome, if◌then◌else◌, codes}
+use Rattle.std.specs.Prelude.{◌≡◌, ℕ, ◌+◌, ◌⊎◌, Bool, true, false, ◌&&◌, ◌==◌, List, [], ◌∷◌, ◌++◌, length, drop, map, bytes_eq, Option, None, Some, Err, if◌then◌else◌, codes}
 use Rattle.std.specs.Option.{option_copied}
 use Rattle.std.specs.List.{flat_map}
 use Rattle.std.specs.Fmt.{decimal}
 use Rattle.std.specs.FinMap as finite
 use Rattle.base.specs.Ascii.{tab, line_feed, carriage_return}
 use Rattle.base.specs.Ends.{begins_with}
-use Rattle.device.specs.Device.{Seen}
 use Rattle.paths.specs.Paths.{Path}
 use Rattle.schema.specs.Conf.{Conf}
 use Rattle.schema.specs.declared.code.Code.TheVariants.{SizeLimitExceeded}
@@ -21,7 +20,6 @@ use Rattle.databases.specs.Selections.{Selection}
 use Rattle.command_line.specs.declared.request.SearchOptions.{SearchOptions}
 use Rattle.folders.specs.Folders.{Files}
 use Rattle.commands.specs.Asked.{IsFilter, IsNoFilterFor, IsBase, IsSelection}
-use Rattle.commands.specs.Changes.{IsSource, HasNoSource, source_name}
 use Rattle.commands.specs.DirectoryFiles.{index_name}
 use Rattle.commands.specs.Endings.{StoppedAt, IsAtOnce, HasOnlyPrinted, IsFault}
 use Rattle.commands.specs.Failures.{FailsToRead, FailsToWrite, Refuses}
@@ -31,6 +29,7 @@ use Rattle.commands.specs.Messages.{fault_text}
 use Rattle.commands.specs.Prints.{IsSaid, BreaksInReport, SearchGoesThrough, SearchStops}
 use Rattle.commands.specs.Queries.{HasNoBase, HasBegun, PrintsPartly}
 use Rattle.commands.specs.Statuses.{goes_on, worse}
+use Rattle.commands.specs.Texts.{ReadsText, IsUnread}
 use Rattle.commands.specs.Worlds.{World, IsPrinted, Reports}
 use Rattle.commands.specs.declared.messages.CommandFault.{CommandFault}
 use Rattle.commands.specs.declared.messages.CommandFault.TheVariants as faults
@@ -180,19 +179,11 @@ StopsInLines asked c n (line ∷ more) w at =
 abbrev pub list_source : List ℕ → Option (List ℕ)
 list_source name = if bytes_eq name (codes "-") then None else Some name
 
--- it was read whole, and nothing changed but what is seen of the input
-pub record ReadsList (name : List ℕ) (text : List ℕ) (w w' : World) : Type 0 where
-  pub source : Seen
-  pub source' : Seen
-  pub source_is : IsSource (list_source name) w w' source source'
-  pub text_is : IfSome source.left (λ bytes. text ≡ bytes)
-  pub stays : w' ≡ record w { input = w'.input }
+abbrev pub ReadsList : List ℕ → List ℕ → World → World → Type 0
+ReadsList name = ReadsText (list_source name)
 
--- it can't be read, or memory ran out
-pub record IsUnreadable (name : List ℕ) (w : World) (at : StoppedAt) : Type 0 where
-  pub why : IsFault (FailsToRead (source_name (list_source name))) at.why
-  pub stored : at.stored ≡ []
-  pub stays : at.world ≡ record w { input = at.world.input }
+abbrev pub IsUnreadable : List ℕ → World → StoppedAt → Type 0
+IsUnreadable name = IsUnread (list_source name)
 
 -- ---- behind the report of what is wrong with index.txt, if anything is
 

@@ -46,6 +46,10 @@ search_world w files output messages folder out err = record w { files = files f
 abbrev pub source_world : {F S : Type 0} → World → (F → Option Files) → (S → Seen) → F → S → World
 source_world w files seen folder input = record w { files = files folder; input = seen input }
 
+-- with this output, too
+abbrev pub piped_world : {F S O : Type 0} → World → (F → Option Files) → (S → Seen) → (O → Written) → F → S → O → World
+piped_world w files seen output folder input out = record w { files = files folder; input = seen input; output = output out }
+
 -- with this output and these messages, too
 abbrev pub diff_world : {F S O E : Type 0} → World → (F → Option Files) → (S → Seen) → (O → Written) → (E → Written) → F → S → O → E → World
 diff_world w files seen output messages folder input out err = record w { files = files folder; input = seen input; output = output out; messages = messages err }

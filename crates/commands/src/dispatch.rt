@@ -14,6 +14,7 @@ use crate::messages::{CommandFault, Status, Stop, report_stop};
 use crate::searching::search;
 use crate::slapcat::slapcat;
 use crate::slapindex::slapindex;
+use crate::sort::sort;
 use crate::telling::CommandTeller;
 use command_line::{Request, SearchOptions, UsageFault, read};
 use databases::{Gauge, NoGauge, Silent};
@@ -90,6 +91,7 @@ fn carry_out<F: Folder, S: Source, O: Sink, E: Sink, T: CommandTeller>(
         Ok(Request::Cat(asked)) => slapcat(alloc, &asked, folder, out, teller),
         Ok(Request::Diff(asked)) => ldifdiff(alloc, &asked, folder, input, out, err, teller),
         Ok(Request::Check(asked)) => check(alloc, &asked, folder, out, teller),
+        Ok(Request::Sort(asked)) => sort(alloc, &asked, folder, input, out),
         Err(UsageFault::Words(text)) => Err(Stop::Usage(text)),
         Err(UsageFault::OutOfMemory) => Err(Stop::Fault(CommandFault::OutOfMemory)),
     }
@@ -134,7 +136,7 @@ fn is_verbose(asked: &Result<Request<'_>, UsageFault>) -> bool {
         Ok(Request::Cat(asked)) => asked.verbose,
         Ok(Request::Diff(asked)) => asked.verbose,
         Ok(Request::Check(asked)) => asked.verbose,
-        Ok(Request::Help(_)) | Err(_) => false,
+        Ok(Request::Help(_) | Request::Sort(_)) | Err(_) => false,
     }
 }
 

@@ -18,6 +18,7 @@ mod query;
 mod searching;
 mod slapcat;
 mod slapindex;
+mod sort;
 mod storing;
 mod telling;
 

@@ -18,13 +18,14 @@ ghost use Rattle.commands.specs.inner.Stopped.{CanReport, HasEnded};
 ghost use Rattle.commands.specs.declared.messages.CommandFault.TheVariants as faults;
 ghost use Rattle.commands.specs.declared.messages.Status.TheVariants.{Done, Refused, Usage};
 
-use crate::database::{contents, load_database, open_present};
+use crate::database::load_database;
 use crate::finding::filter_of_text;
 use crate::index_file::{IndexFile, make_index, note_index, read_whole_index, report_index};
 use crate::list_text::{comment, count_tail, filter_text, first_line};
 use crate::messages::{CommandFault, Status, Stop, report_fault};
 use crate::query::{Form, Query};
 use crate::searching::{NAME, print_ranked, query_of};
+use crate::sort::read_text;
 use crate::telling::CommandTeller;
 use base::Bytes;
 use command_line::SearchOptions;
@@ -217,12 +218,9 @@ fn read_list<F: Folder, S: Source>(
     ensures fails { IfErr result (FailsToRead (source_name (list_source name.now))) }
 {
     if name == "-" {
-        return contents(alloc, input, "input");
+        return read_text(alloc, folder, input, None);
     }
-    match open_present(alloc, folder, name) {
-        Ok(mut source) => contents(alloc, &mut source, name),
-        Err(fault) => Err(fault),
-    }
+    read_text(alloc, folder, input, Some(name))
 }
 
 /// What the searches of a list have in common, looked up under the configuration of a directory that has the base; the filter and the form are

@@ -59,6 +59,11 @@ returns-in-Ok-Check-clause-ends g c =
     let w : World = record { files = g.F.Folder.files c.args.folder.now; lock = g.F.Folder.locking c.args.folder.now; input = g.S.Source.seen c.args.input.now; output = g.O.Sink.written c.args.out.now; messages = g.E.Sink.written c.args.err.now } in
     asked_so _ _ _ _ c.check.result (c.in-Ok-Check.is ∙ ap request c.in-Ok-Check.field-0-is) (c.check.ensures w)
 
+pub returns-in-Ok-Sort-clause-ends : goal.returns-in-Ok-Sort-clause-ends
+returns-in-Ok-Sort-clause-ends g c =
+    let w : World = record { files = g.F.Folder.files c.args.folder.now; lock = g.F.Folder.locking c.args.folder.now; input = g.S.Source.seen c.args.input.now; output = g.O.Sink.written c.args.out.now; messages = g.E.Sink.written c.args.err.now } in
+    asked_so _ _ _ _ c.sort.result (c.in-Ok-Sort.is ∙ ap request c.in-Ok-Sort.field-0-is) (c.sort.ensures w)
+
 pub returns-in-Ok-Help-clause-can_report : goal.returns-in-Ok-Help-clause-can_report
 returns-in-Ok-Help-clause-can_report g c = each_reports c.print_help.result _ c.requires.err
 
@@ -82,3 +87,6 @@ returns-in-Ok-Diff-clause-can_report g c = c.ldifdiff.ensures.can_report
 
 pub returns-in-Ok-Check-clause-can_report : goal.returns-in-Ok-Check-clause-can_report
 returns-in-Ok-Check-clause-can_report g c = each_reports c.check.result _ c.requires.err
+
+pub returns-in-Ok-Sort-clause-can_report : goal.returns-in-Ok-Sort-clause-can_report
+returns-in-Ok-Sort-clause-can_report g c = each_reports c.sort.result _ c.requires.err
