@@ -1,14 +1,26 @@
-"""What check reports of the files of a directory: faults of dir.conf; or refused records of data.ldif, index.txt where it isn't what slapindex
-writes, names of no entry, and values that several entries have.
+"""What check reports of the files of a directory: faults of dir.conf; or refused records of data.ldif, and of another file over it, index.txt where
+it isn't what slapindex writes of data.ldif, names of no entry, and values that several entries have.
 """
 import os
 from dataclasses import dataclass, field
+from typing import Optional
 
 import differences
 import indexes
 import ldif
 import model
 import schema
+
+
+@dataclass(frozen=True)
+class Over:
+    """A file of which the records are added over those of data.ldif: its text, None where it can't be read, and its name."""
+    text: Optional[bytes]
+    source: str
+
+    def shown(self):
+        """The name in one field of one line."""
+        return b"".join(b"\\%02X" % byte if byte < 32 or byte == 127 else bytes([byte]) for byte in os.fsencode(self.source))
 
 
 @dataclass
@@ -28,20 +40,23 @@ class Checked:
         return 1 if self.lines else 0
 
 
-def check(conf_text, data, index, folder, unique=None, references=None, verbose=False):
+def check(conf_text, data, index, folder, unique=None, references=None, verbose=False, over=None):
     """-> (status, output, messages)"""
-    try:
-        checked = checked_files(conf_text, data, index, folder, unique, references)
-    except model.Ended as end:
-        return end.status, b"", end.told(verbose)
-    messages = "".join(ways[0] for ways in checked.said) if verbose else ""
-    return checked.status(), checked.output(), messages.encode()
-
-
-def checked_files(conf_text, data, index, folder, unique=None, references=None):
-    """What is reported of the files of a folder, where None stands for one that isn't there. The options are lists of types with commas between, or
-    None."""
     checked = Checked()
+    try:
+        check_files(checked, conf_text, data, index, folder, unique, references, over)
+    except model.Ended as end:
+        return end.status, b"", messages_of(checked, verbose) + end.told(verbose)
+    return checked.status(), checked.output(), messages_of(checked, verbose)
+
+
+def messages_of(checked, verbose):
+    return "".join(ways[0] for ways in checked.said).encode() if verbose else b""
+
+
+def check_files(checked, conf_text, data, index, folder, unique=None, references=None, over=None):
+    """What is reported of the files of a folder, where None stands for one that isn't there, and of the file `over` them, if there is one. The options
+    are lists of types with commas between, or None."""
     if conf_text is None:
         raise model.Ended(3, f"{folder}/dir.conf: cannot read", "  no such file or folder\n")
     for fault in faults_of(conf_text):
@@ -49,17 +64,23 @@ def checked_files(conf_text, data, index, folder, unique=None, references=None):
         checked.said.append([fault.why])
         checked.is_of_conf = True
     if checked.is_of_conf:
-        return checked
+        return
     directory = model.Directory(schema.read_conf(conf_text))
     meant = types_named(directory.conf, references)
     alone = types_named(directory.conf, unique)
-    report_refused(checked, directory, data or b"")
+    report_refused(checked, directory, b"data.ldif", data or b"")
+    # index.txt is that of data.ldif alone, and its line stands behind those of the other file
+    of_index = Checked()
     if index is not None:
-        report_index(checked, directory, index)
+        report_index(of_index, directory, index)
+    if over is not None:
+        if over.text is None:
+            raise model.Ended(3, f"{over.source}: cannot read", "  no such file or folder\n")
+        report_refused(checked, directory, over.shown(), over.text)
+    checked.lines += of_index.lines
     report_dangling(checked, directory, meant)
     for number in dict.fromkeys(alone or ()):
         report_shared(checked, directory, number)
-    return checked
 
 
 def faults_of(text):
@@ -89,12 +110,12 @@ def types_named(conf, text):
     return numbers
 
 
-def report_refused(checked, directory, data):
-    """Adds the records of a text; those that can't be added are reported as slapadd -c does."""
+def report_refused(checked, directory, name, text):
+    """Adds the records of the file of this name; those that can't be added are reported as slapadd -c does."""
     told = model.Told()
-    report = model.run(directory, data, True, told=told)
+    report = model.run(directory, text, True, told=told)
     for line in report.splitlines():
-        checked.report(b"refused", b"data.ldif", line.encode())
+        checked.report(b"refused", name, line.encode())
     checked.said += [ways for _, ways in told.refusals]
 
 

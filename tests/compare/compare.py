@@ -206,13 +206,21 @@ class Runner:
 
     def check(self, case, seen, wanted):
         before = self.files()
-        seen["status"], seen["output"], seen["messages"] = self.run(*case.command(self.db))
-        files = case.conf, case.data, case.index, self.db
+        file, text = {"file": (self.input, b""), "input": ("-", case.over), "nowhere": (self.missing, b"")}[case.over_from]
+        write(self.input, case.over)
+        seen["status"], seen["output"], seen["messages"] = self.run(*case.command(self.db, file), text=text or b"")
+        files, over = (case.conf, case.data, case.index, self.db), None
+        if case.over is not None:
+            over = checks.Over(None if case.over_from == "nowhere" else case.over, "input" if case.over_from == "input" else str(file))
         if all(values.is_utf8(text) for text in case.texts()):
-            wanted["status"], wanted["output"], wanted["messages"] = checks.check(*files, case.unique, case.references, case.verbose)
-            if case.verbose and wanted["status"] == 1:
-                checked = checks.checked_files(*files, case.unique, case.references)
-                wanted["messages"] = sentences_as(seen["messages"], checked.said, checked.is_of_conf)
+            wanted["status"], wanted["output"], wanted["messages"] = checks.check(*files, case.unique, case.references, case.verbose, over)
+            if case.verbose:
+                checked, last = checks.Checked(), b""
+                try:
+                    checks.check_files(checked, *files, case.unique, case.references, over)
+                except model.Ended as end:
+                    last = end.told(True)
+                wanted["messages"] = sentences_as(seen["messages"], checked.said, checked.is_of_conf) + last
         else:
             wanted["status"], wanted["output"], wanted["messages"] = 2, b"", b"command line: not UTF-8\n"
         self.compare_files("", before, seen, wanted)
@@ -385,12 +393,15 @@ def count_check(counts, case, wanted):
     for line in wanted["output"].decode().split("\n")[:-1]:
         kind, where, what = line.split("\t", 2)
         if kind in ("faulty", "refused"):
+            where = where if where in ("dir.conf", "data.ldif", "index.txt") else "FILE"
             counts[f"checks: {where}: {re.sub('^line [0-9]+: ', '', what)}"] += 1
         kinds[f"{kind} {where}" if kind == "faulty" else kind] += 1
     for kind, number in kinds.items():
         counts[f"checks: {kind}: {min(number, 3)} {'lines or more' if number > 2 else 'line' if number == 1 else 'lines'}"] += 1
     if case.verbose and wanted["status"] == 1:
         counts["checks: with sentences"] += 1
+    if case.over is not None and wanted["status"] < 2:
+        counts[f"checks: over data.ldif: {case.over_from}"] += 1
     if case.index is not None and wanted["status"] < 2 and not any(kind.startswith("faulty") for kind in kinds):
         counts["checks: index.txt: right"] += 1
     if wanted["status"] > 1:

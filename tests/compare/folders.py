@@ -1,5 +1,5 @@
 """Random folders for check, the same for the same seed: a dir.conf, mostly without a fault, a data.ldif, of which some records may be refused, an
-index.txt that is right, missing, stale, broken, lying or of another dir.conf, and options.
+index.txt that is right, missing, stale, broken, lying or of another dir.conf, options, and for some another file over data.ldif.
 
 Many values name entries, of which some aren't there, and many are like those of other entries.
 """
@@ -28,18 +28,20 @@ OTHER_RULES = [
 @dataclass(frozen=True)
 class Check:
     """The files of a folder, None for one that isn't there, and the options of check."""
-    OPTIONS: ClassVar = (("verbose", False), ("unique", None), ("references", None))
-    TEXTS: ClassVar = (("index", None), ("data", None), ("conf", PLAIN_CONF), ("unique", None), ("references", None))
+    OPTIONS: ClassVar = (("verbose", False), ("unique", None), ("references", None), ("over", None))
+    TEXTS: ClassVar = (("over", b""), ("index", None), ("data", None), ("conf", PLAIN_CONF), ("unique", None), ("references", None))
     conf: Optional[bytes]
     data: Optional[bytes]
     index: Optional[bytes]
     unique: Optional[bytes] = None
     references: Optional[bytes] = None
     verbose: bool = False
+    over: Optional[bytes] = None    # the text of the file over data.ldif; None: it isn't named
+    over_from: str = "file"         # or "input", or "nowhere"
 
-    def command(self, db):
-        """The words of the command line."""
-        options = [("--unique", self.unique), ("--references", self.references)]
+    def command(self, db, file):
+        """The words of the command line; the file over data.ldif has this name."""
+        options = [("--unique", self.unique), ("--references", self.references), ("-l", None if self.over is None else file)]
         return ["check", "--db", db, *(word for option in options if option[1] is not None for word in option)] + ["-v"] * self.verbose
 
     def texts(self):
@@ -183,6 +185,22 @@ def index_under(conf, dump, stored):
         return stored
 
 
+def text_over(folders, data):
+    """Records that are to be added over those of a data.ldif: new ones, some that are there, some with faults. -> (the text, where it comes from)"""
+    rng, others = folders.rng, Records(folders.rng, folders.config)
+    others.names = list(folders.names)
+    kind = rng.randrange(10)
+    if kind < 6:
+        text = others.text(rng.choice([1, 2, 4, 8]))
+    elif kind < 8:
+        text = others.good_text(rng.choice([1, 4, 8]))
+    elif kind == 8:
+        text = mutated(rng, others.good_text(rng.choice([1, 4])))
+    else:
+        text = rng.choice([b"", data or b"", others.server_text(rng.choice([1, 4]))])
+    return text, rng.choice(["file"] * 6 + ["input"] * 3 + ["nowhere"] * some(rng, .1))
+
+
 def check_case(rng):
     config = CheckConfig(rng)
     folders = Folders(rng, config, False)
@@ -194,4 +212,4 @@ def check_case(rng):
     return Check(conf, data, index_for(rng, conf, data),
                  folders.types_list(everything) if some(rng, .7) else None,
                  folders.types_list(config.named if config.named and some(rng, .7) else everything) if some(rng, .45) else None,
-                 some(rng, .3))
+                 some(rng, .3), *(text_over(folders, data) if some(rng, .5) else ()))

@@ -17,7 +17,7 @@ OPTIONS = {
     "slapadd": ("-l", ["--wait"], ["-c", "-u", "-v"]), "ldapmodify": ("-f", ["--wait"], ["-a", "-c", "-n", "-v"]),
     "slapindex": (None, ["--wait"], ["-v"]),
     "search": ("-f", ["-b", "-s", "-z", "-o"], ["-c", "--count", "-v"]), "slapcat": ("-l", ["-a", "-s", "-o"], ["-v"]),
-    "ldifdiff": ("-l", ["-a", "-b"], ["--unordered", "-v"]), "check": (None, ["--unique", "--references"], ["-v"]), "sort": ("-l", [], []),
+    "ldifdiff": ("-l", ["-a", "-b"], ["--unordered", "-v"]), "check": ("-l", ["--unique", "--references"], ["-v"]), "sort": ("-l", [], []),
 }
 WITHOUT_FOLDER = ("sort",)
 
@@ -144,16 +144,16 @@ def slapcat(words, parser):
     return status, b"", messages
 
 
-def lines_of(words):
-    text, source = (sys.stdin.buffer.read(), "input") if words.file == "-" else (read(words.file), words.file)
-    return model.Lines(text, source, words.c)
+def named_text(words):
+    """-> (the text of the file that is named, which with a hyphen is standard input, its name)"""
+    return (sys.stdin.buffer.read(), "input") if words.file == "-" else (read(words.file), words.file)
 
 
 def search(words, parser):
     files = read(f"{words.db}/dir.conf"), read(f"{words.db}/data.ldif")
     asked = [encoded(word) for word in words.words], encoded(words.b), encoded(words.s), encoded(words.z)
     status, output, messages = model.search(
-        *files, words.db, *asked, read(f"{words.db}/index.txt"), words.v, words.count, None if words.file is None else lines_of(words), encoded(words.o))
+        *files, words.db, *asked, read(f"{words.db}/index.txt"), words.v, words.count, None if words.file is None else model.Lines(*named_text(words), words.c), encoded(words.o))
     if messages is None:
         parser.error("no scope, no limit, or no width")
     return status, output, messages
@@ -167,7 +167,8 @@ def ldifdiff(words):
 
 def check(words):
     files = (read(f"{words.db}/{name}") for name in ("dir.conf", "data.ldif", "index.txt"))
-    return checks.check(*files, words.db, encoded(words.unique), encoded(words.references), words.v)
+    over = None if words.file is None else checks.Over(*named_text(words))
+    return checks.check(*files, words.db, encoded(words.unique), encoded(words.references), words.v, over)
 
 
 def sort(words):

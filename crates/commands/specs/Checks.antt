@@ -1,11 +1,11 @@
--- What check reports of the files in a folder, and how it ends.
+-- What check reports of the files in a folder, and of a file over them, and how it ends.
 use Rattle.std.specs.Prelude.{◌≡◌, ℕ, ◌+◌, ◌==◌, ◌⊎◌, true, List, [], ◌∷◌, ◌++◌, if◌then◌else◌, Option, None, Some, Result, Ok, Err, codes, string_bytes}
 use Rattle.std.specs.Option.{option_copied, option_map}
 use Rattle.std.specs.Str.{bytes_eq}
 use Rattle.std.specs.Fmt.{decimal}
 use Rattle.std.specs.FinMap as finite
 use Rattle.base.specs.Ascii.{line_feed}
-use Rattle.device.specs.Device.{Broke}
+use Rattle.device.specs.Device.{Seen, Broke}
 use Rattle.ldif_lines.specs.Records.{RawRecord, records}
 use Rattle.ldif.specs.declared.record.Mode.TheVariants.{Content}
 use Rattle.values.specs.declared.types.AttributeType.{AttributeType}
@@ -26,9 +26,11 @@ use Rattle.databases.specs.Reports as runs
 use Rattle.databases.specs.Folds.{Over}
 use Rattle.command_line.specs.declared.request.CheckOptions.{CheckOptions}
 use Rattle.folders.specs.Folders.{Files, Finds}
+use Rattle.commands.specs.Changes.{IsSource, source_name}
 use Rattle.commands.specs.DirectoryFiles.{conf_name, data_name, index_name}
-use Rattle.commands.specs.Endings.{StoppedAt, IsAtOnce, HasOnlyPrinted, IsFault}
+use Rattle.commands.specs.Endings.{StoppedAt, HasOnlyPrinted, IsFault}
 use Rattle.commands.specs.Failures.{IsMemory, FailsToRead, FailsToWrite}
+use Rattle.commands.specs.Lists.{list_source}
 use Rattle.commands.specs.Loaded.{IsConfigured}
 use Rattle.commands.specs.Messages.{line_of}
 use Rattle.commands.specs.Statuses.{status_of_reports}
@@ -47,15 +49,38 @@ types_asked types (Some text) = types_named types text
 
 -- ---- data.ldif
 
--- each of these records is added in turn, as slapadd -c does; these entries are left, and this is reported of those that are refused
-pub record AddsRecords (conf : Conf) (given : List RawRecord) (d : Entries) (told : List ℕ) : Type 0 where
-  pub entries : d ≡ (state_after conf Content true finite.empty given).entries
-  pub told_is : told ≡ runs.report (state_after conf Content true finite.empty given).refused
+-- each of these records is added over some entries in turn, as slapadd -c does; these entries are left, and this is reported of those that are refused
+pub record AddsRecords (conf : Conf) (old : Entries) (given : List RawRecord) (d : Entries) (told : List ℕ) : Type 0 where
+  pub entries : d ≡ (state_after conf Content true old given).entries
+  pub told_is : told ≡ runs.report (state_after conf Content true old given).refused
 
--- those of data.ldif, if it is there
+-- those of a text
+abbrev pub AddsText : Conf → Entries → Option (List ℕ) → Entries → List ℕ → Type 0
+AddsText conf old text d told = Over (option_map records text) (λ given. AddsRecords conf old given d told)
+
+-- those of data.ldif over no entry, if it is there
 abbrev pub AddsFound : Conf → Option (Option (List ℕ)) → Entries → List ℕ → Type 0
 AddsFound conf None d told = (d ≡ finite.empty) × (told ≡ [])
-AddsFound conf (Some text) d told = Over (option_map records text) (λ given. AddsRecords conf given d told)
+AddsFound conf (Some text) d told = AddsText conf finite.empty text d told
+
+-- ---- FILE, of which the records are added over those of data.ldif
+
+-- the name that it has in what is reported of it
+abbrev pub file_name : List ℕ → List ℕ
+file_name name = source_name (list_source name)
+
+-- its records are added over some entries, and nothing changes but what is seen of the input
+pub record AddsFile (name : List ℕ) (conf : Conf) (old d : Entries) (told : List ℕ) (w w' : World) : Type 0 where
+  pub source : Seen
+  pub source' : Seen
+  pub source_is : IsSource (list_source name) w w' source source'
+  pub adds : AddsText conf old source.left d told
+  pub stays : w' ≡ record w { input = w'.input }
+
+-- where no file is named, none is
+abbrev pub AddsOver : Option (List ℕ) → Conf → Entries → Entries → List ℕ → World → World → Type 0
+AddsOver None conf old d told w w' = (d ≡ old) × (told ≡ []) × (w' ≡ w)
+AddsOver (Some name) conf old d told w w' = AddsFile name conf old d told w w'
 
 -- ---- index.txt
 
@@ -86,56 +111,88 @@ index_reports conf d (Some text) = index_report conf d text
 
 -- ---- what is reported
 
--- what a run tells of data.ldif, index.txt against it, references, and values of several entries
-abbrev pub all_reports : Conf → Entries → List ℕ → Option (List ℕ) → List ℕ → List ℕ → List ℕ
-all_reports conf d told index references unique =
-    refused_reports told ++ (index_reports conf d index ++ (dangling_reports conf d references ++ shared_reports conf d unique))
+-- what a run tells of the records of FILE, if one is named
+abbrev pub file_reports : Option (List ℕ) → List ℕ → List ℕ
+file_reports None told = []
+file_reports (Some name) told = refused_reports (file_name name) told
+
+-- what a run tells of data.ldif, what one tells of FILE, and index.txt against data.ldif
+abbrev pub record_reports : Conf → Entries → List ℕ → Option (List ℕ) → List ℕ → Option (List ℕ) → List ℕ
+record_reports conf loaded told file over index =
+    refused_reports (codes "data.ldif") told ++ (file_reports file over ++ index_reports conf loaded index)
+
+-- references, and values of several entries
+abbrev pub value_reports : Conf → Entries → List ℕ → List ℕ → List ℕ
+value_reports conf d references unique = dangling_reports conf d references ++ shared_reports conf d unique
 
 -- of a dir.conf at fault all faults, and nothing of the other files: what is wrong with those depends on what it says
-pub record TellsFaults (asked : CheckOptions) (files : Option Files) (text : List ℕ) : Type 0 where
+pub record TellsFaults (asked : CheckOptions) (text : List ℕ) (w w' : World) : Type 0 where
   pub conf_text : List ℕ
-  pub there : Finds files (conf_name asked.db.now) (Some (Some conf_text))
+  pub there : Finds w.files (conf_name asked.db.now) (Some (Some conf_text))
   pub first : ConfLineFault
   pub others : List ConfLineFault
   pub are : AreFaults conf_text (first ∷ others)
   pub text_is : text ≡ fault_reports (first ∷ others)
+  pub stays : w' ≡ w
 
--- of the other files, under the configuration that it says
-pub record TellsOthers (asked : CheckOptions) (files : Option Files) (text : List ℕ) : Type 0 where
+-- Of the other files, under the configuration that it says: the entries of data.ldif, against which index.txt is looked at, and over them FILE's
+-- records, with which references and values are.
+pub record TellsOthers (asked : CheckOptions) (text : List ℕ) (w w' : World) : Type 0 where
   pub conf : Conf
-  pub configured : IsConfigured files (conf_name asked.db.now) conf
+  pub configured : IsConfigured w.files (conf_name asked.db.now) conf
   pub references : List ℕ
   pub references_are : types_asked conf.types (option_copied asked.references) ≡ Ok references
   pub unique : List ℕ
   pub unique_are : types_asked conf.types (option_copied asked.unique) ≡ Ok unique
   pub found : Option (Option (List ℕ))
-  pub there : Finds files (data_name asked.db.now) found
-  pub entries : Entries
+  pub there : Finds w.files (data_name asked.db.now) found
+  pub loaded : Entries
   pub told : List ℕ
-  pub adds : AddsFound conf found entries told
+  pub adds : AddsFound conf found loaded told
   pub index : Option (List ℕ)
-  pub index_there : Finds files (index_name asked.db.now) (option_map (λ bytes. Some bytes) index)
-  pub text_is : text ≡ all_reports conf entries told index references unique
+  pub index_there : Finds w.files (index_name asked.db.now) (option_map (λ bytes. Some bytes) index)
+  pub entries : Entries
+  pub over : List ℕ
+  pub adds_over : AddsOver (option_copied asked.file) conf loaded entries over w w'
+  pub text_is : text ≡ record_reports conf loaded told (option_copied asked.file) over index ++ value_reports conf entries references unique
 
--- this is reported of the files in a folder
-abbrev pub Checks : CheckOptions → Option Files → List ℕ → Type 0
-Checks asked files text = TellsFaults asked files text ⊎ TellsOthers asked files text
+-- this is reported, and nothing changes but what is seen of the input
+abbrev pub Checks : CheckOptions → List ℕ → World → World → Type 0
+Checks asked text w w' = TellsFaults asked text w w' ⊎ TellsOthers asked text w w'
 
 -- ---- where it goes through
 
 -- all of it is printed, and nothing else changed
 pub record CheckGoesThrough (asked : CheckOptions) (w w' : World) (s : Status) : Type 0 where
   pub text : List ℕ
-  pub is : Checks asked w.files text
-  pub printed : IsPrinted text w w'
+  pub mid : World
+  pub is : Checks asked text w mid
+  pub printed : IsPrinted text mid w'
   pub status : s ≡ status_of_reports text
 
 -- ---- where it stops
 
--- dir.conf can't be read; or it says a configuration, and one of the other files can't be read; or memory ran out
-abbrev pub CheckFails : CheckOptions → Option Files → CommandFault → Type 0
-CheckFails asked files fault = FailsToRead (conf_name asked.db.now) fault
+-- dir.conf can't be read; or it says a configuration, and data.ldif or index.txt can't be read; or memory ran out
+abbrev pub FolderFails : CheckOptions → Option Files → CommandFault → Type 0
+FolderFails asked files fault = FailsToRead (conf_name asked.db.now) fault
     ⊎ (((conf : Conf) × IsConfigured files (conf_name asked.db.now) conf) × (FailsToRead (data_name asked.db.now) fault ⊎ FailsToRead (index_name asked.db.now) fault))
+
+-- FILE can't be read, or memory ran out behind it; nothing changed but what is seen of the input
+pub record FileFails (name : List ℕ) (fault : CommandFault) (w w' : World) : Type 0 where
+  pub why : FailsToRead (file_name name) fault
+  pub stays : w' ≡ record w { input = w'.input }
+
+-- one is named, and fails
+abbrev pub FailsOver : Option (List ℕ) → CommandFault → World → World → Type 0
+FailsOver None fault w w' = ⊥
+FailsOver (Some name) fault w w' = FileFails name fault w w'
+
+-- where dir.conf says a configuration
+abbrev pub FileFailsUnder : CheckOptions → CommandFault → World → World → Type 0
+FileFailsUnder asked fault w w' = ((conf : Conf) × IsConfigured w.files (conf_name asked.db.now) conf) × FailsOver (option_copied asked.file) fault w w'
+
+abbrev pub CheckFails : CheckOptions → CommandFault → World → World → Type 0
+CheckFails asked fault w w' = (FolderFails asked w.files fault × (w' ≡ w)) ⊎ FileFailsUnder asked fault w w'
 
 -- the text of an option names a type that isn't known, as `check: uid,mial: 17 undefinedAttributeType`
 abbrev pub TellsNoType : List ℕ → Stop → Type 0
@@ -158,20 +215,21 @@ pub record LacksTypesAsked (asked : CheckOptions) (files : Option Files) (why : 
   pub configured : IsConfigured files (conf_name asked.db.now) conf
   pub lacks : LacksFirst asked conf.types why
 
-abbrev pub IsUncheckable : CheckOptions → Option Files → Stop → Type 0
-IsUncheckable asked files why = IsFault (CheckFails asked files) why ⊎ LacksTypesAsked asked files why
+abbrev pub IsUncheckable : CheckOptions → Stop → World → World → Type 0
+IsUncheckable asked why w w' = IsFault (λ fault. CheckFails asked fault w w') why ⊎ (LacksTypesAsked asked w.files why × (w' ≡ w))
 
--- so nothing was printed
+-- so nothing was printed, and nothing stored
 abbrev pub IsUnchecked : CheckOptions → World → StoppedAt → Type 0
-IsUnchecked asked w at = IsUncheckable asked w.files at.why × IsAtOnce w at
+IsUnchecked asked w at = IsUncheckable asked at.why w at.world × (at.stored ≡ [])
 
 -- it was broken off in what it prints
 pub record IsBrokenOff (asked : CheckOptions) (w : World) (at : StoppedAt) : Type 0 where
   pub text : List ℕ
-  pub is : Checks asked w.files text
+  pub mid : World
+  pub is : Checks asked text w mid
   pub why : IsFault (FailsToWrite (codes "output")) at.why
-  pub broke : Broke w.output at.world.output text
-  pub only : HasOnlyPrinted w at
+  pub broke : Broke mid.output at.world.output text
+  pub only : HasOnlyPrinted mid at
 
 abbrev pub CheckStops : CheckOptions → World → StoppedAt → Type 0
 CheckStops asked w at = IsUnchecked asked w at ⊎ IsBrokenOff asked w at

@@ -1,5 +1,5 @@
 //! check: what is wrong with the files of a directory is reported.
-ghost use Rattle.std.specs.Prelude.{◌≡◌, ℕ, List, ◌⊎◌, ◌<◌, ◌-◌, ◌^◌, ◌++◌, Ok, Some, IfOk, IfErr, OnOk, codes, length};
+ghost use Rattle.std.specs.Prelude.{◌≡◌, List, ◌<◌, ◌-◌, ◌^◌, ◌++◌, [], Ok, IfOk, IfErr, OnOk, codes, length};
 ghost use Rattle.std.specs.List.{AllByRecursion};
 ghost use Rattle.std.specs.FinMap as finite;
 ghost use Rattle.std.specs.Option.{option_copied, option_map};
@@ -8,17 +8,18 @@ ghost use Rattle.checks.specs.declared.conf_faults.ConfLineFault.{ConfLineFault}
 ghost use Rattle.checks.specs.ConfFaults.{AreFaults, fault_reports};
 ghost use Rattle.folders.specs.Folders.{Finds};
 ghost use Rattle.commands.specs.DirectoryFiles.{conf_name, data_name, index_name};
-ghost use Rattle.commands.specs.Worlds.{World, put_world};
+ghost use Rattle.commands.specs.Worlds.{World, source_world, piped_world};
 ghost use Rattle.commands.specs.Endings.{IsFault};
 ghost use Rattle.commands.specs.Loaded.{IsConfigured};
 ghost use Rattle.commands.specs.Failures.{FailsToRead, FailsToWrite};
 ghost use Rattle.commands.specs.Statuses.{status_of_reports};
-ghost use Rattle.commands.specs.Checks.{types_asked, AddsFound, Checks, TellsOthers, TellsNoType, LacksTypes, LacksFirst, CheckFails, IsUncheckable, CheckGoesThrough, CheckStops};
-ghost use Rattle.commands.specs.inner.Checked.{AreTypesAsked, HasAdded, HasReported};
+ghost use Rattle.commands.specs.Checks.{types_asked, AddsText, AddsFile, AddsOver, file_name, file_reports, value_reports, Checks, TellsOthers, CheckFails, CheckGoesThrough, CheckStops};
+ghost use Rattle.commands.specs.Checks.{TellsNoType, LacksTypes, LacksFirst, FailsOver, IsUncheckable};
+ghost use Rattle.commands.specs.inner.Checked.{AreTypesAsked, HasAdded, ReportsIndex, told_reports, HasGathered};
 ghost use Rattle.commands.specs.inner.Stopped.{HasEnded};
 
 use crate::conf_check::find_faults;
-use crate::database::{open, path, read_conf_text};
+use crate::database::{open, open_present, path, read_conf_text};
 use crate::index_check::report_index_file;
 use crate::messages::{CommandFault, Status, Stop};
 use crate::telling::CommandTeller;
@@ -91,9 +92,8 @@ fn add_records<S: Source, T: CommandTeller>(
     teller: &mut T,
 ) -> Result<Vec<u8>, CommandFault>
     requires source { (S.seen source.old).failed < 2 ^ 64 - 1 }
-    requires empty { database.old.entries ≡ finite.empty }
     ensures same_conf { database.new.conf ≡ database.old.conf }
-    ensures adds { IfOk result (λ told. AddsFound database.old.conf (Some (S.seen source.old).left) database.new.entries told.items) }
+    ensures adds { IfOk result (λ told. AddsText database.old.conf database.old.entries (S.seen source.old).left database.new.entries told.items) }
     ensures err { IfErr result (FailsToRead name.now) }
 {
     let mut told = TrySink::new(alloc, usize::MAX, None);
@@ -134,48 +134,187 @@ fn load_records<F: Folder, T: CommandTeller>(
     }
 }
 
-/// All that is reported of a directory in the folder `db`, of what was told of its records, and of its index.txt.
-fn reports<F: Folder>(
+/// What is reported of index.txt in the folder `db`, against a directory.
+fn index_reports<F: Folder>(
     alloc: Global,
     folder: &F,
     db: &str,
+    database: &Database,
+) -> Result<Vec<u8>, CommandFault>
+    ensures reports { IfOk result (λ text.
+        ReportsIndex (F.files folder.now) (index_name db.now) database.now.conf database.now.entries [] text.items) }
+    ensures err { IfErr result (FailsToRead (index_name db.now)) }
+{
+    let mut text = Vec::new(alloc);
+    report_index_file(alloc, folder, db, database, &mut text)?;
+    Ok(text)
+}
+
+/// Adds the records of the file of this name, which with `-` is the input, over a directory, and answers what is reported of those that are refused.
+fn add_file<F: Folder, S: Source, T: CommandTeller>(
+    alloc: Global,
+    folder: &F,
+    input: &mut S,
+    name: &str,
+    database: &mut Database,
+    teller: &mut T,
+) -> Result<Vec<u8>, CommandFault>
+    requires input { (S.seen input.old).failed < 2 ^ 64 - 1 }
+    ensures same_conf { database.new.conf ≡ database.old.conf }
+    ensures adds { IfOk result (λ told. (w : World) →
+        AddsFile name.now database.old.conf database.old.entries database.new.entries told.items
+        (source_world w F.files S.seen folder.now input.old)
+        (source_world w F.files S.seen folder.now input.new)) }
+    ensures err { IfErr result (FailsToRead (file_name name.now)) }
+{
+    if name == "-" {
+        return add_records(alloc, database, input, "input", teller);
+    }
+    match open_present(alloc, folder, name) {
+        Ok(mut source) => add_records(alloc, database, &mut source, name, teller),
+        Err(fault) => Err(fault),
+    }
+}
+
+/// Adds the records of the file that is named, if one is, likewise.
+fn add_over<F: Folder, S: Source, T: CommandTeller>(
+    alloc: Global,
+    folder: &F,
+    input: &mut S,
+    file: Option<&str>,
+    database: &mut Database,
+    teller: &mut T,
+) -> Result<Vec<u8>, CommandFault>
+    requires input { (S.seen input.old).failed < 2 ^ 64 - 1 }
+    ensures same_conf { database.new.conf ≡ database.old.conf }
+    ensures adds { IfOk result (λ told. (w : World) →
+        AddsOver (option_copied file.entry) database.old.conf database.old.entries database.new.entries told.items
+        (source_world w F.files S.seen folder.now input.old)
+        (source_world w F.files S.seen folder.now input.new)) }
+    ensures fails { IfErr result (λ fault. (w : World) → FailsOver (option_copied file.entry) fault
+        (source_world w F.files S.seen folder.now input.old)
+        (source_world w F.files S.seen folder.now input.new)) }
+{
+    match file {
+        Some(name) => add_file(alloc, folder, input, name, database, teller),
+        None => Ok(Vec::new(alloc)),
+    }
+}
+
+/// The name that a file has in what is reported of it.
+fn file_name(name: &str) -> &str
+    ensures { result.now ≡ file_name name.now }
+{
+    if name == "-" { "input" } else { name }
+}
+
+/// Puts what was told of the records of the file that is named, if one is, at the end of a text.
+fn report_file(
+    alloc: Global,
+    file: Option<&str>,
+    told: &[u8],
+    text: &mut Vec<u8>,
+) -> Result<(), AllocError>
+    ensures { OnOk result (text.new.items ≡ text.old.items ++ file_reports (option_copied file.entry) told.now) }
+{
+    match file {
+        Some(name) => report_refused(alloc, file_name(name), told, text),
+        None => Ok(()),
+    }
+}
+
+/// What was found out before references and values are looked at.
+#[derive(Drop)]
+struct Told {
+    /// What a run told of data.ldif.
+    loaded: Vec<u8>,
+    /// What is reported of index.txt.
+    index: Vec<u8>,
+    /// What a run told of the file over it.
+    over: Vec<u8>,
+}
+
+/// All that is reported of a directory, of which this was told.
+fn reports(
+    alloc: Global,
+    file: Option<&str>,
     types: &CheckedTypes,
     database: &Database,
-    told: &[u8],
-) -> Result<Vec<u8>, CommandFault>
+    told: &Told,
+) -> Result<Vec<u8>, AllocError>
     requires known { AllByRecursion (λ t. t < length database.now.conf.types) types.now.unique.items }
-    ensures reports { IfOk result (λ text. HasReported (F.files folder.now) db.now types.now database.now.conf database.now.entries told.now text.items) }
-    ensures err { IfErr result (FailsToRead (index_name db.now)) }
+    ensures { IfOk result (λ text. text.items ≡ told_reports (option_copied file.entry) told.now
+        ++ value_reports database.now.conf database.now.entries types.now.references.items types.now.unique.items) }
 {
     let (conf, tree) = (database.conf(), database.tree());
     let mut text = Vec::new(alloc);
-    report_refused(told, &mut text)?;
-    report_index_file(alloc, folder, db, database, &mut text)?;
+    report_refused(alloc, "data.ldif", told.loaded.as_slice(), &mut text)?;
+    report_file(alloc, file, told.over.as_slice(), &mut text)?;
+    text.extend_from_slice(told.index.as_slice())?;
     report_dangling(alloc, conf, tree, types.references.as_slice(), &mut text)?;
     report_shared(alloc, conf, tree, types.unique.as_slice(), &mut text)?;
     Ok(text)
 }
 
-/// All that is reported of the files in a folder, whose dir.conf says this configuration.
-fn check_under<F: Folder, T: CommandTeller>(
+/// Loads data.ldif, looks at index.txt, and adds the records of the file that is named, if one is.
+fn gather<F: Folder, S: Source, T: CommandTeller>(
     alloc: Global,
     asked: &CheckOptions<'_>,
     folder: &F,
+    input: &mut S,
+    database: &mut Database,
+    teller: &mut T,
+) -> Result<Told, CommandFault>
+    requires input { (S.seen input.old).failed < 2 ^ 64 - 1 }
+    requires configured { IsConfigured (F.files folder.now) (conf_name asked.now.db.now) database.old.conf }
+    requires empty { database.old.entries ≡ finite.empty }
+    ensures same_conf { database.new.conf ≡ database.old.conf }
+    ensures gathers { IfOk result (λ told. (w : World) → HasGathered asked.now database.old.conf database.new.entries told
+        (source_world w F.files S.seen folder.now input.old)
+        (source_world w F.files S.seen folder.now input.new)) }
+    ensures fails { IfErr result (λ fault. (w : World) → CheckFails asked.now fault
+        (source_world w F.files S.seen folder.now input.old)
+        (source_world w F.files S.seen folder.now input.new)) }
+{
+    let loaded = load_records(alloc, folder, asked.db, database, teller)?;
+    let index = index_reports(alloc, folder, asked.db, database)?;
+    let over = add_over(alloc, folder, input, asked.file, database, teller)?;
+    Ok(Told {
+        loaded,
+        index,
+        over,
+    })
+}
+
+/// All that is reported of the files in a folder, whose dir.conf says this configuration, and of the file over them.
+fn check_under<F: Folder, S: Source, T: CommandTeller>(
+    alloc: Global,
+    asked: &CheckOptions<'_>,
+    folder: &F,
+    input: &mut S,
     conf: Conf,
     types: &CheckedTypes,
     teller: &mut T,
 ) -> Result<Vec<u8>, CommandFault>
+    requires input { (S.seen input.old).failed < 2 ^ 64 - 1 }
     requires configured { IsConfigured (F.files folder.now) (conf_name asked.now.db.now) conf }
     requires types { AreTypesAsked asked.now conf.types types.now }
-    ensures checks { IfOk result (λ text. TellsOthers asked.now (F.files folder.now) text.items) }
-    ensures err { IfErr result (CheckFails asked.now (F.files folder.now)) }
+    ensures checks { IfOk result (λ text. (w : World) → TellsOthers asked.now text.items
+        (source_world w F.files S.seen folder.now input.old)
+        (source_world w F.files S.seen folder.now input.new)) }
+    ensures fails { IfErr result (λ fault. (w : World) → CheckFails asked.now fault
+        (source_world w F.files S.seen folder.now input.old)
+        (source_world w F.files S.seen folder.now input.new)) }
 {
     let mut database = Database::new(alloc, conf);
-    let told = load_records(alloc, folder, asked.db, &mut database, teller)?;
-    let text = reports(alloc, folder, asked.db, types, &database, told.as_slice());
+    let told = gather(alloc, asked, folder, input, &mut database, teller)?;
+    let text = reports(alloc, asked.file, types, &database, &told);
     // The program ends with its command, and that frees the entries at once.
     mem::forget(database);
-    text
+    match text {
+        Ok(text) => Ok(text),
+        Err(_) => Err(CommandFault::OutOfMemory),
+    }
 }
 
 /// A report of each fault of the text of a dir.conf.
@@ -192,21 +331,30 @@ fn conf_reports<T: CommandTeller>(
     Ok(reports)
 }
 
-/// All that is reported of the files in a folder.
-fn check_folder<F: Folder, T: CommandTeller>(
+/// All that is reported of the files in a folder, and of the file over them.
+fn check_folder<F: Folder, S: Source, T: CommandTeller>(
     alloc: Global,
     asked: &CheckOptions<'_>,
     folder: &F,
+    input: &mut S,
     teller: &mut T,
 ) -> Result<Vec<u8>, Stop>
-    ensures checks { IfOk result (λ text. Checks asked.now (F.files folder.now) text.items) }
-    ensures stops { IfErr result (IsUncheckable asked.now (F.files folder.now)) }
+    requires input { (S.seen input.old).failed < 2 ^ 64 - 1 }
+    ensures checks { IfOk result (λ text. (w : World) → Checks asked.now text.items
+        (source_world w F.files S.seen folder.now input.old)
+        (source_world w F.files S.seen folder.now input.new)) }
+    ensures stops { IfErr result (λ why. (w : World) → IsUncheckable asked.now why
+        (source_world w F.files S.seen folder.now input.old)
+        (source_world w F.files S.seen folder.now input.new)) }
 {
     let text = read_conf_text(alloc, folder, asked.db)?;
     match read_conf(alloc, text.as_slice()) {
         Ok(conf) => {
             let types = checked_types(alloc, asked, &conf)?;
-            Ok(check_under(alloc, asked, folder, conf, &types, teller)?)
+            match check_under(alloc, asked, folder, input, conf, &types, teller) {
+                Ok(text) => Ok(text),
+                Err(fault) => Err(Stop::Fault(fault)),
+            }
         }
         Err(ConfFault::Line { .. }) => Ok(conf_reports(alloc, text.as_slice(), teller)?),
         Err(ConfFault::OutOfMemory) => Err(Stop::Fault(CommandFault::OutOfMemory)),
@@ -227,22 +375,25 @@ fn print_reports<O: Sink>(alloc: Global, text: &[u8], out: &mut O) -> Result<Sta
 }
 
 /// Prints what is wrong with the files of the directory in a folder, each with a word for its kind, where it is, and what it is, with tabs between: all
-/// faults of dir.conf; or, where that has none, the records of data.ldif that are refused, index.txt where it isn't what slapindex writes, references
-/// that name no entry, and values of several entries of the types that are asked for. It ends as `Refused` where something is wrong, and else as
-/// `Done`. It stops where a type isn't known, or a file, the output or memory fails.
-pub fn check<F: Folder, O: Sink, T: CommandTeller>(
+/// faults of dir.conf; or, where that has none, the records of data.ldif that are refused, those of the file that is named, which with `-` is the
+/// input, over them, index.txt where it isn't what slapindex writes of data.ldif, references that name no entry, and values of several entries of the
+/// types that are asked for. It ends as `Refused` where something is wrong, and else as `Done`. It stops where a type isn't known, or a file, the
+/// output or memory fails.
+pub fn check<F: Folder, S: Source, O: Sink, T: CommandTeller>(
     alloc: Global,
     asked: &CheckOptions<'_>,
     folder: &F,
+    input: &mut S,
     out: &mut O,
     teller: &mut T,
 ) -> Result<Status, Stop>
-    requires { (O.written out.old).failed < 2 ^ 64 - 1 }
+    requires input { (S.seen input.old).failed < 2 ^ 64 - 1 }
+    requires out { (O.written out.old).failed < 2 ^ 64 - 1 }
     ensures { (w : World) → HasEnded (CheckGoesThrough asked.now) (CheckStops asked.now)
-        (put_world w F.files O.written folder.now out.old)
-        (put_world w F.files O.written folder.now out.new) result }
+        (piped_world w F.files S.seen O.written folder.now input.old out.old)
+        (piped_world w F.files S.seen O.written folder.now input.new out.new) result }
 {
-    match check_folder(alloc, asked, folder, teller) {
+    match check_folder(alloc, asked, folder, input, teller) {
         Ok(text) => print_reports(alloc, text.as_slice(), out),
         Err(stop) => Err(stop),
     }

@@ -90,7 +90,7 @@ fn carry_out<F: Folder, S: Source, O: Sink, E: Sink, T: CommandTeller>(
         Ok(Request::Search(asked)) => { search_any(alloc, &asked, folder, input, out, err, teller) }
         Ok(Request::Cat(asked)) => slapcat(alloc, &asked, folder, out, teller),
         Ok(Request::Diff(asked)) => ldifdiff(alloc, &asked, folder, input, out, err, teller),
-        Ok(Request::Check(asked)) => check(alloc, &asked, folder, out, teller),
+        Ok(Request::Check(asked)) => check(alloc, &asked, folder, input, out, teller),
         Ok(Request::Sort(asked)) => sort(alloc, &asked, folder, input, out),
         Err(UsageFault::Words(text)) => Err(Stop::Usage(text)),
         Err(UsageFault::OutOfMemory) => Err(Stop::Fault(CommandFault::OutOfMemory)),

@@ -1,15 +1,18 @@
 -- What the parts of a check have found.
-use Rattle.std.specs.Prelude.{◌≡◌, ℕ, ◌<◌, List, ◌++◌, length, Option, Some, Ok}
+use Rattle.std.specs.Prelude.{◌≡◌, ℕ, ◌<◌, List, [], ◌++◌, length, Option, Some, Ok, codes}
 use Rattle.std.specs.List.{AllByRecursion}
 use Rattle.std.specs.Option.{option_copied, option_map}
 use Rattle.values.specs.declared.types.AttributeType.{AttributeType}
+use Rattle.checks.specs.Reports.{refused_reports}
 use Rattle.schema.specs.Conf.{Conf}
 use Rattle.tree.specs.Directories.{Entries}
 use Rattle.command_line.specs.declared.request.CheckOptions.{CheckOptions}
 use Rattle.folders.specs.Folders.{Files, Finds}
 use Rattle.commands.specs.DirectoryFiles.{data_name, index_name}
-use Rattle.commands.specs.Checks.{types_asked, AddsFound, index_reports, all_reports}
+use Rattle.commands.specs.Checks.{types_asked, AddsFound, AddsOver, file_reports, index_reports}
+use Rattle.commands.specs.Worlds.{World}
 use Rattle.commands.specs.declared.check.CheckedTypes.{CheckedTypes}
+use Rattle.commands.specs.declared.check.Told.{Told}
 
 -- these are the types that the options name, and they are known
 pub record AreTypesAsked (asked : CheckOptions) (types : List AttributeType) (c : CheckedTypes) : Type 0 where
@@ -29,8 +32,13 @@ pub record ReportsIndex (files : Option Files) (name : List ℕ) (conf : Conf) (
   pub there : Finds files name (option_map (λ bytes. Some bytes) index)
   pub put : after ≡ before ++ index_reports conf d index
 
--- this is reported of a directory, with what was told of its records and with index.txt in this folder
-pub record HasReported (files : Option Files) (db : List ℕ) (c : CheckedTypes) (conf : Conf) (d : Entries) (told text : List ℕ) : Type 0 where
-  pub index : Option (List ℕ)
-  pub there : Finds files (index_name db) (option_map (λ bytes. Some bytes) index)
-  pub text_is : text ≡ all_reports conf d told index c.references.items c.unique.items
+-- what is reported of what was told of data.ldif, of the file over it, if one is named, and of index.txt
+abbrev pub told_reports : Option (List ℕ) → Told → List ℕ
+told_reports file told = refused_reports (codes "data.ldif") told.loaded.items ++ (file_reports file told.over.items ++ told.index.items)
+
+-- so the files in the folder were gone through, and the file over them, which leaves these entries
+pub record HasGathered (asked : CheckOptions) (conf : Conf) (d : Entries) (told : Told) (w w' : World) : Type 0 where
+  pub loaded : Entries
+  pub adds : HasAdded w.files asked.db.now conf loaded told.loaded.items
+  pub index : ReportsIndex w.files (index_name asked.db.now) conf loaded [] told.index.items
+  pub over : AddsOver (option_copied asked.file) conf loaded d told.over.items w w'
