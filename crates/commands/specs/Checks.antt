@@ -135,8 +135,7 @@ pub record TellsFaults (asked : CheckOptions) (text : List ℕ) (w w' : World) :
   pub text_is : text ≡ fault_reports (first ∷ others)
   pub stays : w' ≡ w
 
--- Of the other files, under the configuration that it says: the entries of data.ldif, against which index.txt is looked at, and over them FILE's
--- records, with which references and values are.
+-- of the other files, under the configuration that it says: beside the entries of data.ldif index.txt, and with those of FILE over them the values
 pub record TellsOthers (asked : CheckOptions) (text : List ℕ) (w w' : World) : Type 0 where
   pub conf : Conf
   pub configured : IsConfigured w.files (conf_name asked.db.now) conf

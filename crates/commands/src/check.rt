@@ -11,10 +11,10 @@ ghost use Rattle.commands.specs.DirectoryFiles.{conf_name, data_name, index_name
 ghost use Rattle.commands.specs.Worlds.{World, source_world, piped_world};
 ghost use Rattle.commands.specs.Endings.{IsFault};
 ghost use Rattle.commands.specs.Loaded.{IsConfigured};
-ghost use Rattle.commands.specs.Failures.{FailsToRead, FailsToWrite};
+ghost use Rattle.commands.specs.Failures.{IsMemory, FailsToRead, FailsToWrite};
 ghost use Rattle.commands.specs.Statuses.{status_of_reports};
-ghost use Rattle.commands.specs.Checks.{types_asked, AddsText, AddsFile, AddsOver, file_name, file_reports, value_reports, Checks, TellsOthers, CheckFails, CheckGoesThrough, CheckStops};
-ghost use Rattle.commands.specs.Checks.{TellsNoType, LacksTypes, LacksFirst, FailsOver, IsUncheckable};
+ghost use Rattle.commands.specs.Checks.{types_asked, AddsText, AddsFile, AddsOver, file_name, file_reports, value_reports, TellsOthers, Checks};
+ghost use Rattle.commands.specs.Checks.{TellsNoType, LacksTypes, LacksFirst, FailsOver, CheckFails, IsUncheckable, CheckGoesThrough, CheckStops};
 ghost use Rattle.commands.specs.inner.Checked.{AreTypesAsked, HasAdded, ReportsIndex, told_reports, HasGathered};
 ghost use Rattle.commands.specs.inner.Stopped.{HasEnded};
 
@@ -241,10 +241,11 @@ fn reports(
     types: &CheckedTypes,
     database: &Database,
     told: &Told,
-) -> Result<Vec<u8>, AllocError>
+) -> Result<Vec<u8>, CommandFault>
     requires known { AllByRecursion (λ t. t < length database.now.conf.types) types.now.unique.items }
-    ensures { IfOk result (λ text. text.items ≡ told_reports (option_copied file.entry) told.now
+    ensures reports { IfOk result (λ text. text.items ≡ told_reports (option_copied file.entry) told.now
         ++ value_reports database.now.conf database.now.entries types.now.references.items types.now.unique.items) }
+    ensures memory { IfErr result IsMemory }
 {
     let (conf, tree) = (database.conf(), database.tree());
     let mut text = Vec::new(alloc);
@@ -311,10 +312,7 @@ fn check_under<F: Folder, S: Source, T: CommandTeller>(
     let text = reports(alloc, asked.file, types, &database, &told);
     // The program ends with its command, and that frees the entries at once.
     mem::forget(database);
-    match text {
-        Ok(text) => Ok(text),
-        Err(_) => Err(CommandFault::OutOfMemory),
-    }
+    text
 }
 
 /// A report of each fault of the text of a dir.conf.
@@ -374,9 +372,9 @@ fn print_reports<O: Sink>(alloc: Global, text: &[u8], out: &mut O) -> Result<Sta
     }
 }
 
-/// Prints what is wrong with the files of the directory in a folder, each with a word for its kind, where it is, and what it is, with tabs between: all
-/// faults of dir.conf; or, where that has none, the records of data.ldif that are refused, those of the file that is named, which with `-` is the
-/// input, over them, index.txt where it isn't what slapindex writes of data.ldif, references that name no entry, and values of several entries of the
+/// Prints what is wrong with the files of the directory in a folder, each with a word for its kind, where it is, and what it is, with tabs between:
+/// all faults of dir.conf; or, where that has none, the records of data.ldif that are refused, over them those of the file that is named, which with
+/// `-` is the input, index.txt where it isn't what slapindex writes of data.ldif, references that name no entry, and values of several entries of the
 /// types that are asked for. It ends as `Refused` where something is wrong, and else as `Done`. It stops where a type isn't known, or a file, the
 /// output or memory fails.
 pub fn check<F: Folder, S: Source, O: Sink, T: CommandTeller>(
