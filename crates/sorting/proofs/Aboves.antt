@@ -67,7 +67,7 @@ further name other made that is =
           ∙ ap (λ (l : List (List ℕ)). end.front ++ name.text ∷ l) (sym (made.above_is ∙ ap tail_up same));
     }
 
--- ---- places
+-- ---- positions
 
 module _ (names : List (Option NormalName)) where
   grows : (m n : ℕ) (texts : List (List ℕ)) → m ≤ n → greatest_last names m texts ≤ greatest_last names n texts
@@ -82,7 +82,7 @@ module _ (names : List (Option NormalName)) where
   reaches n i [] text texts h = grows i (max n (last_named names text)) texts (omega (arith, h))
   reaches n i (f ∷ fs) text texts h = reaches (max n (last_named names f)) i fs text texts h
 
--- the number of a piece is at most that of the last with its name
+-- the number of a stanza is at most that of the last with its name
 last_of : (n : ℕ) (names : List (Option NormalName)) (i : ℕ) (name : Option NormalName) (text : List ℕ) → i < length names → name ≡ get_or names i name → is_named text name ≡ true → n + i ≤ last_from n names text
 unfolding last_from
 last_of n [] i name text lt is named = absurd (omega (arith, lt))
@@ -102,16 +102,16 @@ last_of n (first ∷ names) (suc i) name text lt is named =
 
 -- ---- turns
 
-turn_less : (s t : Turn) → s.place ≤ t.place → s.depth < t.depth → turn_cmp s t ≡ Less
-turn_less s t le lt = by (nat_lt s.place t.place) refl
+turn_less : (s t : Turn) → s.position ≤ t.position → s.depth < t.depth → turn_cmp s t ≡ Less
+turn_less s t le lt = by (nat_lt s.position t.position) refl
   where
     rest : Ordering
     rest = ordering_then (nat_cmp s.depth t.depth) (nat_cmp s.number t.number)
 
-    by : (b : Bool) → nat_lt s.place t.place ≡ b → ordering_then (nat_cmp s.place t.place) rest ≡ Less
-    by true e = ap (λ o. ordering_then o rest) (sym (nat_cmp_is s.place t.place Less (grind (arith, nat_tests))))
+    by : (b : Bool) → nat_lt s.position t.position ≡ b → ordering_then (nat_cmp s.position t.position) rest ≡ Less
+    by true e = ap (λ o. ordering_then o rest) (sym (nat_cmp_is s.position t.position Less (grind (arith, nat_tests))))
     by false e =
-        ap (λ o. ordering_then o rest) (sym (nat_cmp_is s.place t.place Equal (grind (arith, nat_tests))))
+        ap (λ o. ordering_then o rest) (sym (nat_cmp_is s.position t.position Equal (grind (arith, nat_tests))))
         ∙ ap (λ o. ordering_then o (nat_cmp s.number t.number)) (sym (nat_cmp_is s.depth t.depth Less lt))
 
 -- each name that there is, is made of RDNs
@@ -119,7 +119,7 @@ abbrev pub IsMadeOrNone : Option NormalName → Type 0
 IsMadeOrNone None = ⊤
 IsMadeOrNone (Some name) = IsMade name
 
--- a piece above another has an earlier turn
+-- a stanza above another has an earlier turn
 pub earlier : (names : List (Option NormalName)) (i j : ℕ) (n m : Option NormalName) → i < length names → n ≡ get_or names i n → IsMadeOrNone n → IsMadeOrNone m
     → is_above n m ≡ true → turn_cmp (turn_of names i n) (turn_of names j m) ≡ Less
 earlier names i j None m lt is a b above = cc
@@ -127,10 +127,10 @@ earlier names i j (Some name) None lt is a b above = cc
 earlier names i j (Some name) (Some other) lt is a b above =
     let f = further name other a b above in
     let last : i ≤ last_named names name.text = let h = last_of 0 names i (Some name) name.text lt is (itself name.text) in omega (arith, h) in
-    let places : greatest_last names i name.above ≤ greatest_last names j other.above =
+    let positions : greatest_last names i name.above ≤ greatest_last names j other.above =
     subst (λ (l : List (List ℕ)). greatest_last names i name.above ≤ greatest_last names j l) (sym f.texts_are) (reaches names j i f.front name.text name.above last) in
     let long = ap (λ (l : List (List ℕ)). length l) f.texts_are ∙ length-append f.front (name.text ∷ name.above) in
-    turn_less (turn_of names i (Some name)) (turn_of names j (Some other)) places (omega (arith, long))
+    turn_less (turn_of names i (Some name)) (turn_of names j (Some other)) positions (omega (arith, long))
   where
     itself : (text : List ℕ) → bytes_eq text text ≡ true
     itself text = (bytes_decides text text).1 refl

@@ -1,4 +1,4 @@
--- All pieces are there in turn, each as often as before.
+-- All stanzas are there in turn, each as often as before.
 use Rattle.std.proofs.Common.{◌≡◌, ℕ, ◌+◌, ◌<◌, List, [], ◌∷◌, ◌++◌, get_or, refl, subst, ◌∙◌, append_assoc, append-nil, arith}
 use Rattle.std.specs.BTreeSet.{insert_key}
 use Rattle.std.specs.Cmp.{nat_cmp_is}
@@ -9,7 +9,7 @@ use Rattle.std.specs.declared.cmp.Ordering.{Ordering}
 use Rattle.std.specs.declared.cmp.Ordering.TheVariants.{Less, Equal, Greater}
 use Rattle.std.proofs.lemmas.List.Sorted.{IsPermutation-refl, IsPermutation-trans, IsPermutation-map, IsPermutation-append_comm, IsPermutation-append_left, IsPermutation-append_right}
 use Rattle.sorting.specs.Turns.{turn_of, turns_from, turn_cmp, with_turns, turns}
-use Rattle.sorting.specs.Sorted.{names_of, sorted_pieces}
+use Rattle.sorting.specs.Sorted.{names_of, sorted_stanzas}
 use Rattle.sorting.specs.declared.turns.Turn.{Turn}
 use Rattle.sorting.proofs.InTurn.{Names}
 use Rattle.sorting.proofs.Kept.{each_itself}
@@ -28,7 +28,7 @@ module _ (k : Turn) where
           → IsPermutation (k ∷ x ∷ xs) (match_ordering o (k ∷ x ∷ xs) (x ∷ xs) (x ∷ insert_key turn_cmp xs k))
       by Less e h = IsPermutation-refl (k ∷ x ∷ xs)
       by Equal e h =
-          let same : nat_cmp k.number x.number ≡ Equal = last (nat_cmp k.depth x.depth) _ (last (nat_cmp k.place x.place) _ e) in
+          let same : nat_cmp k.number x.number ≡ Equal = last (nat_cmp k.depth x.depth) _ (last (nat_cmp k.position x.position) _ e) in
           let no : Greater ≡ Equal = nat_cmp_is k.number x.number Greater all.0 ∙ same in cc
       by Greater e h = IsPermutation-trans (k ∷ x ∷ xs) (x ∷ k ∷ xs) (x ∷ insert_key turn_cmp xs k)
           (IsPermutation-append_left xs (k ∷ x ∷ []) (x ∷ k ∷ []) (IsPermutation-append_comm (k ∷ []) (x ∷ [])))
@@ -60,8 +60,8 @@ all_put names n (name ∷ more) so_far low =
     (IsPermutation-trans (so_far ++ t ∷ []) (t ∷ so_far) (insert_key turn_cmp so_far t) (IsPermutation-append_comm so_far (t ∷ [])) (put_in t so_far low))))
     (all_put names (n + 1) more (insert_key turn_cmp so_far t) (inserted (n + 1) t so_far (omega arith) (higher n so_far low)))
 
-pub all_there : (ps : List (List ℕ)) → IsPermutation ps (sorted_pieces ps)
+pub all_there : (ps : List (List ℕ)) → IsPermutation ps (sorted_stanzas ps)
 unfolding turns
 all_there ps =
-    subst (λ (l : List (List ℕ)). IsPermutation l (sorted_pieces ps)) (each_itself (names_of ps) ps [] ps 0 refl refl)
+    subst (λ (l : List (List ℕ)). IsPermutation l (sorted_stanzas ps)) (each_itself (names_of ps) ps [] ps 0 refl refl)
     (IsPermutation-map (λ (t : Turn). get_or ps t.number []) (turns_from (names_of ps) 0 (names_of ps)) (turns (names_of ps)) (all_put (names_of ps) 0 (names_of ps) [] tt))

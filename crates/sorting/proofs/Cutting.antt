@@ -1,4 +1,4 @@
--- A text cut into lines and pieces.
+-- A text cut into lines and stanzas.
 use Rattle.std.proofs.Common.{◌≡◌, ℕ, suc, ◌+◌, ◌-◌, ◌<◌, ◌≤◌, Bool, true, false, cond, List, [], ◌∷◌, ◌++◌, length, length-append, get_or, take, drop, Some, None, All, refl, sym, ap, ◌∙◌, append_assoc, append-nil, arith}
 use Rattle.std.specs.Prelude.{◌==◌}
 use Rattle.std.specs.List.{onto_first}
@@ -6,9 +6,9 @@ use Rattle.std.proofs.lemmas.List.{take-append-drop, drop_more, get_or-take, get
 use Rattle.std.proofs.Math.Seq.{take-append_seam, drop-append_seam}
 use Rattle.std.proofs.lemmas.Bool.{eqb-true, false_from_ne_true}
 use Rattle.memchr.specs.Find.{IsFirstByte, is_byte, Passes}
-use Rattle.sorting.specs.Pieces.{before_first, ended_lines, behind, unbegun, ends_piece, pieces_from, pieces}
-use Rattle.sorting.specs.declared.pieces.Begun.{Begun}
-use Rattle.sorting.specs.inner.Pieces.{IsFirstPiece, with_taken, GoesOn}
+use Rattle.sorting.specs.Stanzas.{before_first, ended_lines, behind, unbegun, ends_stanza, stanzas_from, stanzas}
+use Rattle.sorting.specs.declared.stanzas.Begun.{Begun}
+use Rattle.sorting.specs.inner.Stanzas.{IsFirstStanza, with_taken, GoesOn}
 
 -- ---- lines
 
@@ -64,18 +64,18 @@ uncut (x ∷ xs) line rest some h front back =
     ∙ ap (λ (l : List ℕ). l ∷ []) (sym (front ∙ take_all (length (x ∷ xs)) (x ∷ xs) (omega arith)))
     ∙ ap (λ (l : List ℕ). line ∷ ended_lines l) (sym (back ∙ drop_all (length (x ∷ xs)) (x ∷ xs) (omega arith)))
 
--- ---- pieces
+-- ---- stanzas
 
--- a line more was taken of the first piece
+-- a line more was taken of the first stanza
 taken_more : (taken line : List ℕ) (ps : List (List ℕ)) → 0 < length line → with_taken taken (before_first line ps) ≡ with_taken (taken ++ line) ps
 taken_more [] [] ps some = absurd (omega (arith, some))
 taken_more [] (b ∷ bs) ps some = refl
 taken_more (t ∷ ts) line [] some = refl
 taken_more (t ∷ ts) line (p ∷ ps) some = ap (λ (l : List ℕ). l ∷ ps) (sym (append_assoc (t ∷ ts) line p))
 
-taken_of : (taken piece : List ℕ) (ps : List (List ℕ)) → with_taken taken (piece ∷ ps) ≡ (taken ++ piece) ∷ ps
-taken_of [] piece ps = refl
-taken_of (t ∷ ts) piece ps = refl
+taken_of : (taken stanza : List ℕ) (ps : List (List ℕ)) → with_taken taken (stanza ∷ ps) ≡ (taken ++ stanza) ∷ ps
+taken_of [] stanza ps = refl
+taken_of (t ∷ ts) stanza ps = refl
 
 module _ (text : List ℕ) (begun : Begun) (rest line others : List ℕ) (h : GoesOn text begun rest) (cut : ended_lines rest ≡ line ∷ ended_lines others) (parts : rest ≡ line ++ others)
     (shorter : length others < length rest) where
@@ -85,26 +85,26 @@ module _ (text : List ℕ) (begun : Begun) (rest line others : List ℕ) (h : Go
   whole : text ≡ (h.taken ++ line) ++ others
   whole = h.parts ∙ ap (λ (l : List ℕ). h.taken ++ l) parts ∙ sym (append_assoc h.taken line others)
 
-  pub goes_on : ends_piece begun line ≡ false → GoesOn text (behind begun line) others
-  unfolding pieces_from
+  pub goes_on : ends_stanza begun line ≡ false → GoesOn text (behind begun line) others
+  unfolding stanzas_from
   goes_on other = record {
     taken = h.taken ++ line;
     parts = whole;
-    pieces = h.pieces
-        ∙ ap (λ (ls : List (List ℕ)). with_taken h.taken (pieces_from begun ls)) cut
-        ∙ ap (λ (t : Bool). with_taken h.taken (cond t (line ∷ pieces_from unbegun (ended_lines others)) (before_first line (pieces_from (behind begun line) (ended_lines others))))) other
-        ∙ taken_more h.taken line (pieces_from (behind begun line) (ended_lines others)) some_line;
+    stanzas = h.stanzas
+        ∙ ap (λ (ls : List (List ℕ)). with_taken h.taken (stanzas_from begun ls)) cut
+        ∙ ap (λ (t : Bool). with_taken h.taken (cond t (line ∷ stanzas_from unbegun (ended_lines others)) (before_first line (stanzas_from (behind begun line) (ended_lines others))))) other
+        ∙ taken_more h.taken line (stanzas_from (behind begun line) (ended_lines others)) some_line;
   }
 
-  pub ends_here : ends_piece begun line ≡ true → IsFirstPiece text (length text - length others)
-  unfolding pieces_from
+  pub ends_here : ends_stanza begun line ≡ true → IsFirstStanza text (length text - length others)
+  unfolding stanzas_from
   ends_here ends = record {
     some = let e = length-append h.taken line in let f = some_line in omega (arith, long, e, f);
-    pieces = h.pieces
-        ∙ ap (λ (ls : List (List ℕ)). with_taken h.taken (pieces_from begun ls)) cut
-        ∙ ap (λ (t : Bool). with_taken h.taken (cond t (line ∷ pieces_from unbegun (ended_lines others)) (before_first line (pieces_from (behind begun line) (ended_lines others))))) ends
-        ∙ taken_of h.taken line (pieces others)
-        ∙ (λ i. sym front i ∷ pieces (sym back i));
+    stanzas = h.stanzas
+        ∙ ap (λ (ls : List (List ℕ)). with_taken h.taken (stanzas_from begun ls)) cut
+        ∙ ap (λ (t : Bool). with_taken h.taken (cond t (line ∷ stanzas_from unbegun (ended_lines others)) (before_first line (stanzas_from (behind begun line) (ended_lines others))))) ends
+        ∙ taken_of h.taken line (stanzas others)
+        ∙ (λ i. sym front i ∷ stanzas (sym back i));
   }
     where
       long : length (h.taken ++ line) ≡ length text - length others
@@ -117,19 +117,19 @@ module _ (text : List ℕ) (begun : Begun) (rest line others : List ℕ) (h : Go
       back = ap (λ (m : ℕ). drop m text) (sym long) ∙ ap (drop (length (h.taken ++ line))) whole ∙ drop-append_seam (h.taken ++ line) others
 
 pub begins : (text : List ℕ) → GoesOn text unbegun text
-begins text = record { taken = []; parts = refl; pieces = refl }
+begins text = record { taken = []; parts = refl; stanzas = refl }
 
-no_pieces : pieces [] ≡ []
-unfolding pieces_from ended_lines
-no_pieces = refl
+no_stanzas : stanzas [] ≡ []
+unfolding stanzas_from ended_lines
+no_stanzas = refl
 
--- the text ends within its first piece
-pub all_taken : (text : List ℕ) (begun : Begun) (rest : List ℕ) → GoesOn text begun rest → rest ≡ [] → 0 < length text → IsFirstPiece text (length text)
-unfolding pieces_from ended_lines
+-- the text ends within its first stanza
+pub all_taken : (text : List ℕ) (begun : Begun) (rest : List ℕ) → GoesOn text begun rest → rest ≡ [] → 0 < length text → IsFirstStanza text (length text)
+unfolding stanzas_from ended_lines
 all_taken text begun rest h none some = record {
   some = some;
-  pieces = h.pieces ∙ ap (λ (r : List ℕ). with_taken h.taken (pieces_from begun (ended_lines r))) none ∙ by h.taken taken_is
-      ∙ (λ i. sym (take_all (length text) text (omega arith)) i ∷ sym (ap pieces (drop_all (length text) text (omega arith)) ∙ no_pieces) i);
+  stanzas = h.stanzas ∙ ap (λ (r : List ℕ). with_taken h.taken (stanzas_from begun (ended_lines r))) none ∙ by h.taken taken_is
+      ∙ (λ i. sym (take_all (length text) text (omega arith)) i ∷ sym (ap stanzas (drop_all (length text) text (omega arith)) ∙ no_stanzas) i);
 }
   where
     taken_is : h.taken ≡ text

@@ -1,20 +1,20 @@
 -- Worked examples of how a text is cut, of names, and of the order, by computation.
 use Rattle.std.proofs.Common.{◌≡◌, [], ◌∷◌, codes, refl}
-use Rattle.sorting.specs.Pieces.{ended_lines, pieces_from, pieces}
+use Rattle.sorting.specs.Stanzas.{ended_lines, stanzas_from, stanzas}
 use Rattle.sorting.specs.Sorted.{lacking, joined}
 
--- a piece ends with the first empty line behind a line of a record; what stands before it is its own
-two_pieces : pieces (codes "# a\n\ndn: a\n\n\ndn: b\n") ≡ codes "# a\n\ndn: a\n\n" ∷ codes "\ndn: b\n" ∷ []
-unfolding pieces_from ended_lines
-two_pieces = refl
+-- a stanza ends with the first empty line behind a line of a record; what stands before it is its own
+two_stanzas : stanzas (codes "# a\n\ndn: a\n\n\ndn: b\n") ≡ codes "# a\n\ndn: a\n\n" ∷ codes "\ndn: b\n" ∷ []
+unfolding stanzas_from ended_lines
+two_stanzas = refl
 
 -- a comment that is continued is no record, and a block's first line is one, however it begins
-continued : pieces (codes "# a\n b\n\n c\n\n") ≡ codes "# a\n b\n\n c\n\n" ∷ []
-unfolding pieces_from ended_lines
+continued : stanzas (codes "# a\n b\n\n c\n\n") ≡ codes "# a\n b\n\n c\n\n" ∷ []
+unfolding stanzas_from ended_lines
 continued = refl
 
-returns : pieces (codes "dn: a\r\n\r\ndn: b") ≡ codes "dn: a\r\n\r\n" ∷ codes "dn: b" ∷ []
-unfolding pieces_from ended_lines
+returns : stanzas (codes "dn: a\r\n\r\ndn: b") ≡ codes "dn: a\r\n\r\n" ∷ codes "dn: b" ∷ []
+unfolding stanzas_from ended_lines
 returns = refl
 
 closed : lacking (codes "dn: a\n\n") ≡ []

@@ -2,7 +2,7 @@
 use Rattle.std.proofs.Common.{◌≡◌, ℕ, ◌-◌, Bool, true, List, [], ◌∷◌, ◌++◌, length, length-append, take, Option, Some, None, refl, sym, ap, ◌∙◌, append_assoc, append-nil, arith}
 use Rattle.std.proofs.lemmas.List.{take_all}
 use Rattle.std.proofs.Math.Seq.{take-append_seam}
-use Rattle.sorting.specs.Pieces.{ended_lines, is_empty}
+use Rattle.sorting.specs.Stanzas.{ended_lines, is_empty}
 use Rattle.sorting.specs.Heads.{stage_behind, with_line, front_of, front}
 use Rattle.sorting.specs.declared.heads.Stage.{Stage}
 use Rattle.sorting.specs.declared.heads.Stage.TheVariants.{Before}

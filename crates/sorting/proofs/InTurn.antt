@@ -1,4 +1,4 @@
--- Pieces in turn: none stands behind one that it is above, all are there, and those that are in order stay as they are.
+-- Stanzas in turn: none stands behind one that it is above, all are there, and those that are in order stay as they are.
 use Rattle.std.proofs.Common.{◌≡◌, ℕ, zero, suc, ◌+◌, ◌<◌, Bool, true, false, List, [], ◌∷◌, ◌++◌, map, length, length-append, get_or, Option, None, refl, sym, ap, subst, ◌∙◌, append_assoc, arith}
 use Rattle.std.specs.Prelude.{Result, Ok, Err}
 use Rattle.std.specs.BTreeSet.{insert_key}
@@ -19,10 +19,10 @@ use Rattle.ldif.specs.declared.record.Record.TheVariants as records_of
 use Rattle.dn.specs.Names.{Name}
 use Rattle.schema.specs.Names.{name_in}
 use Rattle.schema.specs.declared.code.Code.{Code}
-use Rattle.sorting.specs.NormalNames.{name_or_none, name_of_record, name_of_first, name_of_piece}
+use Rattle.sorting.specs.NormalNames.{name_or_none, name_of_record, name_of_first, name_of_stanza}
 use Rattle.sorting.specs.Turns.{turn_of, turns_from, turn_cmp, with_turns, turns}
 use Rattle.sorting.specs.Orders.{is_above, AreInOrder}
-use Rattle.sorting.specs.Sorted.{names_of, in_turn, sorted_pieces}
+use Rattle.sorting.specs.Sorted.{names_of, in_turn, sorted_stanzas}
 use Rattle.sorting.specs.declared.normal_names.NormalName.{NormalName}
 use Rattle.sorting.specs.declared.turns.Turn.{Turn}
 use Rattle.sorting.proofs.Aboves.{IsMadeOrNone, earlier, read_is_made}
@@ -33,7 +33,7 @@ Names = List (Option NormalName)
 -- ---- turns rise
 
 turn_total : IsTotalOrder turn_cmp
-turn_total = then_total (on_total (λ (t : Turn). t.place) nat_cmp_total) (then_total (on_total (λ (t : Turn). t.depth) nat_cmp_total) (on_total (λ (t : Turn). t.number) nat_cmp_total))
+turn_total = then_total (on_total (λ (t : Turn). t.position) nat_cmp_total) (then_total (on_total (λ (t : Turn). t.depth) nat_cmp_total) (on_total (λ (t : Turn). t.number) nat_cmp_total))
 
 turned : (s t : Turn) (o : Ordering) → turn_cmp s t ≡ o → turn_cmp t s ≡ ordering_reverse o
 turned s t o e = turn_total.antisymm t s ∙ ap ordering_reverse e
@@ -73,7 +73,7 @@ unfolding with_turns
 all_rise so_far [] up = up
 all_rise so_far (t ∷ ts) up = all_rise (insert_key turn_cmp so_far t) ts (rises so_far t up)
 
--- ---- each is the turn of its piece
+-- ---- each is the turn of its stanza
 
 pub record IsTurn (names : Names) (t : Turn) : Type 0 where
   pub below : t.number < length names
@@ -121,7 +121,7 @@ module _ (names : Names) (made : (i : ℕ) → IsMadeOrNone (get_or names i None
   in_order [] all up = tt
   in_order (t ∷ ts) all up = (none_above t ts all.0 all.1 up.0, in_order ts all.1 up.1)
 
--- ---- pieces
+-- ---- stanzas
 
 made_of_dn : (r : Result Name Code) → IsMadeOrNone (name_or_none r)
 made_of_dn (Ok n) = read_is_made n
@@ -140,16 +140,16 @@ made_of_first : (rs : List RawRecord) → IsMadeOrNone (name_of_first rs)
 made_of_first [] = tt
 made_of_first (r ∷ rs) = made_of_record (reading Content false r.lines)
 
-made_piece : (piece : List ℕ) → IsMadeOrNone (name_of_piece piece)
-unfolding name_of_piece
-made_piece piece = made_of_first (records piece)
+made_stanza : (stanza : List ℕ) → IsMadeOrNone (name_of_stanza stanza)
+unfolding name_of_stanza
+made_stanza stanza = made_of_first (records stanza)
 
-made_pieces : (ps : List (List ℕ)) (i : ℕ) → IsMadeOrNone (get_or (names_of ps) i None)
-made_pieces [] i = tt
-made_pieces (p ∷ ps) zero = made_piece p
-made_pieces (p ∷ ps) (suc i) = made_pieces ps i
+made_stanzas : (ps : List (List ℕ)) (i : ℕ) → IsMadeOrNone (get_or (names_of ps) i None)
+made_stanzas [] i = tt
+made_stanzas (p ∷ ps) zero = made_stanza p
+made_stanzas (p ∷ ps) (suc i) = made_stanzas ps i
 
-at_names : (ps : List (List ℕ)) (i : ℕ) → i < length (names_of ps) → get_or (names_of ps) i None ≡ name_of_piece (get_or ps i [])
+at_names : (ps : List (List ℕ)) (i : ℕ) → i < length (names_of ps) → get_or (names_of ps) i None ≡ name_of_stanza (get_or ps i [])
 at_names [] i lt = absurd (omega (arith, lt))
 at_names (p ∷ ps) zero lt = refl
 at_names (p ∷ ps) (suc i) lt = at_names ps i (omega (arith, lt))
@@ -166,5 +166,5 @@ turns_rise : (names : Names) → IsStrictlySortedBy turn_cmp (turns names)
 unfolding turns IsStrictlySortedBy
 turns_rise names = all_rise [] (turns_from names 0 names) tt
 
-pub sorted_in_order : (ps : List (List ℕ)) → AreInOrder (names_of (sorted_pieces ps))
-sorted_in_order ps = subst AreInOrder (sym (same_names ps (turns (names_of ps)) (turns_are ps))) (in_order (names_of ps) (made_pieces ps) (turns (names_of ps)) (turns_are ps) (turns_rise (names_of ps)))
+pub sorted_in_order : (ps : List (List ℕ)) → AreInOrder (names_of (sorted_stanzas ps))
+sorted_in_order ps = subst AreInOrder (sym (same_names ps (turns (names_of ps)) (turns_are ps))) (in_order (names_of ps) (made_stanzas ps) (turns (names_of ps)) (turns_are ps) (turns_rise (names_of ps)))

@@ -1,4 +1,4 @@
--- Pieces that are in order stay as they are, and in any case all are there.
+-- Stanzas that are in order stay as they are, and in any case all are there.
 use Rattle.std.proofs.Common.{◌≡◌, ℕ, ◌+◌, ◌<◌, ◌≤◌, max, Bool, true, false, cond, List, [], ◌∷◌, ◌++◌, length, length-append, get_or, Option, Some, None, refl, sym, ap, subst, ◌∙◌, append_assoc, append-nil, arith}
 use Rattle.std.specs.Prelude.{◌||◌}
 use Rattle.std.specs.BTreeSet.{insert_key}
@@ -10,12 +10,12 @@ use Rattle.std.specs.declared.cmp.Ordering.{Ordering}
 use Rattle.std.specs.declared.cmp.Ordering.TheVariants.{Greater}
 use Rattle.sorting.specs.Turns.{names_above, is_named, last_from, last_named, greatest_last, turn_of, turns_from, turn_cmp, with_turns, turns}
 use Rattle.sorting.specs.Orders.{is_above, AreInOrder}
-use Rattle.sorting.specs.Sorted.{names_of, in_turn, sorted_pieces}
+use Rattle.sorting.specs.Sorted.{names_of, in_turn, sorted_stanzas}
 use Rattle.sorting.specs.declared.normal_names.NormalName.{NormalName}
 use Rattle.sorting.specs.declared.turns.Turn.{Turn}
 use Rattle.sorting.proofs.InTurn.{Names}
 
--- ---- places of pieces that are in order
+-- ---- positions of stanzas that are in order
 
 -- the last with a name is no later than where the names end
 bounded : (m k : ℕ) (names : Names) (text : List ℕ) → m + length names ≤ k + 1 → last_from m names text ≤ k
@@ -90,51 +90,51 @@ all_above_none name (later ∷ more) h = (above_none name later h.0, all_above_n
 
 -- ---- turns that rise stay as they are
 
-behind_all : (ks : List Turn) (k : Turn) → AllByRecursion (λ s. s.place < k.place) ks → insert_key turn_cmp ks k ≡ ks ++ k ∷ []
+behind_all : (ks : List Turn) (k : Turn) → AllByRecursion (λ s. s.position < k.position) ks → insert_key turn_cmp ks k ≡ ks ++ k ∷ []
 behind_all [] k all = refl
 behind_all (x ∷ xs) k all =
     ap (λ (o : Ordering). match_ordering o (k ∷ x ∷ xs) (x ∷ xs) (x ∷ insert_key turn_cmp xs k)) greater
     ∙ ap (λ (ts : List Turn). x ∷ ts) (behind_all xs k all.1)
   where
     greater : turn_cmp k x ≡ Greater
-    greater = ap (λ o. ordering_then o (ordering_then (nat_cmp k.depth x.depth) (nat_cmp k.number x.number))) (sym (nat_cmp_is k.place x.place Greater all.0))
+    greater = ap (λ o. ordering_then o (ordering_then (nat_cmp k.depth x.depth) (nat_cmp k.number x.number))) (sym (nat_cmp_is k.position x.position Greater all.0))
 
-higher : (n : ℕ) (ts : List Turn) → AllByRecursion (λ s. s.place < n) ts → AllByRecursion (λ s. s.place < n + 1) ts
+higher : (n : ℕ) (ts : List Turn) → AllByRecursion (λ s. s.position < n) ts → AllByRecursion (λ s. s.position < n + 1) ts
 higher n [] all = tt
 higher n (t ∷ ts) all = let h = all.0 in (omega (arith, h), higher n ts all.1)
 
-one_higher : (n : ℕ) (ts : List Turn) (t : Turn) → t.place ≡ n → AllByRecursion (λ s. s.place < n) ts → AllByRecursion (λ s. s.place < n + 1) (ts ++ t ∷ [])
+one_higher : (n : ℕ) (ts : List Turn) (t : Turn) → t.position ≡ n → AllByRecursion (λ s. s.position < n) ts → AllByRecursion (λ s. s.position < n + 1) (ts ++ t ∷ [])
 one_higher n [] t is all = (omega (arith, is), tt)
 one_higher n (s ∷ ts) t is all = let h = all.0 in (omega (arith, h), one_higher n ts t is all.1)
 
-one_place : (n : ℕ) (ts : List Turn) (t : Turn) → t.place ≡ n → AllByRecursion (λ s. s.place < n) ts → AllByRecursion (λ s. s.place < t.place) ts
-one_place n ts t is all = subst (λ (m : ℕ). AllByRecursion (λ s. s.place < m) ts) (sym is) all
+one_place : (n : ℕ) (ts : List Turn) (t : Turn) → t.position ≡ n → AllByRecursion (λ s. s.position < n) ts → AllByRecursion (λ s. s.position < t.position) ts
+one_place n ts t is all = subst (λ (m : ℕ). AllByRecursion (λ s. s.position < m) ts) (sym is) all
 
-kept_turns : (names front more : Names) (n : ℕ) (so_far : List Turn) → names ≡ front ++ more → n ≡ length front → AreInOrder more → AllByRecursion (λ s. s.place < n) so_far
+kept_turns : (names front more : Names) (n : ℕ) (so_far : List Turn) → names ≡ front ++ more → n ≡ length front → AreInOrder more → AllByRecursion (λ s. s.position < n) so_far
     → with_turns so_far (turns_from names n more) ≡ so_far ++ turns_from names n more
 unfolding with_turns turns_from
 kept_turns names front [] n so_far whole count order low = sym (append-nil so_far)
 kept_turns names front (name ∷ more) n so_far whole count order low =
     let t = turn_of names n name in
-    let is : t.place ≡ n = stays names front more name n (names_above name) whole count (all_above_none name more order.0) in
+    let is : t.position ≡ n = stays names front more name n (names_above name) whole count (all_above_none name more order.0) in
     let long = length-append front (name ∷ []) in
     ap (λ (ks : List Turn). with_turns ks (turns_from names (n + 1) more)) (behind_all so_far t (one_place n so_far t is low))
     ∙ kept_turns names (front ++ name ∷ []) more (n + 1) (so_far ++ t ∷ []) (whole ∙ sym (append_assoc front (name ∷ []) more)) (omega (arith, long, count)) order.1 (one_higher n so_far t is low)
     ∙ append_assoc so_far (t ∷ []) (turns_from names (n + 1) more)
 
-at_end : (front : List (List ℕ)) (piece : List ℕ) (more : List (List ℕ)) → get_or (front ++ piece ∷ more) (length front) [] ≡ piece
-at_end [] piece more = refl
-at_end (x ∷ xs) piece more = at_end xs piece more
+at_end : (front : List (List ℕ)) (stanza : List ℕ) (more : List (List ℕ)) → get_or (front ++ stanza ∷ more) (length front) [] ≡ stanza
+at_end [] stanza more = refl
+at_end (x ∷ xs) stanza more = at_end xs stanza more
 
 pub each_itself : (names : Names) (ps front more : List (List ℕ)) (n : ℕ) → ps ≡ front ++ more → n ≡ length front → in_turn ps (turns_from names n (names_of more)) ≡ more
 unfolding turns_from
 each_itself names ps front [] n whole count = refl
-each_itself names ps front (piece ∷ more) n whole count =
-    let long = length-append front (piece ∷ []) in
-    let here : get_or ps n [] ≡ piece = ap (λ (l : List (List ℕ)). get_or l n []) whole ∙ ap (λ (m : ℕ). get_or (front ++ piece ∷ more) m []) count ∙ at_end front piece more in
-    (λ i. here i ∷ each_itself names ps (front ++ piece ∷ []) more (n + 1) (whole ∙ sym (append_assoc front (piece ∷ []) more)) (omega (arith, long, count)) i)
+each_itself names ps front (stanza ∷ more) n whole count =
+    let long = length-append front (stanza ∷ []) in
+    let here : get_or ps n [] ≡ stanza = ap (λ (l : List (List ℕ)). get_or l n []) whole ∙ ap (λ (m : ℕ). get_or (front ++ stanza ∷ more) m []) count ∙ at_end front stanza more in
+    (λ i. here i ∷ each_itself names ps (front ++ stanza ∷ []) more (n + 1) (whole ∙ sym (append_assoc front (stanza ∷ []) more)) (omega (arith, long, count)) i)
 
-pub kept : (ps : List (List ℕ)) → AreInOrder (names_of ps) → sorted_pieces ps ≡ ps
+pub kept : (ps : List (List ℕ)) → AreInOrder (names_of ps) → sorted_stanzas ps ≡ ps
 unfolding turns
 kept ps order =
     ap (in_turn ps) (kept_turns (names_of ps) [] (names_of ps) 0 [] refl refl order tt)

@@ -50,7 +50,7 @@ taken_one names i name text lt is =
     long : 0 + length (take i names) ≡ i
     long = let e = length-take i names in omega (arith, e, lt)
 
--- a piece more
+-- a stanza more
 pub one_more : (names : Names) (i : ℕ) (name : Option NormalName) (m new : BTreeMap (List ℕ) ℕ) → i < length names → name ≡ slice_index_or names i name → AreLastNumbers (take i names) m
     → ((text : List ℕ) → number_at new text ≡ cond (is_named text name) i (number_at m text)) → AreLastNumbers (take (i + 1) names) new
 one_more names i name m new lt is h update text = update text ∙ ap (cond (is_named text name) i) (h text) ∙ sym (taken_one names i name text lt is)

@@ -1,4 +1,4 @@
--- Worked examples of normal forms of names, and of the order of pieces by their names, by computation.
+-- Worked examples of normal forms of names, and of the order of stanzas by their names, by computation.
 use Rattle.std.proofs.Common.{◌≡◌, ℕ, List, [], ◌∷◌, map, Option, None, codes, refl}
 use Rattle.sorting.specs.NormalNames.{with_texts, normal_rdn, name_of_rdns}
 use Rattle.sorting.specs.Turns.{last_from, turns_from, with_turns, turns}

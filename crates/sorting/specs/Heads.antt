@@ -8,7 +8,7 @@ use Rattle.ldif.specs.declared.fault.LdifFaultKind.{LdifFaultKind}
 use Rattle.ldif.specs.declared.record.Mode.TheVariants.{Content}
 use Rattle.ldif.specs.declared.record.Record.{Record}
 use Rattle.ldif.specs.declared.record.Record.TheVariants as records_of
-use Rattle.sorting.specs.Pieces.{ended_lines, is_empty, is_kept}
+use Rattle.sorting.specs.Stanzas.{ended_lines, is_empty, is_kept}
 use Rattle.sorting.specs.declared.heads.Stage.{Stage}
 use Rattle.sorting.specs.declared.heads.Stage.TheVariants.{Before, Within, Behind}
 

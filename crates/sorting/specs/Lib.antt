@@ -1,4 +1,4 @@
-pub mod Pieces
+pub mod Stanzas
 pub mod Heads
 pub mod NormalNames
 pub mod Turns

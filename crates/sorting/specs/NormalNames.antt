@@ -71,6 +71,6 @@ abbrev pub name_of_first : List RawRecord → Option NormalName
 name_of_first [] = None
 name_of_first (r ∷ rs) = name_of_record (reading Content false r.lines)
 
--- the name of the entry that a piece has, where it is a content record with a name
-unfoldable pub name_of_piece : List ℕ → Option NormalName
-name_of_piece piece = name_of_first (records piece)
+-- the name of the entry that a stanza has, where it is a content record with a name
+unfoldable pub name_of_stanza : List ℕ → Option NormalName
+name_of_stanza stanza = name_of_first (records stanza)

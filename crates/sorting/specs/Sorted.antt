@@ -2,9 +2,9 @@
 use Rattle.std.specs.Prelude.{ℕ, nat_eq, Bool, ◌||◌, if◌then◌else◌, List, [], ◌∷◌, ◌++◌, map, drop, length, Option, slice_index_or}
 use Rattle.std.specs.List.{ends_with}
 use Rattle.base.specs.Ascii.{line_feed, carriage_return}
-use Rattle.sorting.specs.Pieces.{pieces}
+use Rattle.sorting.specs.Stanzas.{stanzas}
 use Rattle.sorting.specs.Heads.{head}
-use Rattle.sorting.specs.NormalNames.{name_of_piece}
+use Rattle.sorting.specs.NormalNames.{name_of_stanza}
 use Rattle.sorting.specs.Turns.{turns}
 use Rattle.sorting.specs.declared.normal_names.NormalName.{NormalName}
 use Rattle.sorting.specs.declared.turns.Turn.{Turn}
@@ -12,35 +12,35 @@ use Rattle.sorting.specs.declared.turns.Turn.{Turn}
 abbrev pub ends_in : List ℕ → List ℕ → Bool
 ends_in text end = ends_with nat_eq text end
 
--- what a piece lacks of the empty line at its end
+-- what a stanza lacks of the empty line at its end
 unfoldable pub lacking : List ℕ → List ℕ
-lacking piece =
-    if ends_in piece (line_feed ∷ line_feed ∷ []) || ends_in piece (line_feed ∷ carriage_return ∷ line_feed ∷ []) then []
-    else if ends_in piece (line_feed ∷ []) then line_feed ∷ []
+lacking stanza =
+    if ends_in stanza (line_feed ∷ line_feed ∷ []) || ends_in stanza (line_feed ∷ carriage_return ∷ line_feed ∷ []) then []
+    else if ends_in stanza (line_feed ∷ []) then line_feed ∷ []
     else line_feed ∷ line_feed ∷ []
 
--- a piece with these behind it: it has an empty line at its end where there are any
+-- a stanza with these behind it: it has an empty line at its end where there are any
 abbrev pub before : List (List ℕ) → List ℕ → List ℕ
-before [] piece = piece
-before (next_piece ∷ more) piece = piece ++ lacking piece
+before [] stanza = stanza
+before (next_stanza ∷ more) stanza = stanza ++ lacking stanza
 
--- pieces one behind the other
+-- stanzas one behind the other
 unfoldable pub joined : List (List ℕ) → List ℕ
 joined [] = []
-joined (piece ∷ more) = before more piece ++ joined more
+joined (stanza ∷ more) = before more stanza ++ joined more
 
 -- what stands behind the head of a text
 abbrev pub body : List ℕ → List ℕ
 body text = drop (length (head text)) text
 
 abbrev pub names_of : List (List ℕ) → List (Option NormalName)
-names_of ps = map name_of_piece ps
+names_of ps = map name_of_stanza ps
 
 abbrev pub in_turn : List (List ℕ) → List Turn → List (List ℕ)
 in_turn ps ts = map (λ (t : Turn). slice_index_or ps t.number []) ts
 
-abbrev pub sorted_pieces : List (List ℕ) → List (List ℕ)
-sorted_pieces ps = in_turn ps (turns (names_of ps))
+abbrev pub sorted_stanzas : List (List ℕ) → List (List ℕ)
+sorted_stanzas ps = in_turn ps (turns (names_of ps))
 
 unfoldable pub sorted_text : List ℕ → List ℕ
-sorted_text text = head text ++ joined (sorted_pieces (pieces (body text)))
+sorted_text text = head text ++ joined (sorted_stanzas (stanzas (body text)))

@@ -1,4 +1,4 @@
--- In which order pieces are printed, by their names: one comes behind all that are above it.
+-- In which order stanzas are printed, by their names: one comes behind all that are above it.
 use Rattle.std.specs.Prelude.{ℕ, ◌+◌, max, Bool, false, List, [], ◌∷◌, length, Option, Some, None, if◌then◌else◌}
 use Rattle.std.specs.BTreeSet.{insert_key}
 use Rattle.std.specs.Ordering.{nat_cmp, ordering_then}
@@ -17,7 +17,7 @@ abbrev pub depth : Option NormalName → ℕ
 depth None = 0
 depth (Some name) = length name.above + 1
 
--- ---- places
+-- ---- positions
 
 abbrev pub is_named : List ℕ → Option NormalName → Bool
 is_named text None = false
@@ -31,34 +31,34 @@ last_from n (name ∷ names) text = max (if is_named text name then n else 0) (l
 abbrev pub last_named : List (Option NormalName) → List ℕ → ℕ
 last_named names text = last_from 0 names text
 
--- the greatest of a number and of those of the last pieces with these names
+-- the greatest of a number and of those of the last stanzas with these names
 abbrev pub greatest_last : List (Option NormalName) → ℕ → List (List ℕ) → ℕ
 greatest_last names n [] = n
 greatest_last names n (above ∷ more) = greatest_last names (max n (last_named names above)) more
 
--- where a piece comes: where it stands, or where the last of those above it stands, which is there
-abbrev pub place : List (Option NormalName) → ℕ → Option NormalName → ℕ
-place names n name = greatest_last names n (names_above name)
+-- where a stanza comes: where it stands, or where the last of those above it stands, which is there
+abbrev pub position : List (Option NormalName) → ℕ → Option NormalName → ℕ
+position names n name = greatest_last names n (names_above name)
 
 -- ---- turns
 
 abbrev pub turn_of : List (Option NormalName) → ℕ → Option NormalName → Turn
-turn_of names n name = record { place = place names n name; depth = depth name; number = n }
+turn_of names n name = record { position = position names n name; depth = depth name; number = n }
 
 -- the turn of each of these, the first of which has number n
 unfoldable pub turns_from : List (Option NormalName) → ℕ → List (Option NormalName) → List Turn
 turns_from names n [] = []
 turns_from names n (name ∷ more) = turn_of names n name ∷ turns_from names (n + 1) more
 
--- by their places; at one place those of fewer RDNs first, and of these the one that stands first
+-- by their positions; at one position those of fewer RDNs first, and of these the one that stands first
 abbrev pub turn_cmp : Turn → Turn → Ordering
-turn_cmp s t = ordering_then (nat_cmp s.place t.place) (ordering_then (nat_cmp s.depth t.depth) (nat_cmp s.number t.number))
+turn_cmp s t = ordering_then (nat_cmp s.position t.position) (ordering_then (nat_cmp s.depth t.depth) (nat_cmp s.number t.number))
 
--- with all of these, each at its place
+-- with all of these, each at its position
 unfoldable pub with_turns : List Turn → List Turn → List Turn
 with_turns so_far [] = so_far
 with_turns so_far (t ∷ ts) = with_turns (insert_key turn_cmp so_far t) ts
 
--- the turns of pieces with these names, in order
+-- the turns of stanzas with these names, in order
 unfoldable pub turns : List (Option NormalName) → List Turn
 turns names = with_turns [] (turns_from names 0 names)

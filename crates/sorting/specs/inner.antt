@@ -1,4 +1,4 @@
-pub mod Pieces
+pub mod Stanzas
 pub mod Records
 pub mod Numbers
 pub mod Heads

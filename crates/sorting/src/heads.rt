@@ -4,8 +4,8 @@ ghost use Rattle.std.specs.Prelude.{◌≡◌, ◌≤◌, ◌++◌, IfOk, length
 ghost use Rattle.sorting.specs.Heads.{stage_behind, front, is_version, head};
 ghost use Rattle.sorting.specs.Sorted.{body};
 
-use crate::pieces::{is_empty, is_kept, split_line};
 use crate::records::first_record;
+use crate::stanzas::{is_empty, is_kept, split_line};
 use base::begins_with;
 use ldif::{LdifFault, Mode, Record, read_record};
 use std::alloc::{AllocError, Global};

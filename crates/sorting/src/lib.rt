@@ -6,10 +6,10 @@
 mod heads;
 mod laws;
 mod normal_names;
-mod pieces;
 mod records;
 mod sorted;
+mod stanzas;
 mod turns;
 
-pub use laws::{pieces_in_order_stay, those_above_come_first};
+pub use laws::{stanzas_in_order_stay, those_above_come_first};
 pub use sorted::sort_records;

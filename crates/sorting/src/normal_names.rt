@@ -2,7 +2,7 @@
 
 ghost use Rattle.std.specs.Prelude.{◌≡◌, [], IfOk, map};
 ghost use Rattle.schema.specs.Names as names;
-ghost use Rattle.sorting.specs.NormalNames.{ended_by, normal_ava, with_texts, normal_rdn, texts_up, normal_name, name_or_none, name_of_piece};
+ghost use Rattle.sorting.specs.NormalNames.{ended_by, normal_ava, with_texts, normal_rdn, texts_up, normal_name, name_or_none, name_of_stanza};
 
 use crate::records::first_record;
 use base::{Bytes, Sequence};
@@ -117,12 +117,12 @@ fn name_in(alloc: Global, text: &[u8]) -> Result<Option<NormalName>, AllocError>
     }
 }
 
-/// The normal form of the name of the entry that a piece has, None where it isn't a content record with a name.
-#[tactic(auto, unfolding(crate::specs::NormalNames::name_of_piece))]
-pub(crate) fn name_of_piece(alloc: Global, piece: &[u8]) -> Result<Option<NormalName>, AllocError>
-    ensures { IfOk result (λ n. n ≡ name_of_piece piece.now) }
+/// The normal form of the name of the entry that a stanza has, None where it isn't a content record with a name.
+#[tactic(auto, unfolding(crate::specs::NormalNames::name_of_stanza))]
+pub(crate) fn name_of_stanza(alloc: Global, stanza: &[u8]) -> Result<Option<NormalName>, AllocError>
+    ensures { IfOk result (λ n. n ≡ name_of_stanza stanza.now) }
 {
-    let Some(record) = first_record(alloc, piece)? else {
+    let Some(record) = first_record(alloc, stanza)? else {
         return Ok(None);
     };
     let mut record = record;

@@ -1,79 +1,79 @@
 //! A text with its records in order.
 
 ghost use Rattle.std.specs.Prelude.{◌≡◌, slice_index_or, ◌++◌, ◌∷◌, [], IfOk, OnOk, map};
-ghost use Rattle.sorting.specs.Sorted.{lacking, before, joined, names_of, sorted_pieces, sorted_text};
+ghost use Rattle.sorting.specs.Sorted.{lacking, before, joined, names_of, sorted_stanzas, sorted_text};
 
 use crate::heads::split_head;
-use crate::normal_names::{NormalName, name_of_piece};
-use crate::pieces::pieces;
+use crate::normal_names::{NormalName, name_of_stanza};
+use crate::stanzas::stanzas;
 use crate::turns::turns;
 use std::alloc::{AllocError, Global};
 
-/// The names of pieces.
-fn names_of(alloc: Global, pieces: &[&[u8]]) -> Result<Vec<Option<NormalName>>, AllocError>
-    ensures { IfOk result (λ v. v.items ≡ names_of (map (λ p. p.now) pieces.now)) }
+/// The names of stanzas.
+fn names_of(alloc: Global, stanzas: &[&[u8]]) -> Result<Vec<Option<NormalName>>, AllocError>
+    ensures { IfOk result (λ v. v.items ≡ names_of (map (λ p. p.now) stanzas.now)) }
 {
-    let mut names = Vec::with_capacity(alloc, pieces.len())?;
-    for piece in pieces {
-        names.push(name_of_piece(alloc, piece)?)?;
+    let mut names = Vec::with_capacity(alloc, stanzas.len())?;
+    for stanza in stanzas {
+        names.push(name_of_stanza(alloc, stanza)?)?;
     }
     Ok(names)
 }
 
-/// What a piece lacks of the empty line at its end.
+/// What a stanza lacks of the empty line at its end.
 #[tactic(auto, unfolding(crate::specs::Sorted::lacking))]
-fn lacking(piece: &[u8]) -> &'static [u8]
-    ensures { result.now ≡ lacking piece.now }
+fn lacking(stanza: &[u8]) -> &'static [u8]
+    ensures { result.now ≡ lacking stanza.now }
 {
-    if piece.ends_with(b"\n\n") || piece.ends_with(b"\n\r\n") {
+    if stanza.ends_with(b"\n\n") || stanza.ends_with(b"\n\r\n") {
         b""
-    } else if piece.ends_with(b"\n") {
+    } else if stanza.ends_with(b"\n") {
         b"\n"
     } else {
         b"\n\n"
     }
 }
 
-/// Puts a piece with these behind it at the end of a text.
-fn put_piece(piece: &[u8], others: &[&[u8]], out: &mut Vec<u8>) -> Result<(), AllocError>
-    ensures { OnOk result (out.new.items ≡ out.old.items ++ before (map (λ p. p.now) others.now) piece.now) }
+/// Puts a stanza with these behind it at the end of a text.
+fn put_stanza(stanza: &[u8], others: &[&[u8]], out: &mut Vec<u8>) -> Result<(), AllocError>
+    ensures { OnOk result (out.new.items ≡ out.old.items ++ before (map (λ p. p.now) others.now) stanza.now) }
 {
-    out.extend_from_slice(piece)?;
+    out.extend_from_slice(stanza)?;
     match others {
         [] => Ok(()),
-        [_, ..] => out.extend_from_slice(lacking(piece)),
+        [_, ..] => out.extend_from_slice(lacking(stanza)),
     }
 }
 
-/// Puts pieces at the end of a text, each but the last with an empty line at its end.
+/// Puts stanzas at the end of a text, each but the last with an empty line at its end.
 #[tactic(auto, unfolding(crate::specs::Sorted::joined))]
-fn put_pieces(pieces: &[&[u8]], out: &mut Vec<u8>) -> Result<(), AllocError>
-    ensures { OnOk result (out.new.items ≡ out.old.items ++ joined (map (λ p. p.now) pieces.now)) }
+fn put_stanzas(stanzas: &[&[u8]], out: &mut Vec<u8>) -> Result<(), AllocError>
+    ensures { OnOk result (out.new.items ≡ out.old.items ++ joined (map (λ p. p.now) stanzas.now)) }
 {
-    for index in 0..pieces.len() {
-        put_piece(pieces[index], &pieces[index + 1..], out)?;
+    for index in 0..stanzas.len() {
+        put_stanza(stanzas[index], &stanzas[index + 1..], out)?;
     }
     Ok(())
 }
 
-/// The piece with this number, from 0; empty where there is none.
-fn piece_at<'a>(pieces: &[&'a [u8]], number: usize) -> &'a [u8]
-    ensures { result.now ≡ slice_index_or (map (λ p. p.now) pieces.now) number [] }
+/// The stanza with this number, from 0; empty where there is none.
+fn stanza_at<'a>(stanzas: &[&'a [u8]], number: usize) -> &'a [u8]
+    ensures { result.now ≡ slice_index_or (map (λ p. p.now) stanzas.now) number [] }
 {
-    match pieces.get(number) {
-        Some(piece) => piece,
+    match stanzas.get(number) {
+        Some(stanza) => stanza,
         None => &[],
     }
 }
 
-/// Pieces in the order in which they are printed.
-fn in_turn<'a>(alloc: Global, pieces: &[&'a [u8]]) -> Result<Vec<&'a [u8]>, AllocError>
-    ensures { IfOk result (λ ps. map (λ p. p.now) ps.items ≡ sorted_pieces (map (λ p. p.now) pieces.now)) }
+/// Stanzas in the order in which they are printed.
+fn in_turn<'a>(alloc: Global, stanzas: &[&'a [u8]]) -> Result<Vec<&'a [u8]>, AllocError>
+    ensures { IfOk result (λ ps. map (λ p. p.now) ps.items ≡ sorted_stanzas (map (λ p. p.now) stanzas.now)) }
 {
-    let names = names_of(alloc, pieces)?;
-    let mut found = Vec::with_capacity(alloc, pieces.len())?;
+    let names = names_of(alloc, stanzas)?;
+    let mut found = Vec::with_capacity(alloc, stanzas.len())?;
     for turn in turns(alloc, &names)?.iter() {
-        found.push(piece_at(pieces, turn.number))?;
+        found.push(stanza_at(stanzas, turn.number))?;
     }
     Ok(found)
 }
@@ -88,6 +88,6 @@ pub fn sort_records(alloc: Global, text: &[u8]) -> Result<Vec<u8>, AllocError>
 {
     let (head, body) = split_head(alloc, text)?;
     let mut out = Vec::from_slice(alloc, head)?;
-    put_pieces(&in_turn(alloc, &pieces(alloc, body)?)?, &mut out)?;
+    put_stanzas(&in_turn(alloc, &stanzas(alloc, body)?)?, &mut out)?;
     Ok(out)
 }

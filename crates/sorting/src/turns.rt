@@ -1,4 +1,4 @@
-//! In which order pieces are printed, by their names.
+//! In which order stanzas are printed, by their names.
 
 ghost use Rattle.std.specs.Prelude.{◌≡◌, ℕ, List, Option, if◌then◌else◌, IfOk, OnOk};
 ghost use Rattle.sorting.specs.Turns.{is_named, greatest_last, turn_of, turns};
@@ -10,18 +10,18 @@ use base::Bytes;
 use std::alloc::{AllocError, Global};
 use std::collections::{BTreeMap, BTreeSet};
 
-/// When a piece is printed: by its place, at one place by its depth, and then by its number.
+/// When a stanza is printed: by its position, at one position by its depth, and then by its number.
 #[derive(Clone, Copy, Drop, PartialEq, Eq, PartialOrd, Ord)]
 pub(crate) struct Turn {
-    /// The number of the last piece that is above it, or its own where that is greater.
-    place: usize,
+    /// The number of the last stanza that is above it, or its own where that is greater.
+    position: usize,
     /// How many RDNs its name has, 0 where it has none.
     depth: usize,
-    /// Which piece it is, from 0.
+    /// Which stanza it is, from 0.
     pub(crate) number: usize,
 }
 
-/// Puts the number of a piece in the place of that which its name has, if it has a name.
+/// Makes the number of a stanza that of its name, if it has one.
 fn put_number(
     alloc: Global,
     numbers: &mut BTreeMap<Bytes, usize>,
@@ -38,7 +38,7 @@ fn put_number(
     Ok(())
 }
 
-/// The number of the last piece of each name.
+/// The number of the last stanza of each name.
 #[tactic(auto, unfolding(crate::specs::Turns::last_from))]
 fn last_numbers(
     alloc: Global,
@@ -53,7 +53,7 @@ fn last_numbers(
     Ok(numbers)
 }
 
-/// The greatest of a number and of those of the last pieces with these names.
+/// The greatest of a number and of those of the last stanzas with these names.
 fn greatest_last(last_numbers: &BTreeMap<Bytes, usize>, number: usize, texts: &[Bytes]) -> usize
     ensures { (names : List (Option NormalName)) → AreLastNumbers names last_numbers.now
         → result ≡ greatest_last names number texts.now }
@@ -67,26 +67,26 @@ fn greatest_last(last_numbers: &BTreeMap<Bytes, usize>, number: usize, texts: &[
     greatest
 }
 
-/// The turn of the piece with this number and this name.
+/// The turn of the stanza with this number and this name.
 fn turn_of(last_numbers: &BTreeMap<Bytes, usize>, number: usize, name: &Option<NormalName>) -> Turn
     ensures { (names : List (Option NormalName)) → AreLastNumbers names last_numbers.now
         → result ≡ turn_of names number name.now }
 {
     match name {
         None => Turn {
-            place: number,
+            position: number,
             depth: 0,
             number,
         },
         Some(name) => Turn {
-            place: greatest_last(last_numbers, number, name.above.as_slice()),
+            position: greatest_last(last_numbers, number, name.above.as_slice()),
             depth: name.above.len() + 1,
             number,
         },
     }
 }
 
-/// The turns of pieces with these names, in order.
+/// The turns of stanzas with these names, in order.
 #[tactic(auto, unfolding(crate::specs::Turns::turns, crate::specs::Turns::with_turns, crate::specs::Turns::turns_from))]
 pub(crate) fn turns(
     alloc: Global,

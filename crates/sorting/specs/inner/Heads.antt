@@ -1,6 +1,6 @@
 -- The front of a text behind some of its lines.
 use Rattle.std.specs.Prelude.{◌≡◌, ℕ, Bool, List, ◌++◌}
-use Rattle.sorting.specs.Pieces.{ended_lines}
+use Rattle.sorting.specs.Stanzas.{ended_lines}
 use Rattle.sorting.specs.Heads.{front_of, front}
 use Rattle.sorting.specs.declared.heads.Stage.{Stage}
 

@@ -3,4 +3,4 @@ use Rattle.sorting.specs.Sorted.{in_turn}
 use Rattle.sorting.proofs.sorted.in_turn.Given as goal
 
 abbrev pub invariant-loop-turn : goal.invariant-loop-turn
-invariant-loop-turn l = map (λ p. p.now) l.found.items ≡ in_turn (map (λ p. p.now) l.fn.pieces) (map (λ t. t.now) l.yielded)
+invariant-loop-turn l = map (λ p. p.now) l.found.items ≡ in_turn (map (λ p. p.now) l.fn.stanzas) (map (λ t. t.now) l.yielded)

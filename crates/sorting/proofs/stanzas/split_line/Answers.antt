@@ -1,7 +1,7 @@
 use Rattle.std.proofs.Common.{ℕ, Option, subst}
 use Rattle.memchr.specs.Find.{IsFirstByte, is_byte}
 use Rattle.sorting.proofs.Cutting.{cut_at, uncut}
-use Rattle.sorting.proofs.pieces.split_line.Goals as goal
+use Rattle.sorting.proofs.stanzas.split_line.Goals as goal
 
 pub returns-in-Some-clause-lines : goal.returns-in-Some-clause-lines
 returns-in-Some-clause-lines c =

@@ -1,8 +1,8 @@
-//! A text cut into pieces, each a record with what stands before it.
+//! A text cut into stanzas, each a record with what stands before it.
 
 ghost use Rattle.std.specs.Prelude.{◌≡◌, ◌<◌, ◌≤◌, ◌∷◌, ◌++◌, [], IfOk, length, map};
-ghost use Rattle.sorting.specs.Pieces.{ended_lines, is_empty, is_kept, behind, ends_piece, unbegun, pieces};
-ghost use Rattle.sorting.specs.inner.Pieces.{IsFirstPiece};
+ghost use Rattle.sorting.specs.Stanzas.{ended_lines, is_empty, is_kept, behind, ends_stanza, unbegun, stanzas};
+ghost use Rattle.sorting.specs.inner.Stanzas.{IsFirstStanza};
 
 use base::begins_with;
 use memchr::memchr;
@@ -35,7 +35,7 @@ pub(crate) fn is_kept(first: bool, line: &[u8]) -> bool
     !is_empty(line) && !begins_with(line, b'#') && (first || !begins_with(line, b' '))
 }
 
-/// What is known of a piece behind some of its lines.
+/// What is known of a stanza behind some of its lines.
 #[derive(Clone, Copy, Drop)]
 struct Begun {
     /// Whether a line of a record was among them.
@@ -54,9 +54,9 @@ impl Begun {
         }
     }
 
-    /// Whether the piece ends with this line.
+    /// Whether the stanza ends with this line.
     fn ends_with(self, line: &[u8]) -> bool
-        ensures { result ≡ ends_piece self line.now }
+        ensures { result ≡ ends_stanza self line.now }
     {
         self.has_record && is_empty(line)
     }
@@ -72,10 +72,10 @@ impl Begun {
     }
 }
 
-/// How long the first piece of a text is.
-fn piece_len(text: &[u8]) -> usize
+/// How long the first stanza of a text is.
+fn stanza_len(text: &[u8]) -> usize
     ensures within { result ≤ length text.now }
-    ensures first { 0 < length text.now → IsFirstPiece text.now result }
+    ensures first { 0 < length text.now → IsFirstStanza text.now result }
 {
     let mut begun = Begun::new();
     let mut rest = text;
@@ -90,16 +90,16 @@ fn piece_len(text: &[u8]) -> usize
     text.len()
 }
 
-/// The pieces of a text.
-#[tactic(auto, unfolding(crate::specs::Pieces::pieces_from, crate::specs::Pieces::ended_lines))]
-pub(crate) fn pieces(alloc: Global, text: &[u8]) -> Result<Vec<&[u8]>, AllocError>
-    ensures { IfOk result (λ ps. map (λ p. p.now) ps.items ≡ pieces text.now) }
+/// The stanzas of a text.
+#[tactic(auto, unfolding(crate::specs::Stanzas::stanzas_from, crate::specs::Stanzas::ended_lines))]
+pub(crate) fn stanzas(alloc: Global, text: &[u8]) -> Result<Vec<&[u8]>, AllocError>
+    ensures { IfOk result (λ ps. map (λ p. p.now) ps.items ≡ stanzas text.now) }
 {
     let mut found = Vec::new(alloc);
     let mut rest = text;
-    'pieces: while !rest.is_empty() {
-        let (piece, others) = rest.split_at(piece_len(rest));
-        found.push(piece)?;
+    'stanzas: while !rest.is_empty() {
+        let (stanza, others) = rest.split_at(stanza_len(rest));
+        found.push(stanza)?;
         rest = others;
     }
     Ok(found)

@@ -1,8 +1,8 @@
 use Rattle.std.proofs.Common.{sym, subst, ◌∙◌}
-use Rattle.sorting.specs.inner.Pieces.{GoesOn}
-use Rattle.sorting.specs.declared.pieces.Begun.{Begun}
+use Rattle.sorting.specs.inner.Stanzas.{GoesOn}
+use Rattle.sorting.specs.declared.stanzas.Begun.{Begun}
 use Rattle.sorting.proofs.Cutting.{goes_on, ends_here, all_taken, is_empty_so}
-use Rattle.sorting.proofs.pieces.piece_len.Goals as goal
+use Rattle.sorting.proofs.stanzas.stanza_len.Goals as goal
 
 pub lines-preserved : goal.lines-preserved
 lines-preserved c =

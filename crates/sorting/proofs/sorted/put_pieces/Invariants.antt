@@ -1,6 +1,0 @@
-use Rattle.std.proofs.Common.{◌≡◌, ◌++◌, drop, map}
-use Rattle.sorting.specs.Sorted.{joined}
-use Rattle.sorting.proofs.sorted.put_pieces.Given as goal
-
-abbrev pub invariant-loop-index : goal.invariant-loop-index
-invariant-loop-index l = l.out.items ++ joined (map (λ p. p.now) (drop l.index l.pieces)) ≡ l.fn.out.items ++ joined (map (λ p. p.now) l.fn.pieces)
