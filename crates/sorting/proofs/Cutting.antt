@@ -67,13 +67,13 @@ uncut (x ∷ xs) line rest some h front back =
 -- ---- stanzas
 
 -- a line more was taken of the first stanza
-taken_more : (taken line : List ℕ) (ps : List (List ℕ)) → 0 < length line → with_taken taken (before_first line ps) ≡ with_taken (taken ++ line) ps
+pub taken_more : (taken line : List ℕ) (ps : List (List ℕ)) → 0 < length line → with_taken taken (before_first line ps) ≡ with_taken (taken ++ line) ps
 taken_more [] [] ps some = absurd (omega (arith, some))
 taken_more [] (b ∷ bs) ps some = refl
 taken_more (t ∷ ts) line [] some = refl
 taken_more (t ∷ ts) line (p ∷ ps) some = ap (λ (l : List ℕ). l ∷ ps) (sym (append_assoc (t ∷ ts) line p))
 
-taken_of : (taken stanza : List ℕ) (ps : List (List ℕ)) → with_taken taken (stanza ∷ ps) ≡ (taken ++ stanza) ∷ ps
+pub taken_of : (taken stanza : List ℕ) (ps : List (List ℕ)) → with_taken taken (stanza ∷ ps) ≡ (taken ++ stanza) ∷ ps
 taken_of [] stanza ps = refl
 taken_of (t ∷ ts) stanza ps = refl
 

@@ -7,5 +7,6 @@ pub mod Aboves
 pub mod InTurn
 pub mod Kept
 pub mod Complete
+pub mod Whole
 pub mod Examples
 pub mod OrderExamples

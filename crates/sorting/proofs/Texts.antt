@@ -22,11 +22,11 @@ is_no_feed b = not (b == line_feed)
 abbrev pub is_free : List ℕ → Bool
 is_free text = list_all is_no_feed text
 
-left : (a b : Bool) → (a && b) ≡ true → a ≡ true
+pub left : (a b : Bool) → (a && b) ≡ true → a ≡ true
 left true b h = refl
 left false b h = h
 
-right : (a b : Bool) → (a && b) ≡ true → b ≡ true
+pub right : (a b : Bool) → (a && b) ≡ true → b ≡ true
 right true b h = h
 right false b h = let no : false ≡ true = h in cc
 
