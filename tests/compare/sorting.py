@@ -113,7 +113,7 @@ def name_of(piece):
 
 
 def step_of(rdn):
-    return tuple(sorted((kind.lower(), values.normal("ignore", value)) for kind, value in rdn))
+    return tuple(sorted({(kind.lower(), values.normal("ignore", value)) for kind, value in rdn}))
 
 
 # what holds of the order
