@@ -85,8 +85,8 @@ named_by name is_input = if is_input then None else Some name
 module _ (name : List ℕ) (conf : Conf) (old d : Entries) (told : List ℕ) (w : World) where
   pub from_input : (b : Bool) → b ≡ bytes_eq name (codes "-") → b ≡ true → (input : Seen) → AddsText conf old w.input.left d told
       → AddsFile name conf old d told w (record w { input = input })
-  from_input b test yes input adds =
-      let none : list_source name ≡ None = ap (named_by name) (sym test ∙ yes) in
+  from_input b test is input adds =
+      let none : list_source name ≡ None = ap (named_by name) (sym test ∙ is) in
       record {
         source = w.input;
         source' = input;
@@ -98,8 +98,8 @@ module _ (name : List ℕ) (conf : Conf) (old d : Entries) (told : List ℕ) (w 
   -- only what is left to read of it counts
   pub from_file : (b : Bool) → b ≡ bytes_eq name (codes "-") → b ≡ false → (left : Option (List ℕ)) → Finds w.files name (Some left) → AddsText conf old left d told
       → AddsFile name conf old d told w w
-  from_file b test no left finds adds =
-      let some : list_source name ≡ Some name = ap (named_by name) (sym test ∙ no) in
+  from_file b test is left finds adds =
+      let some : list_source name ≡ Some name = ap (named_by name) (sym test ∙ is) in
       let source : Seen = record (w.input) { left = left } in
       record {
         source = source;
@@ -111,10 +111,10 @@ module _ (name : List ℕ) (conf : Conf) (old d : Entries) (told : List ℕ) (w 
 
 -- the name of the input, and of any other file
 pub input_name : (name : List ℕ) (b : Bool) → b ≡ bytes_eq name (codes "-") → b ≡ true → codes "input" ≡ file_name name
-input_name name b test yes = sym (ap (λ (o : Option (List ℕ)). source_name o) (ap (named_by name) (sym test ∙ yes)))
+input_name name b test is = sym (ap (λ (o : Option (List ℕ)). source_name o) (ap (named_by name) (sym test ∙ is)))
 
 pub own_name : (name : List ℕ) (b : Bool) → b ≡ bytes_eq name (codes "-") → b ≡ false → name ≡ file_name name
-own_name name b test no = sym (ap (λ (o : Option (List ℕ)). source_name o) (ap (named_by name) (sym test ∙ no)))
+own_name name b test is = sym (ap (λ (o : Option (List ℕ)). source_name o) (ap (named_by name) (sym test ∙ is)))
 
 -- ---- what is told
 

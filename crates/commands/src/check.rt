@@ -234,6 +234,38 @@ struct Told {
     over: Vec<u8>,
 }
 
+/// Puts what is reported of that at the end of a text.
+fn put_told(
+    alloc: Global,
+    file: Option<&str>,
+    told: &Told,
+    text: &mut Vec<u8>,
+) -> Result<(), AllocError>
+    ensures { OnOk result (text.new.items ≡ text.old.items ++ told_reports (option_copied file.entry) told.now) }
+{
+    report_refused(alloc, "data.ldif", told.loaded.as_slice(), text)?;
+    report_file(alloc, file, told.over.as_slice(), text)?;
+    text.extend_from_slice(told.index.as_slice())?;
+    Ok(())
+}
+
+/// Puts what is reported of references and values of a directory at the end of a text.
+fn put_values(
+    alloc: Global,
+    types: &CheckedTypes,
+    database: &Database,
+    text: &mut Vec<u8>,
+) -> Result<(), AllocError>
+    requires known { AllByRecursion (λ t. t < length database.now.conf.types) types.now.unique.items }
+    ensures { OnOk result (text.new.items ≡ text.old.items
+        ++ value_reports database.now.conf database.now.entries types.now.references.items types.now.unique.items) }
+{
+    let (conf, tree) = (database.conf(), database.tree());
+    report_dangling(alloc, conf, tree, types.references.as_slice(), text)?;
+    report_shared(alloc, conf, tree, types.unique.as_slice(), text)?;
+    Ok(())
+}
+
 /// All that is reported of a directory, of which this was told.
 fn reports(
     alloc: Global,
@@ -247,13 +279,9 @@ fn reports(
         ++ value_reports database.now.conf database.now.entries types.now.references.items types.now.unique.items) }
     ensures memory { IfErr result IsMemory }
 {
-    let (conf, tree) = (database.conf(), database.tree());
     let mut text = Vec::new(alloc);
-    report_refused(alloc, "data.ldif", told.loaded.as_slice(), &mut text)?;
-    report_file(alloc, file, told.over.as_slice(), &mut text)?;
-    text.extend_from_slice(told.index.as_slice())?;
-    report_dangling(alloc, conf, tree, types.references.as_slice(), &mut text)?;
-    report_shared(alloc, conf, tree, types.unique.as_slice(), &mut text)?;
+    put_told(alloc, file, told, &mut text)?;
+    put_values(alloc, types, database, &mut text)?;
     Ok(text)
 }
 

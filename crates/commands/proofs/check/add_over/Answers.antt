@@ -31,4 +31,4 @@ returns-in-None-clause-adds g c = λ w.
     let d = c.args.database.now in
     let start : World = source_world w g.F.Folder.files g.S.Source.seen c.args.folder.now c.args.input.now in
     subst (λ (file : Option (Bor (List ℕ))). AddsOver (option_copied file) d.conf d.entries d.entries c.new.result.items start start) (sym c.in-None.is)
-    (refl, (c.new.ensures.items, refl))
+    (refl, c.new.ensures.items, refl)

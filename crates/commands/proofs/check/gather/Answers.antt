@@ -1,10 +1,11 @@
-use Rattle.std.proofs.Common.{◌≡◌, ◌∙◌, List, ℕ, Option, Some, inl, inr, refl, sym, subst}
+use Rattle.std.proofs.Common.{◌≡◌, [], inl, inr, refl, subst}
 use Rattle.std.specs.Option.{option_copied}
 use Rattle.std.proofs.lemmas.Result.{err_from_is_err_and}
 use Rattle.schema.specs.Conf.{Conf}
-use Rattle.commands.specs.Checks.{AddsOver, CheckFails}
+use Rattle.commands.specs.DirectoryFiles.{index_name}
+use Rattle.commands.specs.Checks.{AddsOver}
 use Rattle.commands.specs.Worlds.{World, source_world}
-use Rattle.commands.specs.inner.Checked.{HasAdded, ReportsIndex}
+use Rattle.commands.specs.inner.Checked.{ReportsIndex}
 use Rattle.commands.proofs.check.gather.Goals as goal
 
 pub returns-in_err-loaded-clause-fails : goal.returns-in_err-loaded-clause-fails
@@ -27,12 +28,12 @@ returns-clause-gathers g c = λ w.
     let asked = c.args.asked.now in
     let files = g.F.Folder.files c.args.folder.now in
     let start : World = source_world w g.F.Folder.files g.S.Source.seen c.args.folder.now c.args.input.now in
-    let end : World = source_world w g.F.Folder.files g.S.Source.seen c.args.folder.now c.add_over-over.new.input in
-    let loaded = c.load_records-loaded.new.database.entries in
-    let same : c.load_records-loaded.new.database.conf ≡ c.args.database.now.conf = c.in_ok-loaded.ensures.same_conf in
+    let end : World = source_world w g.F.Folder.files g.S.Source.seen c.args.folder.now c.add_over.new.input in
+    let loaded = c.load_records.new.database.entries in
+    let same : c.load_records.new.database.conf ≡ c.args.database.now.conf = c.in_ok-loaded.ensures.same_conf in
     record {
       loaded = loaded;
       adds = c.in_ok-loaded.ensures.adds;
-      index = subst (λ (conf : Conf). ReportsIndex files _ conf loaded _ c.in_ok-index.index.items) same c.in_ok-index.ensures.reports;
-      over = subst (λ (conf : Conf). AddsOver (option_copied asked.file) conf loaded c.add_over-over.new.database.entries c.in_ok-over.over.items start end) same (c.in_ok-over.ensures.adds w);
+      index = subst (λ (conf : Conf). ReportsIndex files (index_name asked.db.now) conf loaded [] c.in_ok-index.index.items) same c.in_ok-index.ensures.reports;
+      over = subst (λ (conf : Conf). AddsOver (option_copied asked.file) conf loaded c.add_over.new.database.entries c.in_ok-over.over.items start end) same (c.in_ok-over.ensures.adds w);
     }
