@@ -32,7 +32,7 @@ use Rattle.commands.specs.Statuses.{status_of_reports}
 use Rattle.commands.specs.Worlds.{World}
 use Rattle.commands.specs.Lists.{list_source}
 use Rattle.commands.specs.Checks.{AddsText, AddsFile, AddsOver, FailsOver, file_name, file_reports, value_reports, line_of_difference, TellsFaults, TellsOthers, Checks}
-use Rattle.commands.specs.Checks.{CheckFails, IsUncheckable, CheckGoesThrough, CheckStops}
+use Rattle.commands.specs.Checks.{LacksFirst, CheckFails, IsUncheckable, CheckGoesThrough, CheckStops}
 use Rattle.commands.specs.inner.Checked.{AreTypesAsked, HasAdded, told_reports, HasGathered}
 use Rattle.commands.specs.inner.Stopped.{HasStopped, HasEnded}
 use Rattle.commands.specs.declared.check.CheckedTypes.{CheckedTypes}
@@ -118,6 +118,12 @@ own_name name b test is = sym (ap (λ (o : Option (List ℕ)). source_name o) (a
 
 -- ---- what is told
 
+-- three texts, put behind another one after the other
+pub three_put : (old r f i a b c : List ℕ) → a ≡ old ++ r → b ≡ a ++ f → c ≡ b ++ i → c ≡ old ++ (r ++ (f ++ i))
+three_put old r f i a b c first second third =
+    third ∙ ap (λ (front : List ℕ). front ++ i) (second ∙ ap (λ (front : List ℕ). front ++ f) first)
+    ∙ append_assoc (old ++ r) f i ∙ append_assoc old r (f ++ i)
+
 -- want of memory behind the file that is named, or where none is
 pub want_behind : (asked : CheckOptions) (conf : Conf) (old d : Entries) (told : List ℕ) (w w' : World) → IsConfigured w.files (conf_name asked.db.now) conf
     → AddsOver (option_copied asked.file) conf old d told w w' → CheckFails asked faults.OutOfMemory w w'
@@ -159,6 +165,12 @@ pub faults_told : (asked : CheckOptions) (w : World) (conf_text : List ℕ) (lin
 unfolding AreFaults
 faults_told asked w conf_text line kind [] text there fails are is = let bad : Ok are.0 ≡ Err (line, kind) = sym are.1 ∙ fails in absurd cc
 faults_told asked w conf_text line kind (first ∷ others) text there fails are is = record { conf_text = conf_text; there = there; first = first; others = others; are = are; text_is = is; stays = refl }
+
+-- where a text is read as a configuration, types may be named that aren't known under it
+pub lacks_so : (asked : CheckOptions) (w : World) (slice text : List ℕ) (conf : Conf) (why : Stop) → Finds w.files (conf_name asked.db.now) (Some (Some text)) → slice ≡ text → conf_of slice ≡ Ok conf
+    → LacksFirst asked conf.types why → IsUncheckable asked why w w
+lacks_so asked w slice text conf why there same says lacks =
+    inr (record { conf = conf; configured = record { text = text; there = there; says = subst (λ (t : List ℕ). conf_of t ≡ Ok conf) same says }; lacks = lacks }, refl)
 
 -- where a text can't be read as a configuration, this is its first fault
 pub fails_so : (slice text : List ℕ) → slice ≡ text → (e : ConfFault) (line : ℕ) (kind : ConfFaultKind) → e ≡ Line line kind → Fails (fault_at e) (conf_of slice) → conf_of text ≡ Err (line, kind)
