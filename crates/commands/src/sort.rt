@@ -31,12 +31,12 @@ pub fn read_text<F: Folder, S: Source>(
         (source_world w F.files S.seen folder.now input.new)) }
     ensures fails { IfErr result (FailsToRead (source_name (option_copied file.entry))) }
 {
-    let Some(name) = file else {
-        return contents(alloc, input, "input");
-    };
-    match open_present(alloc, folder, name) {
-        Ok(mut source) => contents(alloc, &mut source, name),
-        Err(fault) => Err(fault),
+    match file {
+        None => contents(alloc, input, "input"),
+        Some(name) => match open_present(alloc, folder, name) {
+            Ok(mut source) => contents(alloc, &mut source, name),
+            Err(fault) => Err(fault),
+        },
     }
 }
 
@@ -71,5 +71,8 @@ pub fn sort<F: Folder, S: Source, O: Sink>(
 {
     let text = read_text(alloc, folder, input, asked.file)?;
     let sorted = sort_records(alloc, text.as_slice())?;
-    Ok(print_text(alloc, sorted.as_slice(), out)?)
+    match print_text(alloc, sorted.as_slice(), out) {
+        Ok(status) => Ok(status),
+        Err(fault) => Err(Stop::Fault(fault)),
+    }
 }
