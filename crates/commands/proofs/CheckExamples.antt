@@ -1,5 +1,6 @@
 -- Worked examples of what check says of index.txt, by computation.
-use Rattle.std.proofs.Common.{◌≡◌, [], None, Some, codes, refl}
+use Rattle.std.proofs.Common.{◌≡◌, ◌++◌, [], Some, codes, refl}
+use Rattle.std.specs.Fmt.{decimal}
 use Rattle.stored_index.specs.declared.fault.IndexFaultKind.TheVariants.{Stale}
 use Rattle.commands.specs.Checks.{line_of_difference, index_what}
 
@@ -24,5 +25,5 @@ empty : line_of_difference [] (codes "slapindex") ≡ 1
 unfolding line_of_difference
 empty = refl
 
-stale : index_what (Some Stale) 1 ≡ codes "I2 stale"
+stale : index_what (Some Stale) 1 ≡ codes "I" ++ (decimal 2 ++ codes " stale")
 stale = refl

@@ -1,5 +1,5 @@
 -- Searches of a list: one for each line of a file, on one load of the directory (ldapsearch(1), -f).
-use Rattle.std.specs.Prelude.{◌≡◌, ℕ, ◌+◌, ◌⊎◌, Bool, true, false, ◌&&◌, ◌==◌, List, [], ◌∷◌, ◌++◌, length, drop, map, bytes_eq, Option, None, Some, Err, if◌then◌else◌, codes}
+use Rattle.std.specs.Prelude.{◌≡◌, ℕ, ◌+◌, ◌⊎◌, Bool, true, false, ◌&&◌, ◌==◌, List, [], ◌∷◌, ◌++◌, length, drop, map, bytes_eq, Option, None, Some, if◌then◌else◌, codes}
 use Rattle.std.specs.Option.{option_copied}
 use Rattle.std.specs.List.{flat_map}
 use Rattle.std.specs.Fmt.{decimal}
@@ -34,7 +34,7 @@ use Rattle.commands.specs.Worlds.{World, IsPrinted, Reports}
 use Rattle.commands.specs.declared.messages.CommandFault.{CommandFault}
 use Rattle.commands.specs.declared.messages.CommandFault.TheVariants as faults
 use Rattle.commands.specs.declared.messages.Status.{Status}
-use Rattle.commands.specs.declared.messages.Status.TheVariants.{Done, Refused, Usage, Failed}
+use Rattle.commands.specs.declared.messages.Status.TheVariants.{Done, Refused, Usage}
 use Rattle.commands.specs.declared.messages.Stop.TheVariants as stops
 
 -- ---- the lines of a list
