@@ -85,7 +85,7 @@ def page(command, read, names, number, prefix):
     """The page of a command, or of the program where that is None, which has commands of these names, a number, and a prefix."""
     first, rest = own_text(command, prefix)
     lines = [f'.TH {title(command).upper()} 1 {date()} "{PROGRAM} {number}"']
-    lines += [".SH NAME", f"{title(command)} \\- {read.about[0].lower()}{read.about[1:]}"]
+    lines += [".SH NAME", *roff.wrapped(f"{title(command)} \\- {read.about[0].lower()}{read.about[1:]}")]
     lines += [".SH SYNOPSIS", *synopsis(command, read), ".SH DESCRIPTION", *first]
     lines += [".SH COMMANDS", *commands(read)] if read.commands else []
     lines += [".SH OPTIONS", *options(read)]
