@@ -1,6 +1,7 @@
--- Worked examples of how a text is cut, of names, and of the order, by computation.
+-- Worked examples of how a text is cut, and of its front, by computation.
 use Rattle.std.proofs.Common.{◌≡◌, [], ◌∷◌, codes, refl}
 use Rattle.sorting.specs.Stanzas.{ended_lines, stanzas_from, stanzas}
+use Rattle.sorting.specs.Heads.{front_of, front}
 use Rattle.sorting.specs.Sorted.{lacking, joined}
 
 -- a stanza ends with the first empty line behind a line of a record; what stands before it is its own
@@ -36,3 +37,17 @@ no_end = refl
 moved : joined (codes "dn: b" ∷ codes "dn: a\n\n" ∷ []) ≡ codes "dn: b\n\ndn: a\n\n"
 unfolding joined lacking
 moved = refl
+
+-- ---- the front of a text, which is its head where it has the version
+
+with_version : front (codes "# dump\nversion: 1\n\n\n# a\ndn: a\n") ≡ codes "# dump\nversion: 1\n\n\n"
+unfolding front_of ended_lines
+with_version = refl
+
+directly_before : front (codes "version:\n 1\n# a\ndn: a\n\n") ≡ codes "version:\n 1\n"
+unfolding front_of ended_lines
+directly_before = refl
+
+behind_empty_lines : front (codes "\n# a\n  b\n\r\ndn: a\nou: b\n") ≡ codes "\n# a\n  b\n\r\ndn: a\n"
+unfolding front_of ended_lines
+behind_empty_lines = refl

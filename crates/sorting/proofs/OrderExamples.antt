@@ -1,8 +1,9 @@
 -- Worked examples of normal forms of names, and of the order of stanzas by their names, by computation.
-use Rattle.std.proofs.Common.{◌≡◌, ℕ, List, [], ◌∷◌, map, Option, None, codes, refl}
+use Rattle.std.proofs.Common.{◌≡◌, ℕ, true, false, List, [], ◌∷◌, map, Option, None, codes, refl}
 use Rattle.sorting.specs.NormalNames.{with_texts, normal_rdn, name_of_rdns}
 use Rattle.sorting.specs.Turns.{last_from, turns_from, with_turns, turns}
 use Rattle.sorting.specs.declared.normal_names.NormalName.{NormalName}
+use Rattle.sorting.specs.Orders.{is_above}
 use Rattle.sorting.specs.declared.turns.Turn.{Turn}
 use Rattle.dn.specs.Writing.{written, text_from}
 use Rattle.matching.specs.Forms.{norm}
@@ -53,3 +54,21 @@ missing = refl
 nothing_above : order_of (low ∷ middle ∷ []) ≡ 1 ∷ 0 ∷ []
 unfolding turns with_turns turns_from last_from
 nothing_above = refl
+
+-- ---- above: RDN by RDN a proper end
+
+above : is_above top low ≡ true
+above = refl
+
+not_itself : is_above middle middle ≡ false
+not_itself = refl
+
+not_below : is_above low top ≡ false
+not_below = refl
+
+-- the end of an RDN is none of a name
+within_an_rdn : is_above top (name (codes "a" ∷ codes "bx" ∷ [])) ≡ false
+within_an_rdn = refl
+
+nobody : is_above None low ≡ false
+nobody = refl
