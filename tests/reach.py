@@ -64,14 +64,46 @@ def code_items(file, lines):
         yield Item(file, (name,), "\n".join(without_bodies(part)))
 
 
+def is_stated(line):
+    """Whether a line begins what says the type of something, and no equation: a colon stands before any equals sign, in no parentheses."""
+    depth = 0
+    for at, sign in enumerate(line):
+        depth += (sign in "({") - (sign in ")}")
+        if depth == 0 and line[at:at + 3] in (" : ", " = "):
+            return sign == " " and line[at + 1] == ":"
+    return False
+
+
+def name_of(line):
+    return next((word for word in WORD.findall(line.split(":")[0]) if word not in MODIFIERS), "")
+
+
+def in_module(part):
+    """The definitions in a module, or in modules in it: the first lines of these, and the lines of each."""
+    heads, found = [], []
+    for line in part:
+        indent = len(line) - len(line.lstrip())
+        heads = [head for head in heads if head[0] < indent] if line.lstrip().startswith("module ") or found else heads
+        if line.lstrip().startswith("module "):
+            heads.append((indent, line))
+        elif heads and indent == heads[-1][0] + 2:
+            found.append(([head for _, head in heads], [line]))
+        elif found:
+            found[-1][1].append(line)
+    return found
+
+
 def proof_items(file, lines):
-    """The items of a file of definitions or lemmas. A module has the names of those in it."""
-    lines = [line for line in lines if not line.lstrip().startswith("--")]
-    for part in parts_of(lines, lambda line: line and line[0] not in " \t}"):
-        fronts = [line for line in part if re.match(r" +[^→\s].* : ", line)] if part[0].startswith("module ") else part[:1]
-        names = [next((word for word in WORD.findall(line.split(":")[0]) if word not in MODIFIERS), "") for line in fronts]
-        if not part[0].startswith("use "):
-            yield Item(file, tuple(names), "\n".join(part))
+    """The items of a file of definitions or lemmas; of lemmas what they state."""
+    is_lemma = Path(file).parts[2] == "proofs"
+    lines = [line for line in lines if line.strip() and not line.lstrip().startswith("--")]
+    for part in parts_of(lines, lambda line: line[0] not in " \t}"):
+        if part[0].startswith("module "):
+            for inner in in_module(part):
+                if not is_lemma or is_stated(inner[1][0]):
+                    yield Item(file, (name_of(inner[1][0]),), "\n".join([*inner[0], *inner[1]]))
+        elif not part[0].startswith("use ") and (not is_lemma or is_stated(part[0])):
+            yield Item(file, (name_of(part[0]),), "\n".join(part))
 
 
 def items_of(folder):
