@@ -260,5 +260,5 @@ def base_of(before, after, name):
         if path not in after.entries and path not in before.entries:
             raise model.Refused(32, before.no_entry(name, path))
     except model.Refused as refused:
-        raise model.Ended(2, f"ldifdiff: {refused}", f"  {refused.why}\n") from None
+        raise model.Ended(2, f"ldifdiff: {refused}", sentences.line(refused.why)) from None
     return path

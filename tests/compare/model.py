@@ -51,7 +51,7 @@ class Ended(Exception):
 
 
 def fixed(name):
-    return f"{sentences.name(name)}: users can't change it (NO-USER-MODIFICATION)"
+    return f"{sentences.type_name(name)}: users can't change it (NO-USER-MODIFICATION)"
 
 
 class Attributes:
@@ -96,7 +96,7 @@ class Attributes:
                                for number in single])
 
     def printed(self, number):
-        return sentences.name(self.conf.types[number].printed())
+        return sentences.type_name(self.conf.types[number].printed())
 
     def named_types(self, numbers):
         """How types that a class requires are named: at most three by their names, and how many more there are."""
@@ -112,7 +112,7 @@ class Attributes:
         lacked = []
         for named in map(conf.class_of, names):
             numbers = [number for number in conf.required_in_order(named) if number not in self.values]
-            lacked += [f"{sentences.name(conf.printed_class(named))} requires {self.named_types(numbers)}"] * bool(numbers)
+            lacked += [f"{sentences.type_name(conf.printed_class(named))} requires {self.named_types(numbers)}"] * bool(numbers)
         if lacked:
             return lacked
         belongs = conf.with_superclasses([conf.class_of(name) for name in names])
@@ -146,7 +146,7 @@ class Directory:
         return pairs, tuple(tuple(step) for step in reversed(steps[:depth]))
 
     def ava_words(self, what, code, kind, value, flaw):
-        name = sentences.name(kind)
+        name = sentences.type_name(kind)
         if flaw == "value":
             return f"{what}: {sentences.no_value(self.conf, self.conf.type_of(kind), value)}"
         return f"{what} has {name}" + {
@@ -224,7 +224,7 @@ class Directory:
             key = number, self.conf.normal(number, value)
             if key in places:
                 other = sentences.value(lines[places[key]][1])
-                raise Refused(20, (f"{sentences.name(name)}: {sentences.value(value)} equals {other}", ("attribute", places[key])), part)
+                raise Refused(20, (f"{sentences.type_name(name)}: {sentences.value(value)} equals {other}", ("attribute", places[key])), part)
             attributes.add(number, value)
             places[key] = place
         return attributes
@@ -234,8 +234,8 @@ class Directory:
         if name.lower() == b"dn":
             return "a dn: line within a record; an empty line is missing before it"
         if b";" in name:
-            return f"{sentences.name(name)}: attribute options aren't kept"
-        return f"{sentences.name(name)} is no attribute type of dir.conf"
+            return f"{sentences.type_name(name)}: attribute options aren't kept"
+        return f"{sentences.type_name(name)} is no attribute type of dir.conf"
 
     def delete(self, dn):
         """An entry with entries below it stays (RFC 4511, 4.8)."""
@@ -262,7 +262,7 @@ class Directory:
     def modify_one(self, attributes, block, place=0, before=None):
         """`before` are the attributes of the entry as it is there."""
         before = attributes if before is None else before
-        number, part, name = self.conf.type_of(block.name), ("block", place), sentences.name(block.name)
+        number, part, name = self.conf.type_of(block.name), ("block", place), sentences.type_name(block.name)
         if number is None:
             raise Refused(17, self.no_type(block.name), part)
         kind, is_there = self.conf.types[number], number in attributes.values
@@ -285,7 +285,7 @@ class Directory:
             attributes.replace(number, block.values)
 
     def add_values(self, attributes, number, block, place, before):
-        name = sentences.name(block.name)
+        name = sentences.type_name(block.name)
         for at, value in enumerate(block.values):
             if not self.conf.is_valid(number, value):
                 raise Refused(21, sentences.no_value(self.conf, number, value), ("value", place, at))
@@ -301,7 +301,7 @@ class Directory:
             if not self.conf.is_valid(number, value):
                 raise Refused(21, sentences.no_value(self.conf, number, value), ("value", place, at))
             if not attributes.has(number, value):
-                raise Refused(16, f"{sentences.name(block.name)}: {sentences.value(value)} isn't there", ("value", place, at))
+                raise Refused(16, f"{sentences.type_name(block.name)}: {sentences.value(value)} isn't there", ("value", place, at))
             attributes.remove(number, value)
 
     def rename(self, dn, rename):
@@ -491,7 +491,7 @@ def base_of(directory, name, command):
     try:
         return directory.base(name)
     except Refused as refused:
-        raise Ended(1, f"{command}: {refused}", f"  {refused.why}\n") from None
+        raise Ended(1, f"{command}: {refused}", sentences.line(refused.why)) from None
 
 
 def slapcat(conf_text, data, folder, filter_text=None, below=None, verbose=False, wrap=None):

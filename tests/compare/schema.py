@@ -54,7 +54,7 @@ class Fault(Exception):
     def __init__(self, line, code, why="", word_line=0):
         super().__init__(f"dir.conf line {line}: {code} {FAULTS[code]}")
         self.line = line
-        self.why = f"  line {word_line}: {why}\n" if word_line else f"  {why}\n"
+        self.why = sentences.line(f"line {word_line}: {why}" if word_line else why)
 
 
 class Wrong(Exception):

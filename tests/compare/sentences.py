@@ -1,7 +1,9 @@
 """What `-v` says behind a report: the sentences of docs/FAULTS.md, of a refusal's part and text, or of a fault's line."""
+import bisect
 import re
 
-VALUE, NAME = 40, 160
+# the most bytes of a value, of the name of a type or a class, of another name, and of a line
+VALUE, TYPE, NAME, LINE = 40, 64, 160, 400
 MARKS = '"\\'
 SYNTAXES = {
     "name": "no DN (1.3.6.1.4.1.1466.115.121.1.12) whose types are defined",
@@ -53,6 +55,9 @@ def shown(text, most, marks):
         pieces = ["\\%02X" % ord(c) if ord(c) < 32 or 127 <= ord(c) < 160 or c in marks else c for c in front.decode()]
     else:
         pieces = [chr(byte) if 32 <= byte < 127 and chr(byte) not in marks else "\\%02X" % byte for byte in front]
+    while len("".join(pieces).encode()) > most:
+        pieces.pop()
+        front = b""
     return "".join(pieces) + (".." if len(front) < len(text) else "")
 
 
@@ -64,13 +69,28 @@ def name(text):
     return shown(text, NAME, "")
 
 
+def type_name(text):
+    """Of an attribute type or a class."""
+    return shown(text, TYPE, "")
+
+
+def line(words):
+    """A sentence as it is told: of one that is too long whole characters, up to no backslash and no byte right behind one, and two dots."""
+    room = LINE - len("  \n")
+    if len(words.encode()) > room:
+        while len(words.encode()) > room - len("..") or "\\" in words.encode()[-2:].decode(errors="replace"):
+            words = words[:-1]
+        words += ".."
+    return f"  {words}\n"
+
+
 def grouped(number):
     return f"{number:,}"
 
 
 def no_value(conf, number, text):
     kind = conf.types[number]
-    return f"{name(kind.printed())}: {value(text)} is {SYNTAXES[kind.kind]}"
+    return f"{type_name(kind.printed())}: {value(text)} is {SYNTAXES[kind.kind]}"
 
 
 def is_line_of(line, word):
@@ -108,7 +128,7 @@ def of_refusal(refused, dn, numbers, first, lines, changes):
     if isinstance(refused.why, tuple):
         # an equal line before it
         text = f"{refused.why[0]} on line {numbers[place(first, lines, changes, refused.why[1])]}"
-    return f"  {where}{name(dn)}: {text}\n"
+    return line(f"{where}{name(dn)}: {text}")
 
 
 def of_fault(fault, numbers, lines):
@@ -184,8 +204,21 @@ def fault_of_value(text, at):
     return None, at
 
 
+# what a beginning of some name may lack to be one: an equals sign, a whole AVA, the second digit of an escape, both
+LACKING_ENDS = b"", b"=", b"a=", b"0", b"00"
+
+
+def begins_a_name(text):
+    return any(fault_of_name(text + end) is None for end in LACKING_ENDS)
+
+
+def place_in_name(text):
+    """The bytes of the longest beginning that begins some name. Each beginning of one is one."""
+    return bisect.bisect_left(range(1, len(text) + 1), True, key=lambda n: not begins_a_name(text[:n]))
+
+
 def unreadable(what, text):
-    return f"{what} can't be read: {TEXTS[fault_of_name(text)]}" if is_utf8(text) else f"{what} isn't UTF-8"
+    return f"{what} can't be read: {TEXTS[fault_of_name(text)]} at byte {place_in_name(text)}" if is_utf8(text) else f"{what} isn't UTF-8"
 
 
 def rdns_of(text):

@@ -1,14 +1,16 @@
 -- Texts that are put together of shown ones are shown.
-use Rattle.std.proofs.Common.{ap, ◌≢◌, cond, false, ◌≡◌, ℕ, ◌+◌, ◌/◌, ◌%◌, ◌<◌, ◌≤◌, ◌^◌, Bool, true, List, [], ◌∷◌, ◌++◌, ◌&&◌, refl, arith}
+use Rattle.std.proofs.Common.{ap, sym, ◌≢◌, cond, false, ◌≡◌, ℕ, ◌+◌, ◌/◌, ◌%◌, ◌<◌, ◌≤◌, ◌^◌, Bool, true, List, [], ◌∷◌, ◌++◌, ◌&&◌, length, take, drop, refl, arith}
 use Rattle.std.specs.List.{list_all}
 use Rattle.std.specs.Fmt.{decimal}
 use Rattle.std.specs.Char.{encode_utf8}
 use lib.Dec.{ltb}
 use lib.Utf8.{encode, next}
+use Rattle.std.proofs.lemmas.List.{length-append, take-append-drop}
 use Rattle.std.proofs.lemmas.List.Folds.{list_all-append}
 use Rattle.std.proofs.lemmas.Fmt.{decimal_by_steps}
+use Rattle.std.proofs.lemmas.Bool.{and_parts}
 use Rattle.std.proofs.lemmas.Bool.Decides.{nat_tests}
-use Rattle.sentences.specs.Sentence.{is_shown, is_line, is_sentence}
+use Rattle.sentences.specs.Sentence.{is_shown, is_line, IsSentence}
 
 pub shown_both : (xs ys : List ℕ) → list_all is_shown (xs ++ ys) ≡ (list_all is_shown xs && list_all is_shown ys)
 shown_both xs ys = list_all-append is_shown xs ys
@@ -67,6 +69,18 @@ line_of (x ∷ y ∷ rest) = ap (λ b. is_shown x && b) (line_of (y ∷ rest))
 pub line_is : (words bytes : List ℕ) → list_all is_shown words ≡ true → bytes ≡ words ++ (10 ∷ []) → is_line bytes ≡ true
 line_is words bytes shown spelled = rw (spelled, line_of words) shown
 
-pub sentence_is : (words bytes : List ℕ) → list_all is_shown words ≡ true → bytes ≡ 32 ∷ 32 ∷ (words ++ (10 ∷ []))
-    → is_sentence bytes ≡ true
-sentence_is words bytes shown spelled = rw (spelled, line_of words) shown
+pub sentence_is : (words bytes : List ℕ) → list_all is_shown words ≡ true → length words ≤ 397
+    → bytes ≡ 32 ∷ 32 ∷ (words ++ (10 ∷ [])) → IsSentence bytes
+sentence_is words bytes shown short spelled =
+    let len : length (words ++ (10 ∷ [])) ≡ length words + 1 = length-append words (10 ∷ []) in
+    record {
+      line = rw (spelled, line_of words) shown;
+      short = rw (spelled, len) (omega (arith, short));
+    }
+
+-- the front of shown words is shown
+pub shown_front : (n : ℕ) (xs : List ℕ) → list_all is_shown xs ≡ true → list_all is_shown (take n xs) ≡ true
+shown_front n xs shown =
+    let parted : (list_all is_shown (take n xs) && list_all is_shown (drop n xs)) ≡ true =
+    rw (sym (shown_both (take n xs) (drop n xs)), take-append-drop n xs) shown in
+    (and_parts _ _ parted).0

@@ -1,5 +1,5 @@
 -- What a sentence is.
-use Rattle.std.specs.Prelude.{◌≡◌, ℕ, ◌∷◌, [], Bool, true, false, List, not, ◌&&◌, ◌||◌, nat_eq, nat_lt}
+use Rattle.std.specs.Prelude.{◌≡◌, ◌≤◌, ℕ, ◌∷◌, [], Bool, true, false, List, length, not, ◌&&◌, ◌||◌, nat_eq, nat_lt}
 use Rattle.std.specs.List.{list_all}
 
 -- a byte that a terminal shows: no control character
@@ -26,6 +26,7 @@ is_sentence [] = false
 is_sentence (first ∷ []) = false
 is_sentence (first ∷ second ∷ rest) = nat_eq first 32 && (nat_eq second 32 && is_line rest)
 
--- one line of shown bytes behind two spaces
-abbrev pub IsSentence : List ℕ → Type 0
-IsSentence bytes = is_sentence bytes ≡ true
+-- one line of shown bytes behind two spaces, and at most 400 bytes in all
+pub record IsSentence (bytes : List ℕ) : Type 0 where
+  pub line : is_sentence bytes ≡ true
+  pub short : length bytes ≤ 400

@@ -15,6 +15,7 @@ mod lacked_types;
 mod ldif_words;
 mod lines;
 mod missing;
+mod name_places;
 mod name_words;
 mod names;
 mod obstacle_words;

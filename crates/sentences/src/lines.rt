@@ -1,6 +1,6 @@
 //! Texts of one line that any terminal can show.
 
-ghost use Rattle.std.specs.Prelude.{◌≡◌, ◌≤◌, ◌≢◌, Some};
+ghost use Rattle.std.specs.Prelude.{◌≡◌, ◌≤◌, ◌≢◌, Some, length, IsCharBoundary};
 ghost use Rattle.std.specs.Result.{IfOk};
 ghost use Rattle.std.specs.String.{string_bytes};
 ghost use Rattle.sentences.specs.Sentence.{IsShown, IsLine, IsSentence};
@@ -8,8 +8,32 @@ ghost use Rattle.sentences.specs.Sentence.{IsShown, IsLine, IsSentence};
 use std::alloc::{AllocError, Global};
 use std::fmt;
 
-/// As many bytes as most sentences take at most.
-const USUAL_LEN: usize = 160;
+/// The most bytes that the words of a sentence take: with its frame they are 400.
+const MOST_WORDS: usize = 397;
+
+/// The bytes of two spaces before the words of a sentence, and of the line feed behind them.
+const FRAME_LEN: usize = 3;
+
+/// What stands for the rest of a text that is cut.
+const REST: &str = "..";
+
+/// Whether a place among bytes is within an escape, as `\0A`.
+fn is_in_escape(bytes: &[u8], place: usize) -> bool {
+    matches!(bytes.get(..place), Some([.., b'\\'] | [.., b'\\', _]))
+}
+
+/// How many bytes the first whole characters and escapes of a text take, of at most so many bytes.
+fn whole_len(text: &str, most: usize) -> usize
+    ensures bound { result ≤ most }
+    ensures whole { IsCharBoundary text.now result }
+{
+    for end in (1..=most).rev() {
+        if text.is_char_boundary(end) && !is_in_escape(text.as_bytes(), end) {
+            return end;
+        }
+    }
+    text.floor_char_boundary(most)
+}
 
 /// Words in which no byte is a control character.
 #[derive(Drop)]
@@ -25,9 +49,9 @@ impl ShownText {
         }
     }
 
-    /// No words yet, and room for as many bytes as most sentences take at most.
+    /// No words yet, and room for a sentence.
     pub(crate) fn roomy(alloc: Global) -> Result<ShownText, AllocError> {
-        ShownText::with_capacity(alloc, USUAL_LEN)
+        ShownText::with_capacity(alloc, MOST_WORDS + FRAME_LEN)
     }
 
     /// No words yet, and room for so many bytes.
@@ -78,6 +102,21 @@ impl ShownText {
     {
         self.text.as_str()
     }
+
+    /// The words themselves where a sentence has room for them; else the first of them, and two dots.
+    #[tactic(auto, using(crate::proofs::Pieces::shown_both, crate::proofs::Pieces::shown_front))]
+    fn fitted(self) -> Result<ShownText, AllocError>
+        ensures { IfOk result (λ words. length (string_bytes words.text) ≤ 397) }
+    {
+        if self.text.len() <= MOST_WORDS {
+            return Ok(self);
+        }
+        let ShownText { mut text } = self;
+        let len = whole_len(text.as_str(), MOST_WORDS - REST.len());
+        text.truncate(len);
+        text.push_str(REST)?;
+        Ok(ShownText { text })
+    }
 }
 
 impl fmt::Display for ShownText {
@@ -95,7 +134,7 @@ pub struct Line {
     ghost line: { IsLine (string_bytes text) },
 }
 
-/// A line that tells why something is refused or fails: two spaces, words and a line feed.
+/// A line that tells why something is refused or fails: two spaces, words and a line feed, at most 400 bytes.
 #[derive(Drop)]
 pub(crate) struct Sentence {
     text: String,
@@ -118,9 +157,10 @@ impl Line {
 }
 
 impl Sentence {
+    /// The sentence of these words, which are cut where they are too long for one.
     #[tactic(auto, using(crate::proofs::Pieces::sentence_is))]
     pub(crate) fn of(words: ShownText) -> Result<Sentence, AllocError> {
-        let ShownText { mut text } = words;
+        let ShownText { mut text } = words.fitted()?;
         text.insert_str(0, "  ")?;
         text.push('\n')?;
         Ok(Sentence { text })

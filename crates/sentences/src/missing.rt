@@ -102,17 +102,18 @@ fn nearest_above(alloc: Global, tree: &Tree, path: &Path) -> Result<Option<Path>
     ensures nearest { IfOk result (λ found. IfSome found (λ above. IsNearestAbove tree.now.entries path.now above)) }
     ensures none { IfOk result (λ found. IfNone found (NoneAbove tree.now.entries path.now)) }
 {
-    let mut above = path.copy(alloc)?;
+    let mut above = path.parent(alloc)?;
     'up: for _step in 0..path.len() {
-        above = above.parent(alloc)?;
         if is_there(tree, &above) {
             return Ok(Some(above));
         }
+        above = above.parent(alloc)?;
     }
     Ok(None)
 }
 
-/// Puts the nearest entry above a path that is there behind words; nothing where the one right above is there, or none.
+/// Puts the nearest entry above a path that is there behind words; nothing where that is the one right above, or none is
+/// there.
 fn push_nearest(
     alloc: Global,
     words: &mut ShownText,
@@ -122,13 +123,12 @@ fn push_nearest(
 ) -> Result<(), AllocError>
     requires { tree.now.conf ≡ conf.now }
 {
-    let right_above = path.parent(alloc)?;
-    if is_there(tree, &right_above) {
-        return Ok(());
-    }
-    let Some(above) = nearest_above(alloc, tree, &right_above)? else {
+    let Some(above) = nearest_above(alloc, tree, path)? else {
         return Ok(());
     };
+    if above.is_parent_of(path) {
+        return Ok(());
+    }
     let Some(name) = kept_name(alloc, conf, tree, &above)? else {
         return Ok(());
     };

@@ -3,7 +3,8 @@
 ghost use Rattle.sentences.specs.Sentence.{IsShown};
 
 use crate::lines::ShownText;
-use crate::shown::{push_name, push_quoted};
+use crate::name_places::name_like_len;
+use crate::shown::{push_name, push_quoted, push_type_name};
 use crate::value_words::push_no_such_value;
 use dn::{Ava, Name, NameFault, NameFaultKind, read_name};
 use reasons::{AvaReason, NameReason};
@@ -69,7 +70,12 @@ impl NameText<'_> {
         };
         words.push_str(" can't be read")?;
         match read_name(self.alloc, text) {
-            Err(NameFault::Fault(kind)) => push_name_fault(words, kind),
+            Err(NameFault::Fault(kind)) => {
+                push_name_fault(words, kind)?;
+                let place = name_like_len(self.text);
+                let place = ShownText::of(format!(in self.alloc; " at byte {place}"))?;
+                words.push_str(place.as_str())
+            }
             Err(NameFault::OutOfMemory) => Err(AllocError),
             Ok(_) => Ok(()),
         }
@@ -125,7 +131,7 @@ impl NameText<'_> {
     {
         words.push_str(self.what)?;
         words.push_str(" has ")?;
-        push_name(words, found.type_text())?;
+        push_type_name(words, found.type_text())?;
         words.push_str(fault)
     }
 
@@ -141,7 +147,7 @@ impl NameText<'_> {
     }
 }
 
-/// Puts what is wrong with a text that spells no name behind words.
+/// Puts which fault a text has that spells no name behind words.
 fn push_name_fault(words: &mut ShownText, kind: NameFaultKind) -> Result<(), AllocError> {
     words.push_str(": N")?;
     words.push(char::from(b'0' + kind.number()))?;

@@ -4,7 +4,7 @@ ghost use Rattle.std.specs.Prelude.{◌≡◌};
 ghost use Rattle.std.specs.FinMap as finite;
 
 use crate::lines::ShownText;
-use crate::shown::push_name;
+use crate::shown::push_type_name;
 use schema::{Conf, ObjectClass, Path, TypeId};
 use std::alloc::{AllocError, Global};
 use tree::Tree;
@@ -15,7 +15,7 @@ const NAME_ROOM: usize = 160;
 /// Puts the name that a type is printed by behind a text.
 pub(crate) fn push_type(out: &mut ShownText, conf: &Conf, t: TypeId) -> Result<(), AllocError> {
     match conf.types().get(t.number() as usize) {
-        Some(found) => push_name(out, found.printed_name()),
+        Some(found) => push_type_name(out, found.printed_name()),
         None => out.push_str("an attribute type"),
     }
 }
@@ -31,7 +31,7 @@ fn name_of_class(class: &ObjectClass) -> &[u8] {
 /// Puts the name of the class with this number behind a text.
 pub(crate) fn push_class(out: &mut ShownText, conf: &Conf, class: usize) -> Result<(), AllocError> {
     match conf.classes().get(class) {
-        Some(found) => push_name(out, name_of_class(found)),
+        Some(found) => push_type_name(out, name_of_class(found)),
         None => out.push_str("a class"),
     }
 }

@@ -8,7 +8,7 @@ use crate::names::push_type;
 use crate::places::line_of;
 use crate::record_parts::lines_in;
 use crate::record_words::Refused;
-use crate::shown::{push_name, push_quoted, quoted};
+use crate::shown::{push_quoted, push_type_name, quoted};
 use crate::value_words::push_no_such_value;
 use ldif::{Attr, Mod, Op, Part};
 use reasons::{BlockReason, LineReason, ValueReason};
@@ -35,7 +35,7 @@ fn push_unknown_type(words: &mut ShownText, name: &[u8]) -> Result<(), AllocErro
     if is_dn(name) {
         return words.push_str("a dn: line within a record; an empty line is missing before it");
     }
-    push_name(words, name)?;
+    push_type_name(words, name)?;
     if name.contains(&b';') {
         words.push_str(": attribute options aren't kept")
     } else {
@@ -45,13 +45,13 @@ fn push_unknown_type(words: &mut ShownText, name: &[u8]) -> Result<(), AllocErro
 
 /// Puts that users can't change values of the type with this name behind words.
 fn push_fixed_type(words: &mut ShownText, name: &[u8]) -> Result<(), AllocError> {
-    push_name(words, name)?;
+    push_type_name(words, name)?;
     words.push_str(": users can't change it (NO-USER-MODIFICATION)")
 }
 
 /// Puts a value of the type with this name behind words.
 fn push_named_value(words: &mut ShownText, name: &[u8], value: &[u8]) -> Result<(), AllocError> {
-    push_name(words, name)?;
+    push_type_name(words, name)?;
     words.push_str(": ")?;
     push_quoted(words, value)
 }
@@ -90,7 +90,7 @@ fn push_operation(
     words.push_str(op_word(block.op))?;
     words.push_str(": ")?;
     words.push_str(before)?;
-    push_name(words, block.attr.as_slice())?;
+    push_type_name(words, block.attr.as_slice())?;
     words.push_str(behind)
 }
 

@@ -8,11 +8,17 @@ ghost use Rattle.sentences.specs.Sentence.{IsShown, is_shown};
 use crate::lines::ShownText;
 use std::alloc::{AllocError, Global};
 
-/// The most bytes that are shown of a value.
+/// The most bytes that a value takes, without its quotation marks.
 const VALUE_LIMIT: usize = 40;
 
-/// The most bytes that are shown of a name.
+/// The most bytes that the name of an attribute type or a class takes.
+const TYPE_LIMIT: usize = 64;
+
+/// The most bytes that another name takes.
 const NAME_LIMIT: usize = 160;
+
+/// The bytes of a backslash and two digits.
+const ESCAPE_LEN: usize = 3;
 
 /// How bytes are shown.
 #[derive(Clone, Copy)]
@@ -100,30 +106,59 @@ pub(crate) fn push_char(out: &mut ShownText, c: char, form: Form) -> Result<(), 
     }
 }
 
-fn push_text(out: &mut ShownText, text: &str, form: Form) -> Result<(), AllocError> {
-    if are_plain(text.as_bytes(), form) {
-        return out.push_str(text);
+/// How many bytes a character takes as it is shown.
+fn shown_len(c: char, form: Form) -> usize {
+    match escaped(c, form) {
+        Some(_) => ESCAPE_LEN,
+        None => c.len_utf8(),
     }
-    for c in text.chars() {
-        push_char(out, c, form)?;
-    }
-    Ok(())
 }
 
-/// Bytes that are no text.
-fn push_bytes(out: &mut ShownText, bytes: &[u8], form: Form) -> Result<(), AllocError> {
+/// Puts a text of at most `most` bytes behind another, or where it takes more as it is shown, the first characters of it. Answers whether it is
+/// whole.
+fn push_text(out: &mut ShownText, text: &str, most: usize, form: Form) -> Result<bool, AllocError> {
+    if are_plain(text.as_bytes(), form) {
+        out.push_str(text)?;
+        return Ok(true);
+    }
+    let mut room = most;
+    for c in text.chars() {
+        let taken = shown_len(c, form);
+        if taken > room {
+            return Ok(false);
+        }
+        room -= taken;
+        push_char(out, c, form)?;
+    }
+    Ok(true)
+}
+
+/// The same of bytes that are no text.
+fn push_bytes(
+    out: &mut ShownText,
+    bytes: &[u8],
+    most: usize,
+    form: Form,
+) -> Result<bool, AllocError> {
+    let mut room = most;
     for byte in bytes {
-        if is_plain(*byte, form) {
+        let is_plain = is_plain(*byte, form);
+        let taken = if is_plain { 1 } else { ESCAPE_LEN };
+        if taken > room {
+            return Ok(false);
+        }
+        room -= taken;
+        if is_plain {
             out.push(char::from(*byte))?;
         } else {
             push_byte(out, *byte)?;
         }
     }
-    Ok(())
+    Ok(true)
 }
 
-/// Puts bytes behind a text, on its line: text as it is, and what can't be printed as a backslash and two hexadecimal digits. Of more than `most`
-/// bytes the first are shown, and two dots behind them.
+/// Puts bytes behind a text, on its line: text as it is, and what can't be printed as a backslash and two hexadecimal digits. Of what takes more
+/// than `most` bytes so the first are shown, and two dots behind them.
 fn push_shown(
     out: &mut ShownText,
     bytes: &[u8],
@@ -131,11 +166,11 @@ fn push_shown(
     form: Form,
 ) -> Result<(), AllocError> {
     let front = cut(bytes, most);
-    match str::from_utf8(front) {
-        Ok(text) => push_text(out, text, form)?,
-        Err(_) => push_bytes(out, front, form)?,
-    }
-    if front.len() < bytes.len() {
+    let is_whole = match str::from_utf8(front) {
+        Ok(text) => push_text(out, text, most, form)?,
+        Err(_) => push_bytes(out, front, most, form)?,
+    };
+    if !is_whole || front.len() < bytes.len() {
         out.push_str("..")?;
     }
     Ok(())
@@ -155,7 +190,12 @@ pub(crate) fn quoted(alloc: Global, bytes: &[u8]) -> Result<ShownText, AllocErro
     Ok(out)
 }
 
-/// Puts a name of an entry, a type or a class behind a text, as it is written.
+/// Puts the name of an attribute type or a class behind a text, as it is written.
+pub(crate) fn push_type_name(out: &mut ShownText, name: &[u8]) -> Result<(), AllocError> {
+    push_shown(out, name, TYPE_LIMIT, Form::Bare)
+}
+
+/// Puts another name, as of an entry, behind a text, as it is written.
 pub(crate) fn push_name(out: &mut ShownText, name: &[u8]) -> Result<(), AllocError> {
     push_shown(out, name, NAME_LIMIT, Form::Bare)
 }
