@@ -35,6 +35,7 @@ use Rattle.commands.specs.Checks.{AddsText, AddsFile, AddsOver, FailsOver, file_
 use Rattle.commands.specs.Checks.{LacksFirst, CheckFails, IsUncheckable, CheckGoesThrough, CheckStops}
 use Rattle.commands.specs.inner.Checked.{AreTypesAsked, HasAdded, told_reports, HasGathered}
 use Rattle.commands.specs.inner.Stopped.{HasStopped, HasEnded}
+use Rattle.commands.proofs.SourcesRead.{same_files as files_stay, source_read}
 use Rattle.commands.specs.declared.check.CheckedTypes.{CheckedTypes}
 use Rattle.commands.specs.declared.check.Told.{Told}
 use Rattle.commands.specs.declared.messages.CommandFault.{CommandFault}
@@ -131,7 +132,7 @@ want_behind asked conf old d told w w' configured = go (option_copied asked.file
   where
     go : (file : Option (List ℕ)) → option_copied asked.file ≡ file → AddsOver file conf old d told w w' → CheckFails asked faults.OutOfMemory w w'
     go None is over = inl (inl tt, over.2)
-    go (Some name) is over = inr ((conf, configured), subst (λ (file : Option (List ℕ)). FailsOver file faults.OutOfMemory w w') (sym is) (record { why = tt; stays = over.stays }))
+    go (Some name) is over = inr ((conf, configured), subst (λ (file : Option (List ℕ)). FailsOver file faults.OutOfMemory w w') (sym is) (record { why = tt; stays = source_read (list_source name) w w' over.source over.source' over.source_is over.stays }))
 
 pub others_told : (asked : CheckOptions) (w w' : World) (conf : Conf) (c : CheckedTypes) (d : Entries) (told : Told) (text : List ℕ)
     → IsConfigured w.files (conf_name asked.db.now) conf → AreTypesAsked asked conf.types c → HasGathered asked conf d told w w'
@@ -258,7 +259,7 @@ module _ (asked : CheckOptions) (w mid : World) where
     where
       over : (file : Option (List ℕ)) → FailsOver file fault w mid → mid.files ≡ w.files
       over None none = absurd none
-      over (Some name) fails = ap (λ (v : World). v.files) fails.stays
+      over (Some name) fails = files_stay (list_source name) w mid fails.stays
 
   unchecked_files : (why : Stop) → IsUncheckable asked why w mid → mid.files ≡ w.files
   unchecked_files (stops.Fault fault) (inl fails) = kept_files fault fails

@@ -5,6 +5,7 @@ pub mod Loading
 pub mod Locked
 pub mod Running
 pub mod Stopping
+pub mod SourcesRead
 pub mod StoredFiles
 pub mod IndexTold
 pub mod Searched

@@ -19,6 +19,7 @@ use Rattle.commands.specs.Changes.{source_name}
 use Rattle.commands.specs.Loaded.{IsLoaded, LoadFails}
 use Rattle.commands.specs.Prints.{IsSaid}
 use Rattle.commands.specs.Queries.{HasNoBase}
+use Rattle.commands.specs.Texts.{ReadsAtMost}
 use Rattle.commands.specs.Worlds.{World}
 use Rattle.commands.specs.inner.IndexFiles.{FailsToReport}
 use Rattle.commands.specs.inner.Lists.{HasFrame, common_of}
@@ -32,6 +33,7 @@ use Rattle.commands.specs.declared.messages.Stop.{Stop}
 use Rattle.commands.specs.declared.messages.Stop.TheVariants as stops
 use Rattle.commands.specs.declared.query.Query.{Query}
 use Rattle.commands.proofs.Listed.{want_in_line}
+use Rattle.commands.proofs.SourcesRead.{same_files}
 use Rattle.commands.proofs.Stopping.{stopped, of_memory, memory_loads}
 
 -- what stopped so, said of more
@@ -78,10 +80,10 @@ module _ (name : List ℕ) (asked : SearchOptions) (said : Said) (w : World) whe
       (inl (record { conf = conf; entries = d; loaded = loaded; why = refuses; at_once = record { stored = refl; world = refl } })) refl
 
   -- the list can't be read, or memory ran out by then
-  pub list_unread : (input : Seen) (fault : CommandFault) → FailsToRead (source_name (list_source name)) fault
-      → HasStopped (ListBreaks name asked said) w (record w { input = input }) (stops.Fault fault)
-  list_unread input fault unread = stopped (ListBreaks name asked said) w (record w { input = input }) (stops.Fault fault)
-      (inr (inl (record { why = unread; stored = refl; stays = refl }))) refl
+  pub list_unread : (w' : World) (fault : CommandFault) → ReadsAtMost (list_source name) w w' → FailsToRead (source_name (list_source name)) fault
+      → HasStopped (ListBreaks name asked said) w w' (stops.Fault fault)
+  list_unread w' fault stays unread = stopped (ListBreaks name asked said) w w' (stops.Fault fault)
+      (inr (inl (record { why = unread; stored = refl; stays = stays }))) (same_files (list_source name) w w' stays)
 
   -- what all searches have in common is looked up
   module _ (t : Tree) (q : Query) (frame : HasFrame asked t q) (loaded : IsLoaded w.files asked.db.now t.conf t.entries) (says : SaysOf w.files asked.db.now t.conf t.entries said)

@@ -38,6 +38,7 @@ use Rattle.commands.specs.Lists.{list_source}
 use Rattle.commands.specs.Loaded.{IsConfigured}
 use Rattle.commands.specs.Messages.{line_of}
 use Rattle.commands.specs.Statuses.{status_of_reports}
+use Rattle.commands.specs.Texts.{ReadsAtMost}
 use Rattle.commands.specs.Worlds.{World, IsPrinted}
 use Rattle.commands.specs.declared.messages.CommandFault.{CommandFault}
 use Rattle.commands.specs.declared.messages.Status.{Status}
@@ -205,10 +206,10 @@ abbrev pub FolderFails : CheckOptions → Option Files → CommandFault → Type
 FolderFails asked files fault = FailsToRead (conf_name asked.db.now) fault
     ⊎ (((conf : Conf) × IsConfigured files (conf_name asked.db.now) conf) × (FailsToRead (data_name asked.db.now) fault ⊎ FailsToRead (index_name asked.db.now) fault))
 
--- FILE can't be read, or memory ran out behind it; nothing changed but what is seen of the input
+-- FILE can't be read, or memory ran out behind it; at most it was read
 pub record FileFails (name : List ℕ) (fault : CommandFault) (w w' : World) : Type 0 where
   pub why : FailsToRead (file_name name) fault
-  pub stays : w' ≡ record w { input = w'.input }
+  pub stays : ReadsAtMost (list_source name) w w'
 
 -- one is named, and fails
 abbrev pub FailsOver : Option (List ℕ) → CommandFault → World → World → Type 0

@@ -7,6 +7,8 @@ ghost use Rattle.device.specs.Device.{Took, Broke};
 ghost use Rattle.checks.specs.Warnings.{warnings};
 ghost use Rattle.folders.specs.Folders.{Finds};
 ghost use Rattle.commands.specs.DirectoryFiles.{conf_name, data_name, index_name};
+ghost use Rattle.commands.specs.Lists.{list_source};
+ghost use Rattle.commands.specs.Texts.{ReadsAtMost};
 ghost use Rattle.commands.specs.Worlds.{World, source_world, piped_world};
 ghost use Rattle.commands.specs.Endings.{IsFault};
 ghost use Rattle.commands.specs.Loaded.{IsConfigured};
@@ -166,6 +168,9 @@ fn add_file<F: Folder, S: Source, T: CommandTeller>(
         (source_world w F.files S.seen folder.now input.old)
         (source_world w F.files S.seen folder.now input.new)) }
     ensures err { IfErr result (FailsToRead (file_name name.now)) }
+    ensures stays { (w : World) → ReadsAtMost (list_source name.now)
+        (source_world w F.files S.seen folder.now input.old)
+        (source_world w F.files S.seen folder.now input.new) }
 {
     if name == "-" {
         return add_records(alloc, database, input, "input", teller);

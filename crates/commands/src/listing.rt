@@ -11,6 +11,7 @@ ghost use Rattle.commands.specs.Lists.{lines, filter_text, EndsLine, StopsInLine
 ghost use Rattle.commands.specs.Loaded.{IsLoaded};
 ghost use Rattle.commands.specs.Messages.{fault_text, IsReported};
 ghost use Rattle.commands.specs.Queries.{HasNoBase};
+ghost use Rattle.commands.specs.Texts.{ReadsAtMost};
 ghost use Rattle.commands.specs.Worlds.{World, source_world, reported_world, diff_world};
 ghost use Rattle.commands.specs.inner.IndexFiles.{IsNoIndex, IsWhole, Serves};
 ghost use Rattle.commands.specs.inner.Lists.{line_form, IsFrame, HasFrame, IsKept, common_of, CanGoOn};
@@ -216,6 +217,9 @@ fn read_list<F: Folder, S: Source>(
         (source_world w F.files S.seen folder.now input.old)
         (source_world w F.files S.seen folder.now input.new)) }
     ensures fails { IfErr result (FailsToRead (source_name (list_source name.now))) }
+    ensures stays { (w : World) → ReadsAtMost (list_source name.now)
+        (source_world w F.files S.seen folder.now input.old)
+        (source_world w F.files S.seen folder.now input.new) }
 {
     if name == "-" {
         return read_text(alloc, folder, input, None);

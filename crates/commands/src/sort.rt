@@ -4,8 +4,8 @@ ghost use Rattle.std.specs.Option.{option_copied};
 ghost use Rattle.device.specs.Device.{Took, Broke};
 ghost use Rattle.commands.specs.Changes.{source_name};
 ghost use Rattle.commands.specs.Failures.{FailsToRead, FailsToWrite};
-ghost use Rattle.commands.specs.Sorting.{SortGoesThrough, SortStops};
-ghost use Rattle.commands.specs.Texts.{ReadsText};
+ghost use Rattle.commands.specs.Sorting.{ReadsInOrder, SortGoesThrough, SortStops};
+ghost use Rattle.commands.specs.Texts.{ReadsAtMost, ReadsText};
 ghost use Rattle.commands.specs.Worlds.{World, source_world, piped_world};
 ghost use Rattle.commands.specs.inner.Stopped.{HasEnded};
 ghost use Rattle.commands.specs.declared.messages.Status.TheVariants.{Done};
@@ -30,6 +30,9 @@ pub fn read_text<F: Folder, S: Source>(
         (source_world w F.files S.seen folder.now input.old)
         (source_world w F.files S.seen folder.now input.new)) }
     ensures fails { IfErr result (FailsToRead (source_name (option_copied file.entry))) }
+    ensures stays { (w : World) → ReadsAtMost (option_copied file.entry)
+        (source_world w F.files S.seen folder.now input.old)
+        (source_world w F.files S.seen folder.now input.new) }
 {
     match file {
         None => contents(alloc, input, "input"),
@@ -38,6 +41,26 @@ pub fn read_text<F: Folder, S: Source>(
             Err(fault) => Err(fault),
         },
     }
+}
+
+/// The text that is asked for, with its records in order.
+fn read_in_order<F: Folder, S: Source>(
+    alloc: Global,
+    asked: &SortOptions<'_>,
+    folder: &F,
+    input: &mut S,
+) -> Result<Vec<u8>, CommandFault>
+    requires { (S.seen input.old).failed < 2 ^ 64 - 1 }
+    ensures reads { IfOk result (λ sorted. (w : World) → ReadsInOrder (option_copied asked.now.file) sorted.items
+        (source_world w F.files S.seen folder.now input.old)
+        (source_world w F.files S.seen folder.now input.new)) }
+    ensures fails { IfErr result (FailsToRead (source_name (option_copied asked.now.file))) }
+    ensures stays { (w : World) → ReadsAtMost (option_copied asked.now.file)
+        (source_world w F.files S.seen folder.now input.old)
+        (source_world w F.files S.seen folder.now input.new) }
+{
+    let text = read_text(alloc, folder, input, asked.file)?;
+    Ok(sort_records(alloc, text.as_slice())?)
 }
 
 /// Prints a text.
@@ -69,10 +92,11 @@ pub fn sort<F: Folder, S: Source, O: Sink>(
         (piped_world w F.files S.seen O.written folder.now input.old out.old)
         (piped_world w F.files S.seen O.written folder.now input.new out.new) result }
 {
-    let text = read_text(alloc, folder, input, asked.file)?;
-    let sorted = sort_records(alloc, text.as_slice())?;
-    match print_text(alloc, sorted.as_slice(), out) {
-        Ok(status) => Ok(status),
+    match read_in_order(alloc, asked, folder, input) {
+        Ok(sorted) => match print_text(alloc, sorted.as_slice(), out) {
+            Ok(status) => Ok(status),
+            Err(fault) => Err(Stop::Fault(fault)),
+        },
         Err(fault) => Err(Stop::Fault(fault)),
     }
 }

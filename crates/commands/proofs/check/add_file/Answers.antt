@@ -1,8 +1,11 @@
-use Rattle.std.proofs.Common.{ℕ, List, IfErr, subst}
+use Rattle.std.proofs.Common.{◌≡◌, ◌∙◌, ℕ, List, Option, None, Some, IfErr, refl, sym, ap, subst}
 use Rattle.std.proofs.lemmas.Result.{IfOk-weaker}
 use Rattle.commands.specs.Failures.{FailsToRead}
-use Rattle.commands.specs.Worlds.{source_world}
+use Rattle.commands.specs.Lists.{list_source}
+use Rattle.commands.specs.Texts.{ReadsAtMost}
+use Rattle.commands.specs.Worlds.{World, source_world}
 use Rattle.commands.proofs.Checked.{from_input, from_file, input_name, own_name}
+use Rattle.commands.proofs.SourcesRead.{named}
 use Rattle.commands.proofs.check.add_file.Goals as goal
 
 pub returns-then-eq-clause-adds : goal.returns-then-eq-clause-adds
@@ -33,3 +36,24 @@ returns-in-Ok-clause-err g c =
 pub returns-in-Err-clause-err : goal.returns-in-Err-clause-err
 returns-in-Err-clause-err g c =
     subst (λ (n : List ℕ). FailsToRead n c.in-Err.fault) (own_name c.args.name.now c.eq.result c.eq.ensures c.if-eq.false) c.in-Err.ensures.err
+
+pub returns-then-eq-clause-stays : goal.returns-then-eq-clause-stays
+returns-then-eq-clause-stays g c =
+    let none : list_source c.args.name.now ≡ None = ap (named c.args.name.now) (sym c.eq.ensures ∙ c.if-eq.true) in
+    subst (λ (o : Option (List ℕ)). (w : World) → ReadsAtMost o
+    (source_world w g.F.Folder.files g.S.Source.seen c.args.folder.now c.args.input.now)
+    (source_world w g.F.Folder.files g.S.Source.seen c.args.folder.now c.add_records.new.source)) (sym none) (λ w. refl)
+
+pub returns-in-Ok-clause-stays : goal.returns-in-Ok-clause-stays
+returns-in-Ok-clause-stays g c =
+    let some : list_source c.args.name.now ≡ Some c.args.name.now = ap (named c.args.name.now) (sym c.eq.ensures ∙ c.if-eq.false) in
+    subst (λ (o : Option (List ℕ)). (w : World) → ReadsAtMost o
+    (source_world w g.F.Folder.files g.S.Source.seen c.args.folder.now c.args.input.now)
+    (source_world w g.F.Folder.files g.S.Source.seen c.args.folder.now c.args.input.now)) (sym some) (λ w. refl)
+
+pub returns-in-Err-clause-stays : goal.returns-in-Err-clause-stays
+returns-in-Err-clause-stays g c =
+    let some : list_source c.args.name.now ≡ Some c.args.name.now = ap (named c.args.name.now) (sym c.eq.ensures ∙ c.if-eq.false) in
+    subst (λ (o : Option (List ℕ)). (w : World) → ReadsAtMost o
+    (source_world w g.F.Folder.files g.S.Source.seen c.args.folder.now c.args.input.now)
+    (source_world w g.F.Folder.files g.S.Source.seen c.args.folder.now c.args.input.now)) (sym some) (λ w. refl)

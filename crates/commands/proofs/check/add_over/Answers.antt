@@ -23,7 +23,7 @@ returns-in-Some-clause-fails g c =
     (λ fault fails w.
     let start : World = source_world w g.F.Folder.files g.S.Source.seen c.args.folder.now c.args.input.now in
     let end : World = source_world w g.F.Folder.files g.S.Source.seen c.args.folder.now c.add_file.new.input in
-    subst (λ (file : Option (Bor (List ℕ))). FailsOver (option_copied file) fault start end) (sym c.in-Some.is) (record { why = fails; stays = refl }))
+    subst (λ (file : Option (Bor (List ℕ))). FailsOver (option_copied file) fault start end) (sym c.in-Some.is) (record { why = fails; stays = c.add_file.ensures.stays w }))
     c.add_file.ensures.err
 
 pub returns-in-None-clause-adds : goal.returns-in-None-clause-adds

@@ -24,9 +24,10 @@ returns-in_err-query-clause-can_report g c = each_reports _ _ c.requires.err
 pub returns-in_err-text-clause-ends : goal.returns-in_err-text-clause-ends
 returns-in_err-text-clause-ends g c =
     let p = err_from_is_err_and c.from_residual-in_err-text.result c.from_residual-in_err-text.ensures.1 in
-    rw (p.1, p.2) (λ said serves says w. list_unread c.args.name.now c.args.asked.now said
-    (record w { files = g.F.Folder.files c.args.folder.now; input = g.S.Source.seen c.args.input.now; output = g.O.Sink.written c.args.out.now; messages = g.E.Sink.written c.args.err.now })
-    _ _ c.in_err-text.ensures.fails)
+    rw (p.1, p.2) (λ said serves says w.
+    let start : World = record w { files = g.F.Folder.files c.args.folder.now; input = g.S.Source.seen c.args.input.now; output = g.O.Sink.written c.args.out.now; messages = g.E.Sink.written c.args.err.now } in
+    let read : World = record start { input = g.S.Source.seen c.read_list.new.input } in
+    list_unread c.args.name.now c.args.asked.now said start read _ (c.in_err-text.ensures.stays start) c.in_err-text.ensures.fails)
 
 pub returns-in_err-text-clause-can_report : goal.returns-in_err-text-clause-can_report
 returns-in_err-text-clause-can_report g c = each_reports _ _ c.requires.err
@@ -34,9 +35,10 @@ returns-in_err-text-clause-can_report g c = each_reports _ _ c.requires.err
 pub returns-in_err-entries-clause-ends : goal.returns-in_err-entries-clause-ends
 returns-in_err-entries-clause-ends g c =
     let p = err_from_is_err_and c.from_residual-in_err-entries.result c.from_residual-in_err-entries.ensures.1 in
-    rw (p.1, p.2) (λ said serves says w. list_unread c.args.name.now c.args.asked.now said
-    (record w { files = g.F.Folder.files c.args.folder.now; input = g.S.Source.seen c.args.input.now; output = g.O.Sink.written c.args.out.now; messages = g.E.Sink.written c.args.err.now })
-    (g.S.Source.seen c.read_list.new.input) faults.OutOfMemory tt)
+    rw (p.1, p.2) (λ said serves says w.
+    let start : World = record w { files = g.F.Folder.files c.args.folder.now; input = g.S.Source.seen c.args.input.now; output = g.O.Sink.written c.args.out.now; messages = g.E.Sink.written c.args.err.now } in
+    let read : World = record start { input = g.S.Source.seen c.read_list.new.input } in
+    list_unread c.args.name.now c.args.asked.now said start read faults.OutOfMemory (c.in_ok-text.ensures.stays start) tt)
 
 pub returns-clause-ends : goal.returns-clause-ends
 returns-clause-ends g c = λ said serves says w.

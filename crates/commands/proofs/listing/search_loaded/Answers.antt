@@ -1,9 +1,11 @@
 use Rattle.std.specs.Prelude.{Err}
 use Rattle.std.proofs.lemmas.Result.{err_from_is_err_and}
+use Rattle.commands.specs.Lists.{list_source}
 use Rattle.commands.specs.Worlds.{World}
 use Rattle.commands.specs.declared.messages.CommandFault.TheVariants as faults
 use Rattle.commands.specs.declared.messages.Stop.TheVariants as stops
 use Rattle.commands.proofs.IndexTold.{kind_whole}
+use Rattle.commands.proofs.SourcesRead.{nothing_read}
 use Rattle.commands.proofs.ListEnds.{list_index_unread, list_unreported, list_unread, list_reported}
 use Rattle.commands.proofs.Stopping.{each_reports}
 use Rattle.commands.proofs.listing.search_loaded.Goals as goal
@@ -40,7 +42,7 @@ returns-in_err-index-clause-ends g c =
     list_reported c.args.name.now c.args.asked.now start read.said (g.E.Sink.written c.report_index.new.err)
     (record { conf = d.conf; entries = d.entries; loaded = c.requires.loaded; says = read.in_file })
     (c.in_ok-report_index.ensures.reports read.said (kind_whole d c.in_ok-file.file read.said read.kept))
-    told (Err (stops.Fault faults.OutOfMemory)) (list_unread c.args.name.now c.args.asked.now read.said told (g.S.Source.seen c.args.input.now) faults.OutOfMemory tt))
+    told (Err (stops.Fault faults.OutOfMemory)) (list_unread c.args.name.now c.args.asked.now read.said told told faults.OutOfMemory (nothing_read (list_source c.args.name.now) told) tt))
 
 pub returns-clause-ends : goal.returns-clause-ends
 returns-clause-ends g c = λ w.
