@@ -1,5 +1,5 @@
 -- What a check has found in the files of a folder.
-use Rattle.std.proofs.Common.{◌≡◌, ◌∙◌, ◌<◌, ◌-◌, ℕ, Bool, true, false, List, [], ◌∷◌, ◌++◌, length, Option, None, Some, IfSome, Result, Ok, Err, IfOk, IfErr, OnOk, inl, inr, codes, sym, ap, subst, refl, arith}
+use Rattle.std.proofs.Common.{◌≡◌, ◌∙◌, ◌<◌, ◌-◌, ℕ, Bool, true, false, List, [], ◌∷◌, ◌++◌, length, Option, None, Some, IfSome, Result, Ok, Err, IfOk, IfErr, OnOk, OnErr, inl, inr, codes, sym, ap, subst, refl, arith}
 use Rattle.std.specs.Option.{option_copied, option_map}
 use Rattle.std.specs.Prelude.{if◌then◌else◌, bytes_eq}
 use Rattle.std.proofs.lemmas.List.{append-nil, append_assoc}
@@ -7,6 +7,7 @@ use Rattle.std.specs.FinMap as finite
 use Rattle.std.specs.Io.KnownBytes.{Appends, Consumes}
 use Rattle.base.specs.Answers.{Fails}
 use Rattle.device.specs.Device.{Seen, Written, Took, Broke}
+use Rattle.device.proofs.Taken.{broke_after}
 use Rattle.ldif_lines.specs.Records.{records}
 use Rattle.ldif.specs.declared.record.Mode.TheVariants.{Content}
 use Rattle.schema.specs.Conf.{Conf}
@@ -178,6 +179,10 @@ fails_so slice text same e line kind is fails = subst (λ (t : List ℕ). conf_o
 -- ---- the first faults of a dir.conf: those of what is left stand behind those that were found
 
 -- whether there are more
+pub has_none : (text : List ℕ) (conf : Conf) → conf_of text ≡ Ok conf → AreFirstFaults 0 text [] false
+unfolding AreFirstFaults
+has_none text conf is = (conf, is)
+
 pub has_more : (text : List ℕ) (e : ConfFault) (line : ℕ) (kind : ConfFaultKind) → e ≡ Line line kind → Fails (fault_at e) (conf_of text) → AreFirstFaults 0 text [] true
 unfolding AreFirstFaults
 has_more text e line kind is fails = (refl, ((line, kind), fails_so text text refl e line kind is fails))
@@ -229,6 +234,11 @@ consumes_more (Some all) (Some bs) None xs ys one two = absurd two
 consumes_more (Some all) (Some bs) (Some cs) xs ys one two = one ∙ ap (λ (rest : List ℕ). xs ++ rest) two ∙ sym (append_assoc xs ys cs)
 
 -- ---- how a check ends that prints what it tells
+
+-- what was pushed behind a text, and failed
+pub after_both : {X E : Type 0} (a b c : Written) (xs ys : List ℕ) (r : Result X E) → Took a b xs → OnErr r (Broke b c ys) → OnErr r (Broke a c (xs ++ ys))
+after_both a b c xs ys (Ok x) took broke = tt
+after_both a b c xs ys (Err e) took broke = broke_after a b c xs ys took broke
 
 module _ (asked : CheckOptions) (w mid : World) where
   -- a check changes no file

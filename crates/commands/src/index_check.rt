@@ -1,14 +1,15 @@
 //! Whether index.txt is the text that slapindex writes of the directory.
-ghost use Rattle.std.specs.Prelude.{◌≡◌, ◌++◌, ◌<◌, ◌-◌, ◌^◌, Some, IfOk, IfErr, IfSome, IsTrue, OnOk};
+ghost use Rattle.std.specs.Prelude.{◌≡◌, ◌++◌, ◌<◌, ◌-◌, ◌^◌, Some, IfOk, IfErr, IfSome, IsTrue, OnOk, codes};
 ghost use Rattle.std.specs.FinMap as finite;
 ghost use Rattle.checks.specs.IndexDifferences.{difference_of};
+ghost use Rattle.checks.specs.Reports.{report};
 ghost use Rattle.databases.specs.IndexTexts.{index_text, stamp as stamp_by};
 ghost use Rattle.stored_index.specs.Faults.{fault_report};
 ghost use Rattle.stored_index.specs.Stored.{index_in};
 ghost use Rattle.folders.specs.Folders.{Finds};
 ghost use Rattle.commands.specs.DirectoryFiles.{index_name};
 ghost use Rattle.commands.specs.Failures.{FailsToRead};
-ghost use Rattle.commands.specs.Checks.{line_of_difference, fault_in, in_brackets, other_conf, index_what, index_report};
+ghost use Rattle.commands.specs.Checks.{line_of_difference, fault_in, in_brackets, other_conf, index_what, index_fault, index_report};
 ghost use Rattle.commands.specs.inner.Checked.{ReportsIndex};
 
 use crate::database::{contents, open, open_present, path};
@@ -104,6 +105,22 @@ fn what_of(
     other_conf(alloc, line_of_difference(text, own), place.as_slice())
 }
 
+/// Puts the report of a text of index.txt that isn't `own` at the end of a text.
+fn put_index_report(
+    alloc: Global,
+    database: &Database,
+    own: &[u8],
+    text: &[u8],
+    out: &mut Vec<u8>,
+) -> Result<(), AllocError>
+    ensures { OnOk result (out.new.items ≡ out.old.items ++ report (codes "faulty") (codes "index.txt")
+        (index_what (index_fault database.now.conf database.now.entries text.now) (line_of_difference text.now own.now) (difference_of text.now own.now))) }
+{
+    let fault = fault_of(alloc, database, text)?;
+    let what = what_of(alloc, fault, text, own)?;
+    put_report(out, "faulty", b"index.txt", what.as_slice())
+}
+
 /// Puts a report at the end of a text where this text of index.txt isn't `own`, which slapindex writes of the directory.
 fn report_text(
     alloc: Global,
@@ -118,9 +135,7 @@ fn report_text(
     if text == own {
         return Ok(());
     }
-    let fault = fault_of(alloc, database, text)?;
-    let what = what_of(alloc, fault, text, own)?;
-    put_report(out, "faulty", b"index.txt", what.as_slice())
+    put_index_report(alloc, database, own, text, out)
 }
 
 /// What stands behind the bytes that a text begins with, if it does.

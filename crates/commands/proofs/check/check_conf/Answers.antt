@@ -13,6 +13,6 @@ returns-in-Err-Line-clause-checks g c = λ w.
 
 pub returns-in_err-types-in-Ok-clause-stops : goal.returns-in_err-types-in-Ok-clause-stops
 returns-in_err-types-in-Ok-clause-stops g c =
-    let p = err_from_is_err_and c.from_residual-in_err-types-in-Ok.result c.from_residual-in_err-types-in-Ok.ensures.1 in
+    let p = err_from_is_err_and c.from_residual.result c.from_residual.ensures.1 in
     rw (p.1, p.2) (λ w. lacks_so c.args.asked.now (source_world w g.F.Folder.files g.S.Source.seen c.args.folder.now c.args.input.now) c.args.conf_text.now c.in-Ok.conf _
     c.requires.there c.in-Ok.ensures c.in_err-types-in-Ok.ensures.lacks)
