@@ -1,7 +1,9 @@
 """What check reports of the files of a directory: faults of dir.conf; or refused records of data.ldif, and of another file over it, index.txt where
-it isn't what slapindex writes of data.ldif, names of no entry, and values that several entries have.
+it isn't what slapindex writes of data.ldif, names of no entry, and values that several entries have. Behind that it warns of what dir.conf says and
+counts for nothing.
 """
 import os
+import re
 from dataclasses import dataclass, field
 from typing import Optional
 
@@ -10,6 +12,18 @@ import indexes
 import ldif
 import model
 import schema
+import values
+
+MOST_FAULTS = 1000
+# the rules that are known (RFC 4517, 4.2), by the fields that state them
+RULES = {
+    b"equality": b"""caseIgnoreMatch caseIgnoreIA5Match caseExactMatch caseExactIA5Match numericStringMatch telephoneNumberMatch integerMatch
+        booleanMatch octetStringMatch distinguishedNameMatch objectIdentifierMatch""".split(),
+    b"ordering": b"caseIgnoreOrderingMatch caseExactOrderingMatch numericStringOrderingMatch integerOrderingMatch octetStringOrderingMatch".split(),
+    b"substr": b"""caseIgnoreSubstringsMatch caseIgnoreIA5SubstringsMatch caseExactSubstringsMatch caseExactIA5SubstringsMatch
+        numericStringSubstringsMatch telephoneNumberSubstringsMatch""".split(),
+}
+OCTET_STRING = b"40"
 
 
 @dataclass(frozen=True)
@@ -20,13 +34,19 @@ class Over:
 
     def shown(self):
         """The name in one field of one line."""
-        return b"".join(b"\\%02X" % byte if byte < 32 or byte == 127 else bytes([byte]) for byte in os.fsencode(self.source))
+        return without_controls(os.fsencode(self.source))
+
+
+def without_controls(text):
+    return b"".join(b"\\%02X" % byte if byte < 32 or byte == 127 else bytes([byte]) for byte in text)
 
 
 @dataclass
 class Checked:
-    """The lines that are reported, whether they are of dir.conf, and what is said with `-v`: lists of sentences, of which one is told."""
+    """The lines that are reported, whether they are of dir.conf, those that are warnings, and what is said with `-v`: lists of sentences, of which one
+    is told."""
     lines: list = field(default_factory=list)
+    warnings: list = field(default_factory=list)
     said: list = field(default_factory=list)
     is_of_conf: bool = False
 
@@ -34,7 +54,7 @@ class Checked:
         self.lines.append(b"\t".join([kind, where, what]) + b"\n")
 
     def output(self):
-        return b"".join(self.lines)
+        return b"".join(self.lines + self.warnings)
 
     def status(self):
         return 1 if self.lines else 0
@@ -59,10 +79,14 @@ def check_files(checked, conf_text, data, index, folder, unique=None, references
     are lists of types with commas between, or None."""
     if conf_text is None:
         raise model.Ended(3, f"{folder}/dir.conf: cannot read", "  no such file or folder\n")
-    for fault in faults_of(conf_text):
+    checked.warnings += [b"warning\tdir.conf\tline %d: %b\n" % warning for warning in warnings_of(conf_text)]
+    faults, has_more = faults_of(conf_text)
+    for fault in faults:
         checked.report(b"faulty", b"dir.conf", str(fault).removeprefix("dir.conf ").encode())
         checked.said.append([fault.why])
         checked.is_of_conf = True
+    if has_more:
+        checked.report(b"faulty", b"dir.conf", b"more faults: the first %d are told" % MOST_FAULTS)
     if checked.is_of_conf:
         return
     directory = model.Directory(schema.read_conf(conf_text))
@@ -84,20 +108,62 @@ def check_files(checked, conf_text, data, index, folder, unique=None, references
 
 
 def faults_of(text):
-    """The first fault of a dir.conf; and those of the text where the line at fault, with those that it goes on on, is a comment."""
+    """The first fault of a dir.conf; and those of the text where the line at fault, with those that it goes on on, is a comment.
+    -> (so many at most, whether there are more)"""
     found = []
     while True:
         try:
             schema.read_conf(text)
-            return found
+            return found, False
         except schema.Fault as fault:
+            if len(found) == MOST_FAULTS:
+                return found, True
             found.append(fault)
             # a line that is missing can't become a comment
             if fault.line == 0:
-                return found
+                return found, False
             lines = text.split(b"\n")
             lines[fault.line - 1] = b"#" + lines[fault.line - 1][1:]
             text = b"\n".join(lines)
+
+
+def warnings_of(text):
+    """What the definitions of a dir.conf say that counts for nothing, where they can be read. -> (number of the line, what it is)"""
+    for number, line in schema.joined_lines(text):
+        word, rest = re.fullmatch(rb"([^ \t]*)(.*)", line, re.DOTALL).groups()
+        read = {b"attributetype": schema.read_type, b"objectclass": schema.read_class}.get(word.lower())
+        if read is None:
+            continue
+        try:
+            oid, fields = read(rest)
+        except schema.Wrong:
+            continue
+        called = (fields.get(b"name") or [oid])[0]
+        if oid in schema.BUILT_IN:
+            yield number, called + b" is built in, and this definition is skipped"
+        elif read is schema.read_type:
+            yield from ((number, b"%b's %b: %b isn't known%b" % (called, *what)) for what in unknown(fields))
+
+
+def unknown(fields):
+    """-> (field, what it states, and a known rule in brackets) for each that isn't known"""
+    for name, known in RULES.items():
+        stated = fields.get(name)
+        if stated is not None and stated.lower() not in [rule.lower() for rule in known]:
+            near = [rule for rule in known if differ_by_one(rule.lower(), stated.lower())]
+            yield name.upper(), without_controls(stated), b" (%b is)" % near[0] if near else b""
+    syntax = fields.get(b"syntax")
+    if syntax is not None and syntax not in [values.PREFIX + number for number in [*values.KINDS, OCTET_STRING]]:
+        yield b"SYNTAX", syntax, b""
+
+
+def differ_by_one(one, other):
+    """Whether one byte put in, taken out or replaced makes a text the other one."""
+    if len(one) > len(other):
+        one, other = other, one
+    if len(one) == len(other):
+        return sum(a != b for a, b in zip(one, other)) == 1
+    return any(other[:at] + other[at + 1:] == one for at in range(len(other)))
 
 
 def types_named(conf, text):
@@ -120,18 +186,29 @@ def report_refused(checked, directory, name, text):
 
 
 def report_index(checked, directory, text):
-    """Where it isn't what slapindex writes: its fault, or else the line on which it goes on otherwise."""
+    """Where it isn't what slapindex writes: its fault, or else the line on which it goes on otherwise, and the first key under which it has not the
+    same entries."""
     dump = directory.dump()
     due = indexes.index_text(directory.conf, dump)
     if text == due:
         return
     try:
-        indexes.read(directory.conf, dump, text)
+        rows = indexes.read(directory.conf, dump, text)
         line = os.path.commonprefix([text, due]).count(b"\n") + 1
-        what = f"line {line}: of another dir.conf: run slapindex"
+        what = b"line %d: of another dir.conf: run slapindex (%b)" % (line, first_other(directory.conf, rows, indexes.read(directory.conf, dump, due)))
     except indexes.Fault as fault:
-        what = str(fault)
-    checked.report(b"faulty", b"index.txt", what.encode())
+        what = str(fault).encode()
+    checked.report(b"faulty", b"index.txt", what)
+
+
+def first_other(conf, rows, due):
+    """The first slot and key, in order, of which the entries differ."""
+    for number, place in sorted(due):
+        one, other = rows[number, place], due[number, place]
+        for key in sorted({*one, *other}):
+            if one.get(key) != other.get(key):
+                return b"slot %b %b, key %b" % (conf.types[number].printed(), indexes.KINDS[place], key.hex().encode() or b"-")
+    return b""
 
 
 def report_value(checked, kind, directory, path, number, value):

@@ -390,11 +390,14 @@ def count_check(counts, case, wanted):
     counts[f"check: status {wanted['status']}"] += 1
     kinds = collections.Counter()
     # a value may have a tab, and other ends of lines
-    for line in wanted["output"].decode().split("\n")[:-1]:
+    for line in wanted["output"].decode(errors="replace").split("\n")[:-1]:
         kind, where, what = line.split("\t", 2)
         if kind in ("faulty", "refused"):
             where = where if where in ("dir.conf", "data.ldif", "index.txt") else "FILE"
-            counts[f"checks: {where}: {re.sub('^line [0-9]+: ', '', what)}"] += 1
+            counts[f"checks: {where}: {re.sub('^line [0-9]+: | [(].*', '', what)}"] += 1
+        elif kind == "warning":
+            field = re.search("'s ([A-Z]+): .* isn't known( [(])?", what)
+            counts[f"checks: warning: {'skipped' if field is None else field[1] + (' and a near one' if field[2] else '')}"] += 1
         kinds[f"{kind} {where}" if kind == "faulty" else kind] += 1
     for kind, number in kinds.items():
         counts[f"checks: {kind}: {min(number, 3)} {'lines or more' if number > 2 else 'line' if number == 1 else 'lines'}"] += 1

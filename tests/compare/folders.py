@@ -3,6 +3,7 @@ index.txt that is right, missing, stale, broken, lying or of another dir.conf, o
 
 Many values name entries, of which some aren't there, and many are like those of other entries.
 """
+import re
 from dataclasses import dataclass
 from typing import ClassVar, Optional
 
@@ -23,6 +24,13 @@ OTHER_RULES = [
     (b"distinguishedNameMatch", b"caseExactMatch"), (b"numericStringMatch", b"telephoneNumberMatch"),
     (b"SUP ", b"SYNTAX 1.3.6.1.4.1.1466.115.121.1.15 DESC 'c' X-SUP '"), (b"index ", b"index objectClass eq\n#"), (b",pres", b""), (b",eq", b""),
     (b"eq,", b"")]
+RULE_OR_SYNTAX = re.compile(rb"[A-Za-z0-9]+Match\b|1\.3\.6\.1\.4\.1\.1466\.115\.121\.1\.[0-9]+")
+# definitions that are skipped, and some near them
+BUILT_IN_LINES = [
+    b"attributetype ( 2.5.4.0 NAME 'objectClass' EQUALITY objectIdentifierMatch SYNTAX 1.3.6.1.4.1.1466.115.121.1.38 )",
+    b"attributetype ( 2.5.4.0 NAME 'cn' EQUALITY noMatch SYNTAX 1.2 COLLECTIVE )", b"attributetype ( 2.5.4.0 SUP nothing )",
+    b"objectclass ( 2.5.6.0 NAME 'top' ABSTRACT MUST objectClass )", b"ObjectClass ( 1.3.6.1.4.1.1466.101.120.111 MUST nothing )",
+    b"objectclass ( 2.5.4.0 )", b"attributetype ( 2.5.6.0 SYNTAX 1.2 )", b"attributetype ( 2.5.4.0 )", b"# attributetype ( 2.5.4.0 SYNTAX 1.2 )"]
 
 
 @dataclass(frozen=True)
@@ -139,6 +147,29 @@ def broken_conf(config, text):
     return rng.choice([lambda: config.broken_text(), lambda: many_faults(config), lambda: mutated(rng, text)])()
 
 
+def misspelt(rng, conf):
+    """A dir.conf with rules and syntaxes that aren't known, many of them near known ones, and with definitions of what is built in."""
+    for _ in range(rng.choice([1, 1, 2, 4])):
+        words = list(RULE_OR_SYNTAX.finditer(conf))
+        if words and some(rng, .8):
+            word = rng.choice(words)
+            conf = conf[:word.start()] + other_spelling(rng, word[0]) + conf[word.end():]
+        else:
+            line = rng.choice(BUILT_IN_LINES)
+            conf = rng.choice([line + b"\n" + conf, conf + b"\n" + line + b"\n"])
+    return conf
+
+
+def other_spelling(rng, word):
+    """With a letter more, less or another one, once or twice; in another case; of its OID; or another word."""
+    if some(rng, .2):
+        return rng.choice([word.upper(), b"2.5.13.2", b"1.3.6.1.4.1.1466.115.121.1.24", b"noSuchMatch", b"caseIgnoreMatch", b"wordMatch\x01", b"\xc3\xa9"])
+    for _ in range(rng.choice([1, 1, 1, 2])):
+        at = rng.randrange(len(word))
+        word = word[:at] + rng.choice([b"", b"", b"5", b"x", b"M", word[at:at + 1] * 2]) + word[at + rng.choice([0, 1]):]
+    return word or b"x"
+
+
 def loaded(conf, data):
     """The directory of those records that aren't refused, or None where there is no configuration."""
     try:
@@ -206,6 +237,8 @@ def check_case(rng):
     folders = Folders(rng, config, False)
     folders.fill(rng.choice([0] + [1, 3, 6, 10, 14] * 4))
     conf, data = config.text, folders.data()
+    if some(rng, .25):
+        conf = misspelt(rng, conf)
     if some(rng, .2):
         conf = None if some(rng, .03) else broken_conf(config, conf)
     everything = config.types + [b"objectClass"]

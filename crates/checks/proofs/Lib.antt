@@ -10,3 +10,5 @@ pub mod Sharings
 pub mod SharedTold
 pub mod Examples
 pub mod ReportExamples
+pub mod KnownRules
+pub mod Differing

@@ -1,9 +1,12 @@
 -- Worked examples of what is reported, by computation.
-use Rattle.std.proofs.Common.{◌≡◌, [], ◌∷◌, refl}
+use Rattle.std.proofs.Common.{◌≡◌, [], ◌∷◌, true, false, Some, None, refl}
 use Rattle.std.specs.Prelude.{codes}
 use Rattle.checks.specs.TypeNames.{each_once}
 use Rattle.checks.specs.Reports.{report, lines_behind, refused_reports}
 use Rattle.checks.specs.ConfFaults.{commented}
+use Rattle.checks.specs.NearNames.{are_near, nearest}
+use Rattle.checks.specs.Warnings.{equality_rules}
+use Rattle.checks.specs.IndexDifferences.{is_before, first_difference, difference_of}
 
 -- ---- lines of a dir.conf that are made comments
 
@@ -49,3 +52,53 @@ other_file = refl
 
 named_twice : each_once (2 ∷ 3 ∷ 2 ∷ 1 ∷ 3 ∷ []) ≡ 2 ∷ 3 ∷ 1 ∷ []
 named_twice = refl
+
+-- ---- names that differ by one letter
+
+letter_missing : are_near (codes "caseIgnoreMatch") (codes "caseIgnoreMach") ≡ true
+unfolding are_near
+letter_missing = refl
+
+letter_more : are_near (codes "caseIgnoreMatch") (codes "CaseIgnoreMatchs") ≡ true
+unfolding are_near
+letter_more = refl
+
+other_letter : are_near (codes "caseIgnoreMatch") (codes "caseignorematsh") ≡ true
+unfolding are_near
+other_letter = refl
+
+two_swapped : are_near (codes "integerMatch") (codes "intgeerMatch") ≡ false
+unfolding are_near
+two_swapped = refl
+
+two_missing : are_near (codes "integerMatch") (codes "integrMath") ≡ false
+unfolding are_near
+two_missing = refl
+
+nearest_rule : nearest equality_rules (codes "booleanMtch") ≡ Some (codes "booleanMatch")
+unfolding nearest are_near
+nearest_rule = refl
+
+no_near_rule : nearest equality_rules (codes "2.5.13.2") ≡ None
+unfolding nearest are_near
+no_near_rule = refl
+
+-- ---- where two index texts first differ
+
+other_members : difference_of (codes "slapindex\nslot cn eq\n61 1\nend\n") (codes "slapindex\nslot cn eq\n61 2\nend\n") ≡ codes "slot cn eq, key 61"
+unfolding first_difference is_before
+other_members = refl
+
+-- of a key that stands in one of them, before the other's
+key_missing : difference_of (codes "x\nslot cn eq\n62 1\nend\n") (codes "x\nslot cn eq\n61 1\n62 1\nend\n") ≡ codes "slot cn eq, key 61"
+unfolding first_difference is_before
+key_missing = refl
+
+-- the last key of a slot, where the other text has none
+key_too_many : difference_of (codes "x\nslot cn eq\n61 1\nslot cn pres\n") (codes "x\nslot cn eq\nslot cn pres\n") ≡ codes "slot cn eq, key 61"
+unfolding first_difference is_before
+key_too_many = refl
+
+empty_key : difference_of (codes "x\nslot cn pres\n- 1 2\nend\n") (codes "x\nslot cn pres\n- 1\nend\n") ≡ codes "slot cn pres, key -"
+unfolding first_difference is_before
+empty_key = refl

@@ -1,24 +1,22 @@
 -- The values that are told are those that several entries have.
-use Rattle.std.proofs.Common.{◌≡◌, ◌≢◌, ℕ, Bool, true, false, cond, ◌⊎◌, inl, inr, List, [], ◌∷◌, ◌++◌, map, filter, Option, Some, None, unwrap_or, nat_eq, refl, sym, ap, subst, ◌∙◌}
+use Rattle.std.proofs.Common.{◌≡◌, ◌≢◌, ℕ, Bool, true, false, cond, inl, inr, List, [], ◌∷◌, map, filter, Option, Some, None, unwrap_or, nat_eq, refl, sym, ap, subst, ◌∙◌}
 use Rattle.std.specs.Prelude.{T}
 use Rattle.std.specs.List.{Contains, flat_map, list_any, AllByRecursion, IsDistinct}
 use Rattle.std.specs.Map.{lookup, keys_of}
 use Rattle.std.specs.Str.{bytes_eq}
-use Rattle.std.specs.Ordering.{is_eq, is_lt}
-use Rattle.std.specs.declared.cmp.Ordering.{Ordering}
-use Rattle.std.specs.declared.cmp.Ordering.TheVariants.{Less, Equal, Greater}
+use Rattle.std.specs.Ordering.{is_eq}
+use Rattle.std.specs.declared.cmp.Ordering.TheVariants.{Less, Equal}
 use Rattle.std.specs.Cmp.Lexicographic.{bytes_decides}
 use Rattle.std.specs.FinMap as finite
 use Rattle.std.specs.FinMap.Entries.{is_sorted, below_all}
 use Rattle.std.proofs.lemmas.Cmp.{tied_itself}
 use Rattle.std.proofs.lemmas.Bool.{or_cases, or_left, or_right, eqb-true, eq-eqb}
-use Rattle.std.proofs.lemmas.List.Elements.{All-contains, All-from_recursion, Contains-append_cases}
+use Rattle.std.proofs.lemmas.List.Elements.{All-contains, All-from_recursion}
 use Rattle.values.specs.declared.types.AttributeType.{AttributeType}
 use Rattle.paths.specs.Paths.{Path, path_cmp}
 use Rattle.schema.specs.Values.{norm_at, are_equal}
 use Rattle.schema.specs.Conf.{Conf}
 use Rattle.entries.specs.Entries.{Attribute, Attributes, IsAttribute, values_of, has_equal}
-use Rattle.entries.proofs.StaysGood.{all_kept}
 use Rattle.tree.specs.Directories.{Entries, IsDirectory}
 use Rattle.tree.proofs.Order.{path_total}
 use Rattle.tree.proofs.Views.{split_and}

@@ -1,5 +1,5 @@
 -- Lines that fit into memory are not folded to a width that says so.
-use Rattle.std.proofs.Common.{◌≡◌, ◌∙◌, ◌<◌, ◌≤◌, ◌+◌, ◌-◌, ◌^◌, ℕ, zero, suc, List, [], ◌∷◌, ◌++◌, length, length-append, ap, sym, subst, arith}
+use Rattle.std.proofs.Common.{◌≡◌, ◌∙◌, ◌<◌, ◌≤◌, ◌-◌, ◌^◌, ℕ, zero, suc, List, [], ◌∷◌, ◌++◌, length, length-append, ap, arith}
 use Rattle.base.specs.Ascii.{line_feed}
 use Rattle.ldif_lines.specs.Folding.{folded_to, folded_line}
 

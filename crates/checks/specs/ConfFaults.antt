@@ -1,11 +1,11 @@
--- All faults of the text of a dir.conf: each as it is where the lines that were found at fault before it are comments.
-use Rattle.std.specs.Prelude.{◌≡◌, ◌<◌, ◌-◌, ℕ, zero, suc, ◌==◌, List, [], ◌∷◌, ◌++◌, if◌then◌else◌, Ok, Err, codes}
+-- The faults of the text of a dir.conf: each as it is where the lines that were found at fault before it are comments.
+use Rattle.std.specs.Prelude.{◌≡◌, ◌<◌, ◌-◌, ℕ, zero, suc, Bool, true, false, ◌==◌, List, [], ◌∷◌, ◌++◌, if◌then◌else◌, Ok, Err, codes}
 use Rattle.std.specs.List.{flat_map}
 use Rattle.std.specs.Fmt.{decimal}
 use Rattle.base.specs.Ascii.{line_feed, number_sign}
 use Rattle.schema.specs.Conf.{Conf}
 use Rattle.dir_conf.specs.Configurations.{conf_of}
-use Rattle.dir_conf.specs.ConfFaults.{kind_report}
+use Rattle.dir_conf.specs.ConfFaults.{At, kind_report}
 use Rattle.checks.specs.declared.conf_faults.ConfLineFault.{ConfLineFault}
 use Rattle.checks.specs.Reports.{report}
 
@@ -15,11 +15,18 @@ commented n [] = []
 commented zero (b ∷ bs) = number_sign ∷ bs
 commented (suc n) (b ∷ bs) = b ∷ commented (if b == line_feed then n else suc n) bs
 
--- These are the faults of a text: where it has none, it says a configuration. Behind a line that is missing, with number 0, there is none.
-unfoldable pub AreFaults : List ℕ → List ConfLineFault → Type 0
-AreFaults text [] = (conf : Conf) × (conf_of text ≡ Ok conf)
-AreFaults text (f ∷ others) =
-    (conf_of text ≡ Err (f.line, f.kind)) × ((f.line ≡ 0 → others ≡ []) × (0 < f.line → AreFaults (commented (f.line - 1) text) others))
+-- so many are told at most
+abbrev pub most_faults : ℕ
+most_faults = 1000
+
+-- These are the first faults of a text, at most so many, and whether there are more: where there are none, it says a configuration, and else it has
+-- one more. Behind a line that is missing, with number 0, there is none.
+unfoldable pub AreFirstFaults : ℕ → List ℕ → List ConfLineFault → Bool → Type 0
+AreFirstFaults n text [] false = (conf : Conf) × (conf_of text ≡ Ok conf)
+AreFirstFaults n text [] true = (n ≡ 0) × ((next : At) × (conf_of text ≡ Err next))
+AreFirstFaults n text (f ∷ others) more =
+    (0 < n) × ((conf_of text ≡ Err (f.line, f.kind))
+    × ((f.line ≡ 0 → (others ≡ []) × (more ≡ false)) × (0 < f.line → AreFirstFaults (n - 1) (commented (f.line - 1) text) others more)))
 
 -- as `line 214: C4 unknown name`
 abbrev pub fault_text : ConfLineFault → List ℕ
@@ -29,5 +36,13 @@ fault_text f = codes "line " ++ (decimal f.line ++ (codes ": " ++ kind_report f.
 abbrev pub fault_report : ConfLineFault → List ℕ
 fault_report f = report (codes "faulty") (codes "dir.conf") (fault_text f)
 
-abbrev pub fault_reports : List ConfLineFault → List ℕ
-fault_reports faults = flat_map fault_report faults
+-- that no more are told
+abbrev pub more_text : List ℕ
+more_text = codes "more faults: the first " ++ (decimal most_faults ++ codes " are told")
+
+abbrev pub more_report : Bool → List ℕ
+more_report false = []
+more_report true = report (codes "faulty") (codes "dir.conf") more_text
+
+abbrev pub fault_reports : List ConfLineFault → Bool → List ℕ
+fault_reports faults more = flat_map fault_report faults ++ more_report more

@@ -4,5 +4,8 @@ pub mod Sharing
 pub mod TypeNames
 pub mod Reports
 pub mod ConfFaults
+pub mod NearNames
+pub mod Warnings
+pub mod IndexDifferences
 pub mod Gives
 pub mod inner

@@ -1,7 +1,8 @@
 //! All faults of the text of a dir.conf.
 
 ghost use Rattle.std.specs.Prelude.{◌≡◌, ◌++◌, ◌-◌, ◌<◌, IfOk, OnOk, string_bytes};
-ghost use Rattle.checks.specs.ConfFaults.{commented, fault_text, fault_report, fault_reports};
+ghost use Rattle.std.specs.List.{flat_map};
+ghost use Rattle.checks.specs.ConfFaults.{commented, fault_text, fault_report, more_text, more_report, fault_reports};
 
 use crate::reports::put_report;
 use dir_conf::ConfFaultKind;
@@ -13,6 +14,17 @@ pub struct ConfLineFault {
     pub line: u64,
     pub kind: ConfFaultKind,
 }
+
+/// The first faults of a dir.conf.
+#[derive(Drop)]
+pub struct ConfFaults {
+    pub faults: Vec<ConfLineFault>,
+    /// Whether there are more.
+    pub has_more: bool,
+}
+
+/// How many faults of a dir.conf are told at most: to find each takes a reading of the text.
+pub const MOST_FAULTS: u64 = 1000;
 
 /// A text with a number sign for the first byte of the line with this number, from 1: so it is a comment, with the lines that it goes on on.
 #[tactic(auto, unfolding(crate::specs::ConfFaults::commented))]
@@ -54,17 +66,40 @@ fn put_fault(alloc: Global, fault: ConfLineFault, out: &mut Vec<u8>) -> Result<(
     put_report(out, "faulty", b"dir.conf", what.as_bytes())
 }
 
-/// Puts a report of each fault of a dir.conf at the end of a text: the word `faulty`, the name of the file, and the line and what is wrong with it, as
-/// the other commands report it.
-pub fn report_faults(
-    alloc: Global,
-    faults: &[ConfLineFault],
-    out: &mut Vec<u8>,
-) -> Result<(), AllocError>
-    ensures { OnOk result (out.new.items ≡ out.old.items ++ fault_reports faults.now) }
+/// Puts the reports of faults of dir.conf at the end of a text.
+fn put_faults(alloc: Global, faults: &[ConfLineFault], out: &mut Vec<u8>) -> Result<(), AllocError>
+    ensures { OnOk result (out.new.items ≡ out.old.items ++ flat_map fault_report faults.now) }
 {
     for fault in faults {
         put_fault(alloc, *fault, out)?;
     }
     Ok(())
+}
+
+/// That no more faults are told.
+fn more_text(alloc: Global) -> Result<String, AllocError>
+    ensures { IfOk result (λ s. string_bytes s ≡ more_text) }
+{
+    let most = MOST_FAULTS;
+    format!(in alloc; "more faults: the first {most} are told")
+}
+
+/// Puts the report that there are more faults at the end of a text, where there are.
+fn put_more(alloc: Global, has_more: bool, out: &mut Vec<u8>) -> Result<(), AllocError>
+    ensures { OnOk result (out.new.items ≡ out.old.items ++ more_report has_more) }
+{
+    if !has_more {
+        return Ok(());
+    }
+    let what = more_text(alloc)?;
+    put_report(out, "faulty", b"dir.conf", what.as_bytes())
+}
+
+/// Puts a report of each fault of a dir.conf at the end of a text: the word `faulty`, the name of the file, and the line and what is wrong with it, as
+/// the other commands report it; and whether there are more.
+pub fn report_faults(alloc: Global, found: &ConfFaults, out: &mut Vec<u8>) -> Result<(), AllocError>
+    ensures { OnOk result (out.new.items ≡ out.old.items ++ fault_reports found.now.faults.items found.now.has_more) }
+{
+    put_faults(alloc, found.faults.as_slice(), out)?;
+    put_more(alloc, found.has_more, out)
 }

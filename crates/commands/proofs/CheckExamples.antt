@@ -25,5 +25,5 @@ empty : line_of_difference [] (codes "slapindex") ≡ 1
 unfolding line_of_difference
 empty = refl
 
-stale : index_what (Some Stale) 1 ≡ codes "I" ++ (decimal 2 ++ codes " stale")
+stale : index_what (Some Stale) 1 [] ≡ codes "I" ++ (decimal 2 ++ codes " stale")
 stale = refl

@@ -1,5 +1,5 @@
 -- What a check has found in the files of a folder.
-use Rattle.std.proofs.Common.{◌≡◌, ◌∙◌, ◌<◌, ◌-◌, ℕ, Bool, true, false, List, [], ◌∷◌, ◌++◌, length, Option, None, Some, IfSome, Result, Ok, Err, IfOk, IfErr, OnOk, inl, inr, codes, sym, ap, subst, refl, arith}
+use Rattle.std.proofs.Common.{◌≡◌, ◌∙◌, ◌<◌, ◌-◌, ℕ, Bool, true, false, List, [], ◌∷◌, ◌++◌, length, Option, None, Some, IfSome, Result, Ok, Err, IfOk, IfErr, OnOk, OnErr, inl, inr, codes, sym, ap, subst, refl, arith}
 use Rattle.std.specs.Option.{option_copied, option_map}
 use Rattle.std.specs.Prelude.{if◌then◌else◌, bytes_eq}
 use Rattle.std.proofs.lemmas.List.{append-nil, append_assoc}
@@ -7,6 +7,7 @@ use Rattle.std.specs.FinMap as finite
 use Rattle.std.specs.Io.KnownBytes.{Appends, Consumes}
 use Rattle.base.specs.Answers.{Fails}
 use Rattle.device.specs.Device.{Seen, Written, Took, Broke}
+use Rattle.device.proofs.Taken.{broke_after}
 use Rattle.ldif_lines.specs.Records.{records}
 use Rattle.ldif.specs.declared.record.Mode.TheVariants.{Content}
 use Rattle.schema.specs.Conf.{Conf}
@@ -17,7 +18,7 @@ use Rattle.dir_conf.specs.declared.conf_fault.ConfFault.TheVariants.{Line}
 use Rattle.dir_conf.specs.declared.conf_fault.ConfFaultKind.{ConfFaultKind}
 use Rattle.tree.specs.Directories.{Entries}
 use Rattle.checks.specs.declared.conf_faults.ConfLineFault.{ConfLineFault}
-use Rattle.checks.specs.ConfFaults.{commented, AreFaults, fault_reports}
+use Rattle.checks.specs.ConfFaults.{commented, most_faults, AreFirstFaults}
 use Rattle.checks.specs.Reports.{refused_reports}
 use Rattle.databases.specs.Folds.{Runs}
 use Rattle.databases.specs.declared.runs.Tally.{Tally}
@@ -31,7 +32,7 @@ use Rattle.commands.specs.Failures.{FailsToWrite}
 use Rattle.commands.specs.Statuses.{status_of_reports}
 use Rattle.commands.specs.Worlds.{World}
 use Rattle.commands.specs.Lists.{list_source}
-use Rattle.commands.specs.Checks.{AddsText, AddsFile, AddsOver, FailsOver, file_name, file_reports, value_reports, line_of_difference, TellsFaults, TellsOthers, Checks}
+use Rattle.commands.specs.Checks.{AddsText, AddsFile, AddsOver, FailsOver, file_name, file_reports, value_reports, line_of_difference, TellsFirstFaults, TellsFaults, TellsOthers, Checks, WarnsOf}
 use Rattle.commands.specs.Checks.{LacksFirst, CheckFails, IsUncheckable, CheckGoesThrough, CheckStops}
 use Rattle.commands.specs.inner.Checked.{AreTypesAsked, HasAdded, told_reports, HasGathered}
 use Rattle.commands.specs.inner.Stopped.{HasStopped, HasEnded}
@@ -161,39 +162,50 @@ others_told asked w w' conf c d told text configured types gathered is =
       text_is = is ∙ ap (λ (said : List ℕ). (refused_reports (codes "data.ldif") told.loaded.items ++ (file_reports file told.over.items ++ said)) ++ values) index.put;
     }
 
-pub faults_told : (asked : CheckOptions) (w : World) (conf_text : List ℕ) (line : ℕ) (kind : ConfFaultKind) (found : List ConfLineFault) (text : List ℕ)
-    → Finds w.files (conf_name asked.db.now) (Some (Some conf_text)) → conf_of conf_text ≡ Err (line, kind) → AreFaults conf_text found → text ≡ fault_reports found → TellsFaults asked text w w
-unfolding AreFaults
-faults_told asked w conf_text line kind [] text there fails are is = let bad : Ok are.0 ≡ Err (line, kind) = sym are.1 ∙ fails in absurd cc
-faults_told asked w conf_text line kind (first ∷ others) text there fails are is = record { conf_text = conf_text; there = there; first = first; others = others; are = are; text_is = is; stays = refl }
+pub faults_told : (asked : CheckOptions) (w : World) (conf_text : List ℕ) (line : ℕ) (kind : ConfFaultKind) (text : List ℕ)
+    → Finds w.files (conf_name asked.db.now) (Some (Some conf_text)) → conf_of conf_text ≡ Err (line, kind) → TellsFirstFaults conf_text text → TellsFaults asked text w w
+faults_told asked w conf_text line kind text there fails tells = record { conf_text = conf_text; there = there; fault = (line, kind); faulty = fails; tells = tells; stays = refl }
 
 -- where a text is read as a configuration, types may be named that aren't known under it
-pub lacks_so : (asked : CheckOptions) (w : World) (slice text : List ℕ) (conf : Conf) (why : Stop) → Finds w.files (conf_name asked.db.now) (Some (Some text)) → slice ≡ text → conf_of slice ≡ Ok conf
+pub lacks_so : (asked : CheckOptions) (w : World) (text : List ℕ) (conf : Conf) (why : Stop) → Finds w.files (conf_name asked.db.now) (Some (Some text)) → conf_of text ≡ Ok conf
     → LacksFirst asked conf.types why → IsUncheckable asked why w w
-lacks_so asked w slice text conf why there same says lacks =
-    inr (record { conf = conf; configured = record { text = text; there = there; says = subst (λ (t : List ℕ). conf_of t ≡ Ok conf) same says }; lacks = lacks }, refl)
+lacks_so asked w text conf why there says lacks =
+    inr (record { conf = conf; configured = record { text = text; there = there; says = says }; lacks = lacks }, refl)
 
 -- where a text can't be read as a configuration, this is its first fault
 pub fails_so : (slice text : List ℕ) → slice ≡ text → (e : ConfFault) (line : ℕ) (kind : ConfFaultKind) → e ≡ Line line kind → Fails (fault_at e) (conf_of slice) → conf_of text ≡ Err (line, kind)
 fails_so slice text same e line kind is fails = subst (λ (t : List ℕ). conf_of t ≡ Err (line, kind)) same (subst (λ (f : ConfFault). Fails (fault_at f) (conf_of slice)) is fails)
 
--- ---- all faults of a dir.conf: those of what is left stand behind those that were found
+-- ---- the first faults of a dir.conf: those of what is left stand behind those that were found
 
-module _ (text left : List ℕ) (faults : List ConfLineFault) (before : (others : List ConfLineFault) → AreFaults left others → AreFaults text (faults ++ others)) where
-  pub no_fault : (conf : Conf) → conf_of left ≡ Ok conf → AreFaults text faults
-  unfolding AreFaults
-  no_fault conf is = subst (λ (fs : List ConfLineFault). AreFaults text fs) (append-nil faults) (before [] (conf, is))
+-- whether there are more
+pub has_none : (text : List ℕ) (conf : Conf) → conf_of text ≡ Ok conf → AreFirstFaults 0 text [] false
+unfolding AreFirstFaults
+has_none text conf is = (conf, is)
 
-  pub last_fault : (f : ConfLineFault) → conf_of left ≡ Err (f.line, f.kind) → f.line ≡ 0 → AreFaults text (faults ++ f ∷ [])
-  unfolding AreFaults
-  last_fault f fails is = before (f ∷ []) (fails, ((λ _. refl), λ some. absurd (omega (arith, is, some))))
+pub has_more : (text : List ℕ) (e : ConfFault) (line : ℕ) (kind : ConfFaultKind) → e ≡ Line line kind → Fails (fault_at e) (conf_of text) → AreFirstFaults 0 text [] true
+unfolding AreFirstFaults
+has_more text e line kind is fails = (refl, ((line, kind), fails_so text text refl e line kind is fails))
 
-  pub next_fault : (f : ConfLineFault) → conf_of left ≡ Err (f.line, f.kind) → 0 < f.line → (others : List ConfLineFault) → AreFaults (commented (f.line - 1) left) others
-      → AreFaults text ((faults ++ f ∷ []) ++ others)
-  unfolding AreFaults
-  next_fault f fails some others are =
-      subst (λ (fs : List ConfLineFault). AreFaults text fs) (sym (append_assoc faults (f ∷ []) others))
-      (before (f ∷ others) (fails, ((λ none. absurd (omega (arith, none, some))), λ _. are)))
+module _ (text left : List ℕ) (faults : List ConfLineFault) (room : ℕ)
+    (before : (others : List ConfLineFault) (more : Bool) → AreFirstFaults room left others more → AreFirstFaults most_faults text (faults ++ others) more) where
+  pub no_more : (more : Bool) → AreFirstFaults room left [] more → AreFirstFaults most_faults text faults more
+  no_more more are = subst (λ (fs : List ConfLineFault). AreFirstFaults most_faults text fs more) (append-nil faults) (before [] more are)
+
+  pub no_fault : (conf : Conf) → conf_of left ≡ Ok conf → AreFirstFaults most_faults text faults false
+  unfolding AreFirstFaults
+  no_fault conf is = no_more false (conf, is)
+
+  pub last_fault : (f : ConfLineFault) → 0 < room → conf_of left ≡ Err (f.line, f.kind) → f.line ≡ 0 → AreFirstFaults most_faults text (faults ++ f ∷ []) false
+  unfolding AreFirstFaults
+  last_fault f some fails is = before (f ∷ []) false (some, (fails, ((λ _. (refl, refl)), λ at. absurd (omega (arith, is, at)))))
+
+  pub next_fault : (f : ConfLineFault) → 0 < room → conf_of left ≡ Err (f.line, f.kind) → 0 < f.line → (others : List ConfLineFault) (more : Bool)
+      → AreFirstFaults (room - 1) (commented (f.line - 1) left) others more → AreFirstFaults most_faults text ((faults ++ f ∷ []) ++ others) more
+  unfolding AreFirstFaults
+  next_fault f some fails at others more are =
+      subst (λ (fs : List ConfLineFault). AreFirstFaults most_faults text fs more) (sym (append_assoc faults (f ∷ []) others))
+      (before (f ∷ others) more (some, (fails, ((λ none. absurd (omega (arith, none, at))), λ _. are))))
 
 -- ---- index.txt
 
@@ -223,6 +235,11 @@ consumes_more (Some all) (Some bs) (Some cs) xs ys one two = one ∙ ap (λ (res
 
 -- ---- how a check ends that prints what it tells
 
+-- what was pushed behind a text, and failed
+pub after_both : {X E : Type 0} (a b c : Written) (xs ys : List ℕ) (r : Result X E) → Took a b xs → OnErr r (Broke b c ys) → OnErr r (Broke a c (xs ++ ys))
+after_both a b c xs ys (Ok x) took broke = tt
+after_both a b c xs ys (Err e) took broke = broke_after a b c xs ys took broke
+
 module _ (asked : CheckOptions) (w mid : World) where
   -- a check changes no file
   same_files : (text : List ℕ) → Checks asked text w mid → mid.files ≡ w.files
@@ -233,13 +250,15 @@ module _ (asked : CheckOptions) (w mid : World) where
       over None same = ap (λ (v : World). v.files) same.2
       over (Some name) added = ap (λ (v : World). v.files) added.stays
 
-  pub printed_so : (b : Written) (text : List ℕ) (r : Result Status Stop) → Checks asked text w mid
-      → IfOk r (λ s. s ≡ status_of_reports text) → OnOk r (Took mid.output b text) → IfErr r (λ why. IsFault (FailsToWrite (codes "output")) why × Broke mid.output b text)
+  pub printed_so : (b : Written) (text warned : List ℕ) (r : Result Status Stop) → Checks asked text w mid → WarnsOf w.files asked.db.now warned
+      → IfOk r (λ s. s ≡ status_of_reports text) → OnOk r (Took mid.output b (text ++ warned))
+      → IfErr r (λ why. IsFault (FailsToWrite (codes "output")) why × Broke mid.output b (text ++ warned))
       → HasEnded (CheckGoesThrough asked) (CheckStops asked) w (record mid { output = b }) r
-  printed_so b text (Ok s) is status took broke = record { text = text; mid = mid; is = is; printed = record { took = took; stays = refl }; status = status }
-  printed_so b text (Err why) is status took broke = record {
+  printed_so b text warned (Ok s) is warns status took broke =
+      record { text = text; warned = warned; mid = mid; is = is; warns = warns; printed = record { took = took; stays = refl }; status = status }
+  printed_so b text warned (Err why) is warns status took broke = record {
     stored = [];
-    comes = inr (record { text = text; mid = mid; is = is; why = broke.0; broke = broke.1; only = record { stored = refl; stays = refl } });
+    comes = inr (record { text = text; warned = warned; mid = mid; is = is; warns = warns; why = broke.0; broke = broke.1; only = record { stored = refl; stays = refl } });
     files = same_files text is;
   }
 

@@ -17,3 +17,4 @@ pub mod OtherLoaded
 pub mod Compared
 pub mod Checked
 pub mod CheckExamples
+pub mod SoundFolders

@@ -1,5 +1,5 @@
 -- What check reports of the files in a folder, and of a file over them, and how it ends.
-use Rattle.std.specs.Prelude.{◌≡◌, ℕ, ◌+◌, ◌==◌, ◌⊎◌, true, List, [], ◌∷◌, ◌++◌, if◌then◌else◌, Option, None, Some, Result, Ok, Err, codes, string_bytes}
+use Rattle.std.specs.Prelude.{◌≡◌, ℕ, ◌+◌, ◌==◌, ◌⊎◌, Bool, true, List, [], ◌∷◌, ◌++◌, if◌then◌else◌, Option, None, Some, Result, Ok, Err, codes, string_bytes}
 use Rattle.std.specs.Option.{option_copied, option_map}
 use Rattle.std.specs.Str.{bytes_eq}
 use Rattle.std.specs.Fmt.{decimal}
@@ -12,9 +12,13 @@ use Rattle.values.specs.declared.types.AttributeType.{AttributeType}
 use Rattle.schema.specs.declared.code.Code.TheVariants.{UndefinedAttributeType}
 use Rattle.schema.specs.Codes.{code_report}
 use Rattle.schema.specs.Conf.{Conf}
+use Rattle.dir_conf.specs.ConfFaults.{At}
+use Rattle.dir_conf.specs.Configurations.{conf_of}
 use Rattle.tree.specs.Directories.{Entries}
 use Rattle.checks.specs.declared.conf_faults.ConfLineFault.{ConfLineFault}
-use Rattle.checks.specs.ConfFaults.{AreFaults, fault_reports}
+use Rattle.checks.specs.ConfFaults.{most_faults, AreFirstFaults, fault_reports}
+use Rattle.checks.specs.Warnings.{warnings}
+use Rattle.checks.specs.IndexDifferences.{difference_of}
 use Rattle.checks.specs.TypeNames.{types_named}
 use Rattle.checks.specs.Reports.{report, refused_reports, dangling_reports, shared_reports}
 use Rattle.stored_index.specs.Faults.{fault_report}
@@ -95,15 +99,26 @@ abbrev pub fault_in : Result Stored IndexFaultKind → Option IndexFaultKind
 fault_in (Ok stored) = None
 fault_in (Err kind) = Some kind
 
--- its fault; or the line on which it isn't the text that slapindex writes
-abbrev pub index_what : Option IndexFaultKind → ℕ → List ℕ
-index_what (Some kind) line = fault_report kind
-index_what None line = codes "line " ++ (decimal line ++ codes ": of another dir.conf: run slapindex")
+abbrev pub in_brackets : List ℕ → List ℕ
+in_brackets [] = []
+in_brackets (b ∷ bs) = codes " (" ++ ((b ∷ bs) ++ codes ")")
+
+-- as `line 7: of another dir.conf: run slapindex (slot cn eq, key 626f62)`
+abbrev pub other_conf : ℕ → List ℕ → List ℕ
+other_conf line place = (codes "line " ++ (decimal line ++ codes ": of another dir.conf: run slapindex")) ++ in_brackets place
+
+-- its fault; or the line on which it isn't the text that slapindex writes, and the slot and key there
+abbrev pub index_what : Option IndexFaultKind → ℕ → List ℕ → List ℕ
+index_what (Some kind) line place = fault_report kind
+index_what None line place = other_conf line place
+
+abbrev pub index_fault : Conf → Entries → List ℕ → Option IndexFaultKind
+index_fault conf d text = fault_in (index_in conf (finite.len d) (stamp conf d) text)
 
 -- nothing of the text that slapindex writes
 abbrev pub index_report : Conf → Entries → List ℕ → List ℕ
-index_report conf d text = if bytes_eq text (index_text conf d) then [] else
-    report (codes "faulty") (codes "index.txt") (index_what (fault_in (index_in conf (finite.len d) (stamp conf d) text)) (line_of_difference text (index_text conf d)))
+index_report conf d text = if bytes_eq text (index_text conf d) then [] else report (codes "faulty") (codes "index.txt")
+    (index_what (index_fault conf d text) (line_of_difference text (index_text conf d)) (difference_of text (index_text conf d)))
 
 -- nothing where there is no such file
 abbrev pub index_reports : Conf → Entries → Option (List ℕ) → List ℕ
@@ -126,14 +141,20 @@ record_reports conf loaded told file over index =
 abbrev pub value_reports : Conf → Entries → List ℕ → List ℕ → List ℕ
 value_reports conf d references unique = dangling_reports conf d references ++ shared_reports conf d unique
 
--- of a dir.conf at fault all faults, and nothing of the other files: what is wrong with those depends on what it says
+-- the first faults of the text of a dir.conf, at least one
+pub record TellsFirstFaults (conf_text text : List ℕ) : Type 0 where
+  pub faults : List ConfLineFault
+  pub has_more : Bool
+  pub are : AreFirstFaults most_faults conf_text faults has_more
+  pub text_is : text ≡ fault_reports faults has_more
+
+-- of a dir.conf at fault these, and nothing of the other files: what is wrong with those depends on what it says
 pub record TellsFaults (asked : CheckOptions) (text : List ℕ) (w w' : World) : Type 0 where
   pub conf_text : List ℕ
   pub there : Finds w.files (conf_name asked.db.now) (Some (Some conf_text))
-  pub first : ConfLineFault
-  pub others : List ConfLineFault
-  pub are : AreFaults conf_text (first ∷ others)
-  pub text_is : text ≡ fault_reports (first ∷ others)
+  pub fault : At
+  pub faulty : conf_of conf_text ≡ Err fault
+  pub tells : TellsFirstFaults conf_text text
   pub stays : w' ≡ w
 
 -- of the other files, under the configuration that it says: beside the entries of data.ldif index.txt, and with those of FILE over them the values
@@ -160,14 +181,22 @@ pub record TellsOthers (asked : CheckOptions) (text : List ℕ) (w w' : World) :
 abbrev pub Checks : CheckOptions → List ℕ → World → World → Type 0
 Checks asked text w w' = TellsFaults asked text w w' ⊎ TellsOthers asked text w w'
 
+-- what is warned of in the dir.conf of a folder, whether it has faults or not
+pub record WarnsOf (files : Option Files) (db warned : List ℕ) : Type 0 where
+  pub conf_text : List ℕ
+  pub there : Finds files (conf_name db) (Some (Some conf_text))
+  pub warned_is : warned ≡ warnings conf_text
+
 -- ---- where it goes through
 
--- all of it is printed, and nothing else changed
+-- all of it is printed, and nothing else changed; warnings alone leave the status
 pub record CheckGoesThrough (asked : CheckOptions) (w w' : World) (s : Status) : Type 0 where
   pub text : List ℕ
+  pub warned : List ℕ
   pub mid : World
   pub is : Checks asked text w mid
-  pub printed : IsPrinted text mid w'
+  pub warns : WarnsOf w.files asked.db.now warned
+  pub printed : IsPrinted (text ++ warned) mid w'
   pub status : s ≡ status_of_reports text
 
 -- ---- where it stops
@@ -225,10 +254,12 @@ IsUnchecked asked w at = IsUncheckable asked at.why w at.world × (at.stored ≡
 -- it was broken off in what it prints
 pub record IsBrokenOff (asked : CheckOptions) (w : World) (at : StoppedAt) : Type 0 where
   pub text : List ℕ
+  pub warned : List ℕ
   pub mid : World
   pub is : Checks asked text w mid
+  pub warns : WarnsOf w.files asked.db.now warned
   pub why : IsFault (FailsToWrite (codes "output")) at.why
-  pub broke : Broke mid.output at.world.output text
+  pub broke : Broke mid.output at.world.output (text ++ warned)
   pub only : HasOnlyPrinted mid at
 
 abbrev pub CheckStops : CheckOptions → World → StoppedAt → Type 0

@@ -19,5 +19,6 @@ pub mod Lists
 pub mod Sorting
 pub mod Differences
 pub mod Checks
+pub mod SoundFolders
 pub mod Commands
 pub mod inner

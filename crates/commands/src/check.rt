@@ -1,11 +1,10 @@
 //! check: what is wrong with the files of a directory is reported.
-ghost use Rattle.std.specs.Prelude.{◌≡◌, List, ◌<◌, ◌-◌, ◌^◌, ◌++◌, [], Ok, IfOk, IfErr, OnOk, codes, length};
+ghost use Rattle.std.specs.Prelude.{◌≡◌, List, ◌<◌, ◌-◌, ◌^◌, ◌++◌, [], Ok, Some, IfOk, IfErr, OnOk, OnErr, codes, length};
 ghost use Rattle.std.specs.List.{AllByRecursion};
 ghost use Rattle.std.specs.FinMap as finite;
 ghost use Rattle.std.specs.Option.{option_copied, option_map};
 ghost use Rattle.device.specs.Device.{Took, Broke};
-ghost use Rattle.checks.specs.declared.conf_faults.ConfLineFault.{ConfLineFault};
-ghost use Rattle.checks.specs.ConfFaults.{AreFaults, fault_reports};
+ghost use Rattle.checks.specs.Warnings.{warnings};
 ghost use Rattle.folders.specs.Folders.{Finds};
 ghost use Rattle.commands.specs.DirectoryFiles.{conf_name, data_name, index_name};
 ghost use Rattle.commands.specs.Lists.{list_source};
@@ -15,7 +14,7 @@ ghost use Rattle.commands.specs.Endings.{IsFault};
 ghost use Rattle.commands.specs.Loaded.{IsConfigured};
 ghost use Rattle.commands.specs.Failures.{IsMemory, FailsToRead, FailsToWrite};
 ghost use Rattle.commands.specs.Statuses.{status_of_reports};
-ghost use Rattle.commands.specs.Checks.{types_asked, AddsText, AddsFile, AddsOver, file_name, file_reports, value_reports, TellsOthers, Checks};
+ghost use Rattle.commands.specs.Checks.{types_asked, AddsText, AddsFile, AddsOver, file_name, file_reports, value_reports, TellsFirstFaults, TellsOthers, Checks, WarnsOf};
 ghost use Rattle.commands.specs.Checks.{TellsNoType, LacksTypes, LacksFirst, FailsOver, CheckFails, IsUncheckable, CheckGoesThrough, CheckStops};
 ghost use Rattle.commands.specs.inner.Checked.{AreTypesAsked, HasAdded, ReportsIndex, told_reports, HasGathered};
 ghost use Rattle.commands.specs.inner.Stopped.{HasEnded};
@@ -26,7 +25,8 @@ use crate::index_check::report_index_file;
 use crate::messages::{CommandFault, Status, Stop};
 use crate::telling::CommandTeller;
 use checks::{
-    TypesFault, report_dangling, report_faults, report_refused, report_shared, types_named,
+    TypesFault, report_dangling, report_faults, report_refused, report_shared, report_warnings,
+    types_named,
 };
 use command_line::CheckOptions;
 use databases::{Database, RunFault, run_telling};
@@ -348,18 +348,67 @@ fn check_under<F: Folder, S: Source, T: CommandTeller>(
     text
 }
 
-/// A report of each fault of the text of a dir.conf.
-fn conf_reports<T: CommandTeller>(
+/// A report of each fault of the text of a dir.conf, up to the most that are told.
+fn fault_reports<T: CommandTeller>(
     alloc: Global,
     text: &[u8],
     teller: &mut T,
 ) -> Result<Vec<u8>, AllocError>
-    ensures { IfOk result (λ v. (faults : List ConfLineFault) × AreFaults text.now faults × (v.items ≡ fault_reports faults)) }
+    ensures { IfOk result (λ v. TellsFirstFaults text.now v.items) }
 {
-    let faults = find_faults(alloc, text, teller)?;
+    let found = find_faults(alloc, text, teller)?;
     let mut reports = Vec::new(alloc);
-    report_faults(alloc, faults.as_slice(), &mut reports)?;
+    report_faults(alloc, &found, &mut reports)?;
     Ok(reports)
+}
+
+/// All that is reported as wrong of the files in a folder, whose dir.conf has this text, and of the file over them.
+fn check_conf<F: Folder, S: Source, T: CommandTeller>(
+    alloc: Global,
+    asked: &CheckOptions<'_>,
+    folder: &F,
+    input: &mut S,
+    conf_text: &[u8],
+    teller: &mut T,
+) -> Result<Vec<u8>, Stop>
+    requires input { (S.seen input.old).failed < 2 ^ 64 - 1 }
+    requires there { Finds (F.files folder.now) (conf_name asked.now.db.now) (Some (Some conf_text.now)) }
+    ensures checks { IfOk result (λ text. (w : World) → Checks asked.now text.items
+        (source_world w F.files S.seen folder.now input.old)
+        (source_world w F.files S.seen folder.now input.new)) }
+    ensures stops { IfErr result (λ why. (w : World) → IsUncheckable asked.now why
+        (source_world w F.files S.seen folder.now input.old)
+        (source_world w F.files S.seen folder.now input.new)) }
+{
+    match read_conf(alloc, conf_text) {
+        Ok(conf) => {
+            let types = checked_types(alloc, asked, &conf)?;
+            match check_under(alloc, asked, folder, input, conf, &types, teller) {
+                Ok(text) => Ok(text),
+                Err(fault) => Err(Stop::Fault(fault)),
+            }
+        }
+        Err(ConfFault::Line { .. }) => Ok(fault_reports(alloc, conf_text, teller)?),
+        Err(ConfFault::OutOfMemory) => Err(Stop::Fault(CommandFault::OutOfMemory)),
+    }
+}
+
+/// What is printed of the files in a folder.
+#[derive(Drop)]
+struct Printed {
+    /// What is wrong.
+    wrong: Vec<u8>,
+    /// What is warned of.
+    warned: Vec<u8>,
+}
+
+/// What is warned of in the text of a dir.conf.
+fn warnings(alloc: Global, conf_text: &[u8]) -> Result<Vec<u8>, AllocError>
+    ensures { IfOk result (λ v. v.items ≡ warnings conf_text.now) }
+{
+    let mut warned = Vec::new(alloc);
+    report_warnings(alloc, conf_text, &mut warned)?;
+    Ok(warned)
 }
 
 /// All that is reported of the files in a folder, and of the file over them.
@@ -369,38 +418,47 @@ fn check_folder<F: Folder, S: Source, T: CommandTeller>(
     folder: &F,
     input: &mut S,
     teller: &mut T,
-) -> Result<Vec<u8>, Stop>
+) -> Result<Printed, Stop>
     requires input { (S.seen input.old).failed < 2 ^ 64 - 1 }
-    ensures checks { IfOk result (λ text. (w : World) → Checks asked.now text.items
+    ensures checks { IfOk result (λ p. (w : World) → Checks asked.now p.wrong.items
         (source_world w F.files S.seen folder.now input.old)
         (source_world w F.files S.seen folder.now input.new)) }
+    ensures warns { IfOk result (λ p. WarnsOf (F.files folder.now) asked.now.db.now p.warned.items) }
     ensures stops { IfErr result (λ why. (w : World) → IsUncheckable asked.now why
         (source_world w F.files S.seen folder.now input.old)
         (source_world w F.files S.seen folder.now input.new)) }
 {
     let text = read_conf_text(alloc, folder, asked.db)?;
-    match read_conf(alloc, text.as_slice()) {
-        Ok(conf) => {
-            let types = checked_types(alloc, asked, &conf)?;
-            match check_under(alloc, asked, folder, input, conf, &types, teller) {
-                Ok(text) => Ok(text),
-                Err(fault) => Err(Stop::Fault(fault)),
-            }
-        }
-        Err(ConfFault::Line { .. }) => Ok(conf_reports(alloc, text.as_slice(), teller)?),
-        Err(ConfFault::OutOfMemory) => Err(Stop::Fault(CommandFault::OutOfMemory)),
-    }
+    let warned = warnings(alloc, text.as_slice())?;
+    let wrong = check_conf(alloc, asked, folder, input, text.as_slice(), teller)?;
+    Ok(Printed { wrong, warned })
 }
 
-/// Prints what is reported, and answers whether that is something.
-fn print_reports<O: Sink>(alloc: Global, text: &[u8], out: &mut O) -> Result<Status, Stop>
+/// Pushes two texts, one behind the other.
+fn push_both<O: Sink>(out: &mut O, first: &[u8], second: &[u8]) -> Result<(), Device>
     requires { (O.written out.old).failed < 2 ^ 64 - 1 }
-    ensures status { IfOk result (λ s. s ≡ status_of_reports text.now) }
-    ensures printed { OnOk result (Took (O.written out.old) (O.written out.new) text.now) }
-    ensures broke { IfErr result (λ why. IsFault (FailsToWrite (codes "output")) why × Broke (O.written out.old) (O.written out.new) text.now) }
+    ensures ok { OnOk result (Took (O.written out.old) (O.written out.new) (first.now ++ second.now)) }
+    ensures device { OnErr result (Broke (O.written out.old) (O.written out.new) (first.now ++ second.now)) }
 {
-    match push_all(out, text) {
-        Ok(()) => Ok(Status::of_reports(text)),
+    push_all(out, first)?;
+    push_all(out, second)
+}
+
+/// Prints what is wrong, and behind it what is warned of, and answers whether something is wrong.
+fn print_reports<O: Sink>(
+    alloc: Global,
+    wrong: &[u8],
+    warned: &[u8],
+    out: &mut O,
+) -> Result<Status, Stop>
+    requires { (O.written out.old).failed < 2 ^ 64 - 1 }
+    ensures status { IfOk result (λ s. s ≡ status_of_reports wrong.now) }
+    ensures printed { OnOk result (Took (O.written out.old) (O.written out.new) (wrong.now ++ warned.now)) }
+    ensures broke { IfErr result (λ why. IsFault (FailsToWrite (codes "output")) why
+        × Broke (O.written out.old) (O.written out.new) (wrong.now ++ warned.now)) }
+{
+    match push_both(out, wrong, warned) {
+        Ok(()) => Ok(Status::of_reports(wrong)),
         Err(Device) => Err(Stop::Fault(CommandFault::cannot_write(alloc, "output"))),
     }
 }
@@ -408,8 +466,8 @@ fn print_reports<O: Sink>(alloc: Global, text: &[u8], out: &mut O) -> Result<Sta
 /// Prints what is wrong with the files of the directory in a folder, each with a word for its kind, where it is, and what it is, with tabs between:
 /// all faults of dir.conf; or, where that has none, the records of data.ldif that are refused, over them those of the file that is named, which with
 /// `-` is the input, index.txt where it isn't what slapindex writes of data.ldif, references that name no entry, and values of several entries of the
-/// types that are asked for. It ends as `Refused` where something is wrong, and else as `Done`. It stops where a type isn't known, or a file, the
-/// output or memory fails.
+/// types that are asked for. Behind that stand warnings of what dir.conf says and counts for nothing. It ends as `Refused` where something is wrong,
+/// and else as `Done`. It stops where a type isn't known, or a file, the output or memory fails.
 pub fn check<F: Folder, S: Source, O: Sink, T: CommandTeller>(
     alloc: Global,
     asked: &CheckOptions<'_>,
@@ -425,7 +483,12 @@ pub fn check<F: Folder, S: Source, O: Sink, T: CommandTeller>(
         (piped_world w F.files S.seen O.written folder.now input.new out.new) result }
 {
     match check_folder(alloc, asked, folder, input, teller) {
-        Ok(text) => print_reports(alloc, text.as_slice(), out),
+        Ok(printed) => print_reports(
+            alloc,
+            printed.wrong.as_slice(),
+            printed.warned.as_slice(),
+            out,
+        ),
         Err(stop) => Err(stop),
     }
 }

@@ -1,18 +1,21 @@
 //! Whether index.txt is the text that slapindex writes of the directory.
-ghost use Rattle.std.specs.Prelude.{◌≡◌, ◌++◌, ◌<◌, ◌-◌, ◌^◌, Some, IfOk, IfErr, IfSome, IsTrue, OnOk, string_bytes};
+ghost use Rattle.std.specs.Prelude.{◌≡◌, ◌++◌, ◌<◌, ◌-◌, ◌^◌, Some, IfOk, IfErr, IfSome, IsTrue, OnOk, codes};
 ghost use Rattle.std.specs.FinMap as finite;
+ghost use Rattle.checks.specs.IndexDifferences.{difference_of};
+ghost use Rattle.checks.specs.Reports.{report};
 ghost use Rattle.databases.specs.IndexTexts.{index_text, stamp as stamp_by};
+ghost use Rattle.stored_index.specs.Faults.{fault_report};
 ghost use Rattle.stored_index.specs.Stored.{index_in};
 ghost use Rattle.folders.specs.Folders.{Finds};
 ghost use Rattle.commands.specs.DirectoryFiles.{index_name};
 ghost use Rattle.commands.specs.Failures.{FailsToRead};
-ghost use Rattle.commands.specs.Checks.{line_of_difference, fault_in, index_what, index_report};
+ghost use Rattle.commands.specs.Checks.{line_of_difference, fault_in, in_brackets, other_conf, index_what, index_fault, index_report};
 ghost use Rattle.commands.specs.inner.Checked.{ReportsIndex};
 
 use crate::database::{contents, open, open_present, path};
 use crate::index_file::{PIECE, own_text};
 use crate::messages::CommandFault;
-use checks::put_report;
+use checks::{put_report, slot_and_key_of_difference};
 use databases::Database;
 use device::{Device, Source};
 use folders::Folder;
@@ -56,14 +59,66 @@ fn fault_of(
     }
 }
 
-/// What is said of index.txt: its fault, or the line on which it isn't the text that slapindex writes.
-fn what_of(alloc: Global, fault: Option<IndexFaultKind>, line: u64) -> Result<String, AllocError>
-    ensures { IfOk result (λ s. string_bytes s ≡ index_what fault line) }
+/// Puts a slot and a key, if there is one, in brackets at the end of a text.
+fn put_place(what: &mut Vec<u8>, place: &[u8]) -> Result<(), AllocError>
+    ensures { OnOk result (what.new.items ≡ what.old.items ++ in_brackets place.now) }
 {
-    match fault {
-        Some(kind) => format!(in alloc; "{kind}"),
-        None => format!(in alloc; "line {line}: of another dir.conf: run slapindex"),
+    if place.is_empty() {
+        return Ok(());
     }
+    what.extend_from_slice(b" (")?;
+    what.extend_from_slice(place)?;
+    what.extend_from_slice(b")")
+}
+
+/// That index.txt is of another dir.conf: the line on which it isn't the text that slapindex writes, and the slot and the key.
+fn other_conf(alloc: Global, line: u64, place: &[u8]) -> Result<Vec<u8>, AllocError>
+    ensures { IfOk result (λ v. v.items ≡ other_conf line place.now) }
+{
+    let text = format!(in alloc; "line {line}: of another dir.conf: run slapindex")?;
+    let mut what = Vec::from_slice(alloc, text.as_bytes())?;
+    put_place(&mut what, place)?;
+    Ok(what)
+}
+
+fn fault_text(alloc: Global, kind: IndexFaultKind) -> Result<Vec<u8>, AllocError>
+    ensures { IfOk result (λ v. v.items ≡ fault_report kind) }
+{
+    let text = format!(in alloc; "{kind}")?;
+    Vec::from_slice(alloc, text.as_bytes())
+}
+
+/// What is said of this text of index.txt: its fault, or where it isn't `own`.
+fn what_of(
+    alloc: Global,
+    fault: Option<IndexFaultKind>,
+    text: &[u8],
+    own: &[u8],
+) -> Result<Vec<u8>, AllocError>
+    ensures { IfOk result (λ v. v.items
+        ≡ index_what fault (line_of_difference text.now own.now) (difference_of text.now own.now)) }
+{
+    if let Some(kind) = fault {
+        return fault_text(alloc, kind);
+    }
+    let place = slot_and_key_of_difference(alloc, text, own)?;
+    other_conf(alloc, line_of_difference(text, own), place.as_slice())
+}
+
+/// Puts the report of a text of index.txt that isn't `own` at the end of a text.
+fn put_index_report(
+    alloc: Global,
+    database: &Database,
+    own: &[u8],
+    text: &[u8],
+    out: &mut Vec<u8>,
+) -> Result<(), AllocError>
+    ensures { OnOk result (out.new.items ≡ out.old.items ++ report (codes "faulty") (codes "index.txt")
+        (index_what (index_fault database.now.conf database.now.entries text.now) (line_of_difference text.now own.now) (difference_of text.now own.now))) }
+{
+    let fault = fault_of(alloc, database, text)?;
+    let what = what_of(alloc, fault, text, own)?;
+    put_report(out, "faulty", b"index.txt", what.as_slice())
 }
 
 /// Puts a report at the end of a text where this text of index.txt isn't `own`, which slapindex writes of the directory.
@@ -80,10 +135,7 @@ fn report_text(
     if text == own {
         return Ok(());
     }
-    let line = line_of_difference(text, own);
-    let fault = fault_of(alloc, database, text)?;
-    let what = what_of(alloc, fault, line)?;
-    put_report(out, "faulty", b"index.txt", what.as_bytes())
+    put_index_report(alloc, database, own, text, out)
 }
 
 /// What stands behind the bytes that a text begins with, if it does.

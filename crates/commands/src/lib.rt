@@ -10,6 +10,7 @@ mod excerpt;
 mod finding;
 mod index_check;
 mod index_file;
+mod laws;
 mod ldifdiff;
 mod list_text;
 mod listing;
@@ -24,4 +25,5 @@ mod telling;
 
 pub use databases::{Gauge, NoGauge, Tally};
 pub use dispatch::{command, command_telling};
+pub use laws::sound_folders_have_no_reports;
 pub use messages::{CommandFault, Status, report_fault};

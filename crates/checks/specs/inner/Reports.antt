@@ -1,5 +1,5 @@
 -- Which values and paths a directory has, so that they can be reported by their names.
-use Rattle.std.specs.Prelude.{◌≡◌, ℕ, ◌<◌, true, List, length, All}
+use Rattle.std.specs.Prelude.{◌≡◌, ◌<◌, true, List, length, All}
 use Rattle.std.specs.FinMap as finite
 use Rattle.paths.specs.Paths.{Path}
 use Rattle.schema.specs.Conf.{Conf}

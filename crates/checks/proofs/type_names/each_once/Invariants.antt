@@ -1,4 +1,4 @@
-use Rattle.std.proofs.Common.{◌≡◌, [], drop}
+use Rattle.std.proofs.Common.{◌≡◌, drop}
 use Rattle.std.specs.Prelude.{fold}
 use Rattle.checks.specs.TypeNames.{put_once, each_once}
 use Rattle.checks.proofs.type_names.each_once.Given as goal
