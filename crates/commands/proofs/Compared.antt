@@ -1,11 +1,11 @@
 -- How a comparison of two directories ends, from what its parts say.
-use Rattle.std.proofs.Common.{◌≡◌, ℕ, ◌<◌, ◌-◌, ◌^◌, List, [], Option, None, Some, inl, inr, refl, sym, ap, subst, ◌∙◌, length, ◌≤◌, ◌+◌, ◌++◌, ◌∷◌, arith}
-use Rattle.std.specs.Prelude.{Result, Ok, Err, true, ◌||◌, is_some, string_bytes}
+use Rattle.std.proofs.Common.{◌≡◌, ℕ, List, [], Option, None, Some, inl, inr, refl, sym, ap, subst, ◌∙◌, length, ◌≤◌, ◌+◌, ◌++◌, ◌∷◌, arith}
+use Rattle.std.specs.Prelude.{Result, Ok, Err, true, ◌||◌, is_some}
 use Rattle.std.specs.FinMap as finite
 use Rattle.std.specs.Borrow.{Bor}
 use Rattle.std.specs.Option.{option_copied, option_map, ForSome}
 use Rattle.std.proofs.lemmas.List.{length-append}
-use Rattle.device.specs.Device.{Written, Took, Broke}
+use Rattle.device.specs.Device.{Written}
 use Rattle.sentences.specs.Sentence.{IsLine}
 use Rattle.paths.specs.Paths.{Path}
 use Rattle.schema.specs.Conf.{Conf}
@@ -13,19 +13,17 @@ use Rattle.schema.specs.declared.code.Code.{Code}
 use Rattle.tree.specs.Directories.{Entries}
 use Rattle.filter_text.specs.Spells.{FilterContent, view}
 use Rattle.filter.specs.Made.{Made}
-use Rattle.differences.specs.Differences.{Extent}
 use Rattle.differences.specs.Comparisons.{extent_by, extent_of}
 use Rattle.differences.specs.declared.comparison.Comparison.{Comparison}
 use Rattle.command_line.specs.declared.request.DiffOptions.{DiffOptions}
 use Rattle.commands.specs.Asked.{IsBase}
 use Rattle.commands.specs.Worlds.{World}
-use Rattle.commands.specs.Endings.{StoppedAt, IsFault}
+use Rattle.commands.specs.Endings.{IsFault}
 use Rattle.commands.specs.Loaded.{IsLoaded, LoadFails}
-use Rattle.commands.specs.Failures.{IsMemory}
-use Rattle.commands.specs.Differences.{LoadsOther, IsWantedFilter, IsWantedExtent, TellsNoBase, LacksBoth, IsBefore, IsUnheard, ComparesTo, ComparingStops, DiffFails, DiffGoesThrough, DiffStops}
+use Rattle.commands.specs.Differences.{LoadsOther, IsWantedFilter, IsWantedExtent, TellsNoBase, LacksBoth, ComparingStops, DiffFails, DiffGoesThrough, DiffStops}
 use Rattle.commands.specs.inner.Compared.{PreparedFor, IsUntold, HasCompared}
 use Rattle.commands.specs.inner.Refusals.{FilterFails}
-use Rattle.commands.specs.inner.Stopped.{CanReport, HasEnded}
+use Rattle.commands.specs.inner.Stopped.{HasEnded}
 use Rattle.commands.specs.declared.messages.Status.{Status}
 use Rattle.commands.specs.declared.messages.CommandFault.{CommandFault}
 use Rattle.commands.specs.declared.messages.CommandFault.TheVariants as faults

@@ -2,19 +2,18 @@
 use Rattle.std.proofs.Common.{◌≡◌, ℕ, inl, inr, List, [], Option, Some, None, refl, sym, ap, ◌∙◌, subst}
 use Rattle.std.specs.Prelude.{Result, Ok, Err, codes}
 use Rattle.std.specs.Option.{option_copied}
-use Rattle.device.specs.Device.{Written, Seen}
+use Rattle.device.specs.Device.{Written}
 use Rattle.schema.specs.Conf.{Conf}
 use Rattle.tree.specs.Directories.{Entries}
 use Rattle.tree.specs.Trees.{Tree}
 use Rattle.filter_text.specs.declared.filter_fault.FilterFault.{FilterFault}
-use Rattle.folders.specs.Folders.{File, Files, with_files}
-use Rattle.stored_index.specs.declared.fault.IndexFaultKind.{IndexFaultKind}
+use Rattle.folders.specs.Folders.{Files, with_files}
 use Rattle.command_line.specs.declared.request.SearchOptions.{SearchOptions}
 use Rattle.commands.specs.DirectoryFiles.{index_name}
 use Rattle.commands.specs.Endings.{StoppedAt}
-use Rattle.commands.specs.Failures.{IsMemory, FailsToRead, Refuses}
+use Rattle.commands.specs.Failures.{FailsToRead, Refuses}
 use Rattle.commands.specs.IndexFiles.{Said, SaysOf, ReportsFault}
-use Rattle.commands.specs.Lists.{Common, IsCommon, RunsLines, StopsInLine, StopsInLines, ReadsList, IsUnreadable, ListRuns, ListBreaks, ListGoesThrough, ListStops, list_source, lines}
+use Rattle.commands.specs.Lists.{Common, IsCommon, RunsLines, StopsInLine, StopsInLines, ReadsList, ListRuns, ListBreaks, ListGoesThrough, ListStops, list_source, lines}
 use Rattle.commands.specs.Changes.{source_name}
 use Rattle.commands.specs.Loaded.{IsLoaded, LoadFails}
 use Rattle.commands.specs.Prints.{IsSaid}
@@ -34,7 +33,7 @@ use Rattle.commands.specs.declared.messages.Stop.TheVariants as stops
 use Rattle.commands.specs.declared.query.Query.{Query}
 use Rattle.commands.proofs.Listed.{want_in_line}
 use Rattle.commands.proofs.SourcesRead.{same_files}
-use Rattle.commands.proofs.Stopping.{stopped, of_memory, memory_loads}
+use Rattle.commands.proofs.Stopping.{stopped, memory_loads}
 
 -- what stopped so, said of more
 pub stopped_behind : (ComesTo ComesTo' : World → StoppedAt → Type 0) (w mid w' : World) → mid.files ≡ w.files → ((at : StoppedAt) → ComesTo mid at → ComesTo' w at)

@@ -1,14 +1,13 @@
 -- How the search of a line of a list ends, and how one line follows the other.
 use Rattle.std.proofs.Common.{◌≡◌, ℕ, ◌+◌, Bool, true, false, inl, inr, List, [], ◌∷◌, ◌++◌, length, Some, None, refl, sym, ap, ◌∙◌, subst}
-use Rattle.std.specs.Prelude.{Result, Ok, Err, codes, if◌then◌else◌}
+use Rattle.std.specs.Prelude.{Ok, Err, codes, if◌then◌else◌}
 use Rattle.std.specs.Option.{option_copied}
 use Rattle.std.specs.Fmt.{decimal}
 use Rattle.std.specs.FinMap as finite
 use Rattle.device.specs.Device.{Written}
 use Rattle.paths.specs.Paths.{Path}
 use Rattle.schema.specs.Conf.{Conf}
-use Rattle.schema.specs.declared.code.Code.{Code}
-use Rattle.schema.specs.declared.code.Code.TheVariants.{NoSuchObject, SizeLimitExceeded}
+use Rattle.schema.specs.declared.code.Code.TheVariants.{SizeLimitExceeded}
 use Rattle.entries.specs.Entries.{EntryContent}
 use Rattle.tree.specs.Directories.{Entries}
 use Rattle.tree.specs.Trees.{Tree}
@@ -20,23 +19,22 @@ use Rattle.databases.specs.Selections.{Selection}
 use Rattle.command_line.specs.declared.request.SearchOptions.{SearchOptions}
 use Rattle.commands.specs.Asked.{IsFilter}
 use Rattle.commands.specs.Endings.{StoppedAt}
-use Rattle.commands.specs.Failures.{FailsToWrite, Refuses}
+use Rattle.commands.specs.Failures.{FailsToWrite}
 use Rattle.commands.specs.IndexFiles.{Said}
-use Rattle.commands.specs.Lists.{comment, count_tail, filter_text, Common, found_for, answer_text, IsAnswer, IsSearched, EndsLine, StopsInLine, AsItGoesOn, RunsLines, StopsInLines}
+use Rattle.commands.specs.Lists.{comment, count_tail, filter_text, Common, found_for, IsAnswer, EndsLine, StopsInLine, AsItGoesOn, RunsLines, StopsInLines}
 use Rattle.commands.specs.Messages.{fault_text, IsReported}
-use Rattle.commands.specs.Queries.{HasBegun, PrintsPartly}
+use Rattle.commands.specs.Queries.{HasBegun}
 use Rattle.commands.specs.Statuses.{goes_on, worse}
 use Rattle.commands.specs.Worlds.{World}
 use Rattle.commands.specs.inner.Lists.{line_form, IsFrame, IsKept, common_of}
-use Rattle.commands.specs.inner.Printed.{HasPrinted, text_as, scanned, found, IsTextOf, FailsToPrint, PrintsFound}
-use Rattle.commands.specs.inner.Stopped.{HasStopped, HasEnded}
+use Rattle.commands.specs.inner.Printed.{text_as, scanned, found, IsTextOf, FailsToPrint, PrintsFound}
+use Rattle.commands.specs.inner.Stopped.{HasStopped}
 use Rattle.commands.specs.declared.messages.CommandFault.{CommandFault}
 use Rattle.commands.specs.declared.messages.CommandFault.TheVariants as faults
 use Rattle.commands.specs.declared.messages.Status.{Status}
 use Rattle.commands.specs.declared.messages.Status.TheVariants.{Done, Refused, Usage, Failed}
 use Rattle.commands.specs.declared.messages.Stop.TheVariants as stops
 use Rattle.commands.specs.declared.query.Query.{Query}
-use Rattle.commands.proofs.Ends.{printed_more}
 use Rattle.commands.proofs.Stopping.{stopped, prints_more}
 
 -- what is printed for a line, by the two forms

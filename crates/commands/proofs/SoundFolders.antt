@@ -1,5 +1,5 @@
 -- A run that goes on and one that ends at the first refusal are the same where no record is refused.
-use Rattle.std.proofs.Common.{◌≡◌, ◌↔◌, ℕ, ◌+◌, ◌≤◌, Bool, true, false, not, cond, List, [], ◌∷◌, ◌++◌, length, map, refl, sym, ◌∙◌, ap, subst, arith, length-append}
+use Rattle.std.proofs.Common.{◌≡◌, ◌↔◌, ℕ, ◌≤◌, Bool, true, false, cond, List, [], ◌∷◌, ◌++◌, length, map, refl, sym, ◌∙◌, ap, subst, arith, length-append}
 use Rattle.std.specs.Prelude.{Result, Option, None, Some, codes}
 use Rattle.std.specs.List.{fold}
 use Rattle.ldif_lines.specs.Records.{RawRecord}
@@ -17,15 +17,13 @@ use Rattle.databases.specs.declared.refusal.Outcome.TheVariants.{Nothing, Accept
 use Rattle.std.specs.Str.{bytes_eq}
 use Rattle.std.specs.FinMap as finite
 use Rattle.std.proofs.lemmas.Slice.Eq.{bytes_eq-Decides}
-use Rattle.dir_conf.specs.Configurations.{conf_of}
 use Rattle.checks.specs.declared.conf_faults.ConfLineFault.{ConfLineFault}
 use Rattle.checks.specs.ConfFaults.{most_faults, AreFirstFaults, fault_reports}
 use Rattle.checks.specs.Reports as check_reports
 use Rattle.databases.specs.IndexTexts.{index_text}
-use Rattle.commands.specs.Checks.{AddsRecords, AddsFound, TellsFirstFaults, index_what, index_fault, line_of_difference, index_report, index_reports}
+use Rattle.commands.specs.Checks.{AddsRecords, index_what, index_fault, line_of_difference, index_report}
 use Rattle.checks.specs.IndexDifferences.{difference_of}
-use Rattle.commands.specs.Loaded.{LoadsFound}
-use Rattle.commands.specs.SoundFolders.{SaysConf, ConfAgrees, DataAgrees, IsOwn, IndexAgrees}
+use Rattle.commands.specs.SoundFolders.{SaysConf, ConfAgrees, DataAgrees, IndexAgrees}
 
 abbrev Reading : Type 0
 Reading = ℕ × Result Record LdifFaultKind

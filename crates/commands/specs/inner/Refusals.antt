@@ -1,8 +1,7 @@
 -- The faults that the parts of search and slapcat answer.
-use Rattle.std.specs.Prelude.{◌≡◌, ℕ, ◌⊎◌, List, Option}
+use Rattle.std.specs.Prelude.{ℕ, ◌⊎◌, List, Option}
 use Rattle.std.specs.Borrow.{Bor}
 use Rattle.schema.specs.Conf.{Conf}
-use Rattle.schema.specs.declared.code.Code.{Code}
 use Rattle.tree.specs.Directories.{Entries}
 use Rattle.entries.specs.declared.refusal.Refusal.{Refusal}
 use Rattle.entries.specs.declared.refusal.Refusal.TheVariants as refusals

@@ -1,4 +1,4 @@
-use Rattle.std.proofs.Common.{◌≡◌, ◌<◌, ◌-◌, ◌++◌, ◌∙◌, Bool, false, List, ℕ, Ok, sym, ap, subst, arith}
+use Rattle.std.proofs.Common.{◌≡◌, ◌<◌, ◌-◌, ◌++◌, ◌∙◌, false, List, ℕ, Ok, sym, ap, subst, arith}
 use Rattle.std.proofs.lemmas.Grind.{common_steps}
 use Rattle.dir_conf.specs.Configurations.{conf_of}
 use Rattle.checks.specs.declared.conf_faults.ConfLineFault.{ConfLineFault}

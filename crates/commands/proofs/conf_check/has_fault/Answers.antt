@@ -1,4 +1,4 @@
-use Rattle.std.proofs.Common.{Bool, [], Result, IfOk, sym, subst}
+use Rattle.std.proofs.Common.{[], IfOk, sym, subst}
 use Rattle.checks.specs.ConfFaults.{AreFirstFaults}
 use Rattle.commands.proofs.Checked.{has_none, has_more}
 use Rattle.commands.proofs.conf_check.has_fault.Goals as goal

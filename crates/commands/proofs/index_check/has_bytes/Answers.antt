@@ -1,4 +1,4 @@
-use Rattle.std.proofs.Common.{◌≡◌, ◌++◌, ◌∙◌, List, ℕ, take, sym, ap}
+use Rattle.std.proofs.Common.{◌++◌, ◌∙◌, List, ℕ, take, sym, ap}
 use Rattle.std.proofs.lemmas.List.{append_assoc}
 use Rattle.commands.proofs.Checked.{consumes_more}
 use Rattle.commands.proofs.index_check.has_bytes.Goals as goal

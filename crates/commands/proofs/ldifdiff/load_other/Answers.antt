@@ -1,4 +1,4 @@
-use Rattle.std.proofs.Common.{Option, refl, ap}
+use Rattle.std.proofs.Common.{refl, ap}
 use Rattle.std.specs.Option.{option_copied}
 use Rattle.std.proofs.lemmas.Result.{IfOk-weaker}
 use Rattle.commands.proofs.OtherLoaded.{from_input, input_fails, from_file, file_fails}

@@ -1,4 +1,4 @@
-use Rattle.std.proofs.Common.{Bool, Some, sym, subst}
+use Rattle.std.proofs.Common.{Some, sym, subst}
 use Rattle.std.specs.Prelude.{Ok, Err}
 use Rattle.filter.specs.Made.{Made}
 use Rattle.filter_text.specs.Spells.{view}

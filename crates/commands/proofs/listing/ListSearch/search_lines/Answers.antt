@@ -1,11 +1,8 @@
-use Rattle.std.proofs.Common.{◌≡◌, ◌∙◌, ◌+◌, ◌<◌, ◌-◌, ◌^◌, ℕ, List, ◌∷◌, length, true, false, refl, sym, ap, subst, arith}
+use Rattle.std.proofs.Common.{◌≡◌, ◌∙◌, ◌+◌, ◌<◌, ◌-◌, ◌^◌, ℕ, true, false, refl, sym, subst, arith}
 use Rattle.std.proofs.lemmas.Result.{err_from_is_err_and}
-use Rattle.commands.specs.Endings.{StoppedAt}
-use Rattle.commands.specs.IndexFiles.{Said}
 use Rattle.commands.specs.Lists.{lines, Common, EndsLine, StopsInLine, RunsLines, StopsInLines}
-use Rattle.commands.specs.Statuses.{goes_on, worse}
-use Rattle.commands.specs.Worlds.{World, reported_world}
-use Rattle.commands.specs.inner.IndexFiles.{Serves}
+use Rattle.commands.specs.Statuses.{goes_on}
+use Rattle.commands.specs.Worlds.{reported_world}
 use Rattle.commands.specs.inner.Lists.{common_of}
 use Rattle.commands.specs.inner.Stopped.{HasStopped}
 use Rattle.commands.specs.declared.messages.Status.{Status}

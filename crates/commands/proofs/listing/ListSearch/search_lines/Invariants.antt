@@ -1,4 +1,4 @@
-use Rattle.std.proofs.Common.{◌≡◌, ◌+◌, ◌≤◌, ◌<◌, ◌-◌, ◌^◌, length}
+use Rattle.std.proofs.Common.{◌+◌, ◌≤◌, ◌<◌, ◌-◌, ◌^◌, length}
 use Rattle.commands.specs.Endings.{StoppedAt}
 use Rattle.commands.specs.IndexFiles.{Said}
 use Rattle.commands.specs.Lists.{lines, RunsLines, StopsInLines}
