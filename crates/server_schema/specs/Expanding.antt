@@ -1,4 +1,4 @@
--- Where macros stand in a definition: as its own OID, the first word behind the parenthesis, and as the OID of its syntax (slapd.conf(5), attributetype).
+-- Where macros stand in a definition: as its own OID, the first word behind the parenthesis, and as that of its syntax (slapd.conf(5), attributetype).
 use Rattle.std.specs.Prelude.{ℕ, Bool, true, false, ◌||◌, ◌==◌, if◌then◌else◌, List, [], ◌∷◌, ◌++◌, take, drop, length, position, unwrap_or, codes}
 use Rattle.std.specs.Str.{str_eq_ignore_ascii_case}
 use Rattle.base.specs.Ascii.{tab, space, apostrophe, left_parenthesis, right_parenthesis, dollar_sign, left_brace}

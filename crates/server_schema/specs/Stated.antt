@@ -42,7 +42,9 @@ is_built_in d = built_in_text d.sort d.text
 -- ---- said by a dir.conf
 
 abbrev pub sort_on : Line → Option Sort
-sort_on l = if is_first (codes "attributetype") l.text then Some AttributeType else (if is_first (codes "objectclass") l.text then Some ObjectClass else None)
+sort_on l =
+    if is_first (codes "attributetype") l.text then Some AttributeType
+    else (if is_first (codes "objectclass") l.text then Some ObjectClass else None)
 
 abbrev pub defined_on : List ℕ → Option Sort → List Definition
 defined_on text None = []

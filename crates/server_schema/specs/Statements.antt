@@ -1,5 +1,5 @@
--- What a line of a schema's text says: slapd.conf(5) has a directive in front, LDIF the name of an attribute, as cn=config, cn=Subschema (RFC 4512, 4.2)
--- and the files of 389 Directory Server have it.
+-- What a line of a schema's text says: slapd.conf(5) has a directive in front, LDIF the name of an attribute, as in cn=config, in cn=Subschema (RFC
+-- 4512, 4.2) and in the files of 389 Directory Server.
 use Rattle.std.specs.Prelude.{ℕ, ◌+◌, Bool, ◌||◌, ◌==◌, if◌then◌else◌, List, [], ◌∷◌, take, drop, map, position, Option, Some, None, Result, Ok, Err, codes}
 use Rattle.std.specs.List.{flat_map}
 use Rattle.std.specs.Str.{str_eq_ignore_ascii_case}

@@ -113,7 +113,8 @@ fn take_first(
     candidates: &[Candidate<'_>],
 ) -> Result<bool, AllocError>
     requires { 0 < length candidates.now }
-    ensures took { IfOk result (λ b. text.new.items ≡ (if b then text.old.items ++ lines_of (take 1 (definitions_of_all candidates.now)) else text.old.items)) }
+    ensures took { IfOk result (λ b. text.new.items
+        ≡ (if b then text.old.items ++ lines_of (take 1 (definitions_of_all candidates.now)) else text.old.items)) }
     ensures read { IfOk result (λ b. b ≡ is_read (text.old.items ++ lines_of (take 1 (definitions_of_all candidates.now)))) }
 {
     let line = lines_of(alloc, &candidates[..1])?;
@@ -179,7 +180,8 @@ fn try_some(
     ensures within { IfOk result (λ n. n ≤ length candidates.now) }
     ensures took { IfOk result (λ n. text.new.items ≡ text.old.items ++ lines_of (take n (definitions_of_all candidates.now))) }
     ensures read { IfOk result (λ n. is_read text.old.items ≡ true → is_read text.new.items ≡ true) }
-    ensures refused { IfOk result (λ n. only ≡ None → n ≡ 0 → is_read (text.old.items ++ lines_of (take 1 (definitions_of_all candidates.now))) ≡ false) }
+    ensures refused { IfOk result (λ n. only ≡ None → n ≡ 0
+        → is_read (text.old.items ++ lines_of (take 1 (definitions_of_all candidates.now))) ≡ false) }
 {
     if is_tried(alloc, only, candidates[0].definition)? {
         take_some(alloc, text, candidates)
@@ -195,8 +197,10 @@ pub(crate) fn pass<'a>(
     only: Option<Sort>,
     candidates: &[Candidate<'a>],
 ) -> Result<Passed<'a>, AllocError>
-    ensures grows { IfOk result (λ p. Grows text.old.items (definitions_of_all candidates.entry.now) text.new.items (definitions_of_all p.left.items)) }
-    ensures ends { IfOk result (λ p. only ≡ None → p.grew ≡ false → (text.new.items ≡ text.old.items) × AreRefused text.new.items (definitions_of_all p.left.items)) }
+    ensures grows { IfOk result (λ p.
+        Grows text.old.items (definitions_of_all candidates.entry.now) text.new.items (definitions_of_all p.left.items)) }
+    ensures ends { IfOk result (λ p. only ≡ None → p.grew ≡ false
+        → (text.new.items ≡ text.old.items) × AreRefused text.new.items (definitions_of_all p.left.items)) }
 {
     let mut left = Vec::new(alloc);
     let mut grew = false;
