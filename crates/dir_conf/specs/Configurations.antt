@@ -218,5 +218,9 @@ conf_on_lines ls =
     defined_by built_in ls >>= λ s.
     (found_in s.types none_found ls >>= λ found. rules_of s found.slots found.suffix)
 
+-- the types and classes that a text defines, whatever it says of suffixes and indexes
+unfoldable pub definitions_of : List ℕ → Result Defined At
+definitions_of text = defined_by built_in (lines_of text)
+
 unfoldable pub conf_of : List ℕ → Result Conf At
 conf_of text = conf_on_lines (lines_of text)

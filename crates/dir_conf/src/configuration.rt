@@ -1,8 +1,8 @@
 //! Reading the text of a configuration.
 
-ghost use Rattle.dir_conf.specs.Configurations.{conf_on_lines, conf_of};
+ghost use Rattle.dir_conf.specs.Configurations.{conf_on_lines, conf_of, definitions_of};
 ghost use Rattle.dir_conf.specs.Reads.{Reads};
-ghost use Rattle.dir_conf.specs.inner.Views.{suffix_and_slots};
+ghost use Rattle.dir_conf.specs.inner.Views.{defined_view, suffix_and_slots};
 
 use crate::conf_fault::{ConfFault, ConfFaultKind};
 use crate::conf_lines::fault;
@@ -59,4 +59,14 @@ pub fn read_conf(alloc: Global, text: &[u8]) -> Result<Conf, ConfFault>
 {
     let lines = lines_of(alloc, text)?;
     conf_on_lines(alloc, text.len() / BYTES_OF_A_NAME, &lines)
+}
+
+/// The types and classes that a text of a `dir.conf` defines, beside those that are built in. Lines of suffixes and indexes aren't looked at. It is
+/// refused with the first line of another kind that is at fault.
+#[tactic(auto, unfolding(crate::specs::Configurations::definitions_of))]
+pub fn read_definitions(alloc: Global, text: &[u8]) -> Result<Defined, ConfFault>
+    ensures { Reads defined_view result (definitions_of text.now) }
+{
+    let lines = lines_of(alloc, text)?;
+    defined_by(alloc, text.len() / BYTES_OF_A_NAME, &lines)
 }

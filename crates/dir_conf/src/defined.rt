@@ -18,11 +18,11 @@ use schema::{ClassTable, ObjectClass};
 use std::alloc::{AllocError, Global};
 use values::{AttributeType, TypeTable};
 
-/// What lines define.
+/// What lines define, behind what is built in.
 #[derive(Drop)]
-pub(crate) struct Defined {
-    pub(crate) types: TypeTable,
-    pub(crate) classes: ClassTable,
+pub struct Defined {
+    pub types: TypeTable,
+    pub classes: ClassTable,
 }
 
 /// What a line adds to it.

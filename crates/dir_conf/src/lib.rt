@@ -31,7 +31,8 @@ mod unread;
 mod word_lines;
 
 pub use conf_fault::{ConfFault, ConfFaultKind};
-pub use configuration::read_conf;
+pub use configuration::{read_conf, read_definitions};
+pub use defined::Defined;
 pub use explaining::explain;
 pub use laws::{conf_faults_stand_at_lines, types_inherit_from_the_nearest};
 pub use line_numbers::line_at;

@@ -1,0 +1,10 @@
+pub mod Sources
+pub mod Statements
+pub mod Macros
+pub mod Expanding
+pub mod Definitions
+pub mod Alike
+pub mod Repairs
+pub mod Growth
+pub mod Stated
+pub mod Transfers

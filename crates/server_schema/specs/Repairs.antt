@@ -1,0 +1,57 @@
+-- What is done about a definition that dir.conf can't take: names that it can't have go, the equality rule of a type changes, and a class loses some
+-- of what it allows. Nothing else changes.
+use Rattle.std.specs.Prelude.{◌≡◌, ◌⊎◌, ℕ, Bool, false, List, ◌∷◌, ◌++◌, Some}
+use Rattle.std.specs.List.{Contains}
+use Rattle.base.specs.Ascii.{apostrophe}
+use Rattle.base.specs.Naming.{is_name, is_type_name}
+use Rattle.definitions.specs.declared.type_definition.TypeDefinition.{TypeDefinition}
+use Rattle.definitions.specs.declared.class_definition.ClassDefinition.{ClassDefinition}
+use Rattle.definitions.specs.TypeDefinitions.{type_definition_of}
+use Rattle.definitions.specs.ClassDefinitions.{class_definition_of}
+use Rattle.server_schema.specs.Alike.{AreTypesAlike, AreClassesAlike}
+use Rattle.server_schema.specs.declared.definition.Sort.{Sort}
+use Rattle.server_schema.specs.declared.definition.Sort.TheVariants.{AttributeType, ObjectClass}
+use Rattle.server_schema.specs.declared.definition.Definition.{Definition}
+
+-- whether a type or a class may have a name
+abbrev pub is_allowed : Sort → List ℕ → Bool
+is_allowed AttributeType name = is_type_name name
+is_allowed ObjectClass name = is_name name
+
+-- a name in quotes that isn't allowed was cut out
+pub record IsNameCut (sort : Sort) (old new : List ℕ) : Type 0 where
+  pub front : List ℕ
+  pub name : List ℕ
+  pub behind : List ℕ
+  pub unfit : is_allowed sort name ≡ false
+  pub old_is : old ≡ front ++ (apostrophe ∷ (name ++ apostrophe ∷ behind))
+  pub new_is : new ≡ front ++ behind
+
+-- a type has another equality rule, and else the same fields
+pub record IsRuleChanged (old new : List ℕ) : Type 0 where
+  pub was : TypeDefinition
+  pub is_now : TypeDefinition
+  pub old_is : type_definition_of old ≡ Some was
+  pub new_is : type_definition_of new ≡ Some is_now
+  pub alike : AreTypesAlike was is_now
+
+-- a class allows only some of what it allowed, and has else the same fields
+pub record IsMayCut (old new : List ℕ) : Type 0 where
+  pub was : ClassDefinition
+  pub is_now : ClassDefinition
+  pub old_is : class_definition_of old ≡ Some was
+  pub new_is : class_definition_of new ≡ Some is_now
+  pub alike : AreClassesAlike was is_now
+  pub fewer : (name : List ℕ) → Contains is_now.may name → Contains was.may name
+
+abbrev pub IsStep : Sort → List ℕ → List ℕ → Type 0
+IsStep AttributeType old new = IsNameCut AttributeType old new ⊎ IsRuleChanged old new
+IsStep ObjectClass old new = IsNameCut ObjectClass old new ⊎ IsMayCut old new
+
+-- the texts that such steps lead to
+pub data IsRepaired (sort : Sort) : List ℕ → List ℕ → Type 0 where
+  unchanged : (text : List ℕ) → IsRepaired sort text text
+  changed : (old mid new : List ℕ) → IsRepaired sort old mid → IsStep sort mid new → IsRepaired sort old new
+
+abbrev pub IsRepairOf : Definition → Definition → Type 0
+IsRepairOf d e = (e.sort ≡ d.sort) × IsRepaired d.sort d.text e.text

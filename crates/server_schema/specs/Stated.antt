@@ -1,0 +1,65 @@
+-- What needs no line, since it is built in or a dir.conf says it already.
+use Rattle.std.specs.Prelude.{ℕ, Bool, false, if◌then◌else◌, List, [], ◌∷◌, Option, Some, None, codes}
+use Rattle.std.specs.List.{flat_map, Contains}
+use Rattle.definitions.specs.declared.lines.Line.{Line}
+use Rattle.definitions.specs.declared.type_definition.TypeDefinition.{TypeDefinition}
+use Rattle.definitions.specs.declared.class_definition.ClassDefinition.{ClassDefinition}
+use Rattle.definitions.specs.Words.{after_word}
+use Rattle.definitions.specs.Lines.{lines_of}
+use Rattle.definitions.specs.TypeDefinitions.{type_definition_of}
+use Rattle.definitions.specs.ClassDefinitions.{class_definition_of}
+use Rattle.dir_conf.specs.Configurations.{is_first}
+use Rattle.dir_conf.specs.Configurations as configurations
+use Rattle.server_schema.specs.declared.definition.Sort.{Sort}
+use Rattle.server_schema.specs.declared.definition.Sort.TheVariants.{AttributeType, ObjectClass}
+use Rattle.server_schema.specs.declared.definition.Definition.{Definition}
+use Rattle.server_schema.specs.Alike.{AreAlike}
+
+-- ---- built in: objectClass, top and extensibleObject
+
+abbrev pub has_type_oid : Option TypeDefinition → Bool
+has_type_oid None = false
+has_type_oid (Some d) = configurations.is_built_in d.element.oid
+
+abbrev pub is_built_in_type : List ℕ → Bool
+is_built_in_type text = has_type_oid (type_definition_of text)
+
+abbrev pub has_class_oid : Option ClassDefinition → Bool
+has_class_oid None = false
+has_class_oid (Some d) = configurations.is_built_in d.element.oid
+
+abbrev pub is_built_in_class : List ℕ → Bool
+is_built_in_class text = has_class_oid (class_definition_of text)
+
+abbrev pub built_in_text : Sort → List ℕ → Bool
+built_in_text AttributeType text = is_built_in_type text
+built_in_text ObjectClass text = is_built_in_class text
+
+-- it has the OID of something that is built in
+abbrev pub is_built_in : Definition → Bool
+is_built_in d = built_in_text d.sort d.text
+
+-- ---- said by a dir.conf
+
+abbrev pub sort_on : Line → Option Sort
+sort_on l =
+    if is_first (codes "attributetype") l.text then Some AttributeType
+    else (if is_first (codes "objectclass") l.text then Some ObjectClass else None)
+
+abbrev pub defined_on : List ℕ → Option Sort → List Definition
+defined_on text None = []
+defined_on text (Some sort) = record { sort = sort; text = after_word text } ∷ []
+
+abbrev pub stated_on : Line → List Definition
+stated_on l = defined_on l.text (sort_on l)
+
+-- the definitions on the lines of a dir.conf
+abbrev pub stated_by : List Line → List Definition
+stated_by lines = flat_map stated_on lines
+
+abbrev pub stated_in : List ℕ → List Definition
+stated_in conf = stated_by (lines_of conf)
+
+-- one of these says the same
+abbrev pub IsAmong : List Definition → Definition → Type 0
+IsAmong stated d = (other : Definition) × Contains stated other × AreAlike other d

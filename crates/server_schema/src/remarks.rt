@@ -1,0 +1,197 @@
+//! Comments on what can't be taken.
+
+ghost use Rattle.std.specs.Prelude.{IfOk, OnOk};
+ghost use Rattle.server_schema.specs.Transfers.{AreComments, AddsComments};
+
+use crate::definition::{Definition, Sort};
+use crate::fields::sort_name;
+use crate::growth::put_comment;
+use crate::lines::put_line;
+use crate::stated::{is_among, is_built_in, stated_in};
+use crate::taking::Candidate;
+use base::Bytes;
+use dir_conf::{ConfFlaw, NameField, SyntaxRule, UnreadPart, explain};
+use std::alloc::{AllocError, Global};
+
+/// The definitions of what is built in (RFC 4512, 2.4.1, 3.3 and 4.3).
+const BUILT_IN: [(Sort, &[u8]); 3] = [
+    (
+        Sort::AttributeType,
+        b"( 2.5.4.0 NAME 'objectClass' EQUALITY objectIdentifierMatch SYNTAX 1.3.6.1.4.1.1466.115.121.1.38 )",
+    ),
+    (
+        Sort::ObjectClass,
+        b"( 2.5.6.0 NAME 'top' ABSTRACT MUST objectClass )",
+    ),
+    (
+        Sort::ObjectClass,
+        b"( 1.3.6.1.4.1.1466.101.120.111 NAME 'extensibleObject' SUP top AUXILIARY )",
+    ),
+];
+
+fn put_field(field: NameField, out: &mut Vec<u8>) -> Result<(), AllocError> {
+    out.extend_from_slice(match field {
+        NameField::Superior => b", SUP ".as_slice(),
+        NameField::Must => b", MUST ".as_slice(),
+        NameField::May => b", MAY ".as_slice(),
+    })
+}
+
+fn put_word(front: &[u8], word: &Bytes, out: &mut Vec<u8>) -> Result<(), AllocError> {
+    out.extend_from_slice(front)?;
+    out.extend_from_slice(word.as_slice())
+}
+
+// where a definition can't be read
+fn put_part(part: &UnreadPart, out: &mut Vec<u8>) -> Result<(), AllocError> {
+    match part {
+        UnreadPart::Head => out.extend_from_slice(b", no number in front"),
+        UnreadPart::NoField { word } => put_word(b", no field ", word, out),
+        UnreadPart::Field { word } => put_word(b", field ", word, out),
+        UnreadPart::Again { word } => put_word(b", twice ", word, out),
+        UnreadPart::NoSyntax => out.extend_from_slice(b", neither SYNTAX nor SUP"),
+        UnreadPart::End => out.extend_from_slice(b", no end"),
+    }
+}
+
+// which word of a definition a flaw is of
+fn put_detail(flaw: &ConfFlaw, out: &mut Vec<u8>) -> Result<(), AllocError> {
+    match flaw {
+        ConfFlaw::Unread { of: _, part } => put_part(part, out),
+        ConfFlaw::Twice { of: _, word } => put_word(b", ", word, out),
+        ConfFlaw::UnknownName { of: _, field, word } => {
+            put_field(*field, out)?;
+            out.extend_from_slice(word.as_slice())
+        }
+        ConfFlaw::Subtype { of: _, superior } => put_word(b", SUP ", superior, out),
+        ConfFlaw::RuleSyntax { rule, .. } => out.extend_from_slice(match rule {
+            SyntaxRule::Integer => b", integerMatch".as_slice(),
+            SyntaxRule::Name => b", distinguishedNameMatch".as_slice(),
+        }),
+        _ => Ok(()),
+    }
+}
+
+fn put_flaw(alloc: Global, flaw: &ConfFlaw, out: &mut Vec<u8>) -> Result<(), AllocError> {
+    let kind = flaw.kind();
+    let words = format!(in alloc; "{kind}")?;
+    out.extend_from_slice(words.as_bytes())?;
+    put_detail(flaw, out)
+}
+
+// why a definition can't be taken behind a text
+fn put_reason(
+    alloc: Global,
+    conf: &[u8],
+    definition: &Definition,
+    out: &mut Vec<u8>,
+) -> Result<(), AllocError> {
+    let mut whole = Vec::from_slice(alloc, conf)?;
+    put_line(definition, &mut whole)?;
+    match explain(alloc, &whole)? {
+        Some(reason) => put_flaw(alloc, &reason.flaw, out),
+        None => Ok(()),
+    }
+}
+
+fn put_definition(definition: &Definition, out: &mut Vec<u8>) -> Result<(), AllocError> {
+    out.extend_from_slice(b": ")?;
+    out.extend_from_slice(sort_name(definition.sort))?;
+    out.push(b' ')?;
+    out.extend_from_slice(definition.text.as_slice())
+}
+
+fn left_out(alloc: Global, conf: &[u8], definition: &Definition) -> Result<Vec<u8>, AllocError> {
+    let mut comment = Vec::from_slice(alloc, b"left out: ")?;
+    put_reason(alloc, conf, definition, &mut comment)?;
+    put_definition(definition, &mut comment)?;
+    Ok(comment)
+}
+
+fn built_in(alloc: Global) -> Result<Vec<Definition>, AllocError> {
+    let mut definitions = Vec::new(alloc);
+    for (sort, text) in BUILT_IN {
+        definitions.push(Definition {
+            sort,
+            text: Bytes::from_slice(alloc, text)?,
+        })?;
+    }
+    Ok(definitions)
+}
+
+// says of a definition of what is built in that it says something else
+fn remark_on_built_in(
+    alloc: Global,
+    definition: &Definition,
+    out: &mut Vec<u8>,
+) -> Result<(), AllocError>
+    ensures { OnOk result (AddsComments out.old.items out.new.items) }
+{
+    if !is_built_in(alloc, definition)? || is_among(alloc, &built_in(alloc)?, definition)? {
+        return Ok(());
+    }
+    let mut comment = Vec::from_slice(alloc, b"left out: built in with other fields")?;
+    put_definition(definition, &mut comment)?;
+    put_comment(&comment, out)
+}
+
+// says why a definition is left out, unless it stands there with repairs, or one that says the same
+fn remark_on_candidate(
+    alloc: Global,
+    conf: &[u8],
+    stated: &[Definition],
+    candidate: &Candidate<'_>,
+    out: &mut Vec<u8>,
+) -> Result<(), AllocError>
+    ensures { OnOk result (AddsComments out.old.items out.new.items) }
+{
+    if candidate.is_repaired || is_among(alloc, stated, candidate.definition)? {
+        return Ok(());
+    }
+    let comment = left_out(alloc, conf, candidate.definition)?;
+    put_comment(&comment, out)
+}
+
+fn put_built_in(
+    alloc: Global,
+    definitions: &[Definition],
+    out: &mut Vec<u8>,
+) -> Result<(), AllocError>
+    ensures { OnOk result (AddsComments out.old.items out.new.items) }
+{
+    for definition in definitions {
+        remark_on_built_in(alloc, definition, out)?;
+    }
+    Ok(())
+}
+
+fn put_left(
+    alloc: Global,
+    conf: &[u8],
+    left: &[Candidate<'_>],
+    out: &mut Vec<u8>,
+) -> Result<(), AllocError>
+    ensures { OnOk result (AddsComments out.old.items out.new.items) }
+{
+    let stated = stated_in(alloc, conf)?;
+    for candidate in left {
+        remark_on_candidate(alloc, conf, &stated, candidate, out)?;
+    }
+    Ok(())
+}
+
+/// A comment on each definition in a text that is left out, though nothing says the same: what is left behind a dir.conf, or is built in with other
+/// fields.
+pub(crate) fn remarks_on(
+    alloc: Global,
+    conf: &[u8],
+    definitions: &[Definition],
+    left: &[Candidate<'_>],
+) -> Result<Vec<u8>, AllocError>
+    ensures { IfOk result (λ v. AreComments v.items) }
+{
+    let mut out = Vec::new(alloc);
+    put_built_in(alloc, definitions, &mut out)?;
+    put_left(alloc, conf, left, &mut out)?;
+    Ok(out)
+}
