@@ -22,4 +22,6 @@ mod runs;
 #[cfg(test)]
 mod searches;
 #[cfg(test)]
+mod server_schemas;
+#[cfg(test)]
 mod texts;
