@@ -14,7 +14,7 @@ import model
 import schema
 import values
 
-MOST_FAULTS = 1000
+MOST_FAULTS = 2000
 # the rules that are known (RFC 4517, 4.2), by the fields that state them
 RULES = {
     b"equality": b"""caseIgnoreMatch caseIgnoreIA5Match caseExactMatch caseExactIA5Match numericStringMatch telephoneNumberMatch integerMatch

@@ -17,7 +17,7 @@ commented (suc n) (b ∷ bs) = b ∷ commented (if b == line_feed then n else su
 
 -- so many are told at most
 abbrev pub most_faults : ℕ
-most_faults = 1000
+most_faults = 2000
 
 -- These are the first faults of a text, at most so many, and whether there are more: where there are none, it says a configuration, and else it has
 -- one more. Behind a line that is missing, with number 0, there is none.

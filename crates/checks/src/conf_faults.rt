@@ -24,7 +24,7 @@ pub struct ConfFaults {
 }
 
 /// How many faults of a dir.conf are told at most: to find each takes a reading of the text.
-pub const MOST_FAULTS: u64 = 1000;
+pub const MOST_FAULTS: u64 = 2000;
 
 /// A text with a number sign for the first byte of the line with this number, from 1: so it is a comment, with the lines that it goes on on.
 #[tactic(auto, unfolding(crate::specs::ConfFaults::commented))]
