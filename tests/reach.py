@@ -1,7 +1,8 @@
 """What a check of a function rests on: the items that its code, its contract and its proof name, and those that these name, and so on.
 
 Of another function that is its contract, since a check reads no other body. So what is added to a crate leaves what was said of the rest as it was.
-A name counts where its file imports or defines it, and leads to whatever has that name in its crate or one below: one that stands twice, to both."""
+A name counts where its file imports or defines it, and leads to whatever has that name in its crate or one below: one that stands twice, to both.
+That is as far as names tell: it misses what none shows, as a method of a value whose type isn't named. `edits --anew` rests on nothing of it."""
 import collections
 import functools
 import hashlib
