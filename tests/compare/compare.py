@@ -1,14 +1,14 @@
 #!/usr/bin/env python3
 """Compares a built program with a second reading of the rules: compare.py PROGRAM COUNT SEED .. [--changes] [--searches] [--lists] [--checks]
-[--sorts] [--only]
+[--sorts] [--schemas] [--only]
 
-The second reading is `model.py` with `schema.py`, `values.py`, `ldif.py`, `filters.py` and `indexes.py`, and `sorting.py`. It was written apart from
+The second reading is `model.py` with `schema.py`, `values.py`, `ldif.py`, `filters.py` and `indexes.py`, `sorting.py` and `schemas.py`. It was written apart from
 the program and shares no code with it, so that a rule that one of the two reads wrongly shows as a difference. For each SEED, COUNT random folders
 and inputs go through slapadd, slapcat and slapindex, and some through slapindex before all of them; statuses, outputs, messages and all files are
 compared byte for byte. Some print lines of another width than 76; slapadd makes the same directory of what slapcat prints so. With --changes as many
 more go through ldapmodify in place of slapadd, with --searches as many through search or through slapcat with a filter or a name, with --lists as
-many through search -f, with --checks as many through check, and with --sorts as many texts through sort, of which the laws of its order have to hold,
-too; with --only slapadd is left out. A case that differs is cut down and printed; at the end stands how often each status, code and fault came up,
+many through search -f, with --checks as many through check, with --sorts as many texts through sort, of which the laws of its order have to hold,
+too, and with --schemas as many through schema, whose lines a dir.conf has to take; with --only slapadd is left out. A case that differs is cut down and printed; at the end stands how often each status, code and fault came up,
 and how many slots of the index texts had keys. The exit status is 0 where nothing differs, else 1.
 """
 import argparse
@@ -26,10 +26,13 @@ from pathlib import Path
 
 import cases
 import checks
+import drawn_schemas
 import folders
 import lists
 import model
 import searches
+import schema
+import schemas
 import sorting
 import trees
 import values
@@ -41,7 +44,7 @@ MOST_TRIES = 2000   # cases that are tried to cut down one of them
 # what a case is called, what it is drawn from beside its seed, and how
 KINDS = [("case", "", cases.case), ("change", "{} changes", cases.change_case), ("search", "{} searches", searches.search_case),
          ("list", "{} lists", lists.list_case), ("check", "{} checks", folders.check_case),
-         ("sort", "{} sorts", trees.sort_case)]
+         ("sort", "{} sorts", trees.sort_case), ("schema", "{} schemas", drawn_schemas.schema_case)]
 
 
 def read(path):
@@ -75,6 +78,9 @@ class Runner:
         seen, wanted = {}, {}
         if isinstance(case, trees.Sort):
             self.sort(case, seen, wanted)
+            return seen, wanted
+        if isinstance(case, drawn_schemas.Schema):
+            self.schema(case, seen, wanted)
             return seen, wanted
         for name, text in zip(FILES, (case.conf, case.data, case.index)):
             write(self.db / name, text)
@@ -238,6 +244,22 @@ class Runner:
         seen["file"], wanted["file"] = read(file) if case.by_file else None, case.text if case.by_file else None
 
 
+    def schema(self, case, seen, wanted):
+        """schema, of a file or of its input, without a dir.conf or for one"""
+        file = self.missing if case.text is None else self.input
+        if case.by_file and case.text is not None:
+            write(self.input, case.text)
+        words, text, source = (["-l", file], b"", file) if case.by_file else ([], case.text, "input")
+        if case.conf is not None:
+            write(self.db / "dir.conf", case.conf)
+            words = [*words, "--db", self.db]
+        seen["status"], seen["output"], seen["messages"] = self.run("schema", *words, text=text)
+        seen["output"] = schemas.without_details(seen["output"])
+        wanted["status"], wanted["output"], wanted["messages"] = schemas.schema_of(case.text, case.conf or b"", source)
+        wanted["dir.conf"], seen["dir.conf"] = case.conf, read(self.db / "dir.conf")
+        wanted["it is read"], seen["it is read"] = True, wanted["status"] > 1 or schemas.is_read((case.conf or b"") + seen["output"])
+
+
 def sentences_as(seen, said, is_loose):
     """Of each of the sentences that may be told the one that was, or the first one. A line of dir.conf may be wrong in several ways, of which the
     second reading knows one: then any line will do that has two spaces in front."""
@@ -315,6 +337,9 @@ def count(counts, case, wanted):
         return
     if isinstance(case, trees.Sort):
         count_sort(counts, case, wanted)
+        return
+    if isinstance(case, drawn_schemas.Schema):
+        count_schema(counts, wanted)
         return
     count_width(counts, case, wanted)
     if isinstance(case, searches.Search):
@@ -425,6 +450,13 @@ def count_sort(counts, case, wanted):
     counts["sorts: a piece is read otherwise in its place"] += sorting.is_read_otherwise(case.text, wanted["output"])
 
 
+def count_schema(counts, wanted):
+    counts[f"schema: status {wanted['status']}"] += 1
+    for line in wanted["output"].decode(errors="replace").splitlines():
+        found = re.match(r"# (?:left out: )?(?:(C\d+ [a-z ]*|built in)|[^:]*: (the name|EQUALITY|MAY)\b)|(attributetype|objectclass) ", line)
+        counts[f"schemas: {next(filter(None, found.groups())) if found else 'another line'}"] += 1
+
+
 def count_messages(counts, source, messages):
     for line in messages.decode().splitlines():
         found = re.fullmatch(r"(?:(dir\.conf|data\.ldif) )?line \d+: (\w+) .*|.*: cannot read|((?:filter|search|slapcat): .*)", line)
@@ -472,6 +504,7 @@ def main():
     parser.add_argument("--lists", action="store_true")
     parser.add_argument("--checks", action="store_true")
     parser.add_argument("--sorts", action="store_true")
+    parser.add_argument("--schemas", action="store_true")
     parser.add_argument("--only", action="store_true", help="no cases of slapadd beside those")
     words = parser.parse_args()
     program = shutil.which(words.program)
@@ -480,7 +513,7 @@ def main():
     memory = "/dev/shm" if os.access("/dev/shm", os.W_OK) else None
     with tempfile.TemporaryDirectory(prefix="compare.", dir=memory) as home:
         runner = Runner(os.path.abspath(program), Path(home))
-        asked = not words.only, words.changes, words.searches, words.lists, words.checks, words.sorts
+        asked = not words.only, words.changes, words.searches, words.lists, words.checks, words.sorts, words.schemas
         kinds = [kind for kind, wanted in zip(KINDS, asked) if wanted]
         counts, differing = compare(runner, words.count, words.seeds, kinds)
     for key in sorted(counts, key=lambda key: (key.split(": ")[0], len(key), key)):

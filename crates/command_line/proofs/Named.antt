@@ -190,8 +190,11 @@ whole words none =
                 (
                   ours _ refl refl (λ _. (refl, refl)) refl,
                   (
-                    ours _ refl refl (λ takes. absurd (takes refl)) refl,
-                    (inr (refl, refl), tt),
+                    ours _ refl refl (λ takes. absurd (takes.0 refl)) refl,
+                    (
+                      ours _ refl refl (λ takes. absurd (takes.1 refl)) refl,
+                      (inr (refl, refl), tt),
+                    ),
                   ),
                 ),
               ),

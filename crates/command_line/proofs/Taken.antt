@@ -5,7 +5,7 @@ use Rattle.clap.specs.declared.error.kind.ErrorKind.{ErrorKind}
 use Rattle.clap.specs.declared.error.kind.ErrorKind.TheVariants as kind
 use Rattle.clap.specs.declared.parser.matches.ArgMatches.{ArgMatches}
 use Rattle.command_line.specs.declared.request.Request.{Request}
-use Rattle.command_line.specs.declared.request.Request.TheVariants.{Help, Add, Modify, Index, Search, Cat, Diff, Check, Sort}
+use Rattle.command_line.specs.declared.request.Request.TheVariants.{Help, Add, Modify, Index, Search, Cat, Diff, Check, Sort, Schema}
 use Rattle.command_line.specs.declared.request.UsageFault.{UsageFault}
 use Rattle.command_line.specs.declared.request.UsageFault.TheVariants.{Words, OutOfMemory}
 use Rattle.command_line.specs.CommandLine.{slaptools}
@@ -59,6 +59,7 @@ answer_asked words said (Ok (Cat asked)) kinds is = absurd is
 answer_asked words said (Ok (Diff asked)) kinds is = absurd is
 answer_asked words said (Ok (Check asked)) kinds is = absurd is
 answer_asked words said (Ok (Sort asked)) kinds is = absurd is
+answer_asked words said (Ok (Schema asked)) kinds is = absurd is
 answer_asked words said (Err fault) kinds is = tt
 
 pub answer_faulty : (words : List Text) (said : ErrorKind) (r : Result Request UsageFault)

@@ -14,7 +14,7 @@ use Rattle.command_line.specs.declared.options.Tool.{Tool}
 abbrev pub long_option : Text → Rule
 long_option id = record (new_rule id) { long = Some id; value_names = 1; action = Some Set }
 
--- `--db DIR`, which each command needs but sort
+-- `--db DIR`, which each command needs but sort and schema
 abbrev pub folder_option : Rule
 folder_option = record (long_option (codes "db")) { required = true }
 
@@ -53,7 +53,7 @@ other_words = record (new_rule (codes "words")) {
 abbrev pub wrap_option : Rule
 wrap_option = value_option (codes "wrap") 111
 
--- `-v`, which each command has but sort
+-- `-v`, which each command has but sort and schema
 abbrev pub verbose_option : Rule
 verbose_option = flag (codes "verbose") 118
 
@@ -121,9 +121,13 @@ check = command (codes "check")
 abbrev pub sort : Shape
 sort = command (codes "sort") (file_option 108 ∷ [])
 
+-- schema [-l FILE] [--db DIR]
+abbrev pub schema : Shape
+schema = command (codes "schema") (file_option 108 ∷ long_option (codes "db") ∷ [])
+
 -- one of them has to be named, or else `--help` or `--version`
 abbrev pub slaptools : App
 slaptools = record {
   top = record (new_shape (codes "slaptools")) { is_leaf = false; has_version = true; subcommand_required = true };
-  subs = slapadd ∷ ldapmodify ∷ slapindex ∷ search ∷ slapcat ∷ ldifdiff ∷ check ∷ sort ∷ [];
+  subs = slapadd ∷ ldapmodify ∷ slapindex ∷ search ∷ slapcat ∷ ldifdiff ∷ check ∷ sort ∷ schema ∷ [];
 }

@@ -21,8 +21,9 @@ use Rattle.command_line.specs.declared.request.CatOptions.{CatOptions}
 use Rattle.command_line.specs.declared.request.DiffOptions.{DiffOptions}
 use Rattle.command_line.specs.declared.request.CheckOptions.{CheckOptions}
 use Rattle.command_line.specs.declared.request.SortOptions.{SortOptions}
+use Rattle.command_line.specs.declared.request.SchemaOptions.{SchemaOptions}
 use Rattle.command_line.specs.declared.request.Request.{Request}
-use Rattle.command_line.specs.declared.request.Request.TheVariants.{Help, Add, Modify, Index, Search, Cat, Diff, Check, Sort}
+use Rattle.command_line.specs.declared.request.Request.TheVariants.{Help, Add, Modify, Index, Search, Cat, Diff, Check, Sort, Schema}
 use Rattle.command_line.specs.declared.request.UsageFault.{UsageFault}
 use Rattle.command_line.specs.declared.request.UsageFault.TheVariants.{Words, OutOfMemory}
 use Rattle.command_line.specs.CommandLine.{slaptools}
@@ -218,6 +219,10 @@ pub record IsCheck (rows : List Row) (asked : CheckOptions) : Type 0 where
 pub record IsSort (rows : List Row) (asked : SortOptions) : Type 0 where
   pub file_is : option_copied asked.file ≡ text_of (codes "file") rows
 
+pub record IsSchema (rows : List Row) (asked : SchemaOptions) : Type 0 where
+  pub file_is : option_copied asked.file ≡ text_of (codes "file") rows
+  pub db_is : option_copied asked.db ≡ text_of (codes "db") rows
+
 -- ---- what a command and its rows ask for
 
 -- the command has this name, and its rows are such
@@ -234,6 +239,7 @@ IsRequest met (Cat asked) = IsCommand met (codes "slapcat") (λ rows. IsCat rows
 IsRequest met (Diff asked) = IsCommand met (codes "ldifdiff") (λ rows. IsDiff rows asked)
 IsRequest met (Check asked) = IsCommand met (codes "check") (λ rows. IsCheck rows asked)
 IsRequest met (Sort asked) = IsCommand met (codes "sort") (λ rows. IsSort rows asked)
+IsRequest met (Schema asked) = IsCommand met (codes "schema") (λ rows. IsSchema rows asked)
 
 -- the option has a text that is no number
 abbrev pub HasNoNumber : Text → List Row → Type 0
@@ -286,9 +292,9 @@ IsFaultOf words OutOfMemory = ⊤
 
 -- ---- on the way there: what one function tells the next
 
--- the command of this name takes a folder
+-- the command of this name needs a folder
 abbrev pub TakesFolder : Text → Type 0
-TakesFolder name = name ≢ codes "sort"
+TakesFolder name = (name ≢ codes "sort") × (name ≢ codes "schema")
 
 -- the command is one of slaptools', with its folder if it takes one
 abbrev pub IsWhole : Option (Text × List Row) → Type 0

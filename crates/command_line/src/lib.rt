@@ -9,5 +9,5 @@ mod request;
 pub use reading::read;
 pub use request::{
     AddOptions, CatOptions, CheckOptions, DiffOptions, IndexOptions, ModifyOptions, Request,
-    SearchOptions, SortOptions, UsageFault,
+    SchemaOptions, SearchOptions, SortOptions, UsageFault,
 };

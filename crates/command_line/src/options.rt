@@ -140,10 +140,27 @@ In place of options of the other commands and of OpenLDAP's tools:
   -c                    nothing, as no record is refused
   -q, -u                nothing, as no file is changed";
 
+const SCHEMA_HELP: &str =
+    "The schema, as slapd.conf, cn=config, cn=Subschema or a file of 389 has it, in place of standard input";
+
+const SCHEMA_FOLDER_HELP: &str =
+    "The folder of the directory whose dir.conf the lines are for: what that says already is left out";
+
+const BESIDE_SCHEMA: &str =
+    "The exit status is 0 where each definition is taken as it stands, and 1 where a
+comment says why one is changed or left out. No file is changed.
+
+In place of options of OpenLDAP's slaptest and slapschema:
+  -f, -F, -n          -l FILE, with what slapcat -n 0 prints, or the files of a schema
+  -b, -g              --db DIR, as a folder keeps one directory
+  -d, -v              nothing, as comments say why
+  -c                  nothing, as everything is looked at
+  -Q, -u              nothing, as no file is changed";
+
 /// An option of a command.
 #[derive(Clone, Copy)]
 enum CommandOption<'a> {
-    /// `--db DIR`, which each command needs but sort.
+    /// `--db DIR`, which each command needs but sort and schema.
     Folder,
     /// `--wait SECONDS`, which each command that writes the directory takes.
     Wait,
@@ -417,6 +434,20 @@ fn sort() -> Tool<'static>
     }
 }
 
+fn schema() -> Tool<'static>
+    ensures { commands.shape result ≡ commands.schema }
+{
+    Tool {
+        name: "schema",
+        about: "Prints lines of dir.conf made of a server's schema",
+        options: &[
+            CommandOption::File('l', SCHEMA_HELP),
+            CommandOption::LongValue("db", "DIR", SCHEMA_FOLDER_HELP),
+        ],
+        beside: BESIDE_SCHEMA,
+    }
+}
+
 /// A command with one more below it.
 fn with_tool<'a>(
     alloc: Global,
@@ -429,7 +460,7 @@ fn with_tool<'a>(
 }
 
 /// The commands, in the order in which the help has them.
-fn tools() -> [Tool<'static>; 8]
+fn tools() -> [Tool<'static>; 9]
     ensures { map commands.shape result ≡ commands.slaptools.subs }
 {
     [
@@ -441,6 +472,7 @@ fn tools() -> [Tool<'static>; 8]
         ldifdiff(),
         check(),
         sort(),
+        schema(),
     ]
 }
 

@@ -9,7 +9,7 @@ use crate::hints::{hint, with_hint};
 use crate::options::{BESIDE_SEARCH, beside, slaptools};
 use crate::request::{
     AddOptions, CatOptions, CheckOptions, DiffOptions, IndexOptions, ModifyOptions, Request,
-    SearchOptions, SortOptions, UsageFault,
+    SchemaOptions, SearchOptions, SortOptions, UsageFault,
 };
 use clap::error::ErrorKind;
 use clap::parser::ValueSource;
@@ -233,6 +233,15 @@ fn sort_options<'a>(found: &ArgMatches<'a>) -> SortOptions<'a>
     }
 }
 
+fn schema_options<'a>(found: &ArgMatches<'a>) -> SchemaOptions<'a>
+    ensures { asks.IsSchema (rows_of (found_of found.now)) result }
+{
+    SchemaOptions {
+        file: text_of(found, "file"),
+        db: text_of(found, "db"),
+    }
+}
+
 /// The scope that a word names; without one, the base and all below it.
 fn scope_of(alloc: Global, word: Option<&str>) -> Result<Scope, UsageFault>
     ensures { let named = asks.scope_of (option_copied word.entry) in
@@ -423,6 +432,7 @@ fn request_of<'a>(
 {
     match name {
         "sort" => Ok(Request::Sort(sort_options(found))),
+        "schema" => Ok(Request::Schema(schema_options(found))),
         _ => folder_request_of(alloc, name, found),
     }
 }

@@ -137,6 +137,15 @@ pub struct SortOptions<'a> {
     pub file: Option<&'a str>,
 }
 
+/// What schema is asked for.
+#[derive(Clone, Copy, Drop)]
+pub struct SchemaOptions<'a> {
+    /// The file with a server's schema, or none for standard input.
+    pub file: Option<&'a str>,
+    /// The folder of the directory whose dir.conf the lines are for, or none.
+    pub db: Option<&'a str>,
+}
+
 /// What a command line asks for.
 #[derive(Drop)]
 pub enum Request<'a> {
@@ -150,6 +159,7 @@ pub enum Request<'a> {
     Diff(DiffOptions<'a>),
     Check(CheckOptions<'a>),
     Sort(SortOptions<'a>),
+    Schema(SchemaOptions<'a>),
 }
 
 /// Why a command line asks for nothing that can be done.

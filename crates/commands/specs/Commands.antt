@@ -4,7 +4,7 @@ use Rattle.std.specs.Option.{option_copied}
 use Rattle.device.specs.Device.{Broke}
 use Rattle.command_line.specs.Requests.{AsksForHelp, AskFor, IsFaultOf}
 use Rattle.command_line.specs.declared.request.Request.{Request}
-use Rattle.command_line.specs.declared.request.Request.TheVariants.{Help, Add, Modify, Index, Search, Cat, Diff, Check, Sort}
+use Rattle.command_line.specs.declared.request.Request.TheVariants.{Help, Add, Modify, Index, Search, Cat, Diff, Check, Sort, Schema}
 use Rattle.command_line.specs.declared.request.UsageFault.{UsageFault}
 use Rattle.command_line.specs.declared.request.UsageFault.TheVariants.{Words, OutOfMemory}
 use Rattle.commands.specs.Worlds.{World, IsPrinted}
@@ -18,6 +18,7 @@ use Rattle.commands.specs.Lists.{AnyGoesThrough, AnyStops}
 use Rattle.commands.specs.Differences.{DiffGoesThrough, DiffStops}
 use Rattle.commands.specs.Checks.{CheckGoesThrough, CheckStops}
 use Rattle.commands.specs.Sorting.{SortGoesThrough, SortStops}
+use Rattle.commands.specs.Schemas.{SchemaGoesThrough, SchemaStops}
 use Rattle.commands.specs.Statuses.{status_number}
 use Rattle.commands.specs.declared.messages.Status.{Status}
 use Rattle.commands.specs.declared.messages.Status.TheVariants.{Done}
@@ -52,6 +53,7 @@ RequestGoesThrough (Ok (Cat asked)) = CatGoesThrough asked
 RequestGoesThrough (Ok (Diff asked)) = DiffGoesThrough asked
 RequestGoesThrough (Ok (Check asked)) = CheckGoesThrough asked
 RequestGoesThrough (Ok (Sort asked)) = SortGoesThrough asked
+RequestGoesThrough (Ok (Schema asked)) = SchemaGoesThrough asked
 RequestGoesThrough (Err fault) = λ w w' s. ⊥
 
 abbrev pub RequestStops : Result Request UsageFault → World → StoppedAt → Type 0
@@ -64,6 +66,7 @@ RequestStops (Ok (Cat asked)) = CatStops asked
 RequestStops (Ok (Diff asked)) = DiffStops asked
 RequestStops (Ok (Check asked)) = CheckStops asked
 RequestStops (Ok (Sort asked)) = SortStops asked
+RequestStops (Ok (Schema asked)) = SchemaStops asked
 RequestStops (Err fault) = WordsStop fault
 
 -- the folder whose directory is to be written, if one is
@@ -77,6 +80,7 @@ writes_in (Ok (Cat asked)) = None
 writes_in (Ok (Diff asked)) = None
 writes_in (Ok (Check asked)) = None
 writes_in (Ok (Sort asked)) = None
+writes_in (Ok (Schema asked)) = None
 writes_in (Err fault) = None
 
 -- What was asked for was done, under a lock where a directory is written, or the command stopped, and this is the number of its status.

@@ -17,6 +17,7 @@ pub mod Prints
 pub mod Texts
 pub mod Lists
 pub mod Sorting
+pub mod Schemas
 pub mod Differences
 pub mod Checks
 pub mod SoundFolders

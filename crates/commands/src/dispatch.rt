@@ -11,6 +11,7 @@ use crate::check::check;
 use crate::ldifdiff::ldifdiff;
 use crate::listing::search_list;
 use crate::messages::{CommandFault, Status, Stop, report_stop};
+use crate::schema::schema;
 use crate::searching::search;
 use crate::slapcat::slapcat;
 use crate::slapindex::slapindex;
@@ -92,6 +93,7 @@ fn carry_out<F: Folder, S: Source, O: Sink, E: Sink, T: CommandTeller>(
         Ok(Request::Diff(asked)) => ldifdiff(alloc, &asked, folder, input, out, err, teller),
         Ok(Request::Check(asked)) => check(alloc, &asked, folder, input, out, teller),
         Ok(Request::Sort(asked)) => sort(alloc, &asked, folder, input, out),
+        Ok(Request::Schema(asked)) => schema(alloc, &asked, folder, input, out),
         Err(UsageFault::Words(text)) => Err(Stop::Usage(text)),
         Err(UsageFault::OutOfMemory) => Err(Stop::Fault(CommandFault::OutOfMemory)),
     }
@@ -136,7 +138,7 @@ fn is_verbose(asked: &Result<Request<'_>, UsageFault>) -> bool {
         Ok(Request::Cat(asked)) => asked.verbose,
         Ok(Request::Diff(asked)) => asked.verbose,
         Ok(Request::Check(asked)) => asked.verbose,
-        Ok(Request::Help(_) | Request::Sort(_)) | Err(_) => false,
+        Ok(Request::Help(_) | Request::Sort(_) | Request::Schema(_)) | Err(_) => false,
     }
 }
 

@@ -16,6 +16,7 @@ mod list_text;
 mod listing;
 mod messages;
 mod query;
+mod schema;
 mod searching;
 mod slapcat;
 mod slapindex;

@@ -64,7 +64,7 @@ fn read_in_order<F: Folder, S: Source>(
 }
 
 /// Prints a text.
-fn print_text<O: Sink>(alloc: Global, text: &[u8], out: &mut O) -> Result<Status, CommandFault>
+pub fn print_text<O: Sink>(alloc: Global, text: &[u8], out: &mut O) -> Result<Status, CommandFault>
     requires { (O.written out.old).failed < 2 ^ 64 - 1 }
     ensures done { IfOk result (λ s. s ≡ Done) }
     ensures printed { OnOk result (Took (O.written out.old) (O.written out.new) text.now) }

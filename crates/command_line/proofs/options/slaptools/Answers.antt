@@ -12,8 +12,8 @@ abbrev with_all : App → List Tool → App
 with_all command tools = fold with_subcommand command (map shape tools)
 
 -- there are as many as the specification has
-eight : (tools : List Tool) → map shape tools ≡ slaptools.subs → length tools ≡ 8
-eight tools are = sym (length-map tools shape) ∙ ap (λ shapes. length shapes) are
+nine : (tools : List Tool) → map shape tools ≡ slaptools.subs → length tools ≡ 9
+nine tools are = sym (length-map tools shape) ∙ ap (λ shapes. length shapes) are
 
 pub loop-tool-init : goal.loop-tool-init
 loop-tool-init c =
@@ -27,7 +27,7 @@ pub loop-tool-preserved : goal.loop-tool-preserved
 loop-tool-preserved c =
     let at = c.loop-tool in
     let tools = c.tools.result in
-    let within = subst (λ n. at.tool-index < n) (sym (eight tools c.tools.ensures)) c.loop-tool-test.true in
+    let within = subst (λ n. at.tool-index < n) (sym (nine tools c.tools.ensures)) c.loop-tool-test.true in
     ap (λ a. with_all a (drop (at.tool-index + 1) tools)) c.in_ok-command.ensures
     ∙ sym (at_drop_more (with_all (app_of at.command)) tools at.tool-index _ within) ∙ at.invariant
 
@@ -35,5 +35,5 @@ pub returns : goal.returns
 returns c =
     let at = c.loop-tool in
     let tools = c.tools.result in
-    let past = subst (λ n. n ≤ at.tool-index) (sym (eight tools c.tools.ensures)) c.loop-tool-test.false in
+    let past = subst (λ n. n ≤ at.tool-index) (sym (nine tools c.tools.ensures)) c.loop-tool-test.false in
     sym (at_drop_all (with_all (app_of at.command)) tools at.tool-index past) ∙ at.invariant

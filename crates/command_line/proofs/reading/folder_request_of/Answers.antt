@@ -20,8 +20,8 @@ no_more h = cc
 pub unreachable-requires : goal.unreachable-requires
 unreachable-requires c =
     let name = c.args.name.now in
-    no_more (not_this (codes "sort") name _ c.requires.has_folder
-    (not_this (codes "check") name _ c.in_default.not-check (not_this (codes "ldifdiff") name _ c.in_default.not-ldifdiff (not_this (codes "slapcat") name _ c.in_default.not-slapcat (not_this (codes "search") name _ c.in_default.not-search (not_this (codes "slapindex") name _ c.in_default.not-slapindex (not_this (codes "ldapmodify") name _ c.in_default.not-ldapmodify (not_this (codes "slapadd") name _ c.in_default.not-slapadd c.requires.whole.0))))))))
+    no_more (not_this (codes "schema") name _ c.requires.has_folder.1 (not_this (codes "sort") name _ c.requires.has_folder.0
+    (not_this (codes "check") name _ c.in_default.not-check (not_this (codes "ldifdiff") name _ c.in_default.not-ldifdiff (not_this (codes "slapcat") name _ c.in_default.not-slapcat (not_this (codes "search") name _ c.in_default.not-search (not_this (codes "slapindex") name _ c.in_default.not-slapindex (not_this (codes "ldapmodify") name _ c.in_default.not-ldapmodify (not_this (codes "slapadd") name _ c.in_default.not-slapadd c.requires.whole.0)))))))))
 
 pub returns-in_err-search_options-in-search-clause-asked : goal.returns-in_err-search_options-in-search-clause-asked
 returns-in_err-search_options-in-search-clause-asked c = grind (arith, common_steps)

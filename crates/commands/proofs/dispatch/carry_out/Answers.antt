@@ -90,3 +90,11 @@ returns-in-Ok-Check-clause-can_report g c = each_reports c.check.result _ c.requ
 
 pub returns-in-Ok-Sort-clause-can_report : goal.returns-in-Ok-Sort-clause-can_report
 returns-in-Ok-Sort-clause-can_report g c = each_reports c.sort.result _ c.requires.err
+
+pub returns-in-Ok-Schema-clause-ends : goal.returns-in-Ok-Schema-clause-ends
+returns-in-Ok-Schema-clause-ends g c =
+    let w : World = record { files = g.F.Folder.files c.args.folder.now; lock = g.F.Folder.locking c.args.folder.now; input = g.S.Source.seen c.args.input.now; output = g.O.Sink.written c.args.out.now; messages = g.E.Sink.written c.args.err.now } in
+    asked_so _ _ _ _ c.schema.result (c.in-Ok-Schema.is ∙ ap request c.in-Ok-Schema.field-0-is) (c.schema.ensures w)
+
+pub returns-in-Ok-Schema-clause-can_report : goal.returns-in-Ok-Schema-clause-can_report
+returns-in-Ok-Schema-clause-can_report g c = each_reports c.schema.result _ c.requires.err
