@@ -200,11 +200,11 @@ def class_warning(before, after, wanted, path):
     named, name = [conf.class_of(one) for one in names], sentences.name(name_of(after, path))
     asked = [number for one in named for number in conf.required_in_order(one) if number not in types]
     if asked:
-        return f"{name}: its classes ask for {conf.types[asked[0]].printed().decode()} that users can't add\n"
+        return f"{name}: its classes ask for {sentences.type_name(conf.types[asked[0]].printed())} that users can't add\n"
     belongs = conf.with_superclasses(named)
     allowed = {number for one in belongs for number in conf.classes[one].must + conf.classes[one].may} | {0}
     barred = [number for number in types if number not in allowed and not conf.types[number].is_operational]
-    return f"{name}: its classes don't allow {conf.types[barred[0]].printed().decode()} that users can't delete\n"
+    return f"{name}: its classes don't allow {sentences.type_name(conf.types[barred[0]].printed())} that users can't delete\n"
 
 
 def left_types(before, wanted, path):
