@@ -470,7 +470,7 @@ class Conf:
 def new_keys(oid, names, there):
     """The OID and the names without case, where none is there twice."""
     keys, words = [oid] + [name.lower() for name in names], [oid] + names
-    taken = [word for at, word in enumerate(words) if keys[at] in there or keys[at] in keys[:at]]
+    taken = [word for at, word in enumerate(words) if keys[at] in there] or [word for at, word in enumerate(words) if keys[at] in keys[at + 1:]]
     if taken:
         raise Wrong("C3", f"{sentences.name((names or [oid])[0])}: {sentences.name(taken[0])} is taken already", taken[0])
     return keys
