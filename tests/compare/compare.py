@@ -447,7 +447,7 @@ def count_sort(counts, case, wanted):
     counts[f"sorts: {'printed as it is' if wanted['output'] == case.text else 'in another order'}, {'with' if head else 'without'} a head"] += 1
     counts["sorts: pieces with a name"] += named
     counts["sorts: pieces without a name"] += len(pieces) - named
-    counts["sorts: a piece is read otherwise in its place"] += sorting.is_read_otherwise(case.text, wanted["output"])
+    counts["sorts: a version comes first now"] += sorting.comes_first_now(case.text, wanted["output"])
 
 
 def count_schema(counts, wanted):

@@ -30,13 +30,15 @@ def sorted_text(text):
     places = places_of(names)
     order = sorted(range(len(pieces)), key=lambda number: (places[number], len(names[number]), number))
     moved = [pieces[number] for number in order]
-    return head + b"".join([ended(piece) for piece in moved[:-1]] + moved[-1:])
+    behind = b"".join([ended(piece) for piece in moved[:-1]] + moved[-1:])
+    # a line that begins with a space would go on with the version
+    return (ended(head) if head and behind.startswith(b" ") else head) + behind
 
 
 def ended(piece):
-    """A piece that another one can follow: it ends with an empty line."""
+    """A piece that another one can follow: it ends with an empty line. A CR at the end of the text belongs to the last line."""
     *_, last = LINE.findall(piece)
-    return piece if last in EMPTY_LINES else piece + b"\n" * (1 if last.endswith(b"\n") else 2)
+    return piece + (b"" if last in EMPTY_LINES else b"\n" if last.endswith(b"\n") else b"\r\n\n" if last.endswith(b"\r") else b"\n\n")
 
 
 def places_of(names):
@@ -102,14 +104,17 @@ def pieces_of(lines, kept):
 
 
 def name_of(piece):
-    """The RDNs of its name as they compare, own one first; none where it has no record of content, or that has no name."""
+    """The RDNs of the name of its record, where it has one."""
+    return next((name_read(first, lines) for _, first, lines in ldif.records(piece)), ())
+
+
+def name_read(first, lines):
+    """The RDNs of a record's name as they compare, own one first; none where it is no record of content, or that has no name."""
     try:
-        for _, _, lines in ldif.records(piece):
-            dn, _ = ldif.read_content(False, lines)
-            return tuple(step_of(rdn) for rdn in schema.read_name(dn) or [])
+        found = ldif.read_content(first, lines)
+        return tuple(step_of(rdn) for rdn in schema.read_name(found[0]) or []) if found else ()
     except ldif.Fault:
-        pass
-    return ()
+        return ()
 
 
 def step_of(rdn):
@@ -123,18 +128,20 @@ def broken_laws(text, output):
     head, pieces = cut(text)
     if not output.startswith(head):
         return ["the head isn't printed first"]
-    behind = LINE.findall(output[len(head):])
-    printed = pieces_of(behind, kept_lines(behind))
+    printed = printed_pieces(head, pieces, output[len(head):])
+    if printed is None:
+        return ["what is printed isn't what was read"]
     broken = []
-    if collections.Counter(map(ended, pieces)) != collections.Counter(map(ended, printed)):
-        broken.append("what is printed isn't what was read")
     if places_of([name_of(piece) for piece in pieces]) == list(range(len(pieces))) and output != text:
         broken.append("a text in order isn't printed as it is")
-    if is_read_otherwise(text, output):
-        return broken
-    names = [name_of(piece) for piece in printed]
-    if places_of(names) != list(range(len(names))):
+    if not are_in_order([name_of(piece) for piece in printed]):
         broken.append("a name stands before one above it")
+    if not are_in_order([name_read(first, lines) for _, first, lines in ldif.records(output)]):
+        broken.append("a record is read before one above it")
+    if lines_read(head, output) != [lines for piece in printed for lines in lines_read(b"", piece)]:
+        broken.append("a record is read with other lines than by itself")
+    if comes_first_now(text, output):
+        return broken
     if sorted_text(output) != output:
         broken.append("what is printed isn't sorted")
     if all_loaded(text) != loaded(output):
@@ -142,10 +149,30 @@ def broken_laws(text, output):
     return broken
 
 
-def is_read_otherwise(text, output):
-    """Whether a piece says something else in its new place: a version that comes first now, or has gone on in another line; or a CR at the end of
-    the text, behind which an LF comes."""
-    return bool(cut(text)[0]) != bool(cut(output)[0]) or text.endswith(b"\r")
+def printed_pieces(head, pieces, behind):
+    """The pieces that are printed behind a head, or behind the empty line that it may need; None where these are others than there were."""
+    for begin in (0, len(ended(head)) - len(head) if head else 0):
+        lines = LINE.findall(behind[begin:])
+        printed = pieces_of(lines, kept_lines(lines))
+        if collections.Counter(map(ended, pieces)) == collections.Counter(map(ended, printed)):
+            return printed
+    return None
+
+
+def are_in_order(names):
+    return all(not above or names[below][-len(above):] != above or len(above) == len(names[below])
+               for later, above in enumerate(names) for below in range(later))
+
+
+def lines_read(head, text):
+    """The lines of each record of a text, without the version of its head."""
+    found = [list(lines) for _, _, lines in ldif.records(text)]
+    return [lines for lines in [found[0][1:]] + found[1:] if lines] if head else found
+
+
+def comes_first_now(text, output):
+    """Whether a version comes first now that was one of another record: it counts there."""
+    return bool(cut(text)[0]) != bool(cut(output)[0])
 
 
 def loaded(text, directory=None):

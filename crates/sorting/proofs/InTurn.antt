@@ -138,7 +138,7 @@ made_of_record (Err fault) = tt
 
 made_of_first : (rs : List RawRecord) → IsMadeOrNone (name_of_first rs)
 made_of_first [] = tt
-made_of_first (r ∷ rs) = made_of_record (reading Content false r.lines)
+made_of_first (r ∷ rs) = made_of_record (reading Content r.first r.lines)
 
 made_stanza : (stanza : List ℕ) → IsMadeOrNone (name_of_stanza stanza)
 unfolding name_of_stanza

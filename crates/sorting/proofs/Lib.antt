@@ -8,5 +8,12 @@ pub mod InTurn
 pub mod Kept
 pub mod Complete
 pub mod Whole
+pub mod Contents
+pub mod ReadLines
+pub mod LinesOf
+pub mod OneEach
+pub mod FrontLines
+pub mod ReadNames
+pub mod Reading
 pub mod Examples
 pub mod OrderExamples

@@ -4,4 +4,5 @@ pub mod NormalNames
 pub mod Turns
 pub mod Orders
 pub mod Sorted
+pub mod Reads
 pub mod inner

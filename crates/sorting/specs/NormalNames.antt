@@ -1,6 +1,6 @@
 -- Names as they compare where no dir.conf says what types and rules there are: two RDNs are equal where they have the same AVAs, in whatever order: types
 -- in whatever case (RFC 4512, 2.5), and values that are equal by caseIgnoreMatch (RFC 4517, 4.2.11).
-use Rattle.std.specs.Prelude.{ℕ, false, List, [], ◌∷◌, ◌++◌, map, Option, Some, None, Result, Ok, Err}
+use Rattle.std.specs.Prelude.{ℕ, List, [], ◌∷◌, ◌++◌, map, Option, Some, None, Result, Ok, Err}
 use Rattle.std.specs.BTreeSet.{insert_key}
 use Rattle.std.specs.Cmp.Lexicographic.{slice_cmp}
 use Rattle.std.specs.Ordering.{nat_cmp}
@@ -67,10 +67,14 @@ abbrev pub name_of_record : Result Record LdifFaultKind → Option NormalName
 name_of_record (Ok (records_of.Content dn attrs)) = name_or_none (name_in dn)
 name_of_record r = None
 
+-- as it reads where it stands
+abbrev pub name_read : RawRecord → Option NormalName
+name_read r = name_of_record (reading Content r.first r.lines)
+
 abbrev pub name_of_first : List RawRecord → Option NormalName
 name_of_first [] = None
-name_of_first (r ∷ rs) = name_of_record (reading Content false r.lines)
+name_of_first (r ∷ rs) = name_read r
 
--- the name of the entry that a stanza has, where it is a content record with a name
+-- the name of the entry that a stanza has by itself, where it is a content record with a name; before that a version may stand
 unfoldable pub name_of_stanza : List ℕ → Option NormalName
 name_of_stanza stanza = name_of_first (records stanza)

@@ -1,7 +1,12 @@
 //! What holds of the order in which stanzas are printed.
 
-ghost use Rattle.std.specs.Prelude.{◌≡◌, ℕ, List};
+ghost use Rattle.std.specs.Prelude.{◌≡◌, ◌≤◌, ℕ, List, length, map};
+ghost use Rattle.std.specs.List.{AllByRecursion, flat_map};
 ghost use Rattle.std.specs.List.Sorted.{IsPermutation};
+ghost use Rattle.ldif_lines.specs.Records.{records};
+ghost use Rattle.sorting.specs.NormalNames.{name_read};
+ghost use Rattle.sorting.specs.Heads.{head};
+ghost use Rattle.sorting.specs.Reads.{record_lines, StandBehind};
 ghost use Rattle.sorting.specs.Orders.{AreInOrder};
 ghost use Rattle.sorting.specs.Stanzas.{stanzas};
 ghost use Rattle.sorting.specs.Sorted.{body, names_of, sorted_stanzas, sorted_text};
@@ -18,4 +23,17 @@ pub fn stanzas_in_order_stay()
     ensures stay { (ps : List (List ℕ)) → AreInOrder (names_of ps) → sorted_stanzas ps ≡ ps }
     ensures text { (text : List ℕ) → AreInOrder (names_of (stanzas (body text))) → sorted_text text ≡ text }
     ensures once { (ps : List (List ℕ)) → sorted_stanzas (sorted_stanzas ps) ≡ sorted_stanzas ps }
+{}
+
+/// A reader finds the record of each stanza, one behind the other, with the lines that it has by itself, as it does in the text before that is sorted;
+/// a version at the head stands before them. So none of the text's records is lost, cut or changed where it is put.
+pub fn stanzas_are_read_by_themselves()
+    ensures sorted { (text : List ℕ) → StandBehind (head text) (record_lines (sorted_text text)) (flat_map record_lines (sorted_stanzas (stanzas (body text)))) }
+    ensures unsorted { (text : List ℕ) → StandBehind (head text) (record_lines text) (flat_map record_lines (stanzas (body text))) }
+    ensures one { (text : List ℕ) → AllByRecursion (λ stanza. length (record_lines stanza) ≤ 1) (stanzas text) }
+{}
+
+/// Of the records that a reader finds in a text that was sorted, none stands behind one that it is above.
+pub fn records_are_in_order()
+    ensures { (text : List ℕ) → AreInOrder (map name_read (records (sorted_text text))) }
 {}

@@ -11,5 +11,8 @@ mod sorted;
 mod stanzas;
 mod turns;
 
-pub use laws::{stanzas_in_order_stay, those_above_come_first};
+pub use laws::{
+    records_are_in_order, stanzas_are_read_by_themselves, stanzas_in_order_stay,
+    those_above_come_first,
+};
 pub use sorted::sort_records;

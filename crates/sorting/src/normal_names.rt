@@ -117,7 +117,7 @@ fn name_in(alloc: Global, text: &[u8]) -> Result<Option<NormalName>, AllocError>
     }
 }
 
-/// The normal form of the name of the entry that a stanza has, None where it isn't a content record with a name.
+/// The normal form of the name of the entry that a stanza has by itself, None where it isn't a content record with a name.
 #[tactic(auto, unfolding(crate::specs::NormalNames::name_of_stanza))]
 pub(crate) fn name_of_stanza(alloc: Global, stanza: &[u8]) -> Result<Option<NormalName>, AllocError>
     ensures { IfOk result (λ n. n ≡ name_of_stanza stanza.now) }
@@ -125,8 +125,6 @@ pub(crate) fn name_of_stanza(alloc: Global, stanza: &[u8]) -> Result<Option<Norm
     let Some(record) = first_record(alloc, stanza)? else {
         return Ok(None);
     };
-    let mut record = record;
-    record.first = false;
     match read_record(alloc, &record, Mode::Content) {
         Ok(Record::Content { dn, .. }) => name_in(alloc, dn.as_slice()),
         Ok(_) | Err(LdifFault::Fault(_)) => Ok(None),

@@ -1,12 +1,13 @@
 //! A text with its records in order.
 
 ghost use Rattle.std.specs.Prelude.{◌≡◌, slice_index_or, ◌++◌, ◌∷◌, [], IfOk, OnOk, map};
-ghost use Rattle.sorting.specs.Sorted.{lacking, before, joined, names_of, sorted_stanzas, sorted_text};
+ghost use Rattle.sorting.specs.Sorted.{lacking, gap, before, joined, names_of, sorted_stanzas, sorted_text};
 
 use crate::heads::split_head;
 use crate::normal_names::{NormalName, name_of_stanza};
 use crate::stanzas::stanzas;
 use crate::turns::turns;
+use base::begins_with;
 use std::alloc::{AllocError, Global};
 
 /// The names of stanzas.
@@ -29,8 +30,20 @@ fn lacking(stanza: &[u8]) -> &'static [u8]
         b""
     } else if stanza.ends_with(b"\n") {
         b"\n"
+    } else if stanza.ends_with(b"\r") {
+        b"\r\n\n"
     } else {
         b"\n\n"
+    }
+}
+
+/// What comes between the head of a text and these stanzas.
+fn gap(head: &[u8], stanzas: &[&[u8]]) -> &'static [u8]
+    ensures { result.now ≡ gap head.now (map (λ p. p.now) stanzas.now) }
+{
+    match stanzas {
+        [stanza, ..] if !head.is_empty() && begins_with(stanza, b' ') => lacking(head),
+        _ => b"",
     }
 }
 
@@ -81,13 +94,15 @@ fn in_turn<'a>(alloc: Global, stanzas: &[&'a [u8]]) -> Result<Vec<&'a [u8]>, All
 /// An LDIF text with its content records so ordered that each comes behind all that are above it (RFC 2849), and else as they stood.
 ///
 /// Names compare without a dir.conf: types in whatever case, values by caseIgnoreMatch. What isn't a content record with a name stays where it is.
-/// Each record is kept byte for byte, with the comments before it. It fails only where memory runs out.
+/// Each record is kept byte for byte, with the comments before it, and reads as it does by itself. It fails only where memory runs out.
 #[tactic(auto, unfolding(crate::specs::Sorted::sorted_text))]
 pub fn sort_records(alloc: Global, text: &[u8]) -> Result<Vec<u8>, AllocError>
     ensures { IfOk result (λ v. v.items ≡ sorted_text text.now) }
 {
     let (head, body) = split_head(alloc, text)?;
+    let sorted = in_turn(alloc, &stanzas(alloc, body)?)?;
     let mut out = Vec::from_slice(alloc, head)?;
-    put_stanzas(&in_turn(alloc, &stanzas(alloc, body)?)?, &mut out)?;
+    out.extend_from_slice(gap(head, &sorted))?;
+    put_stanzas(&sorted, &mut out)?;
     Ok(out)
 }
