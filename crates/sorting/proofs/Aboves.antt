@@ -9,8 +9,8 @@ use Rattle.std.specs.Cmp.{nat_cmp_is}
 use Rattle.std.specs.declared.cmp.Ordering.{Ordering}
 use Rattle.std.specs.declared.cmp.Ordering.TheVariants.{Less, Equal}
 use Rattle.std.proofs.lemmas.Bool.Decides.{nat_tests}
-use Rattle.dn.specs.Names.{Name}
-use Rattle.sorting.specs.NormalNames.{normal_rdn, name_text, texts_up, normal_name}
+use Rattle.dn.specs.Names.{Rdn, Name}
+use Rattle.sorting.specs.NormalNames.{normal_rdn, name_text, texts_up, name_of_rdns, normal_name}
 use Rattle.sorting.specs.Turns.{is_named, last_from, last_named, greatest_last, turn_of, turn_cmp}
 use Rattle.sorting.specs.Orders.{is_above}
 use Rattle.sorting.specs.declared.normal_names.NormalName.{NormalName}
@@ -139,3 +139,13 @@ earlier names i j (Some name) (Some other) lt is a b above =
 pub read_is_made : (n : Name) → IsMadeOrNone (normal_name n)
 read_is_made [] = tt
 read_is_made (r ∷ rs) = record { rdn = normal_rdn r; rdns = map normal_rdn rs; free = free_rdns (r ∷ rs); text_is = refl; above_is = refl }
+
+-- a name is above one that has its RDNs behind another one
+pub above_its_rdns : (first r : Rdn) (n m : Name) → map normal_rdn m ≡ map normal_rdn (r ∷ n) → is_above (normal_name m) (normal_name (first ∷ r ∷ n)) ≡ true
+above_its_rdns first r n m same = by (map normal_rdn m) same
+  where
+    by : (rdns : List (List ℕ)) → rdns ≡ map normal_rdn (r ∷ n) → is_above (name_of_rdns rdns) (normal_name (first ∷ r ∷ n)) ≡ true
+    by [] e = absurd (let no : [] ≡ normal_rdn r ∷ map normal_rdn n = e in cc)
+    by (x ∷ xs) e =
+        ap (λ (l : List (List ℕ)). list_any (bytes_eq (name_text (x ∷ xs))) (texts_up l)) (sym e)
+        ∙ ap (λ (t : Bool). t || list_any (bytes_eq (name_text (x ∷ xs))) (texts_up xs)) ((bytes_decides (name_text (x ∷ xs)) (name_text (x ∷ xs))).1 refl)

@@ -1,11 +1,11 @@
 -- The records of lines, each as its own lines, without their numbers.
-use Rattle.std.proofs.Common.{◌≡◌, ℕ, ◌+◌, Bool, true, false, cond, not, ◌&&◌, List, [], ◌∷◌, ◌++◌, map, length, drop, filter, Option, Some, None, refl, sym, ap, subst, ◌∙◌, append_assoc, append-nil, arith, inl, inr}
+use Rattle.std.proofs.Common.{◌≡◌, ℕ, ◌+◌, Bool, true, false, cond, not, ◌&&◌, List, [], ◌∷◌, ◌++◌, map, length, drop, filter, refl, sym, ap, subst, ◌∙◌, append_assoc, append-nil, inl, inr}
 use Rattle.std.specs.Prelude.{◌==◌, ◌||◌, ◌⊎◌}
 use Rattle.std.specs.List.{slice_split, onto_first, enumerate_from, filter_map, cons_option, AllByRecursion}
 use Rattle.std.specs.Str.Lines.{lines}
 use Rattle.std.proofs.lemmas.List.{map-append}
 use Rattle.base.specs.Ends.{begins_with}
-use Rattle.ldif_lines.specs.Records.{RawRecord, Body, is_blank, is_kept, bytes_of, continuation, joined, joined_block, body_of, body_of_block, with_first, records_from, records}
+use Rattle.ldif_lines.specs.Records.{Body, is_blank, is_kept, bytes_of, continuation, joined, joined_block, body_of, body_of_block, with_first, records_from, records}
 use Rattle.ldif_lines.specs.Folding.{raw_lines, raw_block, with_first_flag}
 use Rattle.sorting.specs.Reads.{WithVersion}
 

@@ -1,15 +1,14 @@
 -- Lines with their ends, and as a reader has them.
-use Rattle.std.proofs.Common.{◌≡◌, ℕ, suc, ◌+◌, ◌-◌, ◌<◌, ◌≤◌, Bool, true, false, cond, not, ◌&&◌, List, [], ◌∷◌, ◌++◌, map, length, take, refl, sym, ap, subst, ◌∙◌, append_assoc, append-nil, arith, inl, inr}
+use Rattle.std.proofs.Common.{◌≡◌, ℕ, suc, ◌-◌, Bool, true, false, cond, not, ◌&&◌, List, [], ◌∷◌, ◌++◌, map, length, take, refl, sym, ap, ◌∙◌, append_assoc, append-nil, arith, inl, inr}
 use Rattle.std.specs.Prelude.{◌==◌, ◌||◌, ◌⊎◌, ⊤, slice_index}
 use Rattle.std.specs.List.{flat_map, onto_first, AllByRecursion}
 use Rattle.std.specs.Str.{bytes_eq}
 use Rattle.std.specs.Str.Lines.{lines, lines_of_parts, strip_carriage_return}
 use Rattle.std.proofs.lemmas.Bool.{eqb-true}
-use Rattle.std.proofs.lemmas.Bool.Decides.{nat_tests}
 use Rattle.base.specs.Ends.{begins_with}
 use Rattle.sorting.specs.Stanzas.{ended_lines, is_empty, is_kept}
 use Rattle.sorting.proofs.Contents.{Lines, counts, is_no_blank}
-use Rattle.sorting.proofs.ReadLines.{is_feed, parts, whole_lines, lines_behind}
+use Rattle.sorting.proofs.ReadLines.{is_feed, parts, lines_behind}
 
 abbrev pub all : Lines → List ℕ
 all ls = flat_map (λ text. text) ls

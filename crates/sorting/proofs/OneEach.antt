@@ -1,8 +1,7 @@
 -- A stanza has one record at most.
-use Rattle.std.proofs.Common.{◌≡◌, ℕ, ◌+◌, ◌≤◌, Bool, true, false, cond, not, ◌&&◌, List, [], ◌∷◌, ◌++◌, map, length, refl, sym, ap, subst, ◌∙◌, append-nil, arith, inl, inr}
+use Rattle.std.proofs.Common.{◌≡◌, ℕ, ◌≤◌, Bool, true, false, cond, ◌&&◌, List, [], ◌∷◌, ◌++◌, map, length, refl, sym, ap, subst, ◌∙◌, append-nil, arith, inl, inr}
 use Rattle.std.specs.Prelude.{◌==◌, ◌||◌, ◌⊎◌, ⊤}
-use Rattle.std.specs.List.{flat_map, onto_first, AllByRecursion}
-use Rattle.std.specs.Str.Lines.{lines}
+use Rattle.std.specs.List.{onto_first, AllByRecursion}
 use Rattle.sorting.specs.Stanzas.{ended_lines, is_empty, is_kept, behind, unbegun, ends_stanza, before_first, stanzas_from, stanzas}
 use Rattle.sorting.specs.Reads.{record_lines}
 use Rattle.sorting.specs.declared.stanzas.Begun.{Begun}

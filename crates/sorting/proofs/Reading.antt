@@ -13,8 +13,8 @@ use Rattle.ldif.specs.declared.record.Mode.TheVariants.{Content}
 use Rattle.ldif.specs.declared.record.Record.{Record}
 use Rattle.ldif.specs.declared.record.Record.TheVariants as records_of
 use Rattle.sorting.specs.Stanzas.{ended_lines, stanzas_from, stanzas}
-use Rattle.sorting.specs.Heads.{front_of, front, is_empty_record, is_version_in, is_version, head}
-use Rattle.sorting.specs.Sorted.{lacking, gap, put_behind, joined, body, names_of, sorted_stanzas, sorted_text}
+use Rattle.sorting.specs.Heads.{front, is_empty_record, is_version_in, is_version, head}
+use Rattle.sorting.specs.Sorted.{lacking, gap, put_behind, joined, body, sorted_stanzas, sorted_text}
 use Rattle.sorting.specs.Turns.{turns_from, with_turns, turns}
 use Rattle.sorting.specs.NormalNames.{name_read}
 use Rattle.sorting.specs.Orders.{AreInOrder}

@@ -1,5 +1,5 @@
 -- A text whose stanzas are in order is printed byte for byte.
-use Rattle.std.proofs.Common.{◌≡◌, ℕ, suc, ◌+◌, ◌-◌, ◌<◌, ◌≤◌, Bool, true, false, cond, not, ◌&&◌, nat_eq, List, [], ◌∷◌, ◌++◌, length, length-append, drop, Option, Some, None, refl, sym, ap, subst, ◌∙◌, append_assoc, append-nil, arith}
+use Rattle.std.proofs.Common.{◌≡◌, ℕ, ◌-◌, ◌<◌, Bool, true, false, cond, not, ◌&&◌, nat_eq, List, [], ◌∷◌, ◌++◌, length, length-append, drop, Option, Some, None, refl, sym, ap, subst, ◌∙◌, append_assoc, append-nil, arith}
 use Rattle.std.specs.Prelude.{◌==◌, ◌||◌, ⊤}
 use Rattle.std.specs.List.{flat_map, onto_first}
 use Rattle.std.specs.Str.{bytes_eq}
@@ -10,7 +10,7 @@ use Rattle.base.specs.Ends.{begins_with}
 use Rattle.sorting.specs.Stanzas.{ended_lines, is_empty, is_kept, behind, unbegun, ends_stanza, before_first, stanzas_from, stanzas}
 use Rattle.sorting.specs.Heads.{stage_behind, with_line, front_of, front, is_version, head}
 use Rattle.sorting.specs.Orders.{AreInOrder}
-use Rattle.sorting.specs.Sorted.{ends_in, lacking, gap, put_behind, before, joined, body, names_of, sorted_stanzas, sorted_text}
+use Rattle.sorting.specs.Sorted.{ends_in, lacking, gap, put_behind, joined, body, names_of, sorted_text}
 use Rattle.sorting.specs.declared.heads.Stage.{Stage}
 use Rattle.sorting.specs.declared.heads.Stage.TheVariants.{Before, Within, Behind}
 use Rattle.sorting.specs.declared.stanzas.Begun.{Begun}

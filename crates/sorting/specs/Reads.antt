@@ -13,7 +13,8 @@ record_lines text = map raw_lines (records text)
 -- these records are those, behind a version: it is a record by itself, or the first line of the first of them
 abbrev pub WithVersion : List ℕ → List (List (List ℕ)) → List (List (List ℕ)) → Type 0
 WithVersion version found parts =
-    (found ≡ (version ∷ []) ∷ parts) ⊎ ((first : List (List ℕ)) × (more : List (List (List ℕ))) × (parts ≡ first ∷ more) × (found ≡ (version ∷ first) ∷ more))
+    (found ≡ (version ∷ []) ∷ parts)
+    ⊎ ((first : List (List ℕ)) × (more : List (List (List ℕ))) × (parts ≡ first ∷ more) × (found ≡ (version ∷ first) ∷ more))
 
 -- the records that are found are those of the parts, behind a head, which is empty or a version
 abbrev pub StandBehind : List ℕ → List (List (List ℕ)) → List (List (List ℕ)) → Type 0

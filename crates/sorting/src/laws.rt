@@ -1,13 +1,14 @@
 //! What holds of the order in which stanzas are printed.
 
-ghost use Rattle.std.specs.Prelude.{◌≡◌, ◌≤◌, ℕ, List, length, map};
+ghost use Rattle.std.specs.Prelude.{◌≡◌, ◌≤◌, ◌∷◌, ℕ, true, List, length, map};
 ghost use Rattle.std.specs.List.{AllByRecursion, flat_map};
 ghost use Rattle.std.specs.List.Sorted.{IsPermutation};
+ghost use Rattle.dn.specs.Names.{Rdn, Name};
 ghost use Rattle.ldif_lines.specs.Records.{records};
-ghost use Rattle.sorting.specs.NormalNames.{name_read};
+ghost use Rattle.sorting.specs.NormalNames.{name_read, normal_name, normal_rdn};
 ghost use Rattle.sorting.specs.Heads.{head};
 ghost use Rattle.sorting.specs.Reads.{record_lines, StandBehind};
-ghost use Rattle.sorting.specs.Orders.{AreInOrder};
+ghost use Rattle.sorting.specs.Orders.{is_above, AreInOrder};
 ghost use Rattle.sorting.specs.Stanzas.{stanzas};
 ghost use Rattle.sorting.specs.Sorted.{body, names_of, sorted_stanzas, sorted_text};
 
@@ -25,12 +26,18 @@ pub fn stanzas_in_order_stay()
     ensures once { (ps : List (List ℕ)) → sorted_stanzas (sorted_stanzas ps) ≡ sorted_stanzas ps }
 {}
 
-/// A reader finds the record of each stanza, one behind the other, with the lines that it has by itself, as it does in the text before that is sorted;
-/// a version at the head stands before them. So none of the text's records is lost, cut or changed where it is put.
+/// A reader finds the record of each stanza, one behind the other, with the lines that it has by itself, in a text that was sorted as in the text
+/// before; a version at the head stands before them. So no record is lost, cut or changed where it is put.
 pub fn stanzas_are_read_by_themselves()
-    ensures sorted { (text : List ℕ) → StandBehind (head text) (record_lines (sorted_text text)) (flat_map record_lines (sorted_stanzas (stanzas (body text)))) }
+    ensures sorted { (text : List ℕ)
+        → StandBehind (head text) (record_lines (sorted_text text)) (flat_map record_lines (sorted_stanzas (stanzas (body text)))) }
     ensures unsorted { (text : List ℕ) → StandBehind (head text) (record_lines text) (flat_map record_lines (stanzas (body text))) }
     ensures one { (text : List ℕ) → AllByRecursion (λ stanza. length (record_lines stanza) ≤ 1) (stanzas text) }
+{}
+
+/// A name is above one that has these RDNs behind another one, each with the same normal form.
+pub fn names_are_above_what_ends_in_them()
+    ensures { (first r : Rdn) (n m : Name) → map normal_rdn m ≡ map normal_rdn (r ∷ n) → is_above (normal_name m) (normal_name (first ∷ r ∷ n)) ≡ true }
 {}
 
 /// Of the records that a reader finds in a text that was sorted, none stands behind one that it is above.

@@ -12,7 +12,7 @@ mod stanzas;
 mod turns;
 
 pub use laws::{
-    records_are_in_order, stanzas_are_read_by_themselves, stanzas_in_order_stay,
-    those_above_come_first,
+    names_are_above_what_ends_in_them, records_are_in_order, stanzas_are_read_by_themselves,
+    stanzas_in_order_stay, those_above_come_first,
 };
 pub use sorted::sort_records;
