@@ -27,11 +27,13 @@ pub fn stanzas_in_order_stay()
 {}
 
 /// A reader finds the record of each stanza, one behind the other, with the lines that it has by itself, in a text that was sorted as in the text
-/// before; a version at the head stands before them. So no record is lost, cut or changed where it is put.
+/// before; a version at the head stands before them. So each record is there as often as before, and none is cut or changed where it is put.
 pub fn stanzas_are_read_by_themselves()
     ensures sorted { (text : List ℕ)
         → StandBehind (head text) (record_lines (sorted_text text)) (flat_map record_lines (sorted_stanzas (stanzas (body text)))) }
     ensures unsorted { (text : List ℕ) → StandBehind (head text) (record_lines text) (flat_map record_lines (stanzas (body text))) }
+    ensures all { (text : List ℕ)
+        → IsPermutation (flat_map record_lines (stanzas (body text))) (flat_map record_lines (sorted_stanzas (stanzas (body text)))) }
     ensures one { (text : List ℕ) → AllByRecursion (λ stanza. length (record_lines stanza) ≤ 1) (stanzas text) }
 {}
 
