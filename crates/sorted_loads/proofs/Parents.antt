@@ -26,7 +26,7 @@ use Rattle.sorted_loads.specs.Orphans.{IsRecordAt, IsOrphan, WasRefused, outcome
 use Rattle.sorted_loads.proofs.Content.{refused_for_parent}
 use Rattle.sorted_loads.proofs.Runs.{run, run_parts, not_ended, entries_after, run_keeps, Came, refused, there, came, refused_last}
 
-abbrev Records : Type 0
+abbrev pub Records : Type 0
 Records = List RawRecord
 
 -- ---- two places in one list
@@ -113,6 +113,10 @@ module _ (total : IsTotalOrder path_cmp) (conf : Conf) (go_on : Bool) (d : Entri
           let order = subst (λ (x : Records). AreInOrder (map name_read x)) is (ordered text) in
           let none = not_above r more q rest (subst (λ (x : Records). AllByRecursion (λ other. is_above other (name_read r) ≡ false) (map name_read x)) e (rest_in_order before r behind order)) in
           absurd (let no : true ≡ false = sym above ∙ none in cc)
+
+pub stay : IsTotalOrder path_cmp → (conf : Conf) (go_on : Bool) (d : Entries) (given : Records) (p : Path) → finite.contains_key d p ≡ true → finite.contains_key (state_after conf Content go_on d given).entries p ≡ true
+unfolding after_records
+stay total conf go_on d given p h = run_keeps total conf go_on (start d) given p h
 
 pub for_parent : (conf : Conf) (d : Entries) (r : RawRecord) (p : Path) → IsOrphan conf d r p → outcome_in conf d r ≡ refused_orphan d
 unfolding outcome
