@@ -264,6 +264,13 @@ kept_more first (x ∷ xs) l =
     regroup true false b = refl
     regroup false false b = refl
 
+pub none_more : (pre : Lines) (l : List ℕ) → is_none (pre ++ l ∷ []) ≡ false
+none_more [] l = refl
+none_more (x ∷ xs) l = refl
+
+pub or_false : (a b : Bool) → a ≡ false → b ≡ false → (a || b) ≡ false
+or_false a b g h = rw (g, h) refl
+
 pub all_more : (block : Lines) (l : List ℕ) → AllByRecursion is_no_blank block → is_no_blank l → AllByRecursion is_no_blank (block ++ l ∷ [])
 all_more [] l all h = (h, tt)
 all_more (x ∷ xs) l all h = (all.0, all_more xs l all.1 h)

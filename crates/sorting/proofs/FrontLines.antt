@@ -1,13 +1,13 @@
 -- The lines at the front of a text, and the records that they and lines behind them have.
 use Rattle.std.proofs.Common.{◌≡◌, ℕ, Bool, true, false, cond, List, [], ◌∷◌, ◌++◌, map, Option, Some, None, refl, sym, ap, subst, ◌∙◌, inl, inr}
-use Rattle.std.specs.Prelude.{◌||◌, ◌⊎◌, ⊤}
+use Rattle.std.specs.Prelude.{◌⊎◌, ⊤}
 use Rattle.std.specs.List.{AllByRecursion}
 use Rattle.base.specs.Ends.{begins_with}
 use Rattle.sorting.specs.Stanzas.{is_empty, is_kept}
 use Rattle.sorting.specs.Heads.{stage_behind, with_line, front_of}
 use Rattle.sorting.specs.declared.heads.Stage.{Stage}
 use Rattle.sorting.specs.declared.heads.Stage.TheVariants.{Before, Within, Behind}
-use Rattle.sorting.proofs.Contents.{Lines, said, contents_in, contents, none_said, has_kept, is_none, is_no_blank, counts, kept_more, all_more}
+use Rattle.sorting.proofs.Contents.{Lines, said, contents_in, contents, none_said, has_kept, is_none, is_no_blank, counts, kept_more, none_more, or_false, all_more}
 use Rattle.sorting.proofs.LinesOf.{all, bare, AreLines, IsEndedLine, Seen, blank, filled, seen, same_count, not_kept, no_blank, first_alone, others}
 
 abbrev pub onto_line : List ℕ → Option Stage → (Stage → Lines) → Lines
@@ -127,13 +127,6 @@ filled_on pre line ls some h = by h
     by (none e) = none (is (map bare ls) ∙ e)
     by (shut block e) = shut block (λ more. is (map bare ls ++ more) ∙ e more)
     by (goes_on block e) = goes_on block (λ more. is (map bare ls ++ more) ∙ e more)
-
-none_more : (pre : Lines) (l : List ℕ) → is_none (pre ++ l ∷ []) ≡ false
-none_more [] l = refl
-none_more (x ∷ xs) l = refl
-
-or_false : (a b : Bool) → a ≡ false → b ≡ false → (a || b) ≡ false
-or_false a b g h = rw (g, h) refl
 
 abbrev Later : List ℕ → Lines → Type 0
 Later line ls = (later : Stage) (pre : Lines) → Stands later (is_empty line) pre → Front pre (front_lines later (is_empty line) ls)

@@ -5,7 +5,7 @@ use Rattle.std.specs.List.{onto_first, AllByRecursion}
 use Rattle.sorting.specs.Stanzas.{ended_lines, is_empty, is_kept, behind, unbegun, ends_stanza, before_first, stanzas_from, stanzas}
 use Rattle.sorting.specs.Reads.{record_lines}
 use Rattle.sorting.specs.declared.stanzas.Begun.{Begun}
-use Rattle.sorting.proofs.Contents.{Lines, said, contents_in, contents, records_are, none_said, one_said, has_kept, is_none, is_no_blank, counts, kept_more, all_more}
+use Rattle.sorting.proofs.Contents.{Lines, said, contents_in, contents, records_are, none_said, one_said, has_kept, is_none, is_no_blank, counts, kept_more, none_more, or_false, all_more}
 use Rattle.sorting.proofs.LinesOf.{all, bare, AreLines, IsEndedLine, Seen, blank, filled, seen, same_count, not_kept, no_blank, are_lines, first_alone, others, lines_are}
 
 -- ---- the lines of each stanza
@@ -78,10 +78,6 @@ last_few pre l = by (length l == 0)
     by true = subst (λ (x : List Lines). length x ≤ 1) (sym (append-nil (said pre))) (said_few pre)
     by false = said_few (pre ++ l ∷ [])
 
-none_more : (pre : Lines) (l : List ℕ) → is_none (pre ++ l ∷ []) ≡ false
-none_more [] l = refl
-none_more (x ∷ xs) l = refl
-
 blank_few : (pre : Lines) (line : List ℕ) (gs : List Lines) → bare line ≡ [] → said pre ≡ [] → FewIn [] gs → FewIn pre (onto_first line gs)
 blank_few pre line [] empty none h = (last_few pre (bare line), tt)
 blank_few pre line (g ∷ gs) empty none h =
@@ -97,9 +93,6 @@ record Agrees (begun : Begun) (pre : Lines) : Type 0 where
   has : begun.has_record ≡ has_kept true pre
   at : begun.at_block ≡ is_none pre
   some : AllByRecursion is_no_blank pre
-
-or_false : (a b : Bool) → a ≡ false → b ≡ false → (a || b) ≡ false
-or_false a b g h = rw (g, h) refl
 
 and_true : (a b : Bool) → (a && b) ≡ false → b ≡ true → a ≡ false
 and_true true b h e = absurd (let no : false ≡ true = sym h ∙ e in cc)

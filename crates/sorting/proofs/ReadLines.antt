@@ -1,13 +1,14 @@
 -- The lines of texts one behind the other, and the records of stanzas that are joined.
-use Rattle.std.proofs.Common.{◌≡◌, ℕ, suc, ◌-◌, Bool, true, false, cond, nat_eq, List, [], ◌∷◌, ◌++◌, map, length, length-append, get_or, take, drop, refl, sym, ap, ◌∙◌, append_assoc, append-nil, arith}
+use Rattle.std.proofs.Common.{◌≡◌, ℕ, suc, ◌-◌, Bool, true, false, cond, List, [], ◌∷◌, ◌++◌, map, length, length-append, get_or, take, drop, refl, sym, ap, ◌∙◌, append_assoc, append-nil, arith}
 use Rattle.std.specs.Prelude.{◌==◌, ◌||◌}
 use Rattle.std.specs.List.{slice_split, onto_first, flat_map}
 use Rattle.std.specs.Str.Lines.{lines, lines_of_parts, strip_carriage_return}
-use Rattle.std.specs.Cmp.Lexicographic.{bytes_decides, pointwise}
+use Rattle.std.specs.Cmp.Lexicographic.{bytes_decides}
 use Rattle.std.proofs.lemmas.Bool.{eqb-true}
 use Rattle.std.proofs.lemmas.List.{take-append-drop}
-use Rattle.std.proofs.Math.Seq.{drop-append_seam, take-append_seam}
+use Rattle.std.proofs.Math.Seq.{take-append_seam}
 use Rattle.sorting.specs.Sorted.{ends_in, lacking, joined}
+use Rattle.sorting.proofs.Whole.{ends_seam}
 use Rattle.sorting.proofs.Contents.{Lines, contents, apart}
 
 abbrev pub is_feed : ℕ → Bool
@@ -200,12 +201,6 @@ last_byte (b ∷ bs) = by (last_byte bs)
     by : LastByte bs → LastByte (b ∷ bs)
     by (nothing e) = byte [] b (ap (λ (l : List ℕ). b ∷ l) e)
     by (byte front c e) = byte (b ∷ front) c (ap (λ (l : List ℕ). b ∷ l) e)
-
-ends_seam : (text end : List ℕ) → ends_in (text ++ end) end ≡ pointwise nat_eq end end
-ends_seam text end =
-    let long = length-append text end in
-    let count : length (text ++ end) - length end ≡ length text = omega (arith, long) in
-    ap (pointwise nat_eq end) (ap (λ (n : ℕ). drop n (text ++ end)) count ∙ drop-append_seam text end)
 
 not_it : (text : List ℕ) (c : ℕ) (front : List ℕ) (b : ℕ) → text ≡ front ++ b ∷ [] → ends_in text (c ∷ []) ≡ false → (b == c) ≡ false
 not_it text c front b is h = by (b == c) refl

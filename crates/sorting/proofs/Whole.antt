@@ -129,7 +129,7 @@ unfolding AllEnded
 some_bytes line [] h = h
 some_bytes line (other ∷ lines) h = h.0
 
-ends_seam : (text end : List ℕ) → ends_in (text ++ end) end ≡ pointwise nat_eq end end
+pub ends_seam : (text end : List ℕ) → ends_in (text ++ end) end ≡ pointwise nat_eq end end
 ends_seam text end =
     let long = length-append text end in
     let count : length (text ++ end) - length end ≡ length text = omega (arith, long) in
