@@ -448,6 +448,9 @@ def count_sort(counts, case, wanted):
     counts["sorts: pieces with a name"] += named
     counts["sorts: pieces without a name"] += len(pieces) - named
     counts["sorts: a version comes first now"] += sorting.comes_first_now(case.text, wanted["output"])
+    parted = sorting.ended(head) if head else b""
+    counts["sorts: a version is parted from what comes behind it now"] += parted != head and wanted["output"].startswith(parted + b" ")
+    counts["sorts: a CR that ended the text stands before another piece"] += case.text.endswith(b"\r") and b"\r\r\n\n" in wanted["output"]
 
 
 def count_schema(counts, wanted):

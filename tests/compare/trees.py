@@ -125,6 +125,10 @@ class Trees:
         rng = self.rng
         return [rng.choice(VERSIONS if some(rng, .5) else BAD_VERSIONS)] + (self.good() if some(rng, .5) else [])
 
+    def spaced(self):
+        """A record whose first line begins with a space: it would go on with a version directly before it."""
+        return [self.rng.choice([b" ", b" 0", b" dn: dc=ex", b"  a"])] + (self.good() if some(self.rng, .5) else [])
+
     def comments(self):
         """A block without a record."""
         rng = self.rng
@@ -133,7 +137,7 @@ class Trees:
     def some_records(self, number):
         """Records of a tree, in the order in which they come up, with others between them."""
         kinds = [self.good] * 70 + [self.again] * 6 + [self.orphan] * 5 + [self.badly_named] * 5 + [self.broken] * 4 + [self.change] * 3 + \
-            [self.oddly_begun] * 3 + [self.version] * 2 + [self.comments] * 5
+            [self.oddly_begun] * 3 + [self.version] * 2 + [self.spaced] * 2 + [self.comments] * 5
         return [self.good() if self.is_plain and some(self.rng, .8) else self.rng.choice(kinds)() for _ in range(number)]
 
     def in_another_order(self, records):
@@ -184,4 +188,7 @@ def sort_case(rng):
         text = rng.choice(TINY)
     elif kind < 4 and text:
         text = mutated(rng, text)
+    elif kind == 4:
+        # a CR behind which no LF comes
+        text = text.rstrip(b"\r\n") + b"\r"
     return Sort(text, some(rng, .3))
