@@ -1,15 +1,17 @@
 #!/usr/bin/env python3
 """Compares a built program with a second reading of the rules: compare.py PROGRAM COUNT SEED .. [--changes] [--searches] [--lists] [--checks]
-[--sorts] [--schemas] [--only]
+[--sorts] [--schemas] [--suffixes] [--only]
 
-The second reading is `model.py` with `schema.py`, `values.py`, `ldif.py`, `filters.py` and `indexes.py`, `sorting.py` and `schemas.py`. It was written apart from
-the program and shares no code with it, so that a rule that one of the two reads wrongly shows as a difference. For each SEED, COUNT random folders
-and inputs go through slapadd, slapcat and slapindex, and some through slapindex before all of them; statuses, outputs, messages and all files are
-compared byte for byte. Some print lines of another width than 76; slapadd makes the same directory of what slapcat prints so. With --changes as many
-more go through ldapmodify in place of slapadd, with --searches as many through search or through slapcat with a filter or a name, with --lists as
-many through search -f, with --checks as many through check, with --sorts as many texts through sort, of which the laws of its order have to hold,
-too, and with --schemas as many through schema, whose lines a dir.conf has to take; with --only slapadd is left out. A case that differs is cut down and printed; at the end stands how often each status, code and fault came up,
-and how many slots of the index texts had keys. The exit status is 0 where nothing differs, else 1.
+The second reading is `model.py` with `schema.py`, `values.py`, `ldif.py`, `filters.py`, `indexes.py`, `sorting.py`, `schemas.py` and `suffixes.py`. It was
+written apart from the program and shares no code with it, so that a rule that one of the two reads wrongly shows as a difference. For each SEED, COUNT
+random folders and inputs go through slapadd, slapcat and slapindex, and some through slapindex before all of them; statuses, outputs, messages and all
+files are compared byte for byte. Some print lines of another width than 76; slapadd makes the same directory of what slapcat prints so. With --changes
+as many more go through ldapmodify in place of slapadd, with --searches as many through search or through slapcat with a filter or a name, with --lists
+as many through search -f, with --checks as many through check, with --sorts as many texts through sort, of which the laws of its order have to hold,
+too, with --schemas as many through schema, whose lines a dir.conf has to take, and with --suffixes as many through slapcat --suffix: what that prints
+loads under a dir.conf of the new suffix, and slapcat prints it again. With --only slapadd is left out. A case that differs is cut down and printed; at
+the end stands how often each status, code and fault came up, and how many slots of the index texts had keys. The exit status is 0 where nothing
+differs, else 1.
 """
 import argparse
 import collections
@@ -27,6 +29,7 @@ from pathlib import Path
 import cases
 import checks
 import drawn_schemas
+import drawn_suffixes
 import folders
 import lists
 import model
@@ -34,6 +37,7 @@ import searches
 import schema
 import schemas
 import sorting
+import suffixes
 import trees
 import values
 
@@ -44,7 +48,8 @@ MOST_TRIES = 2000   # cases that are tried to cut down one of them
 # what a case is called, what it is drawn from beside its seed, and how
 KINDS = [("case", "", cases.case), ("change", "{} changes", cases.change_case), ("search", "{} searches", searches.search_case),
          ("list", "{} lists", lists.list_case), ("check", "{} checks", folders.check_case),
-         ("sort", "{} sorts", trees.sort_case), ("schema", "{} schemas", drawn_schemas.schema_case)]
+         ("sort", "{} sorts", trees.sort_case), ("schema", "{} schemas", drawn_schemas.schema_case),
+         ("suffix", "{} suffixes", drawn_suffixes.suffix_case)]
 
 
 def read(path):
@@ -92,6 +97,9 @@ class Runner:
             return seen, wanted
         if isinstance(case, folders.Check):
             self.check(case, seen, wanted)
+            return seen, wanted
+        if isinstance(case, drawn_suffixes.Suffix):
+            self.suffix(case, seen, wanted)
             return seen, wanted
         if case.index_first:
             self.slapindex(case, "first slapindex", seen, wanted)
@@ -259,6 +267,38 @@ class Runner:
         wanted["dir.conf"], seen["dir.conf"] = case.conf, read(self.db / "dir.conf")
         wanted["it is read"], seen["it is read"] = True, wanted["status"] > 1 or schemas.is_read((case.conf or b"") + seen["output"])
 
+    def suffix(self, case, seen, wanted):
+        """slapcat --suffix. What it prints is loaded into a folder of its own under the new suffix."""
+        before = self.files()
+        self.output.unlink(missing_ok=True)
+        seen["status"], seen["output"], seen["messages"] = self.run(*case.command(self.db, self.output))
+        seen["file"], wanted["file"] = read(self.output), None
+        if not all(values.is_utf8(text) for text in case.texts()):
+            answer = 2, b"", b"command line: not UTF-8\n"
+        elif case.filter is not None or case.base is not None:
+            answer = 2, b"", None
+        else:
+            answer = suffixes.slapcat(case.conf, case.data, self.db, case.name, wrap=case.wrap)
+        wanted["status"], wanted["output"], wanted["messages"] = answer
+        if wanted["messages"] is None:
+            # a text of the library that reads the words
+            wanted["messages"] = seen["messages"] or b"a message"
+        if case.to_file and wanted["status"] == 0:
+            wanted["output"], wanted["file"] = b"", wanted["output"]
+        self.compare_files("", before, seen, wanted)
+        if seen["status"] == wanted["status"] == 0:
+            self.load_moved(case, seen["file"] or seen["output"], seen, wanted)
+
+    def load_moved(self, case, printed, seen, wanted):
+        """The copy under the new suffix: slapadd takes all of it, and slapcat prints it again."""
+        shutil.rmtree(self.copy, ignore_errors=True)
+        self.copy.mkdir()
+        write(self.copy / "dir.conf", suffixes.with_suffix_line(case.conf, suffixes.conf_of(schema.read_conf(case.conf), case.name)))
+        wrap = ["-o", case.wrap] if case.wrap is not None else []
+        seen["loaded"] = self.run("slapadd", "--db", self.copy, text=printed)
+        seen["printed again"] = self.run("slapcat", "--db", self.copy, *wrap)
+        wanted["loaded"], wanted["printed again"] = (0, b"", b""), (0, printed, b"")
+
 
 def sentences_as(seen, said, is_loose):
     """Of each of the sentences that may be told the one that was, or the first one. A line of dir.conf may be wrong in several ways, of which the
@@ -340,6 +380,9 @@ def count(counts, case, wanted):
         return
     if isinstance(case, drawn_schemas.Schema):
         count_schema(counts, wanted)
+        return
+    if isinstance(case, drawn_suffixes.Suffix):
+        count_suffix(counts, case, wanted)
         return
     count_width(counts, case, wanted)
     if isinstance(case, searches.Search):
@@ -460,6 +503,35 @@ def count_schema(counts, wanted):
         counts[f"schemas: {next(filter(None, found.groups())) if found else 'another line'}"] += 1
 
 
+def count_suffix(counts, case, wanted):
+    counts[f"slapcat --suffix: status {wanted['status']}"] += 1
+    if wanted["status"] != 0:
+        if case.conf is not None:
+            count_messages(counts, "suffixes", wanted["messages"])
+        return
+    there = model.load(case.conf, case.data, "")
+    if not there.entries:
+        counts["suffixes: no entry"] += 1
+        return
+    moved = suffixes.conf_of(there.conf, case.name)
+    old, new = there.conf.steps(there.conf.suffix), there.conf.steps(moved.suffix)
+    depth = "the same" if len(old) == len(new) else "less" if len(new) < len(old) else "more"
+    place = "it equals the old one" if old == new else "below the old one" if new[-len(old):] == old else "above the old one" if old[-len(new):] == new else \
+        f"elsewhere, of {depth} depth"
+    counts[f"suffixes: {place}"] += 1
+    counts[f"suffixes: {'one AVA' if len(new[0]) == 1 else 'several AVAs'} in the first RDN"] += 1
+    named = [(number, value) for _, attributes in there.entries.values() for number, texts in attributes.values.items()
+             if there.conf.types[number].kind == "name" for value in texts.values()]
+    changed = [suffixes.value_under(there.conf, *pair, case.name) for pair in named]
+    for (_, value), text in zip(named, changed):
+        counts[f"suffixes: names as values that {'stay' if text == value else 'become the suffix' if text == case.name else 'move'}"] += 1
+    entry = there.entries[()][1]
+    before = list(entry.values)
+    lines = suffixes.lines_of(there, (), moved, case.name)
+    after = list(dict.fromkeys(there.conf.type_of(name) for name, _ in lines))
+    counts[f"suffixes: the suffix's entry {'keeps its types' if before == after else 'has other types'}"] += 1
+
+
 def count_messages(counts, source, messages):
     for line in messages.decode().splitlines():
         found = re.fullmatch(r"(?:(dir\.conf|data\.ldif) )?line \d+: (\w+) .*|.*: cannot read|((?:filter|search|slapcat): .*)", line)
@@ -508,6 +580,7 @@ def main():
     parser.add_argument("--checks", action="store_true")
     parser.add_argument("--sorts", action="store_true")
     parser.add_argument("--schemas", action="store_true")
+    parser.add_argument("--suffixes", action="store_true")
     parser.add_argument("--only", action="store_true", help="no cases of slapadd beside those")
     words = parser.parse_args()
     program = shutil.which(words.program)
@@ -516,7 +589,7 @@ def main():
     memory = "/dev/shm" if os.access("/dev/shm", os.W_OK) else None
     with tempfile.TemporaryDirectory(prefix="compare.", dir=memory) as home:
         runner = Runner(os.path.abspath(program), Path(home))
-        asked = not words.only, words.changes, words.searches, words.lists, words.checks, words.sorts, words.schemas
+        asked = not words.only, words.changes, words.searches, words.lists, words.checks, words.sorts, words.schemas, words.suffixes
         kinds = [kind for kind, wanted in zip(KINDS, asked) if wanted]
         counts, differing = compare(runner, words.count, words.seeds, kinds)
     for key in sorted(counts, key=lambda key: (key.split(": ")[0], len(key), key)):

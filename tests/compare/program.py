@@ -10,13 +10,14 @@ import checks
 import differences
 import model
 import sorting
+import suffixes
 
 
 # the options of each command: the one that names a file, those that have another value, and those that stand alone
 OPTIONS = {
     "slapadd": ("-l", ["--wait"], ["-c", "-u", "-v"]), "ldapmodify": ("-f", ["--wait"], ["-a", "-c", "-n", "-v"]),
     "slapindex": (None, ["--wait"], ["-v"]),
-    "search": ("-f", ["-b", "-s", "-z", "-o"], ["-c", "--count", "-v"]), "slapcat": ("-l", ["-a", "-s", "-o"], ["-v"]),
+    "search": ("-f", ["-b", "-s", "-z", "-o"], ["-c", "--count", "-v"]), "slapcat": ("-l", ["-a", "-s", "--suffix", "-o"], ["-v"]),
     "ldifdiff": ("-l", ["-a", "-b"], ["--unordered", "-v"]), "check": ("-l", ["--unique", "--references"], ["-v"]), "sort": ("-l", [], []),
 }
 WITHOUT_FOLDER = ("sort",)
@@ -133,7 +134,12 @@ def is_own_file(folder, path):
 
 def slapcat(words, parser):
     files = read(f"{words.db}/dir.conf"), read(f"{words.db}/data.ldif")
-    status, output, messages = model.slapcat(*files, words.db, encoded(words.a), encoded(words.s), words.v, encoded(words.o))
+    if words.suffix is None:
+        status, output, messages = model.slapcat(*files, words.db, encoded(words.a), encoded(words.s), words.v, encoded(words.o))
+    elif words.a is None and words.s is None:
+        status, output, messages = suffixes.slapcat(*files, words.db, encoded(words.suffix), words.v, encoded(words.o))
+    else:
+        parser.error("--suffix with -a or -s")
     if messages is None:
         parser.error("no width")
     if words.file is None or status != 0:
