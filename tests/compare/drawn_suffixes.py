@@ -20,7 +20,7 @@ NO_SUFFIXES = [b"", b" ", b"  ", b"dc", b"dc=", b"=x", b"no=x", b"dc=x,", b",dc=
 class Suffix:
     """The files of a folder, None for one that isn't there, and the words of slapcat."""
     OPTIONS: ClassVar = (("wrap", None), ("to_file", False), ("filter", None), ("base", None))
-    TEXTS: ClassVar = (("data", None), ("name", b"dc=x"), ("conf", PLAIN_CONF))
+    TEXTS: ClassVar = (("index", None), ("data", None), ("name", b"dc=x"), ("conf", PLAIN_CONF))
     conf: Optional[bytes]
     data: Optional[bytes]
     name: bytes                     # the new suffix
@@ -28,6 +28,7 @@ class Suffix:
     base: Optional[bytes] = None
     to_file: bool = False
     wrap: Optional[bytes] = None
+    index: Optional[bytes] = None   # that slapcat has no use for
 
     def command(self, db, output):
         """The words of the command line."""
@@ -101,4 +102,5 @@ def suffix_case(rng):
         data = rng.choice([None, mutated(rng, data or b"x")])
     option = rng.choice(["filter", "base", "both"]) if some(rng, .02) else "none"
     return Suffix(conf, data, sayable(name), b"(objectClass=*)" if option in ("filter", "both") else None,
-                  sayable(config.name_text(config.suffix)) if option in ("base", "both") else None, some(rng, .1), wrap(rng, .3))
+                  sayable(config.name_text(config.suffix)) if option in ("base", "both") else None, some(rng, .1), wrap(rng, .3),
+                  rng.choice([None, None, b"old\n"]))
