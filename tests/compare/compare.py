@@ -2,16 +2,16 @@
 """Compares a built program with a second reading of the rules: compare.py PROGRAM COUNT SEED .. [--changes] [--searches] [--lists] [--checks]
 [--sorts] [--schemas] [--suffixes] [--only]
 
-The second reading is `model.py` with `schema.py`, `values.py`, `ldif.py`, `filters.py`, `indexes.py`, `sorting.py`, `schemas.py` and `suffixes.py`. It was
-written apart from the program and shares no code with it, so that a rule that one of the two reads wrongly shows as a difference. For each SEED, COUNT
-random folders and inputs go through slapadd, slapcat and slapindex, and some through slapindex before all of them; statuses, outputs, messages and all
-files are compared byte for byte. Some print lines of another width than 76; slapadd makes the same directory of what slapcat prints so. With --changes
-as many more go through ldapmodify in place of slapadd, with --searches as many through search or through slapcat with a filter or a name, with --lists
-as many through search -f, with --checks as many through check, with --sorts as many texts through sort, of which the laws of its order have to hold,
-too, with --schemas as many through schema, whose lines a dir.conf has to take, and with --suffixes as many through slapcat --suffix: what that prints
-loads under a dir.conf of the new suffix, and slapcat prints it again. With --only slapadd is left out. A case that differs is cut down and printed; at
-the end stands how often each status, code and fault came up, and how many slots of the index texts had keys. The exit status is 0 where nothing
-differs, else 1.
+The second reading is `model.py` with `schema.py`, `values.py`, `ldif.py`, `filters.py`, `indexes.py`, `sorting.py`, `schemas.py` and `suffixes.py`.
+It was written apart from the program and shares no code with it, so that a rule that one of the two reads wrongly shows as a difference. For each
+SEED, COUNT random folders and inputs go through slapadd, slapcat and slapindex, and some through slapindex before all of them; statuses, outputs,
+messages and all files are compared byte for byte. Some print lines of another width than 76; slapadd makes the same directory of what slapcat prints
+so. With --changes as many more go through ldapmodify in place of slapadd, with --searches as many through search or through slapcat with a filter or
+a name, with --lists as many through search -f, with --checks as many through check, with --sorts as many texts through sort, of which the laws of its
+order have to hold, too, with --schemas as many through schema, whose lines a dir.conf has to take, and with --suffixes as many through slapcat
+--suffix: what that prints loads under a dir.conf of the new suffix, and slapcat prints it again. With --only slapadd is left out. A case that differs
+is cut down and printed; at the end stands how often each status, code and fault came up, and how many slots of the index texts had keys. The exit
+status is 0 where nothing differs, else 1.
 """
 import argparse
 import collections
@@ -516,8 +516,8 @@ def count_suffix(counts, case, wanted):
     moved = suffixes.conf_of(there.conf, case.name)
     old, new = there.conf.steps(there.conf.suffix), there.conf.steps(moved.suffix)
     depth = "the same" if len(old) == len(new) else "less" if len(new) < len(old) else "more"
-    place = "it equals the old one" if old == new else "below the old one" if new[-len(old):] == old else "above the old one" if old[-len(new):] == new else \
-        f"elsewhere, of {depth} depth"
+    place = "it equals the old one" if old == new else "below the old one" if new[-len(old):] == old else \
+        "above the old one" if old[-len(new):] == new else f"elsewhere, of {depth} depth"
     counts[f"suffixes: {place}"] += 1
     counts[f"suffixes: {'one AVA' if len(new[0]) == 1 else 'several AVAs'} in the first RDN"] += 1
     named = [(number, value) for _, attributes in there.entries.values() for number, texts in attributes.values.items()

@@ -12,8 +12,9 @@ from folders import CheckConfig, Folders
 from pieces import BAD_NAMES
 from searches import sayable
 
-NO_SUFFIXES = [b"", b" ", b"  ", b"dc", b"dc=", b"=x", b"no=x", b"dc=x,", b",dc=x", b"dc=x+", b"#", b"dc=#04", b'dc="x"', b"dc=x;dc=y", b"dc=\\", b"dc=\\zz",
-               b"dc=\xff", b"$T=a\\", b"$T", b"$T=a,$T", b"$T=a+$T=b+$T=c", b"$T=,no=b", b"$T=a;$T=b", b"objectClass=", b"$N,", b",$N", b"$N,no=b", b"no=b,$N"]
+NO_SUFFIXES = [b"", b" ", b"  ", b"dc", b"dc=", b"=x", b"no=x", b"dc=x,", b",dc=x", b"dc=x+", b"#", b"dc=#04", b'dc="x"', b"dc=x;dc=y", b"dc=\\",
+               b"dc=\\zz", b"dc=\xff", b"$T=a\\", b"$T", b"$T=a,$T", b"$T=a+$T=b+$T=c", b"$T=,no=b", b"$T=a;$T=b", b"objectClass=", b"$N,", b",$N",
+               b"$N,no=b", b"no=b,$N"]
 
 
 @dataclass(frozen=True)
@@ -55,10 +56,10 @@ class SuffixConfig(CheckConfig):
         kind, word = rng.choice(old[0])
         fresh = [self.rdn(rng.choice(self.naming)) for _ in range(rng.choice([1, 1, 1, 2, 3]))]
         alone = [[(kind, self.word(kind))]]
+        more = [old[0] + [part for part in fresh[0] if part[0] not in dict(old[0])]] + old[1:]
         return rng.choice([
-            fresh, fresh, fresh, alone + old[1:], alone + old[1:], alone, [old[0]] + fresh, fresh + old, old[1:] or fresh, self.respelled_name(old), old,
-            [old[0][:1]] + old[1:], [old[0] + [part for part in fresh[0] if part[0] not in dict(old[0])]] + old[1:], [[(kind, word)]] + old[1:], self.near(old),
-            [self.respelled_name(old)[0]] + fresh])
+            fresh, fresh, fresh, alone + old[1:], alone + old[1:], alone, [old[0]] + fresh, fresh + old, old[1:] or fresh, old,
+            self.respelled_name(old), [old[0][:1]] + old[1:], more, [[(kind, word)]] + old[1:], self.near(old), [self.respelled_name(old)[0]] + fresh])
 
 
 class Moves(Folders):
