@@ -276,7 +276,7 @@ class Runner:
         if not all(values.is_utf8(text) for text in case.texts()):
             answer = 2, b"", b"command line: not UTF-8\n"
         elif case.filter is not None or case.base is not None:
-            answer = 2, b"", None
+            answer = suffixes.not_a_part(case.filter is not None) if model.width_of(case.wrap) is not None else (2, b"", None)
         else:
             answer = suffixes.slapcat(case.conf, case.data, self.db, case.name, wrap=case.wrap)
         wanted["status"], wanted["output"], wanted["messages"] = answer

@@ -139,7 +139,7 @@ def slapcat(words, parser):
     elif words.a is None and words.s is None:
         status, output, messages = suffixes.slapcat(*files, words.db, encoded(words.suffix), words.v, encoded(words.o))
     else:
-        parser.error("--suffix with -a or -s")
+        status, output, messages = suffixes.not_a_part(words.a is not None)
     if messages is None:
         parser.error("no width")
     if words.file is None or status != 0:

@@ -33,16 +33,25 @@ def moved_to(directory, name):
     moved = model.Directory(conf_of(directory.conf, name))
     for path in sorted(directory.entries):
         rdns = [directory.entries[path[:depth]][0] for depth in range(len(path), 0, -1)] + moved.conf.suffix
+        dn = moved.conf.written_name(rdns)
         try:
-            moved.add(moved.conf.written_name(rdns), lines_of(directory, path, moved.conf, name))
+            moved.add(dn, lines_of(directory, path, moved.conf, name))
         except model.Refused as refused:
-            raise ended(refused) from None
+            raise ended(refused, f"{sentences.name(dn)}: ") from None
     return moved
 
 
-def ended(refused):
+def ended(refused, where=""):
     why = refused.why[0] if isinstance(refused.why, list) else refused.why
-    return model.Ended(1, f"slapcat: {refused}", sentences.line(why[0] if isinstance(why, tuple) else why))
+    # an equal value stands on no line
+    why = f"{why[0]} before it" if isinstance(why, tuple) else why
+    return model.Ended(1, f"slapcat: {refused}", sentences.line(where + why))
+
+
+def not_a_part(has_filter):
+    """The answer where a filter or a base stands beside the new suffix."""
+    other = "-a <FILTER>" if has_filter else "-s <NAME>"
+    return 2, b"", f"error: the argument '--suffix <NAME>' cannot be used with '{other}': a part of the directory doesn't load by itself\n".encode()
 
 
 def conf_of(conf, name):
