@@ -1,0 +1,4 @@
+pub mod AvaLines
+pub mod MovedNames
+pub mod Walks
+pub mod NewConfs

@@ -1,0 +1,10 @@
+use Rattle.std.proofs.Common.{◌≡◌, ◌++◌}
+use Rattle.entries.specs.StoredEntries.{raws}
+use Rattle.suffixes.specs.inner.Lines.{attribute_avas}
+use Rattle.suffixes.proofs.lines.put_values.Given as goal
+
+abbrev pub invariant-loop-value : goal.invariant-loop-value
+invariant-loop-value l = record {
+  can : (goal.iterator-loop-value).can_next l.value-iterator × (goal.iterator-loop-value).is_finite l.value-iterator;
+  so_far : l.avas.items ++ attribute_avas (l.t, raws l.value-iterator) ≡ l.fn.avas.items ++ attribute_avas (l.t, raws l.values);
+}

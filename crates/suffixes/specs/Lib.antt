@@ -1,0 +1,4 @@
+pub mod Configurations
+pub mod MovedValues
+pub mod MovedDirectories
+pub mod inner

@@ -1,0 +1,17 @@
+//! A directory under another suffix: its entries, their names, and the values of DN syntax that name something at the old suffix or below it.
+//!
+//! The functions of `laws` do nothing: a call of one is made for what it states alone.
+#![tactic(auto)]
+
+mod configurations;
+mod copies;
+mod directories;
+mod left_values;
+mod lines;
+mod name_values;
+mod names;
+mod watcher;
+
+pub use configurations::conf_under;
+pub use directories::directory_under;
+pub use watcher::{Unwatched, Watcher};
