@@ -6,6 +6,7 @@
 mod configurations;
 mod copies;
 mod directories;
+mod laws;
 mod left_values;
 mod lines;
 mod name_values;
@@ -14,4 +15,5 @@ mod watcher;
 
 pub use configurations::conf_under;
 pub use directories::directory_under;
+pub use laws::{each_entry_is_moved, moved_names_keep_their_places};
 pub use watcher::{Unwatched, Watcher};
