@@ -99,11 +99,11 @@ search = command (codes "search")
     ∷ value_option (codes "limit") 122 ∷ file_option 102 ∷ flag (codes "go_on") 99
     ∷ long_flag (codes "count") ∷ wrap_option ∷ verbose_option ∷ other_words ∷ [])
 
--- slapcat --db DIR [-l FILE] [-a FILTER] [-s NAME] [-o ldif-wrap=N|no] [-v]
+-- slapcat --db DIR [-l FILE] [-a FILTER] [-s NAME] [--suffix NAME] [-o ldif-wrap=N|no] [-v]
 abbrev pub slapcat : Shape
 slapcat = command (codes "slapcat")
     (folder_option ∷ file_option 108 ∷ value_option (codes "filter") 97
-    ∷ value_option (codes "base") 115 ∷ wrap_option ∷ verbose_option ∷ [])
+    ∷ value_option (codes "base") 115 ∷ long_option (codes "suffix") ∷ wrap_option ∷ verbose_option ∷ [])
 
 -- ldifdiff --db DIR [-l FILE] [-b NAME] [-a FILTER] [--unordered] [-v]
 abbrev pub ldifdiff : Shape

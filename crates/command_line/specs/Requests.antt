@@ -157,6 +157,13 @@ HasFolder rows = IsSome (text_of (codes "db") rows)
 abbrev pub HasFaultyPattern : List Row → Type 0
 HasFaultyPattern rows = TakesFaultyPattern (text_of (codes "file") rows) (filter_of (words_of rows))
 
+-- another suffix is asked for, and with it a filter or a base: an excerpt doesn't load by itself
+abbrev pub MovesExcerpt : Option Text → Option Text → Option Text → Type 0
+MovesExcerpt suffix filter base = IsSome suffix × (IsSome filter ⊎ IsSome base)
+
+abbrev pub HasMovedExcerpt : List Row → Type 0
+HasMovedExcerpt rows = MovesExcerpt (text_of (codes "suffix") rows) (text_of (codes "filter") rows) (text_of (codes "base") rows)
+
 pub record IsAdd (rows : List Row) (asked : AddOptions) : Type 0 where
   pub db_is : text_of (codes "db") rows ≡ Some asked.db.now
   pub file_is : option_copied asked.file ≡ text_of (codes "file") rows
@@ -198,6 +205,8 @@ pub record IsCat (rows : List Row) (asked : CatOptions) : Type 0 where
   pub file_is : option_copied asked.file ≡ text_of (codes "file") rows
   pub filter_is : option_copied asked.filter ≡ text_of (codes "filter") rows
   pub base_is : option_copied asked.base ≡ text_of (codes "base") rows
+  pub suffix_is : option_copied asked.suffix ≡ text_of (codes "suffix") rows
+  pub whole_is_moved : ¬ (HasMovedExcerpt rows)
   pub width_is : IsLineWidth (text_of (codes "wrap") rows) asked.width
   pub verbose_is : asked.verbose ≡ is_given (codes "verbose") rows
 
@@ -253,7 +262,7 @@ HasNoWidth rows = IsSomeAnd (text_of (codes "wrap") rows) (λ word. ¬ (SaysWidt
 -- it isn't said how long a line may be
 abbrev pub HasFaultyOption : List Row → Type 0
 HasFaultyOption rows = (scope_of (text_of (codes "scope") rows) ≡ None)
-    ⊎ (HasNoNumber (codes "limit") rows ⊎ (HasNoNumber (codes "wait") rows ⊎ (HasFaultyPattern rows ⊎ HasNoWidth rows)))
+    ⊎ (HasNoNumber (codes "limit") rows ⊎ (HasNoNumber (codes "wait") rows ⊎ (HasFaultyPattern rows ⊎ (HasNoWidth rows ⊎ HasMovedExcerpt rows))))
 
 -- the words name a command with such an option
 abbrev pub HasFaultyCommand : Option (Text × List Row) → Type 0

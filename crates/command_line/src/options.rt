@@ -44,6 +44,9 @@ const FILTER_HELP: &str = "Prints the entries that it is true of";
 
 const SUBTREE_HELP: &str = "Prints this entry and those below it";
 
+const SUFFIX_HELP: &str =
+    "Prints all under this suffix: the names, and the values of DN syntax that name something at the old one or below it";
+
 const COMPARED_BASE_HELP: &str = "Compares this entry and those below it";
 
 const COMPARED_FILTER_HELP: &str =
@@ -381,6 +384,7 @@ fn slapcat() -> Tool<'static>
             CommandOption::File('l', OUTPUT_HELP),
             CommandOption::Value("filter", 'a', "FILTER", FILTER_HELP),
             CommandOption::Value("base", 's', "NAME", SUBTREE_HELP),
+            CommandOption::LongValue("suffix", "NAME", SUFFIX_HELP),
             CommandOption::Value("wrap", 'o', "ldif-wrap=N|no", WRAP_HELP),
             CommandOption::Flag("verbose", 'v', VERBOSE_HELP),
         ],

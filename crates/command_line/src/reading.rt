@@ -182,17 +182,53 @@ fn index_options<'a>(alloc: Global, found: &ArgMatches<'a>) -> Result<IndexOptio
     })
 }
 
+/// What is said where another suffix is asked for together with an option that prints a part of the directory.
+fn excerpt_text(alloc: Global, option: &str) -> Result<String, AllocError> {
+    format!(in alloc;
+        "error: the argument '--suffix <NAME>' cannot be used with '{option}': a part of the directory doesn't load by itself\n"
+    )
+}
+
+fn moved_excerpt(alloc: Global, option: &str) -> UsageFault {
+    match excerpt_text(alloc, option) {
+        Ok(text) => UsageFault::Words(text),
+        Err(_) => UsageFault::OutOfMemory,
+    }
+}
+
+/// Refuses another suffix for an excerpt. Without another suffix there may be one.
+fn check_suffix(
+    alloc: Global,
+    suffix: Option<&str>,
+    filter: Option<&str>,
+    base: Option<&str>,
+) -> Result<(), UsageFault>
+    ensures { let moves = asks.MovesExcerpt (option_copied suffix.entry) (option_copied filter.entry) (option_copied base.entry) in
+        MatchResult result (λ _. ¬ moves) (λ _. moves) }
+{
+    match (suffix, filter, base) {
+        (Some(_), Some(_), _) => Err(moved_excerpt(alloc, "-a <FILTER>")),
+        (Some(_), None, Some(_)) => Err(moved_excerpt(alloc, "-s <NAME>")),
+        _ => Ok(()),
+    }
+}
+
 fn cat_options<'a>(alloc: Global, found: &ArgMatches<'a>) -> Result<CatOptions<'a>, UsageFault>
     requires { asks.HasFolder (rows_of (found_of found.now)) }
     ensures asked { IfOk result (asks.IsCat (rows_of (found_of found.now))) }
     ensures faulty { IfErr result (asks.IsFaultOfOptions (rows_of (found_of found.now))) }
 {
     let width = width_of(alloc, text_of(found, "wrap"))?;
+    let suffix = text_of(found, "suffix");
+    let filter = text_of(found, "filter");
+    let base = text_of(found, "base");
+    check_suffix(alloc, suffix, filter, base)?;
     Ok(CatOptions {
         db: folder_of(found),
         file: text_of(found, "file"),
-        filter: text_of(found, "filter"),
-        base: text_of(found, "base"),
+        filter,
+        base,
+        suffix,
         width,
         verbose: is_given(found, "verbose"),
     })

@@ -92,6 +92,8 @@ pub struct CatOptions<'a> {
     pub filter: Option<&'a str>,
     /// The name of the entry that is printed with those below it, or none for all.
     pub base: Option<&'a str>,
+    /// The name of the suffix that all is printed under, or none for the directory's own. With it, neither a filter nor a base is asked for.
+    pub suffix: Option<&'a str>,
     /// How long a line may be.
     pub width: LineWidth,
     /// Whether each report is followed by a sentence that says why.
