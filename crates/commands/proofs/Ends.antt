@@ -12,12 +12,14 @@ use Rattle.schema.specs.Conf.{Conf}
 use Rattle.entries.specs.Entries.{EntryContent}
 use Rattle.entries.specs.declared.refusal.Refusal.{Refusal}
 use Rattle.entries.specs.declared.refusal.Refusal.TheVariants as refusals
+use Rattle.tree.specs.Directories.{Entries}
 use Rattle.tree.specs.Trees.{Tree}
 use Rattle.filter_text.specs.Spells.{view}
 use Rattle.filter_text.specs.declared.filters.Filter.{Filter}
 use Rattle.filter.specs.Made.{Made}
 use Rattle.index_text.specs.Postings.{Shown}
 use Rattle.paths.specs.declared.scope.Scope.{Scope}
+use Rattle.databases.specs.Runs.{dump_to, LoadsBackAt}
 use Rattle.databases.specs.Scanned.{scan, scan_among}
 use Rattle.stored_index.specs.Stored.{Stored, shown_by}
 use Rattle.databases.specs.IndexTexts.{index_text}
@@ -28,12 +30,13 @@ use Rattle.commands.specs.Failures.{FailsToWrite}
 use Rattle.folders.specs.Folders.{Files}
 use Rattle.commands.specs.Loaded.{IsLoaded}
 use Rattle.commands.specs.IndexFiles.{Said, said_by, found_by}
-use Rattle.commands.specs.Prints.{HasPut, IsExcerpt}
-use Rattle.commands.specs.Queries.{Wanted, Basis, HasBasis, Begins, HasBegun, PrintsPartly}
+use Rattle.commands.specs.Prints.{HasPut, IsExcerpt, IsMovedText, cat_wanted}
+use Rattle.commands.specs.Queries.{Wanted, Basis, HasBasis, Begins, HasBegun, PrintsPartly, CannotMove, IsRefusedWith}
 use Rattle.commands.specs.Worlds.{World}
 use Rattle.commands.specs.inner.IndexFiles.{Keeps, Serves}
 use Rattle.commands.specs.inner.Printed.{HasPrinted, scanned, found, query_text, scanned_text, IsTextOf, PrintsFound}
-use Rattle.commands.specs.inner.Refusals.{refusal_fault}
+use Rattle.commands.specs.inner.Moving.{IsMoved}
+use Rattle.commands.specs.inner.Refusals.{refusal_fault, RefusesOrBreaks, MovesNot}
 use Rattle.commands.specs.inner.Sought.{excerpt_query}
 use Rattle.commands.specs.inner.Views.{basis_of}
 use Rattle.commands.specs.inner.WriteFaults.{TellsWriteFault}
@@ -42,7 +45,7 @@ use Rattle.commands.specs.declared.messages.CommandFault.{CommandFault}
 use Rattle.commands.specs.declared.query.Query.{Query}
 use Rattle.command_line.specs.declared.request.CatOptions.{CatOptions}
 use Rattle.commands.proofs.IndexTold.{shows_itself}
-use Rattle.commands.proofs.Stopping.{unwritten_prints, write_told, begun_told}
+use Rattle.commands.proofs.Stopping.{unwritten_prints, write_told, begun_told, refuses_more}
 
 -- ---- texts
 
@@ -181,3 +184,17 @@ pub own_scanned : (q : Query) (t : Tree) (index : Stored) (es : List (Path × En
 own_scanned q t index es t' conf same same_conf found =
     subst (λ (k : Conf). ShowsIndexText (shown_by index) k t.entries → es ≡ scan k t.entries q.base q.scope (view q.filter.filter)) same_conf
     (subst (λ (u : Tree). ShowsIndexText (shown_by index) conf u.entries → es ≡ scan conf u.entries q.base q.scope (view q.filter.filter)) same found)
+
+-- ---- a directory under another suffix
+
+-- the text of what was moved
+pub moved_by : (width : ℕ) (name : List ℕ) (conf : Conf) (d : Entries) (t : Tree) → IsMoved name conf d t.conf t.entries → LoadsBackAt width t.conf t.entries → IsMovedText width name conf d (dump_to width t.conf t.entries)
+moved_by width name conf d t is loads = record { new = t.conf; entries = t.entries; new_is = is.conf_is; entries_are = is.entries_are; text_is = refl; loads = loads }
+
+-- under the suffix that is asked for, or none
+module _ (asked : CatOptions) (conf : Conf) (d : Entries) (name : Bor (List ℕ)) (is : asked.suffix ≡ Some name) where
+  pub refused_so : (f : CommandFault) → MovesNot name.now (option_copied asked.file) conf d f → RefusesOrBreaks (cat_wanted asked) conf d f
+  refused_so f (inl refuses) =
+      inl (refuses_more (codes "slapcat") (CannotMove (Some name.now) conf d) (IsRefusedWith (cat_wanted asked) conf d)
+      (λ code moves. inr (subst (λ (o : Option (Bor (List ℕ))). CannotMove (option_copied o) conf d code) (sym is) moves)) f refuses)
+  refused_so f (inr breaks) = inr breaks

@@ -22,7 +22,7 @@ use Rattle.commands.specs.Asked.{base_of, IsBase, IsSelection}
 use Rattle.commands.specs.IndexFiles.{Said, SaysOf, found_by, ReportsFault, IsFaultReported}
 use Rattle.commands.specs.Messages.{IsReported, code_text}
 use Rattle.commands.specs.Prints.{search_wanted, IsFoundText, SearchText, SearchGoesThrough, IsSaid, ComesFirst, ComesLater, SearchStops}
-use Rattle.commands.specs.Queries.{Basis, LacksBase, StopsWith, HasBegun, PrintsPartly}
+use Rattle.commands.specs.Queries.{Basis, IsRefusedWith, StopsWith, HasBegun, PrintsPartly}
 use Rattle.commands.specs.Worlds.{World}
 use Rattle.commands.specs.inner.IndexFiles.{FailsToReport, HasLoaded, IsNoIndex}
 use Rattle.commands.specs.inner.Printed.{HasPrinted, text_as, scanned, found, IsTextOf, FailsToPrint, PrintsFound}
@@ -153,8 +153,8 @@ module _ (asked : SearchOptions) (w : World) (f : Made) (t : Tree) (file : Index
     pub no_base : (conf : Conf) → conf ≡ t.conf → (fault : CommandFault) → Refuses (codes "search") (λ code. base_of conf (option_copied asked.base) ≡ Err code) fault
         → SearchStops asked w (record { why = stops.Fault fault; stored = []; world = record w { messages = m } })
     no_base conf same fault refuses = stops_so w.output fault
-        (inl (refuses_more (codes "search") (λ code. base_of conf (option_copied asked.base) ≡ Err code) (LacksBase (search_wanted asked) t.conf t.entries)
-        (λ code is. (refl, inl (ap (λ (conf : Conf). base_of conf (option_copied asked.base)) (sym same) ∙ is))) fault refuses))
+        (inl (refuses_more (codes "search") (λ code. base_of conf (option_copied asked.base) ≡ Err code) (IsRefusedWith (search_wanted asked) t.conf t.entries)
+        (λ code is. inl (refl, inl (ap (λ (conf : Conf). base_of conf (option_copied asked.base)) (sym same) ∙ is))) fault refuses))
         (refused_prints (HasBegun (λ text. (past : Bool) × SearchText asked w.files h.index.said past text) None) w.output w.output refl
         (codes "search") (λ code. base_of conf (option_copied asked.base) ≡ Err code) fault refuses)
 
@@ -202,8 +202,8 @@ module _ (asked : SearchOptions) (w : World) (f : Made) (t : Tree) (file : Index
           told
 
       lacks : (fault : CommandFault) → FailsToPrint q t fault → RefusesOrBreaks (search_wanted asked) t.conf t.entries fault
-      lacks fault (inl refuses) = inl (refuses_more (codes "search") (λ code. (finite.contains_key t.entries q.base ≡ false) × (code ≡ NoSuchObject)) (LacksBase (search_wanted asked) t.conf t.entries)
-          (λ code why. (refl, inr (record { base = q.base; base_is = based; missing = why.0 }, why.1))) fault refuses)
+      lacks fault (inl refuses) = inl (refuses_more (codes "search") (λ code. (finite.contains_key t.entries q.base ≡ false) × (code ≡ NoSuchObject)) (IsRefusedWith (search_wanted asked) t.conf t.entries)
+          (λ code why. inl (refl, inr (record { base = q.base; base_is = based; missing = why.0 }, why.1))) fault refuses)
       lacks fault (inr breaks) = inr breaks
 
       pub not_found : (output : Written) (fault : CommandFault) → PrintsFound q h.index.said t w.output output (Err fault)

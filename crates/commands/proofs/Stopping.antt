@@ -27,7 +27,7 @@ use Rattle.commands.specs.Loaded.{IsConfigured, IsLoaded, LoadFails}
 use Rattle.commands.specs.Failures.{IsMemory, FailsToRead, FailsToWrite}
 use Rattle.commands.specs.Changes.{Breaks}
 use Rattle.commands.specs.Prints.{ComesFirst, ComesLater}
-use Rattle.commands.specs.Queries.{Wanted, LacksBase, target_of, StopsWith, IsBegun, HasBegun, PrintsPartly, QueryStops}
+use Rattle.commands.specs.Queries.{Wanted, IsRefusedWith, target_of, StopsWith, IsBegun, HasBegun, PrintsPartly, QueryStops}
 use Rattle.commands.specs.inner.Refusals.{FilterFails, RefusesOrBreaks}
 use Rattle.commands.specs.Failures.{Refuses}
 use Rattle.commands.specs.inner.LoadFaults.{TellsLoadFault}
@@ -187,7 +187,7 @@ module _ (q : Wanted) (files : Option Files) where
     pub index_stops : (conf : Conf) (d : Entries) → q.needs_index ≡ true → IsLoaded files q.db conf d → (f : CommandFault) → FailsToRead (index_name q.db) f → StopsWith q files f
     index_stops conf d needs loaded = of_unread (StopsWith q files) (index_name q.db) (λ n named. (has, inr (record { needs = needs; conf = conf; entries = d; loaded = loaded; name_is = named }))) tt
 
-    refused_so : (conf : Conf) (d : Entries) → IsLoaded files q.db conf d → (f : CommandFault) → Refuses q.command (LacksBase q conf d) f → StopsWith q files f
+    refused_so : (conf : Conf) (d : Entries) → IsLoaded files q.db conf d → (f : CommandFault) → Refuses q.command (IsRefusedWith q conf d) f → StopsWith q files f
     refused_so conf d loaded faults.Words h = h
     refused_so conf d loaded (faults.Filter fault) h = absurd h
     refused_so conf d loaded (faults.Code by code) h = (has, h.0, record { conf = conf; entries = d; loaded = loaded; refused = h.1 })

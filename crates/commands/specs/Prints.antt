@@ -1,5 +1,5 @@
 -- What slapcat and search print, and how they end.
-use Rattle.std.specs.Prelude.{◌≡◌, ℕ, ◌⊎◌, Bool, true, false, ◌&&◌, List, [], ◌∷◌, ◌++◌, length, Option, None, Some, Err, ⊤, is_none, is_some, map, if◌then◌else◌, codes}
+use Rattle.std.specs.Prelude.{◌≡◌, ℕ, ◌⊎◌, Bool, true, false, ◌&&◌, List, [], ◌∷◌, ◌++◌, length, Option, None, Some, Ok, Err, ⊤, is_none, is_some, map, if◌then◌else◌, codes}
 use Rattle.std.specs.Fmt.{decimal}
 use Rattle.base.specs.Ascii.{line_feed}
 use Rattle.std.specs.Option.{option_copied}
@@ -15,7 +15,9 @@ use Rattle.stored_index.specs.declared.fault.IndexFaultKind.{IndexFaultKind}
 use Rattle.databases.specs.Selections.{Selection}
 use Rattle.databases.specs.Found.{up_to, limited_text, goes_past}
 use Rattle.databases.specs.IndexTexts.{index_text}
-use Rattle.databases.specs.Runs.{dump_to}
+use Rattle.databases.specs.Runs.{dump_to, LoadsBackAt}
+use Rattle.suffixes.specs.Configurations.{conf_under}
+use Rattle.suffixes.specs.MovedDirectories.{move_by, moved_directory}
 use Rattle.command_line.specs.declared.request.CatOptions.{CatOptions}
 use Rattle.command_line.specs.declared.request.SearchOptions.{SearchOptions}
 use Rattle.commands.specs.Asked.{IsBase, IsSelection}
@@ -44,6 +46,7 @@ cat_wanted asked = record {
   filter = option_copied asked.filter;
   base = option_copied asked.base;
   needs_base = is_some asked.base;
+  suffix = option_copied asked.suffix;
   needs_index = false;
   file = option_copied asked.file;
 }
@@ -64,9 +67,23 @@ abbrev pub IsCatText : Bool → CatOptions → Basis → List ℕ → Type 0
 IsCatText true asked basis text = text ≡ dump_to asked.width basis.conf basis.entries
 IsCatText false asked basis text = IsExcerpt asked basis text
 
+-- the text of a directory under the suffix that a name spells; it loads under a configuration that has that suffix
+pub record IsMovedText (width : ℕ) (name : List ℕ) (conf : Conf) (d : Entries) (text : List ℕ) : Type 0 where
+  pub new : Conf
+  pub entries : Entries
+  pub new_is : conf_under conf name ≡ Ok new
+  pub entries_are : moved_directory (move_by conf new name d) ≡ Ok entries
+  pub text_is : text ≡ dump_to width new entries
+  pub loads : LoadsBackAt width new entries
+
+-- under the directory's own suffix, or the one that is asked for
+abbrev pub IsTextUnder : Option (List ℕ) → CatOptions → Basis → List ℕ → Type 0
+IsTextUnder None asked basis text = IsCatText (is_whole asked) asked basis text
+IsTextUnder (Some name) asked basis text = IsMovedText asked.width name basis.conf basis.entries text
+
 -- that of the directory that was loaded
 abbrev pub CatText : CatOptions → Option Files → List ℕ → Type 0
-CatText asked files text = HasBasis (cat_wanted asked) files (λ basis. IsCatText (is_whole asked) asked basis text)
+CatText asked files text = HasBasis (cat_wanted asked) files (λ basis. IsTextUnder (option_copied asked.suffix) asked basis text)
 
 -- a text is printed, or is stored as the file of this name, which is none of the directory's own; nothing else changes
 abbrev pub Puts : List ℕ → Option (List ℕ) → List ℕ → World → World → Type 0
@@ -95,6 +112,7 @@ search_wanted asked = record {
   filter = option_copied asked.filter;
   base = option_copied asked.base;
   needs_base = true;
+  suffix = None;
   needs_index = true;
   file = None;
 }

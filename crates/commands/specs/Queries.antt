@@ -1,5 +1,5 @@
 -- What search and slapcat have in common: what they are asked for, what they print of, and why they stop.
-use Rattle.std.specs.Prelude.{◌≡◌, ℕ, ◌⊎◌, Bool, true, false, List, Option, None, Some, Err, ⊤, string_bytes, codes, unwrap_or}
+use Rattle.std.specs.Prelude.{◌≡◌, ℕ, ◌⊎◌, Bool, true, false, List, Option, None, Some, Ok, Err, ⊤, string_bytes, codes, unwrap_or}
 use Rattle.std.specs.FinMap as finite
 use Rattle.device.specs.Device.{Written, Broke}
 use Rattle.paths.specs.Paths.{Path}
@@ -9,6 +9,8 @@ use Rattle.schema.specs.declared.code.Code.TheVariants.{NoSuchObject}
 use Rattle.tree.specs.Directories.{Entries}
 use Rattle.filter_text.specs.Spells.{FilterContent}
 use Rattle.ldif.specs.Written.{Begun}
+use Rattle.suffixes.specs.Configurations.{conf_under}
+use Rattle.suffixes.specs.MovedDirectories.{move_by, moved_directory}
 use Rattle.commands.specs.Asked.{IsFilter, HasFilter, IsNoFilterFor, base_of, IsBase}
 use Rattle.folders.specs.Folders.{Files}
 use Rattle.commands.specs.DirectoryFiles.{index_name}
@@ -19,14 +21,15 @@ use Rattle.commands.specs.declared.messages.CommandFault.{CommandFault}
 use Rattle.commands.specs.declared.messages.CommandFault.TheVariants as faults
 use Rattle.commands.specs.declared.messages.Stop.TheVariants as stops
 
--- What is asked for: the name of the command, the folder, the filter, the base, whether that has to be there, whether index.txt is read, and the
--- file that is printed to, none for the output.
+-- What is asked for: the name of the command, the folder, the filter, the base, whether that has to be there, the suffix that all is printed under,
+-- none for the directory's own, whether index.txt is read, and the file that is printed to, none for the output.
 pub record Wanted : Type 0 where
   pub command : List ℕ
   pub db : List ℕ
   pub filter : Option (List ℕ)
   pub base : Option (List ℕ)
   pub needs_base : Bool
+  pub suffix : Option (List ℕ)
   pub needs_index : Bool
   pub file : Option (List ℕ)
 
@@ -61,12 +64,22 @@ HasNoBase conf d name code = (base_of conf name ≡ Err code) ⊎ (IsNotThere co
 abbrev pub LacksBase : Wanted → Conf → Entries → Code → Type 0
 LacksBase q conf d code = (q.needs_base ≡ true) × HasNoBase conf d q.base code
 
--- a directory was loaded that lacks the base
+-- the code where a directory can't be printed under this suffix: that of a name that spells none, or of the first entry that can't be added
+abbrev pub CannotMove : Option (List ℕ) → Conf → Entries → Code → Type 0
+CannotMove None conf d code = ⊥
+CannotMove (Some name) conf d code =
+    (conf_under conf name ≡ Err code) ⊎ ((new : Conf) × (conf_under conf name ≡ Ok new) × (moved_directory (move_by conf new name d) ≡ Err code))
+
+-- what is asked for is refused with this code
+abbrev pub IsRefusedWith : Wanted → Conf → Entries → Code → Type 0
+IsRefusedWith q conf d code = LacksBase q conf d code ⊎ CannotMove q.suffix conf d code
+
+-- a directory was loaded that it is refused of
 pub record IsRefused (q : Wanted) (files : Option Files) (code : Code) : Type 0 where
   pub conf : Conf
   pub entries : Entries
   pub loaded : IsLoaded files q.db conf entries
-  pub refused : LacksBase q conf entries code
+  pub refused : IsRefusedWith q conf entries code
 
 -- index.txt is what can't be read, where a directory was loaded
 pub record IndexUnread (q : Wanted) (files : Option Files) (name : List ℕ) : Type 0 where
@@ -80,8 +93,8 @@ pub record IndexUnread (q : Wanted) (files : Option Files) (name : List ℕ) : T
 abbrev pub target_of : Option (List ℕ) → List ℕ
 target_of file = unwrap_or file (codes "output")
 
--- With which fault it stops: its filter is none, no directory was loaded, index.txt can't be read, the base isn't there, or what it prints to
--- can't be written. They are looked for in this order: where one of the later ones is reported, the text spells a filter.
+-- With which fault it stops: its filter is none, no directory was loaded, index.txt can't be read, the base isn't there or the directory can't be
+-- printed under the suffix, or what it prints to can't be written. They are looked for in this order: where one of the later ones is reported, the text spells a filter.
 abbrev pub StopsWith : Wanted → Option Files → CommandFault → Type 0
 StopsWith q files faults.Words = ⊥
 StopsWith q files (faults.Filter fault) = IsNoFilterFor q.filter fault

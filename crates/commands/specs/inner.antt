@@ -10,3 +10,4 @@ pub mod IndexFiles
 pub mod Compared
 pub mod Lists
 pub mod Checked
+pub mod Moving

@@ -15,6 +15,7 @@ mod ldifdiff;
 mod list_text;
 mod listing;
 mod messages;
+mod moving;
 mod query;
 mod schema;
 mod searching;

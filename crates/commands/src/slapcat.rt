@@ -1,16 +1,17 @@
-//! slapcat: a directory, or an excerpt of it, is printed as LDIF.
+//! slapcat: a directory, or an excerpt of it, is printed as LDIF, or a directory under another suffix.
 ghost use Rattle.std.specs.Prelude.{◌≡◌, ◌≢◌, ◌<◌, ◌-◌, ◌^◌, true, false, is_some, IfOk, IfErr, OnOk, OnErr, codes};
 ghost use Rattle.std.specs.FinMap as finite;
 ghost use Rattle.std.specs.Option.{option_copied};
 ghost use Rattle.device.specs.Device.{Took};
 ghost use Rattle.folders.specs.Folders.{with_file};
+ghost use Rattle.databases.specs.Runs.{LoadsBackAt};
 ghost use Rattle.commands.specs.DirectoryFiles.{file_in, IsForeign};
 ghost use Rattle.commands.specs.Worlds.{World, put_world};
 ghost use Rattle.commands.specs.Asked.{IsBase};
 ghost use Rattle.commands.specs.Failures.{FailsToWrite};
 ghost use Rattle.commands.specs.Queries.{LacksBase, target_of, IsBegun, Begins, HasBegun, PrintsPartly, StopsWith};
-ghost use Rattle.commands.specs.Prints.{cat_wanted, is_whole, IsCatText, CatText, Puts, HasPut, CatGoesThrough, CatStops};
-ghost use Rattle.commands.specs.inner.Refusals.{RefusesOrBreaks};
+ghost use Rattle.commands.specs.Prints.{cat_wanted, is_whole, IsCatText, IsMovedText, IsTextUnder, Puts, HasPut, CatGoesThrough, CatStops};
+ghost use Rattle.commands.specs.inner.Refusals.{RefusesOrBreaks, MovesNot};
 ghost use Rattle.commands.specs.Failures.{Refuses};
 ghost use Rattle.commands.specs.inner.Sought.{excerpt_query};
 ghost use Rattle.commands.specs.inner.Views.{basis_of};
@@ -20,14 +21,16 @@ use crate::database::{load_database, path};
 use crate::excerpt::Excerpt;
 use crate::finding::{filter_of, path_of};
 use crate::messages::{CommandFault, Status, Stop};
+use crate::moving::moved;
 use crate::query::Query;
 use crate::storing::{Dump, store};
 use crate::telling::CommandTeller;
 use command_line::CatOptions;
-use databases::Database;
+use databases::{Database, loading_a_folded_dump};
 use device::Sink;
 use filter_text::Filter;
 use folders::{FileText, Folder};
+use ldif::LineWidth;
 use schema::{Code, Path};
 use std::alloc::{AllocError, Global};
 use std::mem;
@@ -206,9 +209,85 @@ fn put_entries<F: Folder, O: Sink>(
     }
 }
 
-/// Writes the directory in a folder to the file, or to `out`: all entries, or those at the base and below it that the filter is True of. It
-/// stops where the text is no filter, the directory can't be loaded, the base isn't there (its code is 32 noSuchObject then), the file is one
-/// of the directory's own, or what it writes to or memory fails.
+/// The dump of a directory loads back from every width. It does nothing: a call of it is made for what it states.
+fn loads_back(database: &Database, width: LineWidth)
+    ensures { LoadsBackAt width database.now.conf database.now.entries }
+{
+    width.holds_a_byte();
+    database.tree().entries_are_a_directory();
+    database.conf().rules_are_kept();
+    loading_a_folded_dump();
+}
+
+/// Puts all entries under the suffix that a name spells.
+fn put_moved<F: Folder, O: Sink, T: CommandTeller>(
+    alloc: Global,
+    asked: &CatOptions<'_>,
+    name: &str,
+    database: &Database,
+    folder: &mut F,
+    out: &mut O,
+    teller: &mut T,
+) -> Result<(), CommandFault>
+    requires { (O.written out.old).failed < 2 ^ 64 - 1 }
+    ensures same { OnErr result (F.files folder.new ≡ F.files folder.old) }
+    ensures locking { F.locking folder.new ≡ F.locking folder.old }
+    ensures put { (w : World) → OnOk result (HasPut (IsMovedText asked.now.width name.now database.now.conf database.now.entries)
+        asked.now.db.now (option_copied asked.now.file)
+        (put_world w F.files O.written folder.old out.old)
+        (put_world w F.files O.written folder.new out.new)) }
+    ensures fault { IfErr result (MovesNot name.now (option_copied asked.now.file) database.now.conf database.now.entries) }
+    ensures partly { IfErr result (PrintsPartly (HasBegun (IsMovedText asked.now.width name.now database.now.conf database.now.entries)
+        (option_copied asked.now.file)) (O.written out.old) (O.written out.new)) }
+{
+    match moved(alloc, name, database, teller) {
+        Ok(moved) => {
+            loads_back(&moved, asked.width);
+            let dump = Dump {
+                database: &moved,
+                width: asked.width,
+            };
+            put(alloc, &dump, asked, folder, out)
+        }
+        Err(fault) => Err(fault),
+    }
+}
+
+/// Puts what is asked for: the directory or an excerpt of it, or the directory under another suffix.
+fn put_text<F: Folder, O: Sink, T: CommandTeller>(
+    alloc: Global,
+    asked: &CatOptions<'_>,
+    filter: &Filter,
+    database: &Database,
+    folder: &mut F,
+    out: &mut O,
+    teller: &mut T,
+) -> Result<(), CommandFault>
+    requires { (O.written out.old).failed < 2 ^ 64 - 1 }
+    ensures same { OnErr result (F.files folder.new ≡ F.files folder.old) }
+    ensures locking { F.locking folder.new ≡ F.locking folder.old }
+    ensures put { (w : World) → OnOk result (HasPut (IsTextUnder (option_copied asked.now.suffix) asked.now
+        (basis_of filter.now database.now)) asked.now.db.now (option_copied asked.now.file)
+        (put_world w F.files O.written folder.old out.old)
+        (put_world w F.files O.written folder.new out.new)) }
+    ensures fault { IfErr result (RefusesOrBreaks (cat_wanted asked.now) database.now.conf database.now.entries) }
+    ensures partly { IfErr result (PrintsPartly (HasBegun (IsTextUnder (option_copied asked.now.suffix) asked.now
+        (basis_of filter.now database.now)) (option_copied asked.now.file))
+        (O.written out.old) (O.written out.new)) }
+{
+    match asked.suffix {
+        Some(name) => put_moved(alloc, asked, name, database, folder, out, teller),
+        None => {
+            teller.note_base(alloc, database.conf(), database.tree(), asked.base);
+            put_entries(alloc, asked, filter, database, folder, out)
+        }
+    }
+}
+
+/// Writes the directory in a folder to the file, or to `out`: all entries, or those at the base and below it that the filter is True of, or all
+/// under another suffix. It stops where the text is no filter, the directory can't be loaded, the base isn't there (its code is 32 noSuchObject
+/// then), the name spells no suffix or an entry can't be under it (the code says why), the file is one of the directory's own, or what it
+/// writes to or memory fails.
 pub fn slapcat<F: Folder, O: Sink, T: CommandTeller>(
     alloc: Global,
     asked: &CatOptions<'_>,
@@ -225,8 +304,7 @@ pub fn slapcat<F: Folder, O: Sink, T: CommandTeller>(
     teller.note_filter(alloc, asked.filter);
     let filter = filter_of(alloc, asked.filter)?;
     let database = load_database(alloc, folder, asked.db, teller)?;
-    teller.note_base(alloc, database.conf(), database.tree(), asked.base);
-    let done = put_entries(alloc, asked, &filter, &database, folder, out);
+    let done = put_text(alloc, asked, &filter, &database, folder, out, teller);
     // The program ends with its command, and that frees the entries at once.
     mem::forget(database);
     match done {

@@ -145,7 +145,11 @@ impl<V: Sink, G: Gauge> CommandTeller for Explainer<'_, V, G> {
     fn tell_stop(&mut self, alloc: Global, stop: &Stop, failure: Option<ErrorKind>) {
         match stop {
             Stop::Fault(CommandFault::Filter(fault)) => self.tell_filter(alloc, fault),
-            Stop::Fault(CommandFault::Code { .. }) | Stop::Usage(_) => self.tell_base(),
+            Stop::Fault(CommandFault::Code { .. }) => {
+                self.tell_base();
+                self.tell();
+            }
+            Stop::Usage(_) => self.tell_base(),
             Stop::Fault(
                 CommandFault::Configuration { .. }
                 | CommandFault::Data { .. }

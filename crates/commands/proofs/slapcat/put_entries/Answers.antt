@@ -6,9 +6,9 @@ use Rattle.std.proofs.lemmas.Result.{on_ok_weaker}
 use Rattle.commands.specs.Prints.{cat_wanted, IsCatText, IsExcerpt, HasPut, is_whole}
 use Rattle.commands.specs.Worlds.{World}
 use Rattle.commands.specs.inner.Views.{basis_of}
-use Rattle.commands.specs.Queries.{LacksBase, target_of, HasBegun, PrintsPartly}
+use Rattle.commands.specs.Queries.{LacksBase, IsRefusedWith, target_of, HasBegun, PrintsPartly}
 use Rattle.commands.proofs.Ends.{excerpt_by, text_begun}
-use Rattle.commands.proofs.Stopping.{of_faults, refused_prints}
+use Rattle.commands.proofs.Stopping.{of_faults, refuses_more, refused_prints}
 use Rattle.commands.proofs.slapcat.put_entries.Goals as goal
 use Rattle.commands.proofs.slapcat.put_entries.Goals.{else-is_none-via-then-is_none+else-is_none-2, else-is_none-via-else-is_none}
 
@@ -57,7 +57,10 @@ returns-in-Ok-clause-partly g c =
     c.put-in-Ok.result (target_of (option_copied asked.file)) _ _ c.put-in-Ok.ensures.err c.put-in-Ok.ensures.begins)
 
 pub returns-in-Err-clause-fault : goal.returns-in-Err-clause-fault
-returns-in-Err-clause-fault g c = inl c.in-Err.ensures.fault
+returns-in-Err-clause-fault g c =
+    let asked = c.args.asked.now in
+    let d = c.args.database.now in
+    inl (refuses_more (codes "slapcat") (LacksBase (cat_wanted asked) d.conf d.entries) (IsRefusedWith (cat_wanted asked) d.conf d.entries) (λ code lacks. inl lacks) c.in-Err.fault c.in-Err.ensures.fault)
 
 pub returns-in-Err-clause-partly : goal.returns-in-Err-clause-partly
 returns-in-Err-clause-partly g c =

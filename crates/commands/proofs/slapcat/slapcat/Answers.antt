@@ -3,7 +3,7 @@ use Rattle.std.specs.Option.{option_copied}
 use Rattle.std.proofs.lemmas.Result.{err_from_is_err_and}
 use Rattle.filter_text.specs.Spells.{view}
 use Rattle.folders.specs.Folders.{Files}
-use Rattle.commands.specs.Prints.{cat_wanted, is_whole, IsCatText, CatText, CatStops}
+use Rattle.commands.specs.Prints.{cat_wanted, IsTextUnder, CatText, CatStops}
 use Rattle.commands.specs.Queries.{HasBegun}
 use Rattle.commands.specs.inner.Views.{basis_of}
 use Rattle.commands.proofs.Ends.{has_basis, put_more}
@@ -36,8 +36,8 @@ returns-in-Ok-clause-ends g c = λ w.
     let files = g.F.Folder.files c.args.folder.now in
     let basis = basis_of c.in_ok-filter.filter c.in_ok-database.database in (
       refl,
-      put_more (IsCatText (is_whole asked) asked basis) (CatText asked files)
-          (λ text. has_basis (cat_wanted asked) files basis c.in_ok-filter.ensures.found c.in_ok-database.ensures.loaded (λ basis. IsCatText (is_whole asked) asked basis text))
+      put_more (IsTextUnder (option_copied asked.suffix) asked basis) (CatText asked files)
+          (λ text. has_basis (cat_wanted asked) files basis c.in_ok-filter.ensures.found c.in_ok-database.ensures.loaded (λ basis. IsTextUnder (option_copied asked.suffix) asked basis text))
           asked.db.now (option_copied asked.file) _ _ (c.in-Ok.ensures.put w),
     )
 
@@ -49,10 +49,10 @@ returns-clause-ends g c = λ w.
     stopped (CatStops asked) _ _ _
     (query_stops (cat_wanted asked) _ _ _ c.in-Err.fault
     (refused_stops (cat_wanted asked) files _ c.in_ok-filter.ensures.found _ _ c.in_ok-database.ensures.loaded c.in-Err.fault c.in-Err.ensures.fault)
-    (prints_more (HasBegun (IsCatText (is_whole asked) asked basis) (option_copied asked.file)) (HasBegun (CatText asked files) (option_copied asked.file)) _ _
+    (prints_more (HasBegun (IsTextUnder (option_copied asked.suffix) asked basis) (option_copied asked.file)) (HasBegun (CatText asked files) (option_copied asked.file)) _ _
     (λ fault begun. record {
       text = begun.text;
-      is = has_basis (cat_wanted asked) files basis c.in_ok-filter.ensures.found c.in_ok-database.ensures.loaded (λ basis. IsCatText (is_whole asked) asked basis begun.text) begun.is;
+      is = has_basis (cat_wanted asked) files basis c.in_ok-filter.ensures.found c.in_ok-database.ensures.loaded (λ basis. IsTextUnder (option_copied asked.suffix) asked basis begun.text) begun.is;
       begins = begun.begins;
     }) c.in-Err.fault c.in-Err.ensures.partly)
-    (ap (λ (fs : Option Files). record w { files = fs; output = g.O.Sink.written c.put_entries-done.new.out }) c.in-Err.ensures.same)) c.in-Err.ensures.same
+    (ap (λ (fs : Option Files). record w { files = fs; output = g.O.Sink.written c.put_text-done.new.out }) c.in-Err.ensures.same)) c.in-Err.ensures.same
