@@ -6,3 +6,4 @@ pub mod AddedLines
 pub mod MovedAttributes
 pub mod MovedSteps
 pub mod MovedPlaces
+pub mod Examples

@@ -30,7 +30,7 @@ use Rattle.tree.specs.Changes.{Change, Put, changed}
 use Rattle.tree.specs.Adds.{add, add_at, with_entry, entry_of}
 use Rattle.tree.proofs.Ancestors.{along, own_is}
 use Rattle.tree.proofs.Order.{path_total, path_exact}
-use Rattle.tree.proofs.Views.{all_found}
+use Rattle.tree.proofs.Views.{all_found, split_and}
 use Rattle.suffixes.specs.Configurations.{with_suffix}
 use Rattle.suffixes.specs.MovedDirectories.{Move, move_by, moved_attributes, suffix_entry, suffix_lines, moved_lines, moved_name, add_named, add_moved, moved_directory}
 use Rattle.suffixes.specs.MovedEntries.{moved_entry, AreMoved}
@@ -201,10 +201,6 @@ module _ (named : NamesNameTheirTypes) (reads : NamesAreLocated) (conf : Conf) (
 
   abbrev Pairs : Type 0
   Pairs = List (Path × EntryContent)
-
-  split_and : (a b : Bool) → T (a && b) → T a × T b
-  split_and true b k = (tt, k)
-  split_and false b k = absurd k
 
   less : (o : Ordering) → T (is_lt o) → o ≡ Less
   less Less k = refl
