@@ -9,6 +9,7 @@ import time
 import checks
 import differences
 import model
+import schemas
 import sorting
 import suffixes
 
@@ -19,8 +20,9 @@ OPTIONS = {
     "slapindex": (None, ["--wait"], ["-v"]),
     "search": ("-f", ["-b", "-s", "-z", "-o"], ["-c", "--count", "-v"]), "slapcat": ("-l", ["-a", "-s", "--suffix", "-o"], ["-v"]),
     "ldifdiff": ("-l", ["-a", "-b"], ["--unordered", "-v"]), "check": ("-l", ["--unique", "--references"], ["-v"]), "sort": ("-l", [], []),
+    "schema": ("-l", ["--db"], []),
 }
-WITHOUT_FOLDER = ("sort",)
+WITHOUT_FOLDER = ("sort", "schema")
 
 
 def parser_of_words():
@@ -182,6 +184,14 @@ def sort(words):
     return sorting.sort(text, source)
 
 
+def schema(words):
+    conf = b"" if words.db is None else read(f"{words.db}/dir.conf")
+    if conf is None:
+        return 3, b"", f"{words.db}/dir.conf: cannot read\n".encode()
+    text, source = (read(words.file), words.file) if words.file is not None else (sys.stdin.buffer.read(), "input")
+    return schemas.with_details(text, conf, source)
+
+
 def is_utf_8(word):
     try:
         word.encode()
@@ -205,7 +215,7 @@ def main():
     elif words.command in ("search", "slapcat"):
         status, output, messages = {"search": search, "slapcat": slapcat}[words.command](words, parsers[words.command])
     else:
-        others = {"slapindex": slapindex, "ldifdiff": ldifdiff, "check": check, "sort": sort}
+        others = {"slapindex": slapindex, "ldifdiff": ldifdiff, "check": check, "sort": sort, "schema": schema}
         status, output, messages = others.get(words.command, change)(words)
     sys.stdout.buffer.write(output)
     sys.stderr.buffer.write(messages)

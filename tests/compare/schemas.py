@@ -237,13 +237,33 @@ def changes_alone(word, old, new):
         {key: value for key, value in was[1].items() if key != free} == {key: value for key, value in is_now[1].items() if key != free}
 
 
-def fault_of(there, word, text):
-    """The code of what is wrong with a definition, which is taken where nothing is."""
+def wrong_of(there, word, text):
+    """What is wrong with a definition, which is taken where nothing is."""
     try:
         schema.first_pass(there, word, text)
     except schema.Wrong as wrong:
-        return str(wrong)
+        return wrong
     return None
+
+
+def fault_of(there, word, text):
+    """The code of that."""
+    wrong = wrong_of(there, word, text)
+    return None if wrong is None else str(wrong)
+
+
+def detail_of(wrong):
+    """Which word of a definition a fault is of."""
+    code, word = str(wrong), wrong.word or b""
+    if code in ("C4", "C5"):
+        return b", " + wrong.keyword.upper() + b" " + word
+    if code == "C3":
+        return b", " + word
+    if code != "C2":
+        return b""
+    kinds = {"begins with": b"no number in front", "ends with": b"no end", "is called": b"no field " + word, "stands behind": b"field " + word}
+    # what is said of an end says that nothing stands behind it
+    return b"".join([b", " + detail for words, detail in kinds.items() if words in wrong.why][:1])
 
 
 # what is printed
@@ -267,8 +287,8 @@ def printed(source, conf):
     known = stated(conf + front + b"".join(out))
     for word, text, number in left:
         if number not in with_repairs and not any(are_alike(other, (word, text)) for other in known):
-            code = fault_of(there, word, text)
-            remarks.append(b"# left out: %s %s: %s %s\n" % (code.encode(), schema.FAULTS[code].encode(), word, text))
+            wrong = wrong_of(there, word, text)
+            remarks.append(b"# left out: %s %s%s: %s %s\n" % (str(wrong).encode(), schema.FAULTS[str(wrong)].encode(), detail_of(wrong), word, text))
     return front + b"".join(out + remarks), not with_repairs and not remarks
 
 
@@ -309,6 +329,12 @@ def without_details(lines):
 
 
 def schema_of(text, conf, source):
+    """The same without details."""
+    status, output, messages = with_details(text, conf, source)
+    return status, without_details(output), messages
+
+
+def with_details(text, conf, source):
     """A text of None can't be read. -> (status, output, messages)"""
     if text is None:
         return 3, b"", f"{source}: cannot read\n".encode()
@@ -316,7 +342,7 @@ def schema_of(text, conf, source):
         lines, is_whole = printed(text, conf)
     except schema.Fault as fault:
         return 2, b"", f"{fault}\n".encode()
-    return (0 if is_whole else 1), without_details(lines), b""
+    return (0 if is_whole else 1), lines, b""
 
 
 def is_read(conf):
