@@ -8,4 +8,5 @@ pub mod NearNames
 pub mod Warnings
 pub mod IndexDifferences
 pub mod Gives
+pub mod Passwords
 pub mod inner

@@ -13,6 +13,7 @@ mod index_differences;
 mod known_rules;
 mod laws;
 mod near_names;
+mod passwords;
 mod references;
 mod reports;
 mod shared_value;
@@ -24,6 +25,7 @@ pub use conf_faults::{ConfFaults, ConfLineFault, MOST_FAULTS, commented, report_
 pub use entry_value::EntryValue;
 pub use index_differences::slot_and_key_of_difference;
 pub use laws::{dangling_values_are_told, known_rules_are_read, shared_values_are_told};
+pub use passwords::has_passwords;
 pub use references::find_dangling;
 pub use reports::{put_report, report_dangling, report_refused, report_shared};
 pub use shared_value::SharedValue;

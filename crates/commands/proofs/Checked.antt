@@ -135,6 +135,12 @@ want_behind asked conf old d told w w' configured = go (option_copied asked.file
     go None is over = inl (inl tt, over.2)
     go (Some name) is over = inr ((conf, configured), subst (λ (file : Option (List ℕ)). FailsOver file faults.OutOfMemory w w') (sym is) (record { why = tt; stays = source_read (list_source name) w w' over.source over.source' over.source_is over.stays }))
 
+-- behind all that is told
+pub want_behind_all : (asked : CheckOptions) (text : List ℕ) (w w' : World) → Checks asked text w w' → IsUncheckable asked (stops.Fault faults.OutOfMemory) w w'
+want_behind_all asked text w w' (inl faulty) = inl (inl (inl tt, faulty.stays))
+want_behind_all asked text w w' (inr others) =
+    inl (want_behind asked others.conf others.loaded others.entries others.over w w' others.configured others.adds_over)
+
 pub others_told : (asked : CheckOptions) (w w' : World) (conf : Conf) (c : CheckedTypes) (d : Entries) (told : Told) (text : List ℕ)
     → IsConfigured w.files (conf_name asked.db.now) conf → AreTypesAsked asked conf.types c → HasGathered asked conf d told w w'
     → text ≡ told_reports (option_copied asked.file) told ++ value_reports conf d c.references.items c.unique.items → TellsOthers asked text w w'

@@ -1,5 +1,5 @@
 -- What check reports of the files in a folder, and of a file over them, and how it ends.
-use Rattle.std.specs.Prelude.{◌≡◌, ℕ, ◌+◌, ◌==◌, ◌⊎◌, Bool, true, List, [], ◌∷◌, ◌++◌, if◌then◌else◌, Option, None, Some, Result, Ok, Err, codes, string_bytes}
+use Rattle.std.specs.Prelude.{◌≡◌, ℕ, ◌+◌, ◌==◌, ◌⊎◌, Bool, true, List, [], ◌∷◌, ◌++◌, if◌then◌else◌, Option, None, Some, IfSome, Result, Ok, Err, codes, string_bytes}
 use Rattle.std.specs.Option.{option_copied, option_map}
 use Rattle.std.specs.Str.{bytes_eq}
 use Rattle.std.specs.Fmt.{decimal}
@@ -181,11 +181,18 @@ pub record TellsOthers (asked : CheckOptions) (text : List ℕ) (w w' : World) :
 abbrev pub Checks : CheckOptions → List ℕ → World → World → Type 0
 Checks asked text w w' = TellsFaults asked text w w' ⊎ TellsOthers asked text w w'
 
--- what is warned of in the dir.conf of a folder, whether it has faults or not
+-- a draft of this name is warned of
+abbrev pub draft_warning : List ℕ → List ℕ
+draft_warning name = report (codes "warning") name (codes "a draft that a killed run left; the next store removes it")
+
+-- what is warned of in the dir.conf of a folder, whether it has faults or not; and of its files beside their contents, drafts that were left and
+-- permissions, of which a folder that tells its files has none
 pub record WarnsOf (files : Option Files) (db warned : List ℕ) : Type 0 where
   pub conf_text : List ℕ
   pub there : Finds files (conf_name db) (Some (Some conf_text))
-  pub warned_is : warned ≡ warnings conf_text
+  pub of_files : List ℕ
+  pub of_none : IfSome files (λ _. of_files ≡ [])
+  pub warned_is : warned ≡ warnings conf_text ++ of_files
 
 -- ---- where it goes through
 

@@ -21,12 +21,13 @@ ghost use Rattle.commands.specs.inner.Stopped.{HasEnded};
 
 use crate::conf_check::find_faults;
 use crate::database::{open, open_present, path, read_conf_text};
+use crate::file_warnings::warn_of_files;
 use crate::index_check::report_index_file;
 use crate::messages::{CommandFault, Status, Stop};
 use crate::telling::CommandTeller;
 use checks::{
-    TypesFault, report_dangling, report_faults, report_refused, report_shared, report_warnings,
-    types_named,
+    TypesFault, has_passwords, report_dangling, report_faults, report_refused, report_shared,
+    report_warnings, types_named,
 };
 use command_line::CheckOptions;
 use databases::{Database, RunFault, run_telling};
@@ -320,6 +321,14 @@ fn gather<F: Folder, S: Source, T: CommandTeller>(
     })
 }
 
+/// What is reported of the files in a folder as wrong.
+#[derive(Drop)]
+struct Checked {
+    reports: Vec<u8>,
+    /// Whether the directory has values of userPassword, as far as it was loaded.
+    has_passwords: bool,
+}
+
 /// All that is reported of the files in a folder, whose dir.conf says this configuration, and of the file over them.
 fn check_under<F: Folder, S: Source, T: CommandTeller>(
     alloc: Global,
@@ -329,11 +338,11 @@ fn check_under<F: Folder, S: Source, T: CommandTeller>(
     conf: Conf,
     types: &CheckedTypes,
     teller: &mut T,
-) -> Result<Vec<u8>, CommandFault>
+) -> Result<Checked, CommandFault>
     requires input { (S.seen input.old).failed < 2 ^ 64 - 1 }
     requires configured { IsConfigured (F.files folder.now) (conf_name asked.now.db.now) conf }
     requires types { AreTypesAsked asked.now conf.types types.now }
-    ensures checks { IfOk result (λ text. (w : World) → TellsOthers asked.now text.items
+    ensures checks { IfOk result (λ c. (w : World) → TellsOthers asked.now c.reports.items
         (source_world w F.files S.seen folder.now input.old)
         (source_world w F.files S.seen folder.now input.new)) }
     ensures fails { IfErr result (λ fault. (w : World) → CheckFails asked.now fault
@@ -342,10 +351,17 @@ fn check_under<F: Folder, S: Source, T: CommandTeller>(
 {
     let mut database = Database::new(alloc, conf);
     let told = gather(alloc, asked, folder, input, &mut database, teller)?;
-    let text = reports(alloc, asked.file, types, &database, &told);
+    let reports = reports(alloc, asked.file, types, &database, &told);
+    let has_passwords = has_passwords(alloc, database.conf(), database.tree());
     // The program ends with its command, and that frees the entries at once.
     mem::forget(database);
-    text
+    match reports {
+        Ok(reports) => Ok(Checked {
+            reports,
+            has_passwords,
+        }),
+        Err(fault) => Err(fault),
+    }
 }
 
 /// A report of each fault of the text of a dir.conf, up to the most that are told.
@@ -370,10 +386,10 @@ fn check_conf<F: Folder, S: Source, T: CommandTeller>(
     input: &mut S,
     conf_text: &[u8],
     teller: &mut T,
-) -> Result<Vec<u8>, Stop>
+) -> Result<Checked, Stop>
     requires input { (S.seen input.old).failed < 2 ^ 64 - 1 }
     requires there { Finds (F.files folder.now) (conf_name asked.now.db.now) (Some (Some conf_text.now)) }
-    ensures checks { IfOk result (λ text. (w : World) → Checks asked.now text.items
+    ensures checks { IfOk result (λ c. (w : World) → Checks asked.now c.reports.items
         (source_world w F.files S.seen folder.now input.old)
         (source_world w F.files S.seen folder.now input.new)) }
     ensures stops { IfErr result (λ why. (w : World) → IsUncheckable asked.now why
@@ -384,11 +400,14 @@ fn check_conf<F: Folder, S: Source, T: CommandTeller>(
         Ok(conf) => {
             let types = checked_types(alloc, asked, &conf)?;
             match check_under(alloc, asked, folder, input, conf, &types, teller) {
-                Ok(text) => Ok(text),
+                Ok(checked) => Ok(checked),
                 Err(fault) => Err(Stop::Fault(fault)),
             }
         }
-        Err(ConfFault::Line { .. }) => Ok(fault_reports(alloc, conf_text, teller)?),
+        Err(ConfFault::Line { .. }) => Ok(Checked {
+            reports: fault_reports(alloc, conf_text, teller)?,
+            has_passwords: false,
+        }),
         Err(ConfFault::OutOfMemory) => Err(Stop::Fault(CommandFault::OutOfMemory)),
     }
 }
@@ -402,12 +421,22 @@ struct Printed {
     warned: Vec<u8>,
 }
 
-/// What is warned of in the text of a dir.conf.
-fn warnings(alloc: Global, conf_text: &[u8]) -> Result<Vec<u8>, AllocError>
-    ensures { IfOk result (λ v. v.items ≡ warnings conf_text.now) }
+/// What is warned of in the text of the dir.conf in a folder, and of the files there beside their contents.
+fn warnings<F: Folder>(
+    alloc: Global,
+    folder: &F,
+    db: &str,
+    conf_text: &[u8],
+    has_passwords: bool,
+) -> Result<Vec<u8>, AllocError>
+    requires { Finds (F.files folder.now) (conf_name db.now) (Some (Some conf_text.now)) }
+    ensures { IfOk result (λ v. WarnsOf (F.files folder.now) db.now v.items) }
 {
     let mut warned = Vec::new(alloc);
     report_warnings(alloc, conf_text, &mut warned)?;
+    let mut of_files = Vec::new(alloc);
+    warn_of_files(alloc, folder, db, has_passwords, &mut of_files)?;
+    warned.extend_from_slice(of_files.as_slice())?;
     Ok(warned)
 }
 
@@ -429,9 +458,16 @@ fn check_folder<F: Folder, S: Source, T: CommandTeller>(
         (source_world w F.files S.seen folder.now input.new)) }
 {
     let text = read_conf_text(alloc, folder, asked.db)?;
-    let warned = warnings(alloc, text.as_slice())?;
-    let wrong = check_conf(alloc, asked, folder, input, text.as_slice(), teller)?;
-    Ok(Printed { wrong, warned })
+    let checked = check_conf(alloc, asked, folder, input, text.as_slice(), teller)?;
+    let Checked {
+        reports,
+        has_passwords,
+    } = checked;
+    let warned = warnings(alloc, folder, asked.db, text.as_slice(), has_passwords)?;
+    Ok(Printed {
+        wrong: reports,
+        warned,
+    })
 }
 
 /// Pushes two texts, one behind the other.

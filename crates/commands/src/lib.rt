@@ -7,6 +7,7 @@ mod conf_check;
 mod database;
 mod dispatch;
 mod excerpt;
+mod file_warnings;
 mod finding;
 mod index_check;
 mod index_file;

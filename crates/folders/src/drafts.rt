@@ -181,3 +181,43 @@ pub fn clear_left<R: Files<File = File> + AllocGlobal + Clone + Drop>(
     }
     Ok(())
 }
+
+/// Whether this file, which has a draft's name, was left by a run that was killed: it has contents, and its lock can be taken. One without contents
+/// may be one that somebody is making, whose lock nobody else should take.
+fn is_left<R: Files<File = File>>(rt: &R, path: &str) -> bool {
+    match fs::symlink_metadata(rt, path) {
+        Ok(found) if found.is_file() && found.len() > 0 => {}
+        _ => return false,
+    }
+    match open_to_lock(rt, path) {
+        Ok(file) => file.try_lock().is_ok(),
+        Err(_) => false,
+    }
+}
+
+/// The names of what runs that were killed have left of drafts of the file of this name, in their order.
+pub fn find_left<R: Files<File = File> + AllocGlobal + Clone + Drop>(
+    rt: &R,
+    alloc: Global,
+    name: &str,
+) -> io::Result<Vec<String>> {
+    let (folder, file) = parted(name);
+    let stem = draft_stem(alloc, file)?;
+    let mut left = Vec::new(alloc);
+    for entry in fs::read_dir(rt, folder)? {
+        if let Ok(entry) = entry {
+            if is_draft_name(stem.as_str(), entry.file_name())
+                && is_left(rt, entry.path().as_str())
+            {
+                left.push(String::from_str(alloc, entry.file_name())?)?;
+            }
+        }
+    }
+    left.sort()?;
+    Ok(left)
+}
+
+/// Whether these permissions are for others than the file's owner, too.
+pub fn is_for_others(found: &Metadata) -> bool {
+    found.mode() & 0o077 != 0
+}

@@ -1,5 +1,5 @@
 //! Files by their paths.
-ghost use Rattle.std.specs.Prelude.{◌≡◌, ◌<◌, ◌-◌, ◌^◌, ℕ, true, List, Option, IfOk, IfErr, IfSome, OnOk, OnErr, string_bytes};
+ghost use Rattle.std.specs.Prelude.{◌≡◌, ◌<◌, ◌-◌, ◌^◌, ℕ, true, false, List, [], Option, IfOk, IfErr, IfSome, OnOk, OnErr, string_bytes};
 ghost use Rattle.std.specs.Option.{option_map};
 ghost use Rattle.ldif.specs.Written.{Writes, end_of};
 ghost use Rattle.folders.specs.Folders.{Files, Finds, with_file};
@@ -176,4 +176,12 @@ pub trait Folder {
     /// Whether a draft that is published under one name takes the place of what has the other.
     fn is_one_place(&self, name: &str, other: &str) -> bool
         ensures { name.now ≡ other.now → result ≡ true };
+
+    /// The names of the drafts that runs which were killed left of the file of this name. A folder that tells its files has none.
+    fn left_drafts(&self, name: &str) -> Result<Vec<String>, AllocError>
+        ensures { IfOk result (λ drafts. IfSome (files self.now) (λ _. drafts.items ≡ [])) };
+
+    /// Whether the file of this name has permissions for others than its owner. Of a folder that tells its files none has.
+    fn is_open_to_others(&self, name: &str) -> bool
+        ensures { IfSome (files self.now) (λ _. result ≡ false) };
 }

@@ -1,14 +1,16 @@
 //! The files of the system as a folder.
 ghost use Rattle.std.specs.Prelude.{◌≡◌, ⊤, false, None, IfOk, is_some, string_bytes};
 
-use crate::drafts::{Draft, clear_left, is_same, make_draft, open_to_lock};
+use crate::drafts::{
+    Draft, clear_left, find_left, is_for_others, is_same, make_draft, open_to_lock,
+};
 use crate::folder::{Drafted, FileText, Folder, FolderFault, LockFault, Unpublished};
 use crate::last_failure::LastFailure;
 use crate::paths::parted;
 use crate::reading::{Counted, Reading};
 use crate::uninterrupted::Uninterrupted;
 use device::{OfRead, OfWrite};
-use std::alloc::Global;
+use std::alloc::{AllocError, Global};
 use std::fs::{self, File, OpenFile, TryLockError};
 use std::io::{ErrorKind, Seek};
 use std::rt::{Clock, Files};
@@ -251,5 +253,22 @@ impl<'r, R: Files<File = File> + Clock + AllocGlobal + Clone + Drop> Folder for 
                 (Ok(folder), Ok(other)) => is_same(&folder, &other),
                 _ => false,
             }
+    }
+
+    /// Where its folder can't be read, none is found.
+    fn left_drafts(&self, name: &str) -> Result<Vec<String>, AllocError> {
+        let alloc = self.rt.alloc();
+        match find_left(self.rt, alloc, name) {
+            Ok(left) => Ok(left),
+            Err(error) if error.kind() == ErrorKind::OutOfMemory => Err(AllocError),
+            Err(_) => Ok(Vec::new(alloc)),
+        }
+    }
+
+    fn is_open_to_others(&self, name: &str) -> bool {
+        match fs::metadata(self.rt, name) {
+            Ok(found) => found.is_file() && is_for_others(&found),
+            Err(_) => false,
+        }
     }
 }

@@ -13,7 +13,7 @@ use crate::contents::Contents;
 use crate::files::MemoryFiles;
 use device::OfRead;
 use folders::{Drafted, FileText, Folder, FolderFault, LockFault, Unpublished};
-use std::alloc::Global;
+use std::alloc::{AllocError, Global};
 use std::io::ErrorKind;
 use try_device::TrySink;
 
@@ -257,5 +257,13 @@ impl<'t> Folder for MemoryFolder<'t> {
 
     fn is_one_place(&self, name: &str, other: &str) -> bool {
         name == other
+    }
+
+    fn left_drafts(&self, _name: &str) -> Result<Vec<String>, AllocError> {
+        Ok(Vec::new(self.alloc))
+    }
+
+    fn is_open_to_others(&self, _name: &str) -> bool {
+        false
     }
 }
