@@ -8,10 +8,10 @@ ghost use Rattle.commands.specs.inner.Stopped.{CanReport, HasEnded, HasEndedUnde
 
 use crate::changes::{Task, change};
 use crate::check::check;
+use crate::conf_lines::schema;
 use crate::ldifdiff::ldifdiff;
 use crate::listing::search_list;
 use crate::messages::{CommandFault, Status, Stop, report_stop};
-use crate::schema::schema;
 use crate::searching::search;
 use crate::slapcat::slapcat;
 use crate::slapindex::slapindex;

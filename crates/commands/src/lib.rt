@@ -4,6 +4,7 @@
 mod changes;
 mod check;
 mod conf_check;
+mod conf_lines;
 mod database;
 mod dispatch;
 mod excerpt;
@@ -18,7 +19,6 @@ mod listing;
 mod messages;
 mod moving;
 mod query;
-mod schema;
 mod searching;
 mod slapcat;
 mod slapindex;

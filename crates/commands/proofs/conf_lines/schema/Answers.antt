@@ -6,7 +6,7 @@ use Rattle.commands.specs.Schemas.{IsTransferredFor, FailsToTransfer, SchemaStop
 use Rattle.commands.specs.Worlds.{World, source_world}
 use Rattle.commands.proofs.SourcesRead.{same_files}
 use Rattle.commands.proofs.Stopping.{stopped}
-use Rattle.commands.proofs.schema.schema.Goals as goal
+use Rattle.commands.proofs.conf_lines.schema.Goals as goal
 
 pub returns-in_err-conf : goal.returns-in_err-conf
 returns-in_err-conf g c =
