@@ -3,7 +3,7 @@ use Rattle.std.specs.Prelude.{OnOk, IfErr}
 use Rattle.std.specs.Option.{option_copied}
 use Rattle.commands.specs.Prints.{IsTextUnder, HasPut}
 use Rattle.commands.specs.Queries.{HasBegun, PrintsPartly}
-use Rattle.commands.specs.Worlds.{World, put_world}
+use Rattle.commands.specs.Worlds.{put_world}
 use Rattle.commands.specs.inner.Views.{basis_of}
 use Rattle.commands.proofs.Ends.{refused_so}
 use Rattle.commands.proofs.Stopping.{of_faults}
