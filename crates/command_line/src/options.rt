@@ -150,8 +150,7 @@ const SCHEMA_FOLDER_HELP: &str =
     "The folder of the directory whose dir.conf the lines are for: what that says already is left out";
 
 const BESIDE_SCHEMA: &str =
-    "The exit status is 0 where each definition is taken as it stands, and 1 where a
-comment says why one is changed or left out. No file is changed.
+    "The exit status is 0, or 1 where a comment says what is changed or left out.
 
 In place of options of OpenLDAP's slaptest and slapschema:
   -f, -F, -n          -l FILE, with what slapcat -n 0 prints, or the files of a schema
