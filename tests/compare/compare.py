@@ -583,6 +583,8 @@ def main():
     parser.add_argument("--suffixes", action="store_true")
     parser.add_argument("--only", action="store_true", help="no cases of slapadd beside those")
     words = parser.parse_args()
+    # check warns of files with passwords that others than their owner may use, which tests/real/files shows
+    os.umask(0o077)
     program = shutil.which(words.program)
     if program is None:
         parser.error(f"{words.program}: no program")
