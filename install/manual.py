@@ -13,7 +13,7 @@ TOP = HERE.parent
 FAULTS = {
     PROGRAM: ["What a command reports", "Order of checks", "Why: `-v`", "dir.conf"],
     "slapadd": ["LDIF", "Result codes"], "ldapmodify": ["LDIF", "Result codes"], "slapindex": ["index.txt"], "search": ["index.txt"],
-    "check": ["What `check` reports", "dir.conf", "LDIF", "Result codes", "index.txt"],
+    "check": ["What `check` reports", "dir.conf", "LDIF", "Result codes", "index.txt"], "schema": ["What `schema` prints"],
 }
 
 
@@ -36,7 +36,7 @@ def synopsis(command, read):
     """How a command is called."""
     words = [roff.bold(PROGRAM)] if not command else [f"{roff.bold(PROGRAM)} {roff.bold(command)}"]
     for option in read.options:
-        if option.long == "--db":
+        if option.long == "--db" and "--db" in read.usage:
             words.append(named(option))
         elif option.long != "--help":
             words.append(f"[{named(option).replace(', ', '|')}]")

@@ -13,6 +13,7 @@ from helps import PROGRAM, all_helps, said
 
 TOP = Path(__file__).resolve().parent.parent
 DOCUMENTS = ["README.md", "CHANGELOG.md", "docs/FAULTS.md", "docs/FORMATS.md", "docs/MIGRATING.md", "docs/DECISIONS.md"]
+LINK = re.compile(r"\[([^\[\]]*)\]\(([^()\s]+)\)")
 EXAMPLES = ["dir.conf", "people.ldif", "teams.ldif", "changes.ldif"]
 VERSION = re.compile(rf"{PROGRAM} ([\d.]+)(.*)\n")
 # A package, which has no file but these. The C library is the one that the kit links to.
@@ -37,6 +38,19 @@ def version(program):
     return VERSION.fullmatch(said(program, "--version")).groups()
 
 
+def document(name):
+    """A document whose links lead to those that are installed beside it; of another link its text."""
+    beside = {Path(other).name for other in DOCUMENTS}
+
+    def link(found):
+        path, mark, part = found[2].partition("#")
+        if not path or "://" in path:
+            return found[0]
+        return f"[{found[1]}]({Path(path).name}{mark}{part})" if Path(path).name in beside else found[1]
+
+    return LINK.sub(link, (TOP / name).read_text()).encode()
+
+
 def files(program, prefix):
     """What is installed below a prefix: the text or the file of each name, of which only the program is to be run."""
     whole, helps = all_helps(program)
@@ -46,7 +60,7 @@ def files(program, prefix):
         found[f"share/man/man1/{name}.gz"] = gzip.compress(text.encode(), mtime=0)
     found[f"share/bash-completion/completions/{PROGRAM}"] = completions.bash(whole, helps).encode()
     found[f"share/zsh/site-functions/_{PROGRAM}"] = completions.zsh(whole, helps).encode()
-    found |= {f"share/doc/{PROGRAM}/{Path(name).name}": TOP / name for name in DOCUMENTS}
+    found |= {f"share/doc/{PROGRAM}/{Path(name).name}": document(name) for name in DOCUMENTS}
     found |= {f"share/doc/{PROGRAM}/example/{name}": TOP / "example" / name for name in EXAMPLES}
     return found
 
