@@ -1,5 +1,5 @@
 -- What is printed of a directory that was loaded.
-use Rattle.std.proofs.Common.{◌≡◌, ℕ, Bool, true, nat_lt, inl, inr, List, map, Option, Some, None, refl, sym, ap, ◌∙◌, subst, Bor}
+use Rattle.std.proofs.Common.{◌≡◌, ℕ, Bool, true, false, nat_lt, inl, inr, List, map, Option, Some, None, refl, sym, ap, ◌∙◌, subst, Bor}
 use Rattle.std.specs.Prelude.{Result, Ok, Err, IfErr, is_some, codes}
 use Rattle.std.specs.Option.{option_copied, option_map}
 use Rattle.std.specs.FinMap as finite
@@ -9,6 +9,7 @@ use Rattle.ldif.specs.declared.write.WriteFault.{WriteFault}
 use Rattle.ldif.specs.Written.{Writes, end_of}
 use Rattle.paths.specs.Paths.{Path}
 use Rattle.schema.specs.Conf.{Conf}
+use Rattle.schema.specs.declared.code.Code.TheVariants.{NoSuchObject}
 use Rattle.entries.specs.Entries.{EntryContent}
 use Rattle.entries.specs.declared.refusal.Refusal.{Refusal}
 use Rattle.entries.specs.declared.refusal.Refusal.TheVariants as refusals
@@ -22,19 +23,19 @@ use Rattle.paths.specs.declared.scope.Scope.{Scope}
 use Rattle.databases.specs.Runs.{dump_to, LoadsBackAt}
 use Rattle.databases.specs.Scanned.{scan, scan_among}
 use Rattle.stored_index.specs.Stored.{Stored, shown_by}
-use Rattle.databases.specs.IndexTexts.{index_text}
+use Rattle.stored_index.specs.declared.fault.IndexFaultKind.{IndexFaultKind}
 use Rattle.databases.specs.Searches.{IsRefused, may_by_rank, ShowsTo, ReflectsDump, ShowsIndexText}
 use Rattle.databases.specs.Found.{WritesFound, goes_past}
 use Rattle.commands.specs.Asked.{IsFilter, IsBase}
 use Rattle.commands.specs.Failures.{FailsToWrite}
 use Rattle.folders.specs.Folders.{Files}
 use Rattle.commands.specs.Loaded.{IsLoaded}
-use Rattle.commands.specs.IndexFiles.{Said, said_by, found_by}
+use Rattle.commands.specs.IndexFiles.{Said, found_by}
 use Rattle.commands.specs.Prints.{HasPut, IsExcerpt, IsMovedText, cat_wanted}
 use Rattle.commands.specs.Queries.{Wanted, Basis, HasBasis, Begins, HasBegun, PrintsPartly, CannotMove, IsRefusedWith}
 use Rattle.commands.specs.Worlds.{World}
-use Rattle.commands.specs.inner.IndexFiles.{Keeps, Serves}
-use Rattle.commands.specs.inner.Printed.{HasPrinted, scanned, found, query_text, scanned_text, IsTextOf, PrintsFound}
+use Rattle.commands.specs.inner.IndexFiles.{Says, Keeps, Serves, IsNoIndex}
+use Rattle.commands.specs.inner.Printed.{HasPrinted, scanned, found, query_text, scanned_text, AreFound, IsTextOf, FailsToFind, PrintsFound}
 use Rattle.commands.specs.inner.Moving.{IsMoved}
 use Rattle.commands.specs.inner.Refusals.{refusal_fault, RefusesOrBreaks, MovesNot}
 use Rattle.commands.specs.inner.Sought.{excerpt_query}
@@ -45,7 +46,7 @@ use Rattle.commands.specs.declared.messages.CommandFault.{CommandFault}
 use Rattle.commands.specs.declared.query.Query.{Query}
 use Rattle.command_line.specs.declared.request.CatOptions.{CatOptions}
 use Rattle.commands.proofs.IndexTold.{shows_itself}
-use Rattle.commands.proofs.Stopping.{unwritten_prints, write_told, begun_told, refuses_more}
+use Rattle.commands.proofs.Stopping.{unwritten_prints, write_told, begun_told, refuses_more, refused_prints}
 
 -- ---- texts
 
@@ -96,11 +97,9 @@ excerpt_by asked filter t q based there is = record { base = q.base; base_is = b
 
 -- ---- what a query finds
 
--- the text of what a walk lends
-module _ (q : Query) (said : Said) (t : Tree) (es : List (Path × EntryContent)) (there : finite.contains_key t.entries q.base ≡ true) (is : es ≡ found q said t)
-    (whole : said ≡ said_by t.conf t.entries (Some (index_text t.conf t.entries)) → found q said t ≡ scanned q t) where
-  pub found_so : (past : Bool) → past ≡ goes_past q.limit es → IsTextOf q said t past (query_text q t es)
-  found_so past past_is = record { there = there; past_is = past_is ∙ ap (goes_past q.limit) is; text_is = ap (query_text q t) is; whole = whole }
+-- the text of what was found
+found_so : (q : Query) (said : Said) (t : Tree) (es : List (Path × EntryContent)) → AreFound q said t es → (past : Bool) → past ≡ goes_past q.limit es → IsTextOf q said t past (query_text q t es)
+found_so q said t es h past past_is = record { there = h.there; past_is = past_is ∙ ap (goes_past q.limit) h.are; text_is = ap (query_text q t) h.are; whole = h.whole }
 
 -- whether there are more, doesn't depend on what is seen of each
 past_seen : {A B : Type 0} (see : A → B) (limit : Option ℕ) (xs : List A) → goes_past limit xs ≡ goes_past limit (map see xs)
@@ -108,8 +107,10 @@ past_seen {A} {B} see None xs = refl
 past_seen {A} {B} see (Some n) xs = ap (nat_lt n) (sym (length-map xs see))
 
 -- what was found was printed, or a beginning of it
-module _ {X : Type 0} (see : X → Path × EntryContent) (q : Query) (said : Said) (t : Tree) (xs : List X)
-    (so : (past : Bool) → past ≡ goes_past q.limit (map see xs) → IsTextOf q said t past (query_text q t (map see xs))) where
+module _ {X : Type 0} (see : X → Path × EntryContent) (q : Query) (said : Said) (t : Tree) (xs : List X) (are : AreFound q said t (map see xs)) where
+  so : (past : Bool) → past ≡ goes_past q.limit (map see xs) → IsTextOf q said t past (query_text q t (map see xs))
+  so = found_so q said t (map see xs) are
+
   pub hits_printed : (past : Bool) (a b : Written) → WritesFound (Ok past) (goes_past q.limit xs) a b (query_text q t (map see xs)) → PrintsFound q said t a b (Ok past)
   hits_printed past a b h = record { text = query_text q t (map see xs); is = so past (h.past_is ∙ past_seen see q.limit xs); took = h.written }
 
@@ -124,10 +125,15 @@ module _ {X : Type 0} (see : X → Path × EntryContent) (q : Query) (said : Sai
   )
 
 -- the base isn't there, or memory ran out, and nothing was printed
-pub none_found : (q : Query) (said : Said) (t : Tree) (a : Written) (command : Bor (List ℕ)) (refusal : Refusal) → command.now ≡ codes "search" → IsRefused t.entries q.base refusal
-    → PrintsFound q said t a a (Err (refusal_fault command refusal))
-none_found q said t a command (refusals.Code code) named h = (inl (named, (h.1, h.0)), refl)
-none_found q said t a command refusals.OutOfMemory named h = (inl tt, inl refl)
+pub none_found : (q : Query) (said : Said) (t : Tree) (a : Written) (f : CommandFault) → FailsToFind q t f → PrintsFound q said t a a (Err f)
+none_found q said t a f fails =
+    (inl fails, refused_prints (HasBegun (λ text. (past : Bool) × IsTextOf q said t past text) None) a a refl (codes "search") (λ code. (finite.contains_key t.entries q.base ≡ false) × (code ≡ NoSuchObject)) f fails)
+
+-- so a search by an index is refused
+pub refused_so_by_index : (q : Query) (t : Tree) (command : Bor (List ℕ)) (refusal : Refusal) → command.now ≡ codes "search" → IsRefused t.entries q.base refusal
+    → FailsToFind q t (refusal_fault command refusal)
+refused_so_by_index q t command (refusals.Code code) named h = (named, (h.1, h.0))
+refused_so_by_index q t command refusals.OutOfMemory named h = tt
 
 -- what is found by what an index shows, for a filter that was prepared under the configuration of the tree
 by_index : (f : Made) (t : Tree) (x : Stored) (base : Path) (scope : Scope) → f.conf ≡ t.conf
@@ -154,28 +160,38 @@ module _ (q : Query) (t : Tree) (part : Stored) (es : List (Path × EntryContent
       ∙ by_index q.filter t whole q.base q.scope prepared
       ∙ ap (λ (said : Said). found q said t) (sym is)
 
-  pub found_by_part : (said : Said) → Keeps t q.filter (kept_files.Read part) said → (past : Bool) → past ≡ goes_past q.limit es → IsTextOf q said t past (query_text q t es)
+  pub found_by_part : (said : Said) → Keeps t q.filter (kept_files.Read part) said → AreFound q said t es
   found_by_part said kept =
       let whole = kept.says.0 in
       let is = kept.says.1 in
       let shows = kept.says.2 in
       let by_said = found_by_said said whole is shows in
-      found_so q said t es h.there by_said (λ own. sym by_said ∙ h.all (shown_by whole) shows (kept.is_true whole is own))
+      record { there = h.there; are = by_said; whole = λ own. sym by_said ∙ h.all (shown_by whole) shows (kept.is_true whole is own) }
 
 -- without one
+found_without : (q : Query) (t : Tree) (es : List (Path × EntryContent)) → finite.contains_key t.entries q.base ≡ true → es ≡ scanned q t → (said : Said) → IsNoIndex said → AreFound q said t es
+found_without q t es there is None none = record { there = there; are = is; whole = λ own. refl }
+found_without q t es there is (Some (Err fault)) none = record { there = there; are = is; whole = λ own. refl }
+found_without q t es there is (Some (Ok whole)) none = absurd none
+
 pub found_by_scan : (q : Query) (t t' : Tree) (es : List (Path × EntryContent)) → t' ≡ t → es ≡ scan t'.conf t'.entries q.base q.scope (view q.filter.filter) → true ≡ finite.contains_key t'.entries q.base
-    → (past : Bool) → past ≡ goes_past q.limit es → IsTextOf q None t past (query_text q t es)
+    → (said : Said) → IsNoIndex said → AreFound q said t es
 found_by_scan q t t' es same is there =
-    found_so q None t es (sym (there ∙ ap (λ (t : Tree). finite.contains_key t.entries q.base) same)) (is ∙ ap (scanned q) same) (λ own. refl)
+    found_without q t es (sym (there ∙ ap (λ (t : Tree). finite.contains_key t.entries q.base) same)) (is ∙ ap (scanned q) same)
+
+-- what is kept of an index text that isn't there, or is at fault, says no index
+pub says_no_index : (f : Made) (fault : IndexFaultKind) (said : Said) → Says f (kept_files.Faulty fault) said → IsNoIndex said
+says_no_index f fault said is = subst IsNoIndex (sym is) tt
+
+pub says_nothing : (f : Made) (said : Said) → Says f kept_files.Missing said → IsNoIndex said
+says_nothing f said is = subst IsNoIndex (sym is) tt
 
 -- by an index for every filter: the one that index.txt is, or the directory's own
 pub found_ranked : (q : Query) (t : Tree) (index : Stored) (es : List (Path × EntryContent)) → q.filter.conf ≡ t.conf → FoundIn q index es t t.conf
     → (ShowsIndexText (shown_by index) t.conf t.entries → es ≡ scanned q t)
-    → (said : Said) → Serves t (Some index) said → (past : Bool) → past ≡ goes_past q.limit es → IsTextOf q said t past (query_text q t es)
+    → (said : Said) → Serves t (Some index) said → AreFound q said t es
 found_ranked q t index es prepared h own said (inl whole) = found_by_part q t index es prepared h said (record { says = (index, whole.0, shows_itself q.filter index); is_true = whole.1 })
-found_ranked q t index es prepared h own None (inr serves) = found_so q None t es h.there (own serves.1) (λ said. refl)
-found_ranked q t index es prepared h own (Some (Err fault)) (inr serves) = found_so q (Some (Err fault)) t es h.there (own serves.1) (λ said. refl)
-found_ranked q t index es prepared h own (Some (Ok whole)) (inr serves) = absurd serves.0
+found_ranked q t index es prepared h own said (inr serves) = found_without q t es h.there (own serves.1) said serves.0
 
 -- what a search found by it in the same tree
 pub own_scanned : (q : Query) (t : Tree) (index : Stored) (es : List (Path × EntryContent)) (t' : Tree) (conf : Conf) → t' ≡ t → conf ≡ t.conf

@@ -1,6 +1,6 @@
 -- How a search ends, from what its parts say.
 use Rattle.std.proofs.Common.{◌≡◌, ℕ, inl, inr, Bool, true, false, List, [], ◌∷◌, ◌++◌, length, map, Option, Some, None, refl, sym, ap, ◌∙◌, subst}
-use Rattle.std.specs.Prelude.{Result, Ok, Err, if◌then◌else◌, codes}
+use Rattle.std.specs.Prelude.{Ok, Err, if◌then◌else◌, codes}
 use Rattle.std.specs.Fmt.{decimal}
 use Rattle.std.specs.Option.{option_copied}
 use Rattle.std.specs.FinMap as finite
@@ -8,7 +8,6 @@ use Rattle.device.specs.Device.{Written}
 use Rattle.paths.specs.Paths.{Path}
 use Rattle.schema.specs.Conf.{Conf}
 use Rattle.schema.specs.declared.code.Code.TheVariants.{NoSuchObject, SizeLimitExceeded}
-use Rattle.stored_index.specs.declared.fault.IndexFaultKind.{IndexFaultKind}
 use Rattle.command_line.specs.declared.request.SearchOptions.{SearchOptions}
 use Rattle.filter.specs.Made.{Made}
 use Rattle.filter_text.specs.Spells.{view}
@@ -24,7 +23,7 @@ use Rattle.commands.specs.Messages.{IsReported, code_text}
 use Rattle.commands.specs.Prints.{search_wanted, IsFoundText, SearchText, SearchGoesThrough, IsSaid, ComesFirst, ComesLater, SearchStops}
 use Rattle.commands.specs.Queries.{Basis, IsRefusedWith, StopsWith, HasBegun, PrintsPartly}
 use Rattle.commands.specs.Worlds.{World}
-use Rattle.commands.specs.inner.IndexFiles.{FailsToReport, HasLoaded, IsNoIndex}
+use Rattle.commands.specs.inner.IndexFiles.{FailsToReport, HasLoaded}
 use Rattle.commands.specs.inner.Printed.{HasPrinted, text_as, scanned, found, IsTextOf, FailsToPrint, PrintsFound}
 use Rattle.commands.specs.inner.Refusals.{RefusesOrBreaks}
 use Rattle.commands.specs.Failures.{Refuses}
@@ -105,27 +104,6 @@ module _ (asked : SearchOptions) (w : World) where
       printed = record { took = h.took; stays = refl };
       reported = record { reported = reported; stays = refl };
     }
-
--- what is found without an index is found also where index.txt has a fault
-beside_a_fault : (q : Query) (t : Tree) (fault : IndexFaultKind) (past : Bool) (text : List ℕ) → IsTextOf q None t past text → IsTextOf q (Some (Err fault)) t past text
-beside_a_fault q t fault past text h = record { there = h.there; past_is = h.past_is; text_is = h.text_is; whole = λ own. refl }
-
-pub beside : (q : Query) (t : Tree) (said : Said) (fault : IndexFaultKind) → said ≡ Some (Err fault) → (a b : Written) (result : Result Bool CommandFault) → PrintsFound q None t a b result → PrintsFound q said t a b result
-beside q t said fault is a b result printed = subst (λ (s : Said). PrintsFound q s t a b result) (sym is) (by result printed)
-  where
-    by : (result : Result Bool CommandFault) → PrintsFound q None t a b result → PrintsFound q (Some (Err fault)) t a b result
-    by (Ok past) h = printed_more (IsTextOf q None t past) (IsTextOf q (Some (Err fault)) t past) (beside_a_fault q t fault past) a b h
-    by (Err f) h = (
-      h.0,
-      prints_more (HasBegun (λ text. (past : Bool) × IsTextOf q None t past text) None) (HasBegun (λ text. (past : Bool) × IsTextOf q (Some (Err fault)) t past text) None) a b
-          (λ f begun. record { text = begun.text; is = (begun.is.0, beside_a_fault q t fault begun.is.0 begun.text begun.is.1); begins = begun.begins }) f h.1,
-    )
-
--- without an index, whether there is none or a faulty one
-pub without_index : (q : Query) (t : Tree) (said : Said) → IsNoIndex said → (a b : Written) (result : Result Bool CommandFault) → PrintsFound q None t a b result → PrintsFound q said t a b result
-without_index q t None none a b result printed = printed
-without_index q t (Some (Err fault)) none a b result printed = beside q t (Some (Err fault)) fault refl a b result printed
-without_index q t (Some (Ok whole)) none a b result printed = absurd none
 
 -- what is printed of what is found, by its two forms
 by_count : (count : Bool) (width : ℕ) (conf : Conf) (d : Entries) (s : Selection) (limit : Option ℕ) (es : List (Path × EntryContent))

@@ -25,7 +25,7 @@ use crate::index_file::{IndexFile, make_index, note_index, read_whole_index, rep
 use crate::list_text::{comment, count_tail, filter_text, first_line};
 use crate::messages::{CommandFault, Status, Stop, report_fault};
 use crate::query::{Form, Query};
-use crate::searching::{NAME, print_ranked, query_of};
+use crate::searching::{NAME, find_ranked, print_hits, query_of};
 use crate::sort::read_text;
 use crate::telling::CommandTeller;
 use base::Bytes;
@@ -131,10 +131,11 @@ impl<'a> ListSearch<'a> {
         query.filter = prepare(self.alloc, filter, database.conf())?;
         query.form = form_of_line(self.alloc, self.asked.count, text, line.text)?;
         let (entries, index) = (self.entries, self.index);
-        match print_ranked(self.alloc, query, database, entries, index, out) {
+        let hits = find_ranked(self.alloc, query, database, entries, index)?;
+        match print_hits(self.alloc, query, database, hits, out) {
             Ok(false) => Ok(Status::Done),
             Ok(true) => Ok(self.report_past_limit(line.number, err, teller)),
-            Err(fault) => Err(Stop::Fault(fault)),
+            Err(fault) => Err(Stop::Fault(CommandFault::of_output(self.alloc, fault))),
         }
     }
 

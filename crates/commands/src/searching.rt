@@ -12,12 +12,11 @@ ghost use Rattle.commands.specs.Worlds.{World, reported_world, search_world};
 ghost use Rattle.commands.specs.Messages.{code_text, IsReported};
 ghost use Rattle.commands.specs.IndexFiles.{Said};
 ghost use Rattle.commands.specs.Prints.{SearchGoesThrough, SearchStops};
-ghost use Rattle.commands.specs.inner.IndexFiles.{Keeps, Serves, HasLoaded};
-ghost use Rattle.commands.specs.inner.Printed.{PrintsFound, query_text};
+ghost use Rattle.commands.specs.inner.IndexFiles.{IsNoIndex, Keeps, Serves, HasLoaded};
+ghost use Rattle.commands.specs.inner.Printed.{AreFound, FailsToFind, query_text};
 ghost use Rattle.commands.specs.Failures.{Refuses};
 ghost use Rattle.commands.specs.inner.Sought.{IsQueryOf, form_of};
 ghost use Rattle.commands.specs.inner.Stopped.{CanReport, HasEnded};
-ghost use Rattle.commands.specs.declared.index_file.IndexFile.TheVariants.{Read};
 ghost use Rattle.commands.specs.declared.messages.Status.TheVariants.{Refused};
 
 use crate::database::load_database;
@@ -144,19 +143,51 @@ pub fn print_hits<O: Sink>(
     }
 }
 
-/// Prints what a query finds by the rows of an index text that its filter asks for, and answers whether there is more than may be printed.
-fn print_by_text<O: Sink>(
+/// The entries that a query finds by a test of each one in scope.
+fn find_by_scan<'a>(
     alloc: Global,
-    query: &Query,
-    database: &Database,
-    stored: &StoredIndex,
-    out: &mut O,
-) -> Result<bool, CommandFault>
-    requires can_fail { (O.written out.old).failed < 2 ^ 64 - 1 }
-    requires prepared { query.now.filter.conf ≡ database.now.conf }
-    ensures { (said : Said) → Keeps database.now query.now.filter (Read stored.now) said
-        → PrintsFound query.now said database.now (O.written out.old) (O.written out.new) result }
+    query: &'a Query,
+    database: &'a Database,
+) -> Result<Hits<'a, ListSet>, CommandFault>
+    requires { query.now.filter.conf ≡ database.now.conf }
+    ensures found { IfOk result (λ h. (said : Said) → IsNoIndex said → AreFound query.now said database.now (map seen h.to_come)) }
+    ensures there { IfOk result (λ h. AreThere database.now.entries (map seen h.to_come)) }
+    ensures fails { IfErr result (FailsToFind query.now database.now) }
 {
+    let scanned = scan(
+        alloc,
+        database.tree(),
+        &query.base,
+        query.scope,
+        &query.filter,
+    );
+    match scanned {
+        Some(hits) => Ok(hits),
+        None => Err(CommandFault::Code {
+            command: NAME,
+            code: Code::NoSuchObject,
+        }),
+    }
+}
+
+/// The entries that a query finds by the rows of index.txt that its filter asks for, or without it where it can't be used.
+fn find<'a>(
+    alloc: Global,
+    query: &'a Query,
+    database: &'a Database,
+    file: &IndexFile,
+) -> Result<Hits<'a, ListSet>, CommandFault>
+    requires { query.now.filter.conf ≡ database.now.conf }
+    ensures found { IfOk result (λ h. (said : Said) → Keeps database.now query.now.filter file.now said
+        → AreFound query.now said database.now (map seen h.to_come)) }
+    ensures there { IfOk result (λ h. AreThere database.now.entries (map seen h.to_come)) }
+    ensures fails { IfErr result (FailsToFind query.now database.now) }
+{
+    let stored = match file {
+        IndexFile::Read(stored) => stored,
+        IndexFile::Faulty(_) => return find_by_scan(alloc, query, database),
+        IndexFile::Missing => return find_by_scan(alloc, query, database),
+    };
     let found = search_with(
         alloc,
         database.tree(),
@@ -167,30 +198,29 @@ fn print_by_text<O: Sink>(
         &query.filter,
     );
     match found {
-        Ok(hits) => match print_hits(alloc, query, database, hits, out) {
-            Ok(past) => Ok(past),
-            Err(fault) => Err(CommandFault::of_output(alloc, fault)),
-        },
+        Ok(hits) => Ok(hits),
         Err(refusal) => Err(refused(refusal, NAME)),
     }
 }
 
-/// Prints what a query finds by an index, among entries by their ranks, and answers whether there is more than may be printed.
-fn print_by_rank<O: Sink>(
+/// The entries that a query finds by an index, among entries by their ranks, or without one.
+pub fn find_ranked<'a>(
     alloc: Global,
-    query: &Query,
-    database: &Database,
-    entries: &EntriesByRank<'_>,
-    index: &StoredIndex,
-    out: &mut O,
-) -> Result<bool, CommandFault>
-    requires can_fail { (O.written out.old).failed < 2 ^ 64 - 1 }
+    query: &'a Query,
+    database: &'a Database,
+    entries: &'a EntriesByRank<'a>,
+    index: &Option<StoredIndex>,
+) -> Result<Hits<'a, ListSet>, CommandFault>
     requires prepared { query.now.filter.conf ≡ database.now.conf }
     requires entries { entries.now ≡ database.now }
-    ensures prints { (said : Said) → Serves database.now (Some index.now) said
-        → PrintsFound query.now said database.now (O.written out.old) (O.written out.new) result }
-    ensures failed { IfOk result (λ _. (O.written out.new).failed ≡ (O.written out.old).failed) }
+    ensures found { IfOk result (λ h. (said : Said) → Serves database.now index.now said
+        → AreFound query.now said database.now (map seen h.to_come)) }
+    ensures there { IfOk result (λ h. AreThere database.now.entries (map seen h.to_come)) }
+    ensures fails { IfErr result (FailsToFind query.now database.now) }
 {
+    let Some(index) = index else {
+        return find_by_scan(alloc, query, database);
+    };
     let found = search_ranked_with(
         alloc,
         entries,
@@ -201,84 +231,8 @@ fn print_by_rank<O: Sink>(
         &query.filter,
     );
     match found {
-        Ok(hits) => match print_hits(alloc, query, database, hits, out) {
-            Ok(past) => Ok(past),
-            Err(fault) => Err(CommandFault::of_output(alloc, fault)),
-        },
+        Ok(hits) => Ok(hits),
         Err(refusal) => Err(refused(refusal, NAME)),
-    }
-}
-
-/// Prints what a query finds by a test of each entry in scope, and answers whether there is more than may be printed.
-fn print_by_scan<O: Sink>(
-    alloc: Global,
-    query: &Query,
-    database: &Database,
-    out: &mut O,
-) -> Result<bool, CommandFault>
-    requires can_fail { (O.written out.old).failed < 2 ^ 64 - 1 }
-    requires prepared { query.now.filter.conf ≡ database.now.conf }
-    ensures prints { PrintsFound query.now None database.now (O.written out.old) (O.written out.new) result }
-    ensures failed { IfOk result (λ _. (O.written out.new).failed ≡ (O.written out.old).failed) }
-{
-    let scanned = scan(
-        alloc,
-        database.tree(),
-        &query.base,
-        query.scope,
-        &query.filter,
-    );
-    match scanned {
-        Some(hits) => match print_hits(alloc, query, database, hits, out) {
-            Ok(past) => Ok(past),
-            Err(fault) => Err(CommandFault::of_output(alloc, fault)),
-        },
-        None => Err(CommandFault::Code {
-            command: NAME,
-            code: Code::NoSuchObject,
-        }),
-    }
-}
-
-/// Prints what a query finds by index.txt, or without it where it can't be used.
-fn print_found<O: Sink>(
-    alloc: Global,
-    query: &Query,
-    database: &Database,
-    file: &IndexFile,
-    out: &mut O,
-) -> Result<bool, CommandFault>
-    requires can_fail { (O.written out.old).failed < 2 ^ 64 - 1 }
-    requires prepared { query.now.filter.conf ≡ database.now.conf }
-    ensures { (said : Said) → Keeps database.now query.now.filter file.now said
-        → PrintsFound query.now said database.now (O.written out.old) (O.written out.new) result }
-{
-    match file {
-        IndexFile::Read(stored) => print_by_text(alloc, query, database, stored, out),
-        IndexFile::Faulty(_) => print_by_scan(alloc, query, database, out),
-        IndexFile::Missing => print_by_scan(alloc, query, database, out),
-    }
-}
-
-/// Prints what a query finds by an index, among entries by their ranks, or without one.
-pub fn print_ranked<O: Sink>(
-    alloc: Global,
-    query: &Query,
-    database: &Database,
-    entries: &EntriesByRank<'_>,
-    index: &Option<StoredIndex>,
-    out: &mut O,
-) -> Result<bool, CommandFault>
-    requires can_fail { (O.written out.old).failed < 2 ^ 64 - 1 }
-    requires prepared { query.now.filter.conf ≡ database.now.conf }
-    requires entries { entries.now ≡ database.now }
-    ensures prints { (said : Said) → Serves database.now index.now said
-        → PrintsFound query.now said database.now (O.written out.old) (O.written out.new) result }
-    ensures failed { IfOk result (λ _. (O.written out.new).failed ≡ (O.written out.old).failed) }
-{
-    match index {
-        Some(index) => print_by_rank(alloc, query, database, entries, index, out),
-        None => print_by_scan(alloc, query, database, out),
     }
 }
 
@@ -305,14 +259,15 @@ fn search_by<O: Sink, E: Sink, T: CommandTeller>(
     report_index(alloc, err, file)?;
     teller.tell();
     let query = query_of(alloc, asked, filter, database.conf())?;
-    match print_found(alloc, &query, database, file, out) {
+    let hits = find(alloc, &query, database, file)?;
+    match print_hits(alloc, &query, database, hits, out) {
         Ok(false) => Ok(Status::Done),
         Ok(true) => {
             let status = report_past_limit(alloc, err);
             teller.tell_limit(alloc, asked.limit);
             Ok(status)
         }
-        Err(fault) => Err(Stop::Fault(fault)),
+        Err(fault) => Err(Stop::Fault(CommandFault::of_output(alloc, fault))),
     }
 }
 

@@ -51,6 +51,13 @@ query_text q t es = text_as q.form q.width t.conf t.entries q.selection q.limit 
 abbrev pub scanned_text : Query → Tree → List ℕ
 scanned_text q t = if finite.contains_key t.entries q.base then query_text q t (scanned q t) else []
 
+-- The base is there, and these are the entries that are found. Where the text of index.txt is that of the directory's index, they are all that the
+-- filter finds.
+pub record AreFound (q : Query) (said : Said) (t : Tree) (es : List (Path × EntryContent)) : Type 0 where
+  pub there : finite.contains_key t.entries q.base ≡ true
+  pub are : es ≡ found q said t
+  pub whole : said ≡ said_by t.conf t.entries (Some (index_text t.conf t.entries)) → found q said t ≡ scanned q t
+
 -- The base is there, and it is the text of what is found, and whether there is more. Where the text of index.txt is that of the directory's
 -- index, that is all that the filter finds.
 pub record IsTextOf (q : Query) (said : Said) (t : Tree) (past : Bool) (text : List ℕ) : Type 0 where
@@ -61,10 +68,13 @@ pub record IsTextOf (q : Query) (said : Said) (t : Tree) (past : Bool) (text : L
 
 -- ---- what was printed
 
--- the base isn't there, or the output can't be written, or memory ran out
+-- the base isn't there, or memory ran out
+abbrev pub FailsToFind : Query → Tree → CommandFault → Type 0
+FailsToFind q t fault = Refuses (codes "search") (λ code. (finite.contains_key t.entries q.base ≡ false) × (code ≡ NoSuchObject)) fault
+
+-- or the output can't be written
 abbrev pub FailsToPrint : Query → Tree → CommandFault → Type 0
-FailsToPrint q t fault =
-    Refuses (codes "search") (λ code. (finite.contains_key t.entries q.base ≡ false) × (code ≡ NoSuchObject)) fault ⊎ FailsToWrite (codes "output") fault
+FailsToPrint q t fault = FailsToFind q t fault ⊎ FailsToWrite (codes "output") fault
 
 -- what a query finds by what index.txt says, and it was answered whether there is more; or that was broken off with this fault
 abbrev pub PrintsFound : Query → Said → Tree → Written → Written → Result Bool CommandFault → Type 0
