@@ -12,3 +12,6 @@ pub mod Examples
 pub mod ReportExamples
 pub mod KnownRules
 pub mod Differing
+pub mod FirstFaults
+pub mod LeftOutExamples
+pub mod LeftOutCounted

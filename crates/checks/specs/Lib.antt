@@ -4,6 +4,8 @@ pub mod Sharing
 pub mod TypeNames
 pub mod Reports
 pub mod ConfFaults
+pub mod LostNames
+pub mod LeftOut
 pub mod NearNames
 pub mod Warnings
 pub mod IndexDifferences

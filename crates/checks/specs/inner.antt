@@ -1,3 +1,4 @@
 pub mod Walks
+pub mod FoundFaults
 pub mod Holders
 pub mod Reports

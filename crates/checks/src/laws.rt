@@ -1,6 +1,6 @@
 //! Laws of what is found: it is what the relations of the definitions ask for.
 
-ghost use Rattle.std.specs.Prelude.{◌≡◌, ℕ, List, false, is_some};
+ghost use Rattle.std.specs.Prelude.{◌≡◌, ℕ, Bool, List, ◌∷◌, None, false, is_some};
 ghost use Rattle.std.specs.List.{IsDistinct};
 ghost use Rattle.matching.specs.declared.syntax.Syntax.TheVariants.{Octet};
 ghost use Rattle.values.specs.declared.types.AttributeType.{AttributeType};
@@ -8,6 +8,8 @@ ghost use Rattle.values.specs.declared.types.TypeSyntax.TheVariants.{Plain};
 ghost use Rattle.dir_conf.specs.RuleNames.{equality_of, ordering_of, substrings_of, syntax_of};
 ghost use Rattle.schema.specs.Conf.{Conf};
 ghost use Rattle.tree.specs.Directories.{Entries, IsDirectory};
+ghost use Rattle.checks.specs.declared.conf_faults.FoundFault.{FoundFault};
+ghost use Rattle.checks.specs.LeftOut.{AreFaultsOf, EachIsCounted};
 ghost use Rattle.checks.specs.NearNames.{is_one_of};
 ghost use Rattle.checks.specs.EntryValues.{is_same_value};
 ghost use Rattle.checks.specs.References.{dangling, EachDangles, EachIsTold};
@@ -37,4 +39,12 @@ pub fn known_rules_are_read()
     ensures ordering { (name : List ℕ) → is_one_of ordering_rules name ≡ is_some (ordering_of name) }
     ensures substrings { (name : List ℕ) → is_one_of substrings_rules name ≡ is_some (substrings_of name) }
     ensures syntax { (oid : List ℕ) → is_syntax oid ≡ false → syntax_of oid ≡ Plain Octet }
+{}
+
+/// Of the faults of a dir.conf the first is reported, and each that is left out counts with the line of one that is.
+pub fn left_out_faults_are_counted()
+    ensures first { (text : List ℕ) (f : FoundFault) (others : List FoundFault) (more : Bool)
+        → AreFaultsOf text (f ∷ others) more → f.counted_with ≡ None }
+    ensures all { (text : List ℕ) (found : List FoundFault) (more : Bool)
+        → AreFaultsOf text found more → EachIsCounted found }
 {}

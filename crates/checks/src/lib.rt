@@ -8,10 +8,12 @@ mod conf_faults;
 mod entry_value;
 mod file_names;
 mod finder;
+mod finding_faults;
 mod holders;
 mod index_differences;
 mod known_rules;
 mod laws;
+mod lost_names;
 mod near_names;
 mod passwords;
 mod references;
@@ -21,10 +23,14 @@ mod sharing;
 mod type_names;
 mod warnings;
 
-pub use conf_faults::{ConfFaults, ConfLineFault, MOST_FAULTS, commented, report_faults};
+pub use conf_faults::{ConfFaults, ConfLineFault, FoundFault, commented, report_faults};
 pub use entry_value::EntryValue;
+pub use finding_faults::find_faults;
 pub use index_differences::slot_and_key_of_difference;
-pub use laws::{dangling_values_are_told, known_rules_are_read, shared_values_are_told};
+pub use laws::{
+    dangling_values_are_told, known_rules_are_read, left_out_faults_are_counted,
+    shared_values_are_told,
+};
 pub use passwords::has_passwords;
 pub use references::find_dangling;
 pub use reports::{put_report, report_dangling, report_refused, report_shared};

@@ -2,7 +2,7 @@
 use Rattle.std.proofs.Common.{◌≡◌, ◌∙◌, ◌<◌, ◌-◌, ℕ, Bool, true, false, List, [], ◌∷◌, ◌++◌, length, Option, None, Some, IfSome, Result, Ok, Err, IfOk, IfErr, OnOk, OnErr, inl, inr, codes, sym, ap, subst, refl, arith}
 use Rattle.std.specs.Option.{option_copied, option_map}
 use Rattle.std.specs.Prelude.{if◌then◌else◌, bytes_eq}
-use Rattle.std.proofs.lemmas.List.{append-nil, append_assoc}
+use Rattle.std.proofs.lemmas.List.{append_assoc}
 use Rattle.std.specs.FinMap as finite
 use Rattle.std.specs.Io.KnownBytes.{Appends, Consumes}
 use Rattle.base.specs.Answers.{Fails}
@@ -17,8 +17,6 @@ use Rattle.dir_conf.specs.declared.conf_fault.ConfFault.{ConfFault}
 use Rattle.dir_conf.specs.declared.conf_fault.ConfFault.TheVariants.{Line}
 use Rattle.dir_conf.specs.declared.conf_fault.ConfFaultKind.{ConfFaultKind}
 use Rattle.tree.specs.Directories.{Entries}
-use Rattle.checks.specs.declared.conf_faults.ConfLineFault.{ConfLineFault}
-use Rattle.checks.specs.ConfFaults.{commented, most_faults, AreFirstFaults}
 use Rattle.checks.specs.Reports.{refused_reports}
 use Rattle.databases.specs.Folds.{Runs}
 use Rattle.databases.specs.declared.runs.Tally.{Tally}
@@ -181,37 +179,6 @@ lacks_so asked w text conf why there says lacks =
 -- where a text can't be read as a configuration, this is its first fault
 pub fails_so : (slice text : List ℕ) → slice ≡ text → (e : ConfFault) (line : ℕ) (kind : ConfFaultKind) → e ≡ Line line kind → Fails (fault_at e) (conf_of slice) → conf_of text ≡ Err (line, kind)
 fails_so slice text same e line kind is fails = subst (λ (t : List ℕ). conf_of t ≡ Err (line, kind)) same (subst (λ (f : ConfFault). Fails (fault_at f) (conf_of slice)) is fails)
-
--- ---- the first faults of a dir.conf: those of what is left stand behind those that were found
-
--- whether there are more
-pub has_none : (text : List ℕ) (conf : Conf) → conf_of text ≡ Ok conf → AreFirstFaults 0 text [] false
-unfolding AreFirstFaults
-has_none text conf is = (conf, is)
-
-pub has_more : (text : List ℕ) (e : ConfFault) (line : ℕ) (kind : ConfFaultKind) → e ≡ Line line kind → Fails (fault_at e) (conf_of text) → AreFirstFaults 0 text [] true
-unfolding AreFirstFaults
-has_more text e line kind is fails = (refl, ((line, kind), fails_so text text refl e line kind is fails))
-
-module _ (text left : List ℕ) (faults : List ConfLineFault) (room : ℕ)
-    (before : (others : List ConfLineFault) (more : Bool) → AreFirstFaults room left others more → AreFirstFaults most_faults text (faults ++ others) more) where
-  pub no_more : (more : Bool) → AreFirstFaults room left [] more → AreFirstFaults most_faults text faults more
-  no_more more are = subst (λ (fs : List ConfLineFault). AreFirstFaults most_faults text fs more) (append-nil faults) (before [] more are)
-
-  pub no_fault : (conf : Conf) → conf_of left ≡ Ok conf → AreFirstFaults most_faults text faults false
-  unfolding AreFirstFaults
-  no_fault conf is = no_more false (conf, is)
-
-  pub last_fault : (f : ConfLineFault) → 0 < room → conf_of left ≡ Err (f.line, f.kind) → f.line ≡ 0 → AreFirstFaults most_faults text (faults ++ f ∷ []) false
-  unfolding AreFirstFaults
-  last_fault f some fails is = before (f ∷ []) false (some, (fails, ((λ _. (refl, refl)), λ at. absurd (omega (arith, is, at)))))
-
-  pub next_fault : (f : ConfLineFault) → 0 < room → conf_of left ≡ Err (f.line, f.kind) → 0 < f.line → (others : List ConfLineFault) (more : Bool)
-      → AreFirstFaults (room - 1) (commented (f.line - 1) left) others more → AreFirstFaults most_faults text ((faults ++ f ∷ []) ++ others) more
-  unfolding AreFirstFaults
-  next_fault f some fails at others more are =
-      subst (λ (fs : List ConfLineFault). AreFirstFaults most_faults text fs more) (sym (append_assoc faults (f ∷ []) others))
-      (before (f ∷ others) more (some, (fails, ((λ none. absurd (omega (arith, none, at))), λ _. are))))
 
 -- ---- index.txt
 

@@ -17,8 +17,10 @@ use Rattle.databases.specs.declared.refusal.Outcome.TheVariants.{Nothing, Accept
 use Rattle.std.specs.Str.{bytes_eq}
 use Rattle.std.specs.FinMap as finite
 use Rattle.std.proofs.lemmas.Slice.Eq.{bytes_eq-Decides}
-use Rattle.checks.specs.declared.conf_faults.ConfLineFault.{ConfLineFault}
-use Rattle.checks.specs.ConfFaults.{most_faults, AreFirstFaults, fault_reports}
+use Rattle.checks.specs.declared.conf_faults.FoundFault.{FoundFault}
+use Rattle.checks.specs.ConfFaults.{fault_reports}
+use Rattle.checks.specs.LeftOut.{AreFaultsOf}
+use Rattle.checks.proofs.FirstFaults.{none_found, says_conf, first_reported}
 use Rattle.checks.specs.Reports as check_reports
 use Rattle.databases.specs.IndexTexts.{index_text}
 use Rattle.commands.specs.Checks.{AddsRecords, index_what, index_fault, line_of_difference, index_report}
@@ -123,13 +125,12 @@ data_agrees conf (Some text) d = (
 -- ---- dir.conf
 
 pub conf_agrees : (text : List ℕ) → ConfAgrees text
-unfolding AreFirstFaults
-conf_agrees text = ((λ told. says told.faults told.has_more told.are told.text_is), λ is. record { faults = []; has_more = false; are = is; text_is = refl })
+conf_agrees text = ((λ told. says told.found told.has_more told.are told.text_is), λ is. record { found = []; has_more = false; are = none_found text is; text_is = refl })
   where
-    says : (faults : List ConfLineFault) (more : Bool) → AreFirstFaults most_faults text faults more → [] ≡ fault_reports faults more → SaysConf text
-    says [] false are none = are
+    says : (found : List FoundFault) (more : Bool) → AreFaultsOf text found more → [] ≡ fault_reports found more → SaysConf text
+    says [] false are none = says_conf text are
     says [] true are none = absurd (not_empty _ _ none)
-    says (f ∷ fs) more are none = absurd (not_empty _ _ none)
+    says (f ∷ fs) more are none = absurd (first_reported text f fs more are.count none)
 
 -- ---- index.txt
 

@@ -15,8 +15,9 @@ use Rattle.schema.specs.Conf.{Conf}
 use Rattle.dir_conf.specs.ConfFaults.{At}
 use Rattle.dir_conf.specs.Configurations.{conf_of}
 use Rattle.tree.specs.Directories.{Entries}
-use Rattle.checks.specs.declared.conf_faults.ConfLineFault.{ConfLineFault}
-use Rattle.checks.specs.ConfFaults.{most_faults, AreFirstFaults, fault_reports}
+use Rattle.checks.specs.declared.conf_faults.FoundFault.{FoundFault}
+use Rattle.checks.specs.ConfFaults.{fault_reports}
+use Rattle.checks.specs.LeftOut.{AreFaultsOf}
 use Rattle.checks.specs.Warnings.{warnings}
 use Rattle.checks.specs.IndexDifferences.{difference_of}
 use Rattle.checks.specs.TypeNames.{types_named}
@@ -141,12 +142,12 @@ record_reports conf loaded told file over index =
 abbrev pub value_reports : Conf → Entries → List ℕ → List ℕ → List ℕ
 value_reports conf d references unique = dangling_reports conf d references ++ shared_reports conf d unique
 
--- the first faults of the text of a dir.conf, at least one
+-- the first faults of the text of a dir.conf, but for those that are left out, and how many these are
 pub record TellsFirstFaults (conf_text text : List ℕ) : Type 0 where
-  pub faults : List ConfLineFault
+  pub found : List FoundFault
   pub has_more : Bool
-  pub are : AreFirstFaults most_faults conf_text faults has_more
-  pub text_is : text ≡ fault_reports faults has_more
+  pub are : AreFaultsOf conf_text found has_more
+  pub text_is : text ≡ fault_reports found has_more
 
 -- of a dir.conf at fault these, and nothing of the other files: what is wrong with those depends on what it says
 pub record TellsFaults (asked : CheckOptions) (text : List ℕ) (w w' : World) : Type 0 where

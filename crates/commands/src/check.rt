@@ -19,15 +19,15 @@ ghost use Rattle.commands.specs.Checks.{TellsNoType, LacksTypes, LacksFirst, Fai
 ghost use Rattle.commands.specs.inner.Checked.{AreTypesAsked, HasAdded, ReportsIndex, told_reports, HasGathered};
 ghost use Rattle.commands.specs.inner.Stopped.{HasEnded};
 
-use crate::conf_check::find_faults;
+use crate::conf_check::tell_faults;
 use crate::database::{open, open_present, path, read_conf_text};
 use crate::file_warnings::warn_of_files;
 use crate::index_check::report_index_file;
 use crate::messages::{CommandFault, Status, Stop};
 use crate::telling::CommandTeller;
 use checks::{
-    TypesFault, has_passwords, report_dangling, report_faults, report_refused, report_shared,
-    report_warnings, types_named,
+    TypesFault, find_faults, has_passwords, report_dangling, report_faults, report_refused,
+    report_shared, report_warnings, types_named,
 };
 use command_line::CheckOptions;
 use databases::{Database, RunFault, run_telling};
@@ -372,7 +372,8 @@ fn fault_reports<T: CommandTeller>(
 ) -> Result<Vec<u8>, AllocError>
     ensures { IfOk result (λ v. TellsFirstFaults text.now v.items) }
 {
-    let found = find_faults(alloc, text, teller)?;
+    let found = find_faults(alloc, text)?;
+    tell_faults(alloc, text, found.faults.as_slice(), teller)?;
     let mut reports = Vec::new(alloc);
     report_faults(alloc, &found, &mut reports)?;
     Ok(reports)

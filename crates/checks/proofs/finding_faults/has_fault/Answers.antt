@@ -1,8 +1,8 @@
 use Rattle.std.proofs.Common.{[], IfOk, sym, subst}
 use Rattle.checks.specs.ConfFaults.{AreFirstFaults}
-use Rattle.commands.proofs.Checked.{has_none, has_more}
-use Rattle.commands.proofs.conf_check.has_fault.Goals as goal
-use Rattle.commands.proofs.conf_check.has_fault.Goals.{in-Ok, in-Err-Line, in-Err-OutOfMemory}
+use Rattle.checks.proofs.FirstFaults.{has_none, has_more}
+use Rattle.checks.proofs.finding_faults.has_fault.Goals as goal
+use Rattle.checks.proofs.finding_faults.has_fault.Goals.{in-Ok, in-Err-Line, in-Err-OutOfMemory}
 
 pub returns : goal.returns
 returns c =
