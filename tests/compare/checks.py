@@ -2,6 +2,8 @@
 it isn't what slapindex writes of data.ldif, names of no entry, and values that several entries have. Behind that it warns of what dir.conf says and
 counts for nothing.
 """
+import collections
+import itertools
 import os
 import re
 from dataclasses import dataclass, field
@@ -81,12 +83,15 @@ def check_files(checked, conf_text, data, index, folder, unique=None, references
         raise model.Ended(3, f"{folder}/dir.conf: cannot read", "  no such file or folder\n")
     checked.warnings += [b"warning\tdir.conf\tline %d: %b\n" % warning for warning in warnings_of(conf_text)]
     faults, has_more = faults_of(conf_text)
-    for fault in faults:
+    for fault, number in told_of(conf_text, faults):
         checked.report(b"faulty", b"dir.conf", str(fault).removeprefix("dir.conf ").encode())
+        if number:
+            needing = b"1 line that needs it is" if number == 1 else b"%d lines that need it are" % number
+            checked.report(b"note", b"dir.conf", b"line %d: %b left out" % (fault.line, needing))
         checked.said.append([fault.why])
         checked.is_of_conf = True
     if has_more:
-        checked.report(b"faulty", b"dir.conf", b"more faults: the first %d are told" % MOST_FAULTS)
+        checked.report(b"faulty", b"dir.conf", b"more faults: the first %d are told or left out" % MOST_FAULTS)
     if checked.is_of_conf:
         return
     directory = model.Directory(schema.read_conf(conf_text))
@@ -127,11 +132,53 @@ def faults_of(text):
             text = b"\n".join(lines)
 
 
+def told_of(text, faults):
+    """Those of the first faults of a dir.conf that aren't left out, each with how many are that count with it. A line is left out that needs a name or
+    an OID that isn't defined, since a line at fault would have defined it; it counts with that line, or with the one that that line counts with.
+    -> [(fault, number)]"""
+    lines = dict(schema.joined_lines(text))
+    lost = {b"attributetype": {}, b"objectclass": {}}
+    told, number_of = [], collections.Counter()
+    for fault in faults:
+        word, rest = words_of(lines.get(fault.line, b""))
+        root = None
+        if fault.code == "C4":
+            needed = word if word == b"objectclass" and fault.keyword == b"sup" else b"attributetype"
+            root = lost[needed].get(fault.word.lower())
+        if root is None:
+            told.append(fault)
+        else:
+            number_of[root] += 1
+        for name in would_define(word, rest) if word in lost else ():
+            lost[word].setdefault(name.lower(), fault.line if root is None else root)
+    return [(fault, number_of[fault.line]) for fault in told]
+
+
+def words_of(line):
+    """-> (the first word of a line, in lower case, and what stands behind it)"""
+    word, rest = re.fullmatch(rb"([^ \t]*)(.*)", line, re.DOTALL).groups()
+    return word.lower(), rest
+
+
+def would_define(word, text):
+    """The OID and the names in a definition. Where that can't be read, its first word, and what stands in quotes right behind the first word NAME;
+    words end at blanks and parentheses."""
+    try:
+        oid, fields = {b"attributetype": schema.read_type, b"objectclass": schema.read_class}[word](text)
+        return [oid, *fields.get(b"name", [])]
+    except schema.Wrong:
+        pass
+    words = [word for word in re.split(rb"[ \t()]", text) if word]
+    at = next((at for at, word in enumerate(words, 1) if word.lower() == b"name"), len(words))
+    quoted = itertools.takewhile(lambda word: len(word) > 1 and word[:1] == word[-1:] == b"'", words[at:])
+    return words[:1] + [word[1:-1] for word in quoted]
+
+
 def warnings_of(text):
     """What the definitions of a dir.conf say that counts for nothing, where they can be read. -> (number of the line, what it is)"""
     for number, line in schema.joined_lines(text):
-        word, rest = re.fullmatch(rb"([^ \t]*)(.*)", line, re.DOTALL).groups()
-        read = {b"attributetype": schema.read_type, b"objectclass": schema.read_class}.get(word.lower())
+        word, rest = words_of(line)
+        read = {b"attributetype": schema.read_type, b"objectclass": schema.read_class}.get(word)
         if read is None:
             continue
         try:

@@ -142,9 +142,48 @@ def many_faults(config):
     return config.joined(config.lines)
 
 
+def chained_faults(config, text):
+    """A dir.conf of which some definitions are at fault, so that those are that name them, by a name or the OID; with more below these, some that name
+    what nothing defines, or that define once more what is lost."""
+    rng = config.rng
+    lines = text.replace(b"\r\n", b"\n").split(b"\n")
+    starts = [at for at, line in enumerate(lines) if b"(" in line and line[:1].lower() in (b"a", b"o")]
+    for at in rng.sample(starts, min(len(starts), rng.choice([1, 1, 2, 3, 6]))):
+        lines[at] = spoilt(rng, lines[at])
+    for _ in range(rng.choice([0, 1, 2, 4, 8])):
+        lines.insert(rng.choice([len(lines), rng.randrange(len(lines) + 1)]), needing_line(config))
+    return b"\n".join(lines)
+
+
+def spoilt(rng, line):
+    """The first line of a definition, with a fault."""
+    front, mark, behind = line.partition(b"(")
+    oid, blank, fields = behind.lstrip(b" \t").partition(b" ")
+    return rng.choice([
+        front + b"( Macro:7 " + fields, front + b"( Macro:%b " % oid + fields, front + b"(" + fields,
+        front + b"( 2.5.4.0.0 SUP nowhere " + fields,
+        front + mark + b" " + oid + rng.choice([b" COLLECTIVE ", b" SUP nowhere ", b" NOSUCH ", b" NAME 'lost' ", b" SUP ( a $ top ) "]) + fields,
+        line.replace(b"(", b"( ( ", 1), line.replace(b"NAME", b"NAME (", 1), line.replace(b"'", b"", 1), line.replace(b"SYNTAX", b"SYNTAX x", 1)])
+
+
+def needing_line(config):
+    """A line that needs some types or a class: a definition of its own, or an index line."""
+    rng = config.rng
+    oid, kind = b"7.%d" % rng.randrange(12), rng.randrange(8)
+    if kind == 0:
+        return b"index %b eq" % b",".join(config.type_text(rng.choice(config.types)) for _ in range(rng.choice([1, 2, 3])))
+    name = rng.choice([b"", b"NAME 'needing%d' " % rng.randrange(12), b"NAME 'class0' ", b"NAME ( '%b' 'Lost' ) " % rng.choice(config.types)])
+    needed = rng.choice([config.type_text(rng.choice(config.types))] * 2 + [b"7.%d" % rng.randrange(12), b"NEEDING%d" % rng.randrange(12), b"lost",
+                        b"nowhere", rng.choice([b"class0", b"kind-1", b"8.0", b"8.1"])])
+    if kind < 4:
+        return b"attributetype ( %b %bSUP %b )" % (oid, name, needed)
+    fields = rng.choice([b"SUP %b", b"MUST %b", b"MAY ( cn $ %b )", b"SUP ( top $ class0 ) MAY %b", b"MUST nowhere MAY %b"]) % needed
+    return b"objectclass ( %b %b%b )" % (oid, name, fields)
+
+
 def broken_conf(config, text):
     rng = config.rng
-    return rng.choice([lambda: config.broken_text(), lambda: many_faults(config), lambda: mutated(rng, text)])()
+    return rng.choice([lambda: config.broken_text(), lambda: many_faults(config), lambda: mutated(rng, text), lambda: chained_faults(config, text)])()
 
 
 def misspelt(rng, conf):
@@ -239,7 +278,7 @@ def check_case(rng):
     conf, data = config.text, folders.data()
     if some(rng, .25):
         conf = misspelt(rng, conf)
-    if some(rng, .2):
+    if some(rng, .3):
         conf = None if some(rng, .03) else broken_conf(config, conf)
     everything = config.types + [b"objectClass"]
     return Check(conf, data, index_for(rng, conf, data),

@@ -50,10 +50,10 @@ CLASS_KINDS = (b"abstract", b"structural", b"auxiliary")
 
 
 class Fault(Exception):
-    """What is wrong, where the line is known; `why` is said with `-v`."""
-    def __init__(self, line, code, why="", word_line=0):
+    """What is wrong, where the line is known; `why` is said with `-v`. Of a name that isn't defined the word, and the field that names it."""
+    def __init__(self, line, code, why="", word_line=0, word=None, keyword=None):
         super().__init__(f"dir.conf line {line}: {code} {FAULTS[code]}")
-        self.line = line
+        self.line, self.code, self.word, self.keyword = line, code, word, keyword and keyword.lower()
         self.why = sentences.line(f"line {word_line}: {why}" if word_line else why)
 
 
@@ -64,7 +64,8 @@ class Wrong(Exception):
         self.why, self.word, self.keyword, self.is_second = why, word, keyword, is_second
 
     def at(self, text, line):
-        return Fault(line, str(self), self.why, sentences.word_line(text, line, self.keyword, self.word, self.is_second))
+        word_line = sentences.word_line(text, line, self.keyword, self.word, self.is_second)
+        return Fault(line, str(self), self.why, word_line, self.word, self.keyword)
 
 
 class BadName(Exception):
