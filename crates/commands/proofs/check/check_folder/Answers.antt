@@ -1,5 +1,4 @@
 use Rattle.std.proofs.lemmas.Result.{err_from_is_err_and}
-use Rattle.commands.specs.Checks.{Checks}
 use Rattle.commands.specs.Worlds.{World, source_world}
 use Rattle.commands.proofs.Checked.{want_behind_all}
 use Rattle.commands.proofs.check.check_folder.Goals as goal
