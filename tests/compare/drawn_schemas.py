@@ -1,8 +1,10 @@
 """Random schemas as servers have them, and a dir.conf that they are for."""
 import base64
+import re
 from dataclasses import dataclass
 from typing import ClassVar, Optional
 
+import schemas
 from configs import other_case, some
 
 NAMES = [b"a", b"b", b"c", b"dd", b"e-e", b"name", b"may", b"dn", b"version", b"Control", b"f_", b"1x", b"objectClass"]
@@ -83,7 +85,58 @@ def statements(rng):
                      (b"objectidentifier", macro_of(rng)) if kind < 9 else rng.choice(BUILT_IN))
         if some(rng, .08):
             drawn.append(drawn[rng.randrange(len(drawn))])
+        if some(rng, .12):
+            drawn.append(said_again(rng, rng.choice(drawn), drawn))
     return drawn
+
+
+def said_again(rng, it, drawn):
+    """A definition in other words: mostly with the same meaning."""
+    word, text = it
+    names = [NAMED.findall(other) for _, other in drawn]
+    for _ in range(rng.choice([1, 1, 2, 3])):
+        text = LISTED.sub(lambda found: found[1] + relisted(rng, found[2], names), text) if some(rng, .7) else SINGLE.sub(
+            lambda found: found[1] + other_word(rng, found[2], names), text)
+        text = text if some(rng, .7) else QUOTED_NAMES.sub(lambda found: found[1] + renamed(rng, found[2]), text)
+        text = text if some(rng, .9) else re.sub(rb" (SUP|MUST|MAY|EQUALITY|SINGLE-VALUE|STRUCTURAL)\b", b" DESC 'x'", text, count=1)
+        text = text if some(rng, .9) or word == b"attributetype" else text.replace(b" MAY ", b" STRUCTURAL MAY ", 1)
+        text = text if some(rng, .9) or word == b"objectclass" else text.replace(b" SYNTAX ", b" USAGE userApplications SYNTAX ", 1)
+    return word, text
+
+
+LISTED = re.compile(rb"\b((?:SUP|MUST|MAY) )\( ?([^()']*?) ?\)")
+SINGLE = re.compile(rb"\b((?:SUP|MUST|MAY|EQUALITY) )([^ ()']+)")
+QUOTED_NAMES = re.compile(rb"\b(NAME )\( ?('[^()]*') ?\)")
+NAMED = re.compile(rb"\A\( ?([^ ]+)|'([^']*)'")
+
+
+def other_word(rng, word, names):
+    """A word in another case, or what else a definition with it is called."""
+    groups = [[number or name for number, name in found] for found in names]
+    called = [group for group in groups if word.lower() in [name.lower() for name in group]]
+    return rng.choice(rng.choice(called)) if called and some(rng, .5) else other_case(rng, word) if some(rng, .5) else word
+
+
+def relisted(rng, text, names):
+    """A list in another order, or with one of its words once more, left out or changed."""
+    words = [word for word in re.split(rb"[ $]+", text) if word]
+    if not words:
+        return b"( " + text + b" )"
+    rng.shuffle(words)
+    words += [rng.choice(words)] if some(rng, .2) else []
+    words = words[1:] if len(words) > 1 and some(rng, .1) else words
+    words += [rng.choice(WORDS)] if some(rng, .08) else []
+    return b"( " + b" $ ".join(other_word(rng, word, names) for word in words) + b" )"
+
+
+def renamed(rng, text):
+    """Names in another order or case, mostly behind the same first one."""
+    first, *rest = text.split()
+    rng.shuffle(rest)
+    names = [first] + [other_case(rng, name) for name in rest]
+    if some(rng, .15):
+        rng.shuffle(names)
+    return b"( " + b" ".join(names) + b" )"
 
 
 def folded(rng, line, between):
@@ -120,7 +173,9 @@ def conf_of(rng, text):
         return None
     lines = [b"suffix dc=ex"] if some(rng, .8) else []
     lines += [b"%s %s" % (rng.choice([b"attributetype", b"ObjectClass"]), rng.choice([type_of, class_of])(rng)) for _ in range(rng.randrange(2))] if some(rng, .4) else []
-    lines += [line for line in text.split(b"\n") if line.startswith((b"attributetype (1", b"attributetype ( 1")) and some(rng, .5)]
+    said = [(b"attributetype", line[14:]) for line in text.split(b"\n") if line.startswith((b"attributetype (1", b"attributetype ( 1")) and some(rng, .7)]
+    said += [(b"objectclass", line[12:]) for line in text.split(b"\n") if line.startswith((b"objectclass (1", b"objectclass ( 1")) and some(rng, .7)]
+    lines += [b"%s %s" % (said_again(rng, it, said) if some(rng, .4) else it) for it in said]
     return b"\n".join(lines) + (b"\n" if some(rng, .8) else b"")
 
 
@@ -131,9 +186,19 @@ def broken(rng, text):
     return text
 
 
+def said_already(rng):
+    """A text whose definitions a dir.conf has in other words."""
+    lines = [line for line in schemas.printed(text_of(rng), b"")[0].split(b"\n") if line and not line.startswith(b"#")]
+    definitions = [tuple(line.split(b" ", 1)) for line in lines]
+    again = [said_again(rng, it, definitions) for it in definitions]
+    return b"".join(spelled(rng, *it) + b"\n" for it in again), b"".join(line + b"\n" for line in lines)
+
+
 def schema_case(rng):
     if some(rng, .02):
         return Schema(None, None, True)
+    if some(rng, .3):
+        return Schema(*said_already(rng), some(rng, .3))
     text = text_of(rng)
     text = broken(rng, text) if some(rng, .25) else text
     return Schema(text, conf_of(rng, text), some(rng, .3))

@@ -129,9 +129,34 @@ def read(word, text):
     return oid, {key: value for key, value in fields.items() if key not in OF_NO_MEANING and not key.startswith(b"x-")}
 
 
-def are_alike(one, other):
+def meaning(there, word, text):
+    """What a definition says: equal for two that say the same by the names that are there, and None for one that can't be read."""
+    found = read(word, text)
+    if found is None:
+        return None
+    oid, fields = found
+    names = fields.get(b"name", [])
+    named = (word, oid, tuple(names[:1]), frozenset(name.lower() for name in names))
+    if word == b"attributetype":
+        rules = tuple(fields[rule].lower() if rule in fields else None for rule in (b"equality", b"ordering", b"substr"))
+        flags = tuple(flag in fields for flag in (b"single-value", b"collective", b"no-user-modification"))
+        above = number_of(there.type_of, fields[b"sup"]) if b"sup" in fields else None
+        return named, above, rules, fields.get(b"syntax"), flags, fields.get(b"usage", b"userApplications").lower()
+    kind = next((kind for kind in schema.CLASS_KINDS if kind in fields), b"structural")
+    lists = ((b"sup", there.class_of), (b"must", there.type_of), (b"may", there.type_of))
+    return named, kind, tuple(frozenset(number_of(find, name) for name in fields.get(key, [])) for key, find in lists)
+
+
+def number_of(find, name):
+    """The number of what a name stands for, or the name in small letters."""
+    number = find(name)
+    return name.lower() if number is None else number
+
+
+def are_alike(there, one, other):
     """Whether two definitions say the same."""
-    return one[0] == other[0] and read(*one) is not None and read(*one) == read(*other)
+    said = meaning(there, *one)
+    return said is not None and said == meaning(there, *other)
 
 
 def stated(conf):
@@ -273,7 +298,7 @@ def printed(source, conf):
     there = defined(conf)
     definitions = definitions_in(source)
     known = stated(conf)
-    wanted = [it for it in definitions if not is_built_in(it) and not any(are_alike(other, it) for other in known)]
+    wanted = [it for it in definitions if not is_built_in(it) and not any(are_alike(there, other, it) for other in known)]
     left = [it for sort in DIRECTIVES[:2] for it in wanted if it[0] == sort]
     out, with_repairs = [], set()
     for sort in DIRECTIVES[:2]:
@@ -282,11 +307,13 @@ def printed(source, conf):
             if not repair(there, sort, left, out, with_repairs):
                 break
     remarks = [b"# left out: built in with other fields: %s %s\n" % it for it in definitions
-               if is_built_in(it) and not any(are_alike((it[0], text), it) for text in BUILT_IN[it[0]])]
+               if is_built_in(it) and not any(are_alike(there, (it[0], text), it) for text in BUILT_IN[it[0]])]
+    if not definitions:
+        remarks = [b"# no definition of a type or a class stands here\n"]
     front = b"\n" if conf and not conf.endswith(b"\n") else b""
     known = stated(conf + front + b"".join(out))
     for word, text, number in left:
-        if number not in with_repairs and not any(are_alike(other, (word, text)) for other in known):
+        if number not in with_repairs and not any(are_alike(there, other, (word, text)) for other in known):
             wrong = wrong_of(there, word, text)
             remarks.append(b"# left out: %s %s%s: %s %s\n" % (str(wrong).encode(), schema.FAULTS[str(wrong)].encode(), detail_of(wrong), word, text))
     return front + b"".join(out + remarks), not with_repairs and not remarks

@@ -1,11 +1,13 @@
 -- Which definitions are gathered, and that comments are put one behind the other.
-use Rattle.std.proofs.Common.{◌≡◌, ◌∙◌, ℕ, List, [], ◌∷◌, ◌++◌, inl, inr, refl, sym, ap, subst, append_assoc, append-nil}
+use Rattle.std.proofs.Common.{◌≡◌, ◌∙◌, ℕ, true, false, List, [], ◌∷◌, ◌++◌, inl, inr, refl, sym, ap, subst, append_assoc, append-nil}
 use Rattle.std.specs.List.{Contains}
 use Rattle.std.proofs.lemmas.List.Concat.{flat_map-append}
 use Rattle.std.proofs.lemmas.List.Elements.{Contains-append_left, Contains-append_right, Contains-append_cases, Contains-push, Contains-push_cases}
 use Rattle.server_schema.specs.declared.definition.Definition.{Definition}
-use Rattle.server_schema.specs.Growth.{comment_of}
-use Rattle.server_schema.specs.Transfers.{IsSaid, Gathers, IsOneMore, IsStepFor, AreComments, AddsComments}
+use Rattle.dir_conf.specs.Configurations.{Defined}
+use Rattle.server_schema.specs.declared.alike.Meaning.{Meaning}
+use Rattle.server_schema.specs.Growth.{comment_of, IsComment}
+use Rattle.server_schema.specs.Transfers.{is_said, Gathers, IsOneMore, IsStepFor, AreComments, AddsComments}
 use Rattle.server_schema.proofs.Members.{in_none, only_one}
 
 -- ---- definitions
@@ -42,34 +44,42 @@ one_more_last types classes d = record {
   ];
 }
 
-pub none_gathered : (stated : List Definition) → Gathers stated [] []
-none_gathered stated = record { all = λ d h. absurd (in_none d h); only = λ d h. absurd (in_none d h) }
+module _ (defined : Defined) (stated : List Meaning) where
+  pub none_gathered : Gathers defined stated [] []
+  none_gathered = record { all = λ d h. absurd (in_none d h); only = λ d h. absurd (in_none d h); needed = λ d h. absurd (in_none d h) }
 
--- one that needs no line
-pub one_said : (stated ds wanted : List Definition) (d : Definition) → Gathers stated ds wanted → IsSaid stated d → Gathers stated (ds ++ d ∷ []) wanted
-one_said stated ds wanted d g said = record {
-  all = λ e h. elim (Contains-push_cases ds d e h) [
-    | inl before ↦ g.all e before
-    | inr is ↦ inl (subst (IsSaid stated) is said)
-  ];
-  only = λ e h. Contains-append_left ds (d ∷ []) e (g.only e h);
-}
+  -- one that needs no line
+  one_said : (ds wanted : List Definition) (d : Definition) → Gathers defined stated ds wanted → is_said defined stated d ≡ true → Gathers defined stated (ds ++ d ∷ []) wanted
+  one_said ds wanted d g said = record {
+    all = λ e h. elim (Contains-push_cases ds d e h) [
+      | inl before ↦ g.all e before
+      | inr is ↦ inl (subst (λ (x : Definition). is_said defined stated x ≡ true) is said)
+    ];
+    only = λ e h. Contains-append_left ds (d ∷ []) e (g.only e h);
+    needed = g.needed;
+  }
 
-pub one_wanted : (stated ds wanted more : List Definition) (d : Definition) → Gathers stated ds wanted → IsOneMore wanted d more → Gathers stated (ds ++ d ∷ []) more
-one_wanted stated ds wanted more d g one = record {
-  all = λ e h. elim (Contains-push_cases ds d e h) [
-    | inl before ↦ elim (g.all e before) [ inl said ↦ inl said | inr there ↦ inr (one.others e there) ]
-    | inr is ↦ inr (subst (λ (x : Definition). Contains more x) is one.this)
-  ];
-  only = λ e h. elim (one.only e h) [
-    | inl before ↦ Contains-append_left ds (d ∷ []) e (g.only e before)
-    | inr is ↦ subst (λ (x : Definition). Contains (ds ++ d ∷ []) x) is (Contains-push ds d)
-  ];
-}
+  one_wanted : (ds wanted more : List Definition) (d : Definition) → Gathers defined stated ds wanted → is_said defined stated d ≡ false → IsOneMore wanted d more
+      → Gathers defined stated (ds ++ d ∷ []) more
+  one_wanted ds wanted more d g unsaid one = record {
+    all = λ e h. elim (Contains-push_cases ds d e h) [
+      | inl before ↦ elim (g.all e before) [ inl said ↦ inl said | inr there ↦ inr (one.others e there) ]
+      | inr is ↦ inr (subst (λ (x : Definition). Contains more x) is one.this)
+    ];
+    only = λ e h. elim (one.only e h) [
+      | inl before ↦ Contains-append_left ds (d ∷ []) e (g.only e before)
+      | inr is ↦ subst (λ (x : Definition). Contains (ds ++ d ∷ []) x) is (Contains-push ds d)
+    ];
+    needed = λ e h. elim (one.only e h) [
+      | inl before ↦ g.needed e before
+      | inr is ↦ subst (λ (x : Definition). is_said defined stated x ≡ false) is unsaid
+    ];
+  }
 
-pub next_gathered : (stated ds before after : List Definition) (d : Definition) → Gathers stated ds before → IsStepFor stated before d after → Gathers stated (ds ++ d ∷ []) after
-next_gathered stated ds before after d g (inl said) = subst (Gathers stated (ds ++ d ∷ [])) (sym said.1) (one_said stated ds before d g said.0)
-next_gathered stated ds before after d g (inr one) = one_wanted stated ds before after d g one
+  pub next_gathered : (ds before after : List Definition) (d : Definition) → Gathers defined stated ds before → IsStepFor (is_said defined stated d) before d after
+      → Gathers defined stated (ds ++ d ∷ []) after
+  next_gathered ds before after d g (inl said) = subst (Gathers defined stated (ds ++ d ∷ [])) (sym said.1) (one_said ds before d g said.0)
+  next_gathered ds before after d g (inr one) = one_wanted ds before after d g one.0 one.1
 
 -- ---- comments
 
@@ -93,3 +103,6 @@ more_comments a b c f g = (
 
 pub are_comments : (text : List ℕ) → AddsComments [] text → AreComments text
 are_comments text f = subst AreComments (sym f.2) f.1
+
+pub one_is_comments : (text comment : List ℕ) → text ≡ comment_of comment → AreComments text
+one_is_comments text comment is = (text ∷ [], sym (append-nil text), λ line h. (comment, sym (only_one text line h) ∙ is))

@@ -4,6 +4,7 @@ pub mod Macros
 pub mod Expanding
 pub mod Definitions
 pub mod Alike
+pub mod Kept
 pub mod Repairs
 pub mod Growth
 pub mod Stated

@@ -8,7 +8,7 @@ use Rattle.definitions.specs.declared.type_definition.TypeDefinition.{TypeDefini
 use Rattle.definitions.specs.declared.class_definition.ClassDefinition.{ClassDefinition}
 use Rattle.definitions.specs.TypeDefinitions.{type_definition_of}
 use Rattle.definitions.specs.ClassDefinitions.{class_definition_of}
-use Rattle.server_schema.specs.Alike.{AreTypesAlike, AreClassesAlike}
+use Rattle.server_schema.specs.Kept.{IsTypeKept, IsClassKept}
 use Rattle.server_schema.specs.declared.definition.Sort.{Sort}
 use Rattle.server_schema.specs.declared.definition.Sort.TheVariants.{AttributeType, ObjectClass}
 use Rattle.server_schema.specs.declared.definition.Definition.{Definition}
@@ -33,7 +33,7 @@ pub record IsRuleChanged (old new : List ℕ) : Type 0 where
   pub is_now : TypeDefinition
   pub old_is : type_definition_of old ≡ Some was
   pub new_is : type_definition_of new ≡ Some is_now
-  pub alike : AreTypesAlike was is_now
+  pub kept : IsTypeKept was is_now
 
 -- a class allows only some of what it allowed, and has else the same fields
 pub record IsMayCut (old new : List ℕ) : Type 0 where
@@ -41,7 +41,7 @@ pub record IsMayCut (old new : List ℕ) : Type 0 where
   pub is_now : ClassDefinition
   pub old_is : class_definition_of old ≡ Some was
   pub new_is : class_definition_of new ≡ Some is_now
-  pub alike : AreClassesAlike was is_now
+  pub kept : IsClassKept was is_now
   pub fewer : (name : List ℕ) → Contains is_now.may name → Contains was.may name
 
 abbrev pub IsStep : Sort → List ℕ → List ℕ → Type 0

@@ -1,6 +1,6 @@
 -- What needs no line, since it is built in or a dir.conf says it already.
 use Rattle.std.specs.Prelude.{ℕ, Bool, false, if◌then◌else◌, List, [], ◌∷◌, Option, Some, None, codes}
-use Rattle.std.specs.List.{flat_map, Contains}
+use Rattle.std.specs.List.{flat_map}
 use Rattle.definitions.specs.declared.lines.Line.{Line}
 use Rattle.definitions.specs.declared.type_definition.TypeDefinition.{TypeDefinition}
 use Rattle.definitions.specs.declared.class_definition.ClassDefinition.{ClassDefinition}
@@ -13,7 +13,6 @@ use Rattle.dir_conf.specs.Configurations as configurations
 use Rattle.server_schema.specs.declared.definition.Sort.{Sort}
 use Rattle.server_schema.specs.declared.definition.Sort.TheVariants.{AttributeType, ObjectClass}
 use Rattle.server_schema.specs.declared.definition.Definition.{Definition}
-use Rattle.server_schema.specs.Alike.{AreAlike}
 
 -- ---- built in: objectClass, top and extensibleObject
 
@@ -59,7 +58,3 @@ stated_by lines = flat_map stated_on lines
 
 abbrev pub stated_in : List ℕ → List Definition
 stated_in conf = stated_by (lines_of conf)
-
--- one of these says the same
-abbrev pub IsAmong : List Definition → Definition → Type 0
-IsAmong stated d = (other : Definition) × Contains stated other × AreAlike other d

@@ -188,15 +188,6 @@ pub(crate) fn called(alloc: Global, text: &[u8]) -> Result<&[u8], AllocError> {
     }
 }
 
-/// The OID of a definition as it stands.
-pub(crate) fn oid_in(text: &[u8]) -> &[u8] {
-    let inside = match without_blanks(text).split_first() {
-        Some((b'(', inside)) => without_blanks(inside),
-        _ => b"",
-    };
-    part(inside, 0, word_len(inside))
-}
-
 /// The words for a sort of definition.
 pub(crate) fn sort_name(sort: Sort) -> &'static [u8] {
     match sort {

@@ -6,6 +6,7 @@ mod definition;
 mod expanding;
 mod fields;
 mod growth;
+mod kept;
 mod lines;
 mod macros;
 mod remarks;

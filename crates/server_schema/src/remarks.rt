@@ -1,16 +1,18 @@
 //! Comments on what can't be taken.
 
-ghost use Rattle.std.specs.Prelude.{IfOk, OnOk};
-ghost use Rattle.server_schema.specs.Transfers.{AreComments, AddsComments};
+ghost use Rattle.std.specs.Prelude.{◌≡◌, [], IfOk, OnOk};
+ghost use Rattle.server_schema.specs.Growth.{comment_of};
+ghost use Rattle.server_schema.specs.Transfers.{AreComments, AddsComments, no_definition};
 
+use crate::alike::{Meaning, is_among, meanings_of};
 use crate::definition::{Definition, Sort};
 use crate::fields::sort_name;
 use crate::growth::put_comment;
 use crate::lines::put_line;
-use crate::stated::{is_among, is_built_in, stated_in};
+use crate::stated::{is_built_in, meanings_in};
 use crate::taking::Candidate;
 use base::Bytes;
-use dir_conf::{ConfFlaw, NameField, SyntaxRule, UnreadPart, explain};
+use dir_conf::{ConfFlaw, Defined, NameField, SyntaxRule, UnreadPart, explain};
 use std::alloc::{AllocError, Global};
 
 /// The definitions of what is built in (RFC 4512, 2.4.1, 3.3 and 4.3).
@@ -122,12 +124,14 @@ fn built_in(alloc: Global) -> Result<Vec<Definition>, AllocError> {
 // says of a definition of what is built in that it says something else
 fn remark_on_built_in(
     alloc: Global,
+    defined: &Defined,
+    built_in: &[Meaning],
     definition: &Definition,
     out: &mut Vec<u8>,
 ) -> Result<(), AllocError>
     ensures { OnOk result (AddsComments out.old.items out.new.items) }
 {
-    if !is_built_in(alloc, definition)? || is_among(alloc, &built_in(alloc)?, definition)? {
+    if !is_built_in(alloc, definition)? || is_among(alloc, defined, built_in, definition)? {
         return Ok(());
     }
     let mut comment = Vec::from_slice(alloc, b"left out: built in with other fields")?;
@@ -138,14 +142,15 @@ fn remark_on_built_in(
 // says why a definition is left out, unless it stands there with repairs, or one that says the same
 fn remark_on_candidate(
     alloc: Global,
+    defined: &Defined,
     conf: &[u8],
-    stated: &[Definition],
+    stated: &[Meaning],
     candidate: &Candidate<'_>,
     out: &mut Vec<u8>,
 ) -> Result<(), AllocError>
     ensures { OnOk result (AddsComments out.old.items out.new.items) }
 {
-    if candidate.is_repaired || is_among(alloc, stated, candidate.definition)? {
+    if candidate.is_repaired || is_among(alloc, defined, stated, candidate.definition)? {
         return Ok(());
     }
     let comment = left_out(alloc, conf, candidate.definition)?;
@@ -154,36 +159,47 @@ fn remark_on_candidate(
 
 fn put_built_in(
     alloc: Global,
+    defined: &Defined,
     definitions: &[Definition],
     out: &mut Vec<u8>,
 ) -> Result<(), AllocError>
     ensures { OnOk result (AddsComments out.old.items out.new.items) }
 {
+    let built_in = meanings_of(alloc, &built_in(alloc)?)?;
     for definition in definitions {
-        remark_on_built_in(alloc, definition, out)?;
+        remark_on_built_in(alloc, defined, &built_in, definition, out)?;
     }
     Ok(())
 }
 
 fn put_left(
     alloc: Global,
+    defined: &Defined,
     conf: &[u8],
     left: &[Candidate<'_>],
     out: &mut Vec<u8>,
 ) -> Result<(), AllocError>
     ensures { OnOk result (AddsComments out.old.items out.new.items) }
 {
-    let stated = stated_in(alloc, conf)?;
+    let stated = meanings_in(alloc, conf)?;
     for candidate in left {
-        remark_on_candidate(alloc, conf, &stated, candidate, out)?;
+        remark_on_candidate(alloc, defined, conf, &stated, candidate, out)?;
     }
     Ok(())
 }
 
-/// A comment on each definition in a text that is left out, though nothing says the same: what is left behind a dir.conf, or is built in with other
-/// fields.
-pub(crate) fn remarks_on(
+// says that there is no definition
+fn none_stands(alloc: Global) -> Result<Vec<u8>, AllocError>
+    ensures { IfOk result (λ v. v.items ≡ comment_of no_definition) }
+{
+    let mut out = Vec::new(alloc);
+    put_comment(b"no definition of a type or a class stands here", &mut out)?;
+    Ok(out)
+}
+
+fn all_remarks(
     alloc: Global,
+    defined: &Defined,
     conf: &[u8],
     definitions: &[Definition],
     left: &[Candidate<'_>],
@@ -191,7 +207,26 @@ pub(crate) fn remarks_on(
     ensures { IfOk result (λ v. AreComments v.items) }
 {
     let mut out = Vec::new(alloc);
-    put_built_in(alloc, definitions, &mut out)?;
-    put_left(alloc, conf, left, &mut out)?;
+    put_built_in(alloc, defined, definitions, &mut out)?;
+    put_left(alloc, defined, conf, left, &mut out)?;
     Ok(out)
+}
+
+/// A comment on each definition in a text that is left out, though nothing says the same: what is left behind a dir.conf, or is built in with other
+/// fields. Where there is no definition, a comment says so. `defined` is what the dir.conf defines.
+pub(crate) fn remarks_on(
+    alloc: Global,
+    defined: &Defined,
+    conf: &[u8],
+    definitions: &[Definition],
+    left: &[Candidate<'_>],
+) -> Result<Vec<u8>, AllocError>
+    ensures comments { IfOk result (λ v. AreComments v.items) }
+    ensures none { IfOk result (λ v. definitions.now ≡ [] → v.items ≡ comment_of no_definition) }
+{
+    if definitions.is_empty() {
+        none_stands(alloc)
+    } else {
+        all_remarks(alloc, defined, conf, definitions, left)
+    }
 }

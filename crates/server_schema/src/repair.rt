@@ -5,9 +5,10 @@ ghost use Rattle.std.specs.List.{Contains};
 ghost use Rattle.server_schema.specs.declared.definition.Sort.TheVariants.{AttributeType, ObjectClass};
 ghost use Rattle.server_schema.specs.Repairs.{is_allowed, IsNameCut, IsRuleChanged, IsMayCut, IsStep, IsRepaired, IsRepairOf};
 
-use crate::alike::{are_classes_alike, are_types_alike, class_in, is_readable, type_in};
+use crate::alike::{class_in, is_readable, type_in};
 use crate::definition::{Definition, Sort};
 use crate::fields::{Token, TokenKind, called, field_named, part, text_of, tokens_of, words_of};
+use crate::kept::{is_class_kept, is_type_kept};
 use crate::lines::put_line;
 use base::{Bytes, is_name, is_type_name};
 use definitions::ClassDefinition;
@@ -99,7 +100,7 @@ fn is_rule_changed(alloc: Global, old: &[u8], new: &[u8]) -> Result<bool, AllocE
     let Some(is_now) = type_in(alloc, new)? else {
         return Ok(false);
     };
-    Ok(are_types_alike(&was, &is_now))
+    Ok(is_type_kept(&was, &is_now))
 }
 
 fn allows(class: &ClassDefinition, name: &Bytes) -> bool
@@ -129,7 +130,7 @@ fn is_may_cut(alloc: Global, old: &[u8], new: &[u8]) -> Result<bool, AllocError>
     let Some(is_now) = class_in(alloc, new)? else {
         return Ok(false);
     };
-    Ok(are_classes_alike(&was, &is_now) && allows_all(&was, is_now.may.as_slice()))
+    Ok(is_class_kept(&was, &is_now) && allows_all(&was, is_now.may.as_slice()))
 }
 
 // whether this step may be done

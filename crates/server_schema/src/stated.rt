@@ -1,13 +1,13 @@
 //! What needs no line, since it is built in or a dir.conf says it already.
 
-ghost use Rattle.std.specs.Prelude.{◌≡◌, ◌++◌, IsTrue, IfOk, OnOk};
+ghost use Rattle.std.specs.Prelude.{◌≡◌, ◌++◌, IfOk, OnOk};
 ghost use Rattle.dir_conf.specs.Configurations.{is_first};
 ghost use Rattle.dir_conf.specs.Configurations as configurations;
-ghost use Rattle.server_schema.specs.Stated.{stated_on, stated_by, stated_in, sort_on, is_built_in_type, is_built_in_class, is_built_in, IsAmong};
+ghost use Rattle.server_schema.specs.Alike.{meanings_of};
+ghost use Rattle.server_schema.specs.Stated.{stated_on, stated_by, stated_in, sort_on, is_built_in_type, is_built_in_class, is_built_in};
 
-use crate::alike::{are_alike, class_in, type_in};
+use crate::alike::{Meaning, class_in, meanings_of, type_in};
 use crate::definition::{Definition, Sort};
-use crate::fields::oid_in;
 use base::Bytes;
 use definitions::{Line, lines_of, split_first_word};
 use std::alloc::{AllocError, Global};
@@ -84,30 +84,18 @@ fn stated_by(alloc: Global, lines: &[Line]) -> Result<Vec<Definition>, AllocErro
     Ok(found)
 }
 
-/// The definitions on the lines of a dir.conf, readable or not.
-pub(crate) fn stated_in(alloc: Global, conf: &[u8]) -> Result<Vec<Definition>, AllocError>
+// the definitions on the lines of a dir.conf, readable or not
+fn stated_in(alloc: Global, conf: &[u8]) -> Result<Vec<Definition>, AllocError>
     ensures { IfOk result (λ v. v.items ≡ stated_in conf.now) }
 {
     let lines = lines_of(alloc, conf)?;
     stated_by(alloc, &lines)
 }
 
-fn may_be_alike(a: &Definition, b: &Definition) -> bool {
-    oid_in(a.text.as_slice()) == oid_in(b.text.as_slice())
-}
-
-/// Whether one of these definitions says the same as another one.
-pub(crate) fn is_among(
-    alloc: Global,
-    stated: &[Definition],
-    definition: &Definition,
-) -> Result<bool, AllocError>
-    ensures { IfOk result (λ b. IsTrue b → IsAmong stated.now definition.now) }
+/// What the definitions on the lines of a dir.conf say.
+pub(crate) fn meanings_in(alloc: Global, conf: &[u8]) -> Result<Vec<Meaning>, AllocError>
+    ensures { IfOk result (λ v. v.items ≡ meanings_of (stated_in conf.now)) }
 {
-    for other in stated {
-        if may_be_alike(other, definition) && are_alike(alloc, other, definition)? {
-            return Ok(true);
-        }
-    }
-    Ok(false)
+    let definitions = stated_in(alloc, conf)?;
+    meanings_of(alloc, &definitions)
 }

@@ -2,15 +2,17 @@
 
 ghost use Rattle.std.specs.Prelude.{◌≡◌, ◌++◌, true, drop, length, List, IfOk, OnOk, MatchResult};
 ghost use Rattle.server_schema.specs.Growth.{Grows, AreRefused, definitions_of_all};
-ghost use Rattle.server_schema.specs.Transfers.{IsSaid, IsTransferred, IsRefusedFor, Gathers, IsOneMore, IsStepFor};
+ghost use Rattle.server_schema.specs.Transfers.{is_said, IsTransferred, IsRefusedFor, Gathers, IsOneMore, IsStepFor};
+ghost use Rattle.dir_conf.specs.inner.Views.{defined_view};
 
+use crate::alike::{Meaning, is_among};
 use crate::definition::{Definition, Sort, definitions_in};
 use crate::growth::grow;
 use crate::remarks::remarks_on;
-use crate::stated::{is_among, is_built_in, stated_in};
+use crate::stated::{is_built_in, meanings_in};
 use crate::taking::{Candidate, settle, try_lines};
 use base::ends_with;
-use dir_conf::{ConfFault, read_definitions};
+use dir_conf::{ConfFault, Defined, read_definitions};
 use std::alloc::{AllocError, Global};
 
 /// What is printed of a schema.
@@ -25,15 +27,16 @@ pub struct Transfer {
 // whether a definition needs no line
 fn is_said(
     alloc: Global,
-    stated: &[Definition],
+    defined: &Defined,
+    stated: &[Meaning],
     definition: &Definition,
 ) -> Result<bool, AllocError>
-    ensures { IfOk result (λ b. b ≡ true → IsSaid stated.now definition.now) }
+    ensures { IfOk result (λ b. b ≡ is_said (defined_view defined.now) stated.now definition.now) }
 {
     if is_built_in(alloc, definition)? {
         Ok(true)
     } else {
-        is_among(alloc, stated, definition)
+        is_among(alloc, defined, stated, definition)
     }
 }
 
@@ -60,15 +63,17 @@ fn put_candidate<'a>(
 // puts a definition behind those of its sort, if it needs a line
 fn add_candidate<'a>(
     alloc: Global,
-    stated: &[Definition],
+    defined: &Defined,
+    stated: &[Meaning],
     definition: &'a Definition,
     types: &mut Vec<Candidate<'a>>,
     classes: &mut Vec<Candidate<'a>>,
 ) -> Result<(), AllocError>
-    ensures { OnOk result (IsStepFor stated.now (definitions_of_all types.old.items ++ definitions_of_all classes.old.items) definition.entry.now
+    ensures { OnOk result (IsStepFor (is_said (defined_view defined.now) stated.now definition.entry.now)
+        (definitions_of_all types.old.items ++ definitions_of_all classes.old.items) definition.entry.now
         (definitions_of_all types.new.items ++ definitions_of_all classes.new.items)) }
 {
-    if is_said(alloc, stated, definition)? {
+    if is_said(alloc, defined, stated, definition)? {
         Ok(())
     } else {
         put_candidate(definition, types, classes)
@@ -78,15 +83,16 @@ fn add_candidate<'a>(
 // the definitions that need a line, types first
 fn candidates_of<'a>(
     alloc: Global,
-    stated: &[Definition],
+    defined: &Defined,
+    stated: &[Meaning],
     definitions: &'a [Definition],
 ) -> Result<Vec<Candidate<'a>>, AllocError>
-    ensures { IfOk result (λ v. Gathers stated.now definitions.entry.now (definitions_of_all v.items)) }
+    ensures { IfOk result (λ v. Gathers (defined_view defined.now) stated.now definitions.entry.now (definitions_of_all v.items)) }
 {
     let mut types = Vec::new(alloc);
     let mut classes = Vec::new(alloc);
     for definition in definitions {
-        add_candidate(alloc, stated, definition, &mut types, &mut classes)?;
+        add_candidate(alloc, defined, stated, definition, &mut types, &mut classes)?;
     }
     types.extend_from_slice(&classes)?;
     Ok(types)
@@ -137,14 +143,15 @@ fn is_whole(remarks: &[u8], rest: &[Candidate<'_>]) -> bool {
 pub fn transfer_schema(alloc: Global, source: &[u8], conf: &[u8]) -> Result<Transfer, ConfFault>
     ensures { MatchResult result (λ t. IsTransferred source.now conf.now t.lines.items) (IsRefusedFor conf.now) }
 {
-    let _defined = read_definitions(alloc, conf)?;
+    let defined = read_definitions(alloc, conf)?;
     let definitions = definitions_in(alloc, source)?;
-    let stated = stated_in(alloc, conf)?;
-    let candidates = candidates_of(alloc, &stated, &definitions)?;
+    let stated = meanings_in(alloc, conf)?;
+    let candidates = candidates_of(alloc, &defined, &stated, &definitions)?;
     let mut text = Vec::from_slice(alloc, conf)?;
     end_line(alloc, &mut text)?;
     let rest = grown(alloc, &mut text, candidates)?;
-    let remarks = remarks_on(alloc, text.as_slice(), &definitions, &rest)?;
+    let grown_defined = read_definitions(alloc, text.as_slice())?;
+    let remarks = remarks_on(alloc, &grown_defined, text.as_slice(), &definitions, &rest)?;
     let _is_read = try_lines(alloc, &mut text, &remarks)?;
     let lines = behind(alloc, conf, text.as_slice())?;
     let is_whole = is_whole(&remarks, &rest);

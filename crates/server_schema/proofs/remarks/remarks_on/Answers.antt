@@ -1,8 +1,7 @@
-use Rattle.std.proofs.Common.{List, ℕ, [], subst}
-use Rattle.server_schema.specs.Transfers.{AddsComments}
-use Rattle.server_schema.proofs.Gathering.{more_comments, are_comments}
+use Rattle.std.proofs.lemmas.Result.{IfOk-weaker}
+use Rattle.server_schema.specs.Transfers.{no_definition}
+use Rattle.server_schema.proofs.Gathering.{one_is_comments}
 use Rattle.server_schema.proofs.remarks.remarks_on.Goals as goal
 
-pub returns : goal.returns
-returns c =
-    are_comments _ (more_comments [] _ _ (subst (λ (t : List ℕ). AddsComments t c.put_built_in.new.out.items) c.new-out.ensures.items c.in_ok-put_built_in.ensures) c.in_ok-put_left.ensures)
+pub returns-then-is_empty-clause-comments : goal.returns-then-is_empty-clause-comments
+returns-then-is_empty-clause-comments c = IfOk-weaker c.none_stands.result _ _ (λ v is. one_is_comments v.items no_definition is) c.none_stands.ensures

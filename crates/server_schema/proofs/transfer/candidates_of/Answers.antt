@@ -2,6 +2,7 @@ use Rattle.std.proofs.Common.{◌∙◌, List, [], ◌∷◌, ◌++◌, take, sy
 use Rattle.std.proofs.lemmas.List.{take_more, take_all}
 use Rattle.server_schema.specs.declared.definition.Definition.{Definition}
 use Rattle.server_schema.specs.declared.taking.Candidate.{Candidate}
+use Rattle.dir_conf.specs.inner.Views.{defined_view}
 use Rattle.server_schema.specs.Growth.{definitions_of_all}
 use Rattle.server_schema.specs.Transfers.{Gathers}
 use Rattle.server_schema.proofs.Passing.{all_defs}
@@ -10,8 +11,8 @@ use Rattle.server_schema.proofs.transfer.candidates_of.Goals as goal
 
 pub loop-definition-init : goal.loop-definition-init
 loop-definition-init c =
-    subst (λ (ts : List Candidate). Gathers c.args.stated.now [] (definitions_of_all ts ++ definitions_of_all c.new-classes.result.items)) (sym c.new-types.ensures.items)
-    (subst (λ (cs : List Candidate). Gathers c.args.stated.now [] (definitions_of_all cs)) (sym c.new-classes.ensures.items) (none_gathered c.args.stated.now))
+    subst (λ (ts : List Candidate). Gathers (defined_view c.args.defined.now) c.args.stated.now [] (definitions_of_all ts ++ definitions_of_all c.new-classes.result.items)) (sym c.new-types.ensures.items)
+    (subst (λ (cs : List Candidate). Gathers (defined_view c.args.defined.now) c.args.stated.now [] (definitions_of_all cs)) (sym c.new-classes.ensures.items) (none_gathered (defined_view c.args.defined.now) c.args.stated.now))
 
 pub loop-definition-preserved : goal.loop-definition-preserved
 loop-definition-preserved c =
@@ -19,8 +20,8 @@ loop-definition-preserved c =
     let i = c.loop-definition.definition-index in
     let d = c.definition-item.result in
     let more = take_more ds i d c.loop-definition-test.true ∙ ap (λ (e : Definition). take i ds ++ e ∷ []) (sym c.definition-item.is) in
-    subst (λ (es : List Definition). Gathers c.args.stated.now es (definitions_of_all c.add_candidate.new.types.items ++ definitions_of_all c.add_candidate.new.classes.items)) (sym more)
-    (next_gathered c.args.stated.now (take i ds) _ _ d c.loop-definition.invariant c.in_ok-add_candidate.ensures)
+    subst (λ (es : List Definition). Gathers (defined_view c.args.defined.now) c.args.stated.now es (definitions_of_all c.add_candidate.new.types.items ++ definitions_of_all c.add_candidate.new.classes.items)) (sym more)
+    (next_gathered (defined_view c.args.defined.now) c.args.stated.now (take i ds) _ _ d c.loop-definition.invariant c.in_ok-add_candidate.ensures)
 
 pub returns : goal.returns
 returns c =
@@ -29,5 +30,5 @@ returns c =
     let ts = c.loop-definition.types.items in
     let cs = c.loop-definition.classes.items in
     let all = ap definitions_of_all (c.in_ok-extend_from_slice.ensures.items ∙ ap (λ (ls : List Candidate). ts ++ ls) c.deref.ensures.value) ∙ all_defs ts cs in
-    subst (λ (es : List Definition). Gathers c.args.stated.now es (definitions_of_all c.extend_from_slice.new.self.items)) (take_all i ds c.loop-definition-test.false)
-    (subst (λ (es : List Definition). Gathers c.args.stated.now (take i ds) es) (sym all) c.loop-definition.invariant)
+    subst (λ (es : List Definition). Gathers (defined_view c.args.defined.now) c.args.stated.now es (definitions_of_all c.extend_from_slice.new.self.items)) (take_all i ds c.loop-definition-test.false)
+    (subst (λ (es : List Definition). Gathers (defined_view c.args.defined.now) c.args.stated.now (take i ds) es) (sym all) c.loop-definition.invariant)
