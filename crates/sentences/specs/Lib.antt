@@ -1,4 +1,6 @@
+pub mod Cuts
 pub mod Missing
 pub mod Noted
 pub mod Sentence
+pub mod Shown
 pub mod Telling

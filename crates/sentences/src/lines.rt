@@ -1,8 +1,10 @@
 //! Texts of one line that any terminal can show.
 
-ghost use Rattle.std.specs.Prelude.{◌≡◌, ◌≤◌, ◌≢◌, Some, length, IsCharBoundary};
-ghost use Rattle.std.specs.Result.{IfOk};
+ghost use Rattle.std.specs.Prelude.{◌≡◌, ◌++◌, ◌∷◌, [], ◌<◌, ◌≤◌, ◌≢◌, Some, length, OnOk, IfOk, ◌==◌, slice_index};
+ghost use Rattle.std.specs.Char.{encode_utf8};
+ghost use Rattle.std.specs.Str.{IsCharBoundary};
 ghost use Rattle.std.specs.String.{string_bytes};
+ghost use Rattle.sentences.specs.Cuts.{goes_on, is_inside, whole_len, cut_words, sentence_of};
 ghost use Rattle.sentences.specs.Sentence.{IsShown, IsLine, IsSentence};
 
 use std::alloc::{AllocError, Global};
@@ -15,24 +17,50 @@ const MOST_WORDS: usize = 397;
 const FRAME_LEN: usize = 3;
 
 /// What stands for the rest of a text that is cut.
-const REST: &str = "..";
+pub(crate) const REST: &str = "..";
 
-/// Whether a place among bytes is within an escape, as `\0A`.
-fn is_in_escape(bytes: &[u8], place: usize) -> bool {
-    matches!(bytes.get(..place), Some([.., b'\\'] | [.., b'\\', _]))
+/// Whether a backslash is at a place.
+fn is_backslash(bytes: &[u8], place: usize) -> bool
+    ensures { result ≡ (slice_index bytes.now place == 92) }
+{
+    match bytes.get(place) {
+        Some(byte) => *byte == b'\\',
+        None => false,
+    }
+}
+
+/// Whether a place is in the middle of a character.
+fn is_in_char(bytes: &[u8], place: usize) -> bool
+    ensures { result ≡ goes_on (slice_index bytes.now place) }
+{
+    match bytes.get(place) {
+        Some(byte) => *byte >= 0x80 && *byte < 0xC0,
+        None => false,
+    }
+}
+
+/// Whether a place is in the middle of a character or of an escape, as `\0A`.
+fn is_inside(bytes: &[u8], place: usize) -> bool
+    ensures { result ≡ is_inside bytes.now place }
+{
+    place > 0
+        && (is_in_char(bytes, place)
+            || is_backslash(bytes, place.saturating_sub(1))
+            || is_backslash(bytes, place.saturating_sub(2)))
 }
 
 /// How many bytes the first whole characters and escapes of a text take, of at most so many bytes.
+#[tactic(auto, using(crate::proofs::Cut::whole_len_step, crate::proofs::Cut::whole_len_end, crate::proofs::Cut::whole_len_boundary))]
 fn whole_len(text: &str, most: usize) -> usize
     ensures bound { result ≤ most }
-    ensures whole { IsCharBoundary text.now result }
+    ensures whole { result ≡ whole_len text.now most }
+    ensures boundary { most ≤ length text.now → IsCharBoundary text.now result }
 {
-    for end in (1..=most).rev() {
-        if text.is_char_boundary(end) && !is_in_escape(text.as_bytes(), end) {
-            return end;
-        }
+    let mut len = most;
+    while is_inside(text.as_bytes(), len) {
+        len -= 1;
     }
-    text.floor_char_boundary(most)
+    len
 }
 
 /// Words in which no byte is a control character.
@@ -43,19 +71,25 @@ pub(crate) struct ShownText {
 }
 
 impl ShownText {
-    pub(crate) fn new(alloc: Global) -> ShownText {
+    pub(crate) fn new(alloc: Global) -> ShownText
+        ensures { string_bytes result.text ≡ [] }
+    {
         ShownText {
             text: String::new(alloc),
         }
     }
 
     /// No words yet, and room for a sentence.
-    pub(crate) fn roomy(alloc: Global) -> Result<ShownText, AllocError> {
+    pub(crate) fn roomy(alloc: Global) -> Result<ShownText, AllocError>
+        ensures { IfOk result (λ words. string_bytes words.text ≡ []) }
+    {
         ShownText::with_capacity(alloc, MOST_WORDS + FRAME_LEN)
     }
 
     /// No words yet, and room for so many bytes.
-    pub(crate) fn with_capacity(alloc: Global, bytes: usize) -> Result<ShownText, AllocError> {
+    pub(crate) fn with_capacity(alloc: Global, bytes: usize) -> Result<ShownText, AllocError>
+        ensures { IfOk result (λ words. string_bytes words.text ≡ []) }
+    {
         Ok(ShownText {
             text: String::with_capacity(alloc, bytes)?,
         })
@@ -64,6 +98,7 @@ impl ShownText {
     /// Words that were put together of shown ones.
     pub(crate) fn of(text: Result<String, AllocError>) -> Result<ShownText, AllocError>
         requires { IfOk text (λ made. IsShown (string_bytes made)) }
+        ensures { IfOk result (λ words. IfOk text (λ made. string_bytes words.text ≡ string_bytes made)) }
     {
         Ok(ShownText { text: text? })
     }
@@ -71,6 +106,7 @@ impl ShownText {
     /// Words that are written in the program.
     pub(crate) fn fixed(alloc: Global, words: &str) -> Result<ShownText, AllocError>
         requires { IsShown words.now }
+        ensures { IfOk result (λ made. string_bytes made.text ≡ words.now) }
     {
         Ok(ShownText {
             text: String::from_str(alloc, words)?,
@@ -82,17 +118,22 @@ impl ShownText {
     pub(crate) fn push(&mut self, c: char) -> Result<(), AllocError>
         requires printed { 32 ≤ c }
         requires no_delete { c ≢ 127 }
+        ensures put { OnOk result (string_bytes self.new.text ≡ string_bytes self.old.text ++ encode_utf8 c) }
+        ensures ascii { c < 128 → encode_utf8 c ≡ c ∷ [] }
     {
         self.text.push(c)
     }
 
     pub(crate) fn push_str(&mut self, words: &str) -> Result<(), AllocError>
         requires { IsShown words.now }
+        ensures { OnOk result (string_bytes self.new.text ≡ string_bytes self.old.text ++ words.now) }
     {
         self.text.push_str(words)
     }
 
-    pub(crate) fn is_empty(&self) -> bool {
+    pub(crate) fn is_empty(&self) -> bool
+        ensures { result ≡ (length (string_bytes self.now.text) == 0) }
+    {
         self.text.is_empty()
     }
 
@@ -104,9 +145,10 @@ impl ShownText {
     }
 
     /// The words themselves where a sentence has room for them; else the first of them, and two dots.
-    #[tactic(auto, using(crate::proofs::Pieces::shown_both, crate::proofs::Pieces::shown_front))]
+    #[tactic(auto, using(crate::proofs::Pieces::shown_both, crate::proofs::Pieces::shown_front), unfolding(crate::specs::Cuts::cut_words))]
     fn fitted(self) -> Result<ShownText, AllocError>
-        ensures { IfOk result (λ words. length (string_bytes words.text) ≤ 397) }
+        ensures short { IfOk result (λ words. length (string_bytes words.text) ≤ 397) }
+        ensures cut { IfOk result (λ words. string_bytes words.text ≡ cut_words (string_bytes self.text)) }
     {
         if self.text.len() <= MOST_WORDS {
             return Ok(self);
@@ -158,8 +200,10 @@ impl Line {
 
 impl Sentence {
     /// The sentence of these words, which are cut where they are too long for one.
-    #[tactic(auto, using(crate::proofs::Pieces::sentence_is))]
-    pub(crate) fn of(words: ShownText) -> Result<Sentence, AllocError> {
+    #[tactic(auto, using(crate::proofs::Pieces::sentence_is), unfolding(crate::specs::Cuts::sentence_of))]
+    pub(crate) fn of(words: ShownText) -> Result<Sentence, AllocError>
+        ensures { IfOk result (λ made. string_bytes made.text ≡ sentence_of (string_bytes words.text)) }
+    {
         let ShownText { mut text } = words.fitted()?;
         text.insert_str(0, "  ")?;
         text.push('\n')?;
@@ -169,6 +213,7 @@ impl Sentence {
     /// A sentence of words that are written in the program.
     pub(crate) fn fixed(alloc: Global, words: &str) -> Result<Sentence, AllocError>
         requires { IsShown words.now }
+        ensures { IfOk result (λ made. string_bytes made.text ≡ sentence_of words.now) }
     {
         let words = ShownText::fixed(alloc, words)?;
         Sentence::of(words)

@@ -1,11 +1,14 @@
 //! Bytes as they are shown to people.
 
-ghost use Rattle.std.specs.Prelude.{◌≡◌, ◌<◌, ◌≤◌, ◌≢◌, true};
-ghost use Rattle.std.specs.Bool.{IsTrue};
-ghost use Rattle.std.specs.Option.{IfNone};
-ghost use Rattle.sentences.specs.Sentence.{IsShown, is_shown};
+ghost use Rattle.std.specs.Prelude.{◌≡◌, ◌++◌, ◌<◌, ◌≤◌, not, length, map, if◌then◌else◌, OnOk, IfOk};
+ghost use Rattle.std.specs.List.{list_all};
+ghost use Rattle.std.specs.Str.{chars};
+ghost use Rattle.std.specs.String.{string_bytes};
+ghost use Rattle.sentences.specs.Sentence.{IsShown};
+ghost use Rattle.sentences.specs.Cuts.{fitting, goes_on, front, end_of};
+ghost use Rattle.sentences.specs.Shown.{is_plain, hex_digit, escape, is_escaped, shown_char, shown_byte, shown, quoted, shown_type, shown_name};
 
-use crate::lines::ShownText;
+use crate::lines::{REST, ShownText};
 use std::alloc::{AllocError, Global};
 
 /// The most bytes that a value takes, without its quotation marks.
@@ -32,7 +35,7 @@ pub(crate) enum Form {
 /// Whether a byte is a character of ASCII that stands for itself: it is printed, and can't be taken for the quotation mark at the end or for an
 /// escape.
 fn is_plain(byte: u8, form: Form) -> bool
-    ensures { IsTrue result → (32 ≤ byte) × (byte < 127) }
+    ensures { result ≡ is_plain form byte }
 {
     match form {
         Form::Quoted => byte >= b' ' && byte < 127 && byte != b'"' && byte != b'\\',
@@ -42,7 +45,7 @@ fn is_plain(byte: u8, form: Form) -> bool
 
 /// Whether each byte stands for itself, as almost always.
 fn are_plain(bytes: &[u8], form: Form) -> bool
-    ensures { IsTrue result → IsShown bytes.now }
+    ensures { result ≡ list_all (is_plain form) bytes.now }
 {
     let mut plain = true;
     for byte in bytes {
@@ -51,19 +54,27 @@ fn are_plain(bytes: &[u8], form: Form) -> bool
     plain
 }
 
-fn is_first_of_char(byte: u8) -> bool {
-    byte & 0xC0 != 0x80
+/// Whether a character goes on with this byte, which so is none that it begins with.
+fn goes_on(byte: u8) -> bool
+    ensures { result ≡ goes_on byte }
+{
+    byte >= 0x80 && byte < 0xC0
 }
 
 /// The first bytes, at most so many, that end with a whole character where they are text.
-fn cut(bytes: &[u8], most: usize) -> &[u8] {
+#[tactic(auto, using(crate::proofs::Cut::near_stops, crate::proofs::Cut::near_down, crate::proofs::Cut::near_none, crate::proofs::Cut::front_all, crate::proofs::Cut::front_cut))]
+fn front(bytes: &[u8], most: usize) -> &[u8]
+    ensures { result.now ≡ front most bytes.now }
+{
     if bytes.len() <= most {
         return bytes;
     }
-    for back in 0..4 {
-        if back <= most && is_first_of_char(bytes[most - back]) {
-            return &bytes[..most - back];
+    let mut place = most;
+    for _passed in 0..4u8 {
+        if !goes_on(bytes[place]) {
+            return &bytes[..place];
         }
+        place = place.saturating_sub(1);
     }
     &bytes[..most]
 }
@@ -71,8 +82,7 @@ fn cut(bytes: &[u8], most: usize) -> &[u8] {
 /// A hexadecimal digit.
 fn digit(value: u8) -> char
     requires { value < 16 }
-    ensures printed { 32 ≤ result }
-    ensures ascii { result < 127 }
+    ensures { result ≡ hex_digit value }
 {
     if value < 10 {
         char::from(b'0' + value)
@@ -81,56 +91,95 @@ fn digit(value: u8) -> char
     }
 }
 
-fn push_byte(out: &mut ShownText, byte: u8) -> Result<(), AllocError> {
+/// Puts a byte behind a text as a backslash and two hexadecimal digits.
+fn push_escape(out: &mut ShownText, byte: u8) -> Result<(), AllocError>
+    ensures { OnOk result (string_bytes out.new.text ≡ string_bytes out.old.text ++ escape byte) }
+{
     out.push('\\')?;
     out.push(digit(byte / 16))?;
     out.push(digit(byte % 16))
 }
 
-/// The byte whose digits a character is shown by; none where it is shown as it is.
+/// The byte by whose digits a character is shown; none where it is shown as it is.
 fn escaped(c: char, form: Form) -> Option<u8>
-    ensures printed { IfNone result (32 ≤ c) }
-    ensures no_delete { IfNone result (c ≢ 127) }
+    ensures { result ≡ (if is_escaped form c then Some c else None) }
 {
     match u8::try_from(c) {
-        Ok(byte) if byte < 128 && !is_plain(byte, form) => Some(byte),
-        Ok(byte) if byte >= 128 && byte < 160 => Some(byte),
+        Ok(byte) if byte < 160 && !is_plain(byte, form) => Some(byte),
         _ => None,
     }
 }
 
-pub(crate) fn push_char(out: &mut ShownText, c: char, form: Form) -> Result<(), AllocError> {
+pub(crate) fn push_char(out: &mut ShownText, c: char, form: Form) -> Result<(), AllocError>
+    ensures { OnOk result (string_bytes out.new.text ≡ string_bytes out.old.text ++ shown_char form c) }
+{
     match escaped(c, form) {
-        Some(byte) => push_byte(out, byte),
+        Some(byte) => push_escape(out, byte),
         None => out.push(c),
     }
 }
 
 /// How many bytes a character takes as it is shown.
-fn shown_len(c: char, form: Form) -> usize {
+fn shown_len(c: char, form: Form) -> usize
+    ensures { result ≡ length (shown_char form c) }
+{
     match escaped(c, form) {
         Some(_) => ESCAPE_LEN,
         None => c.len_utf8(),
     }
 }
 
-/// Puts a text of at most `most` bytes behind another, or where it takes more as it is shown, the first characters of it. Answers whether it is
-/// whole.
-fn push_text(out: &mut ShownText, text: &str, most: usize, form: Form) -> Result<bool, AllocError> {
-    if are_plain(text.as_bytes(), form) {
-        out.push_str(text)?;
-        return Ok(true);
-    }
+/// Puts the characters of a text behind another, and then its end. Of what takes more than `most` bytes as it is shown it puts the first, and dots.
+fn push_chars(
+    out: &mut ShownText,
+    text: &str,
+    most: usize,
+    form: Form,
+    end: &str,
+) -> Result<(), AllocError>
+    requires { IsShown end.now }
+    ensures { OnOk result (string_bytes out.new.text ≡ string_bytes out.old.text ++ fitting most (map (shown_char form) (chars text.now)) end.now) }
+{
     let mut room = most;
     for c in text.chars() {
         let taken = shown_len(c, form);
         if taken > room {
-            return Ok(false);
+            return out.push_str(REST);
         }
         room -= taken;
         push_char(out, c, form)?;
     }
-    Ok(true)
+    out.push_str(end)
+}
+
+/// The same; a text in which each character stands for itself is put at once.
+fn push_text(
+    out: &mut ShownText,
+    text: &str,
+    most: usize,
+    form: Form,
+    end: &str,
+) -> Result<(), AllocError>
+    requires { IsShown end.now }
+    ensures { OnOk result (string_bytes out.new.text ≡ string_bytes out.old.text ++ fitting most (map (shown_char form) (chars text.now)) end.now) }
+{
+    if text.len() <= most && are_plain(text.as_bytes(), form) {
+        out.push_str(text)?;
+        out.push_str(end)
+    } else {
+        push_chars(out, text, most, form, end)
+    }
+}
+
+/// Puts a byte that is no part of a text behind one.
+fn push_byte(out: &mut ShownText, byte: u8, form: Form) -> Result<(), AllocError>
+    ensures { OnOk result (string_bytes out.new.text ≡ string_bytes out.old.text ++ shown_byte form byte) }
+{
+    if is_plain(byte, form) {
+        out.push(char::from(byte))
+    } else {
+        push_escape(out, byte)
+    }
 }
 
 /// The same of bytes that are no text.
@@ -139,69 +188,81 @@ fn push_bytes(
     bytes: &[u8],
     most: usize,
     form: Form,
-) -> Result<bool, AllocError> {
+    end: &str,
+) -> Result<(), AllocError>
+    requires { IsShown end.now }
+    ensures { OnOk result (string_bytes out.new.text ≡ string_bytes out.old.text ++ fitting most (map (shown_byte form) bytes.now) end.now) }
+{
     let mut room = most;
     for byte in bytes {
-        let is_plain = is_plain(*byte, form);
-        let taken = if is_plain { 1 } else { ESCAPE_LEN };
+        let taken = if is_plain(*byte, form) { 1 } else { ESCAPE_LEN };
         if taken > room {
-            return Ok(false);
+            return out.push_str(REST);
         }
         room -= taken;
-        if is_plain {
-            out.push(char::from(*byte))?;
-        } else {
-            push_byte(out, *byte)?;
-        }
+        push_byte(out, *byte, form)?;
     }
-    Ok(true)
+    out.push_str(end)
+}
+
+/// What stands behind the first bytes, at most so many.
+fn end_of(bytes: &[u8], most: usize) -> &'static str
+    ensures end { result.now ≡ end_of most bytes.now }
+    ensures shown { IsShown result.now }
+{
+    if bytes.len() <= most { "" } else { REST }
 }
 
 /// Puts bytes behind a text, on its line: text as it is, and what can't be printed as a backslash and two hexadecimal digits. Of what takes more
 /// than `most` bytes so the first are shown, and two dots behind them.
-fn push_shown(
-    out: &mut ShownText,
-    bytes: &[u8],
-    most: usize,
-    form: Form,
-) -> Result<(), AllocError> {
-    let front = cut(bytes, most);
-    let is_whole = match str::from_utf8(front) {
-        Ok(text) => push_text(out, text, most, form)?,
-        Err(_) => push_bytes(out, front, most, form)?,
-    };
-    if !is_whole || front.len() < bytes.len() {
-        out.push_str("..")?;
+fn push_shown(out: &mut ShownText, bytes: &[u8], most: usize, form: Form) -> Result<(), AllocError>
+    ensures { OnOk result (string_bytes out.new.text ≡ string_bytes out.old.text ++ shown form most bytes.now) }
+{
+    let front = front(bytes, most);
+    let end = end_of(bytes, most);
+    match str::from_utf8(front) {
+        Ok(text) => push_text(out, text, most, form, end),
+        Err(_) => push_bytes(out, front, most, form, end),
     }
-    Ok(())
 }
 
 /// Puts a value in quotation marks behind a text; such marks and backslashes in it are shown by their digits, too.
-pub(crate) fn push_quoted(out: &mut ShownText, bytes: &[u8]) -> Result<(), AllocError> {
+#[tactic(auto, using(std::proofs::lemmas::Str::encode_ascii), unfolding(crate::specs::Shown::quoted))]
+pub(crate) fn push_quoted(out: &mut ShownText, bytes: &[u8]) -> Result<(), AllocError>
+    ensures { OnOk result (string_bytes out.new.text ≡ string_bytes out.old.text ++ quoted bytes.now) }
+{
     out.push('"')?;
     push_shown(out, bytes, VALUE_LIMIT, Form::Quoted)?;
     out.push('"')
 }
 
 /// A value in quotation marks by itself.
-pub(crate) fn quoted(alloc: Global, bytes: &[u8]) -> Result<ShownText, AllocError> {
+pub(crate) fn quoted(alloc: Global, bytes: &[u8]) -> Result<ShownText, AllocError>
+    ensures { IfOk result (λ made. string_bytes made.text ≡ quoted bytes.now) }
+{
     let mut out = ShownText::with_capacity(alloc, bytes.len().min(VALUE_LIMIT) + 2)?;
     push_quoted(&mut out, bytes)?;
     Ok(out)
 }
 
 /// Puts the name of an attribute type or a class behind a text, as it is written.
-pub(crate) fn push_type_name(out: &mut ShownText, name: &[u8]) -> Result<(), AllocError> {
+pub(crate) fn push_type_name(out: &mut ShownText, name: &[u8]) -> Result<(), AllocError>
+    ensures { OnOk result (string_bytes out.new.text ≡ string_bytes out.old.text ++ shown_type name.now) }
+{
     push_shown(out, name, TYPE_LIMIT, Form::Bare)
 }
 
 /// Puts another name, as of an entry, behind a text, as it is written.
-pub(crate) fn push_name(out: &mut ShownText, name: &[u8]) -> Result<(), AllocError> {
+pub(crate) fn push_name(out: &mut ShownText, name: &[u8]) -> Result<(), AllocError>
+    ensures { OnOk result (string_bytes out.new.text ≡ string_bytes out.old.text ++ shown_name name.now) }
+{
     push_shown(out, name, NAME_LIMIT, Form::Bare)
 }
 
 /// A name by itself.
-pub(crate) fn named(alloc: Global, name: &[u8]) -> Result<ShownText, AllocError> {
+pub(crate) fn named(alloc: Global, name: &[u8]) -> Result<ShownText, AllocError>
+    ensures { IfOk result (λ made. string_bytes made.text ≡ shown_name name.now) }
+{
     let mut out = ShownText::new(alloc);
     push_name(&mut out, name)?;
     Ok(out)
