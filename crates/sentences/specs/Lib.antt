@@ -1,6 +1,9 @@
+pub mod Cases
 pub mod Cuts
 pub mod Missing
 pub mod Noted
+pub mod PartWords
+pub mod RecordWords
 pub mod Sentence
 pub mod Shown
 pub mod Telling

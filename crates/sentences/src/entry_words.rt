@@ -1,5 +1,9 @@
 //! Words for entries that aren't as their classes and types ask.
 
+ghost use Rattle.std.specs.Prelude.{◌≡◌, ◌++◌, true, OnOk};
+ghost use Rattle.std.specs.String.{string_bytes};
+ghost use Rattle.sentences.specs.RecordWords.{Puts, IsEntryWords, is_stated_entry, not_allowed};
+
 use crate::lines::ShownText;
 use crate::names::{push_class, push_type};
 use crate::record_parts::{lines_in, naming_text_in};
@@ -40,21 +44,28 @@ impl Refused<'_> {
         &self,
         words: &mut ShownText,
         why: EntryReason,
-    ) -> Result<(), AllocError> {
+    ) -> Result<(), AllocError>
+        ensures { is_stated_entry why ≡ true → OnOk result (Puts words.old words.new (IsEntryWords self.now.conf.now why)) }
+    {
         match why {
             EntryReason::NoObjectClass => words.push_str("the entry has no objectClass"),
             EntryReason::UnknownClass { .. } => self.push_unknown_class(words),
             EntryReason::LacksType { class, needed } => {
                 self.push_lacked_types(words, class, needed)
             }
-            EntryReason::TypeNotAllowed { found } => {
-                words.push_str("none of its object classes allows ")?;
-                push_type(words, self.conf, found)
-            }
+            EntryReason::TypeNotAllowed { found } => { self.push_not_allowed(words, found) }
             EntryReason::ManyValues { single, count } => {
                 self.push_many_values(words, single, count)
             }
         }
+    }
+
+    #[tactic(auto, unfolding(crate::specs::RecordWords::not_allowed))]
+    fn push_not_allowed(&self, words: &mut ShownText, found: TypeId) -> Result<(), AllocError>
+        ensures { OnOk result (string_bytes words.new.text ≡ string_bytes words.old.text ++ not_allowed self.now.conf.now found) }
+    {
+        words.push_str("none of its object classes allows ")?;
+        push_type(words, self.conf, found)
     }
 
     fn push_many_values(

@@ -1,7 +1,10 @@
 //! Names of types, classes and entries.
 
-ghost use Rattle.std.specs.Prelude.{◌≡◌};
+ghost use Rattle.std.specs.Prelude.{◌≡◌, ◌++◌, OnOk};
 ghost use Rattle.std.specs.FinMap as finite;
+ghost use Rattle.std.specs.String.{string_bytes};
+ghost use Rattle.values.specs.Types.{first_or};
+ghost use Rattle.sentences.specs.PartWords.{type_words, class_words};
 
 use crate::lines::ShownText;
 use crate::shown::push_type_name;
@@ -13,7 +16,10 @@ use tree::Tree;
 const NAME_ROOM: usize = 160;
 
 /// Puts the name that a type is printed by behind a text.
-pub(crate) fn push_type(out: &mut ShownText, conf: &Conf, t: TypeId) -> Result<(), AllocError> {
+#[tactic(auto, unfolding(crate::specs::PartWords::type_words))]
+pub(crate) fn push_type(out: &mut ShownText, conf: &Conf, t: TypeId) -> Result<(), AllocError>
+    ensures { OnOk result (string_bytes out.new.text ≡ string_bytes out.old.text ++ type_words conf.now t) }
+{
     match conf.types().get(t.number() as usize) {
         Some(found) => push_type_name(out, found.printed_name()),
         None => out.push_str("an attribute type"),
@@ -21,7 +27,9 @@ pub(crate) fn push_type(out: &mut ShownText, conf: &Conf, t: TypeId) -> Result<(
 }
 
 /// The first name of a class, or its OID where it has none.
-fn name_of_class(class: &ObjectClass) -> &[u8] {
+fn name_of_class(class: &ObjectClass) -> &[u8]
+    ensures { result.now ≡ first_or class.now.names class.now.oid }
+{
     match class.names.as_slice() {
         [first, ..] => first.as_slice(),
         [] => class.oid.as_slice(),
@@ -29,7 +37,10 @@ fn name_of_class(class: &ObjectClass) -> &[u8] {
 }
 
 /// Puts the name of the class with this number behind a text.
-pub(crate) fn push_class(out: &mut ShownText, conf: &Conf, class: usize) -> Result<(), AllocError> {
+#[tactic(auto, unfolding(crate::specs::PartWords::class_words))]
+pub(crate) fn push_class(out: &mut ShownText, conf: &Conf, class: usize) -> Result<(), AllocError>
+    ensures { OnOk result (string_bytes out.new.text ≡ string_bytes out.old.text ++ class_words conf.now class) }
+{
     match conf.classes().get(class) {
         Some(found) => push_type_name(out, name_of_class(found)),
         None => out.push_str("a class"),

@@ -1,6 +1,11 @@
 //! Sentences for records that are refused with a result code.
 
-ghost use Rattle.std.specs.Prelude.{◌≡◌};
+ghost use Rattle.std.specs.Prelude.{◌≡◌, ◌++◌, true, OnOk, IfOk, slice_get};
+ghost use Rattle.std.specs.Option.{option_map, option_copied};
+ghost use Rattle.std.specs.String.{string_bytes};
+ghost use Rattle.tree.specs.Operations.{controls_of};
+ghost use Rattle.reasons.specs.Asked.{name_of_record, blocks_of_record, rdn_of_record, superior_of_record};
+ghost use Rattle.sentences.specs.RecordWords as told;
 ghost use Rattle.sentences.specs.Sentence.{IsShown};
 
 use crate::lines::{Sentence, ShownText};
@@ -9,7 +14,7 @@ use crate::name_words::NameText;
 use crate::names::{kept_name, parent_text};
 use crate::places::line_of;
 use crate::record_parts::{blocks_in, controls_in, name_in, new_rdn_in, new_superior_in};
-use crate::shown::push_name;
+use crate::shown::{push_name, push_number};
 use crate::summary::grouped;
 use dn::Name;
 use ldif::{Control, Mod, Part, RawRecord, Record};
@@ -36,7 +41,9 @@ pub(crate) struct Refused<'a> {
 }
 
 /// In which part of a record it is refused, if in one by itself.
-fn part_of(reason: &Reason) -> Option<Part> {
+fn part_of(reason: &Reason) -> Option<Part>
+    ensures { result ≡ told.part_of reason.now }
+{
     match reason {
         Reason::CriticalControl { control } => Some(Part::Control(*control)),
         Reason::Line { line, .. } => Some(Part::Attribute(*line)),
@@ -51,29 +58,59 @@ fn part_of(reason: &Reason) -> Option<Part> {
     }
 }
 
+/// Puts a line of the text behind words, if it is known.
+fn push_line(words: &mut ShownText, line: Option<u64>) -> Result<(), AllocError>
+    ensures { OnOk result (string_bytes words.new.text ≡ string_bytes words.old.text ++ told.at_line line) }
+{
+    match line {
+        Some(line) => {
+            words.push_str("line ")?;
+            push_number(words, line)?;
+            words.push_str(", ")
+        }
+        None => Ok(()),
+    }
+}
+
 impl Refused<'_> {
-    pub(crate) fn dn(&self) -> &[u8] {
+    ghost use Rattle.sentences.specs.Cases.{case_of};
+    ghost use Rattle.sentences.specs.Cuts.{sentence_of};
+    ghost use Rattle.sentences.specs.RecordWords.{Puts, IsWords, IsSentenceOf, is_stated, is_place, place_words, shown_control, control_words, PartBeginsOn};
+
+    pub(crate) fn dn(&self) -> &[u8]
+        ensures { result.now ≡ name_of_record self.now.asked.now }
+    {
         name_in(self.asked)
     }
 
-    fn controls(&self) -> &[Control] {
+    fn controls(&self) -> &[Control]
+        ensures { result.now ≡ controls_of self.now.asked.now }
+    {
         controls_in(self.asked)
     }
 
-    pub(crate) fn blocks(&self) -> &[Mod] {
+    pub(crate) fn blocks(&self) -> &[Mod]
+        ensures { result.now ≡ blocks_of_record self.now.asked.now }
+    {
         blocks_in(self.asked)
     }
 
-    fn new_rdn(&self) -> &[u8] {
+    fn new_rdn(&self) -> &[u8]
+        ensures { result.now ≡ rdn_of_record self.now.asked.now }
+    {
         new_rdn_in(self.asked)
     }
 
-    fn new_superior(&self) -> Option<&[u8]> {
+    fn new_superior(&self) -> Option<&[u8]>
+        ensures { option_copied result ≡ superior_of_record self.now.asked.now }
+    {
         new_superior_in(self.asked)
     }
 
     /// The path of its own name, if it has one.
-    pub(crate) fn path(&self) -> Option<&Path> {
+    pub(crate) fn path(&self) -> Option<&Path>
+        ensures { option_copied result ≡ option_map (λ p. p.now.path) self.now.place }
+    {
         match self.place {
             Some(place) => Some(&place.path),
             None => None,
@@ -108,31 +145,40 @@ impl Refused<'_> {
         name_text.push_words(words, name, why)
     }
 
-    /// Where in the text, of which entry, and what is wrong.
-    fn words(&self, reason: &Reason) -> Result<ShownText, AllocError> {
-        let mut words = ShownText::roomy(self.alloc)?;
-        if let Some(line) = self.line_of(reason) {
-            let at = ShownText::of(format!(in self.alloc; "line {line}, "))?;
-            words.push_str(at.as_str())?;
-        }
-        push_name(&mut words, self.dn())?;
-        words.push_str(": ")?;
-        self.push_words(&mut words, reason)?;
-        Ok(words)
+    /// Puts the line of the text behind words, if it is known, and the name of the entry.
+    #[tactic(auto, unfolding(crate::specs::RecordWords::place_words))]
+    fn push_place(&self, words: &mut ShownText, line: Option<u64>) -> Result<(), AllocError>
+        ensures { OnOk result (string_bytes words.new.text ≡ string_bytes words.old.text ++ place_words line (name_of_record self.now.asked.now)) }
+    {
+        push_line(words, line)?;
+        push_name(words, self.dn())?;
+        words.push_str(": ")
     }
 
-    /// The same as a sentence.
-    pub(crate) fn sentence(&self, reason: &Reason) -> Result<Sentence, AllocError> {
-        Sentence::of(self.words(reason)?)
+    /// Where in the text, of which entry, and what is wrong.
+    pub(crate) fn sentence(&self, reason: &Reason) -> Result<Sentence, AllocError>
+        ensures { IfOk result (λ s. is_stated reason.now ≡ true → IsSentenceOf (case_of self.now) reason.now (string_bytes s.text)) }
+    {
+        let mut words = ShownText::roomy(self.alloc)?;
+        self.push_place(&mut words, self.line_of(reason))?;
+        self.push_words(&mut words, reason)?;
+        Sentence::of(words)
     }
 
     /// The number of the line of the text on which the part begins that is refused.
-    fn line_of(&self, reason: &Reason) -> Option<u64> {
-        line_of(self.asked, self.raw, part_of(reason)?)
+    fn line_of(&self, reason: &Reason) -> Option<u64>
+        ensures { PartBeginsOn self.now.raw.now self.now.asked.now (told.part_of reason.now) result }
+    {
+        match part_of(reason) {
+            Some(part) => line_of(self.asked, self.raw, part),
+            None => None,
+        }
     }
 
     /// Puts what is wrong behind words.
-    fn push_words(&self, words: &mut ShownText, reason: &Reason) -> Result<(), AllocError> {
+    fn push_words(&self, words: &mut ShownText, reason: &Reason) -> Result<(), AllocError>
+        ensures { is_stated reason.now ≡ true → OnOk result (Puts words.old words.new (IsWords (case_of self.now) reason.now)) }
+    {
         match reason {
             Reason::CriticalControl { control } => self.push_control(words, *control),
             Reason::Name(why) => {
@@ -156,7 +202,9 @@ impl Refused<'_> {
     }
 
     /// Puts what is wrong with where the entry stands, or is to stand, behind words.
-    fn push_place_words(&self, words: &mut ShownText, reason: &Reason) -> Result<(), AllocError> {
+    fn push_place_words(&self, words: &mut ShownText, reason: &Reason) -> Result<(), AllocError>
+        ensures { is_place reason.now ≡ true → OnOk result (Puts words.old words.new (IsWords (case_of self.now) reason.now)) }
+    {
         match reason {
             Reason::IsThere => self.push_there(words),
             Reason::NoParent => self.push_no_parent(words),
@@ -169,15 +217,29 @@ impl Refused<'_> {
             Reason::BelowItself => words.push_str("it can't be moved below itself"),
             Reason::NoSuperior => self.push_no_superior(words),
             Reason::IsTaken => words.push_str("another entry has the new name"),
-            _ => words.push_str("the directory has 4,294,967,295 entries, and takes no more"),
+            Reason::Full => {
+                words.push_str("the directory has 4,294,967,295 entries, and takes no more")
+            }
+            _ => Ok(()),
         }
     }
 
-    fn push_control(&self, words: &mut ShownText, control: usize) -> Result<(), AllocError> {
-        words.push_str("control ")?;
-        if let Some(found) = self.controls().get(control) {
-            push_name(words, found.oid.as_slice())?;
+    /// Puts the OID of a control behind words.
+    fn push_oid(&self, words: &mut ShownText, control: usize) -> Result<(), AllocError>
+        ensures { OnOk result (string_bytes words.new.text ≡ string_bytes words.old.text ++ shown_control (slice_get (controls_of self.now.asked.now) control)) }
+    {
+        match self.controls().get(control) {
+            Some(found) => push_name(words, found.oid.as_slice()),
+            None => Ok(()),
         }
+    }
+
+    #[tactic(auto, unfolding(crate::specs::RecordWords::control_words))]
+    fn push_control(&self, words: &mut ShownText, control: usize) -> Result<(), AllocError>
+        ensures { OnOk result (string_bytes words.new.text ≡ string_bytes words.old.text ++ control_words (controls_of self.now.asked.now) control) }
+    {
+        words.push_str("control ")?;
+        self.push_oid(words, control)?;
         words.push_str(" is critical, and no control is known")
     }
 

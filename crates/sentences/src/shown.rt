@@ -1,6 +1,7 @@
 //! Bytes as they are shown to people.
 
 ghost use Rattle.std.specs.Prelude.{◌≡◌, ◌++◌, ◌<◌, ◌≤◌, not, length, map, if◌then◌else◌, OnOk, IfOk};
+ghost use Rattle.std.specs.Fmt.{decimal};
 ghost use Rattle.std.specs.List.{list_all};
 ghost use Rattle.std.specs.Str.{chars};
 ghost use Rattle.std.specs.String.{string_bytes};
@@ -266,4 +267,15 @@ pub(crate) fn named(alloc: Global, name: &[u8]) -> Result<ShownText, AllocError>
     let mut out = ShownText::new(alloc);
     push_name(&mut out, name)?;
     Ok(out)
+}
+
+/// Puts a number in decimal behind a text.
+#[tactic(auto, using(crate::proofs::Numbers::decimal_last, std::proofs::lemmas::Fmt::decimal_digit))]
+pub(crate) fn push_number(out: &mut ShownText, number: u64) -> Result<(), AllocError>
+    ensures { OnOk result (string_bytes out.new.text ≡ string_bytes out.old.text ++ decimal number) }
+{
+    if number >= 10 {
+        push_number(out, number / 10)?;
+    }
+    out.push(char::from(b'0' + (number % 10) as u8))
 }

@@ -1,6 +1,9 @@
 //! Words for values that a type doesn't have.
 
+ghost use Rattle.std.specs.Prelude.{◌≡◌, ◌++◌, OnOk};
+ghost use Rattle.std.specs.String.{string_bytes};
 ghost use Rattle.sentences.specs.Sentence.{IsShown};
+ghost use Rattle.sentences.specs.PartWords.{syntax_words, no_such_value};
 
 use crate::lines::ShownText;
 use crate::names::push_type;
@@ -10,7 +13,8 @@ use std::alloc::AllocError;
 
 /// The syntax that a value isn't of, with its OID (RFC 4517, 3.3).
 fn syntax_words(syntax: TypeSyntax) -> &'static str
-    ensures { IsShown result.now }
+    ensures words { result.now ≡ syntax_words syntax }
+    ensures shown { IsShown result.now }
 {
     match syntax {
         TypeSyntax::Name => "no DN (1.3.6.1.4.1.1466.115.121.1.12) whose types are defined",
@@ -27,12 +31,15 @@ fn syntax_words(syntax: TypeSyntax) -> &'static str
 }
 
 /// Puts that a type has no such value behind a text.
+#[tactic(auto, unfolding(crate::specs::PartWords::no_such_value))]
 pub(crate) fn push_no_such_value(
     out: &mut ShownText,
     conf: &Conf,
     t: TypeId,
     value: &[u8],
-) -> Result<(), AllocError> {
+) -> Result<(), AllocError>
+    ensures { OnOk result (string_bytes out.new.text ≡ string_bytes out.old.text ++ no_such_value conf.now t value.now) }
+{
     push_type(out, conf, t)?;
     out.push_str(": ")?;
     push_quoted(out, value)?;

@@ -1,0 +1,141 @@
+-- Elements of lists, and what is put behind a text.
+use Rattle.std.proofs.Common.{◌≡◌, ℕ, ◌++◌, Bool, true, false, List, length, Option, Some, None, Result, Ok, Err, OnOk, IfOk, Bor, [], sym, ap, refl, subst, ◌∙◌}
+use Rattle.std.specs.FinMap as finite
+use Rattle.std.specs.Slice.{IsItemAt}
+use Rattle.std.specs.Option.{option_copied}
+use Rattle.std.specs.List.{slice_get}
+use Rattle.std.specs.String.{string_bytes}
+use Rattle.std.proofs.lemmas.List.{append_assoc}
+use Rattle.std.proofs.lemmas.Option.{slice_get_read, slice_get_past}
+use Rattle.paths.specs.Paths.{Path}
+use Rattle.schema.specs.Conf.{Conf}
+use Rattle.entries.specs.Entries.{EntryContent}
+use Rattle.tree.specs.Directories.{Entries}
+use Rattle.reasons.specs.Asked.{name_of_record}
+use Rattle.reasons.specs.declared.reason.LineReason.{LineReason}
+use Rattle.reasons.specs.declared.reason.BlockReason.{BlockReason}
+use Rattle.reasons.specs.declared.reason.ValueReason.{ValueReason}
+use Rattle.reasons.specs.declared.reason.EntryReason.{EntryReason}
+use Rattle.reasons.specs.declared.reason.Reason.{Reason}
+use Rattle.reasons.specs.declared.reason.Reason.TheVariants as reasons
+use Rattle.sentences.specs.RecordWords.{Case, IsWords, IsEntryWords, IsSentenceOf, PartBeginsOn, entry_at, is_place, is_stated, part_of, place_words, rdn_value}
+use Rattle.sentences.specs.Cuts.{sentence_of}
+use Rattle.sentences.specs.declared.lines.Sentence.{Sentence}
+
+item : {X : Type 0} (xs : List X) (i : ℕ) (r : Option (Bor X)) → IsItemAt xs i r → slice_get xs i ≡ option_copied r
+item xs i None at = slice_get_past xs i at.3
+item xs i (Some x) at = slice_get_read xs (length xs) i x.now refl at.3.0 at.1
+
+-- what `get` finds in a list that is known by another name
+pub item_at : {X : Type 0} (xs ys : List X) (i k : ℕ) (r : Option (Bor X)) → ys ≡ xs → k ≡ i → IsItemAt ys k r → slice_get xs i ≡ option_copied r
+item_at {X} xs ys i k r same place at =
+    subst (λ (zs : List X). slice_get zs i ≡ option_copied r) same (subst (λ (j : ℕ). slice_get ys j ≡ option_copied r) place (item ys k r at))
+
+-- words that are put are words of which something holds
+pub puts : {E : Type 0} (r : Result (Unit {0}) E) (old new words : List ℕ) (P : List ℕ → Type 0) → P words
+    → OnOk r (new ≡ old ++ words) → OnOk r ((ws : List ℕ) × P ws × (new ≡ old ++ ws))
+puts (Ok u) old new words P holds put = (words, holds, put)
+puts (Err e) old new words P holds put = tt
+
+-- two pieces, and three
+pub put_two : {E : Type 0} (r : Result (Unit {0}) E) (new old mid a b : List ℕ) → mid ≡ old ++ a → OnOk r (new ≡ mid ++ b) → OnOk r (new ≡ old ++ (a ++ b))
+put_two r new old mid a b first last =
+    subst (λ (v : List ℕ). OnOk r (new ≡ v)) (ap (λ m. m ++ b) first ∙ append_assoc old a b) last
+
+pub put_three : {E : Type 0} (r : Result (Unit {0}) E) (new old one two a b c : List ℕ) → one ≡ old ++ a → two ≡ one ++ b → OnOk r (new ≡ two ++ c)
+    → OnOk r (new ≡ old ++ ((a ++ b) ++ c))
+put_three r new old one two a b c first second last =
+    put_two r new old two (a ++ b) c (second ∙ ap (λ m. m ++ b) first ∙ append_assoc old a b) last
+
+-- ---- the value of an RDN
+
+pub rdn_none : (d : Entries) (o : Option Path) (ava : ℕ) → o ≡ None → rdn_value (entry_at d o) ava ≡ None
+rdn_none d o ava none = rw none refl
+
+pub rdn_missing : (d : Entries) (o : Option Path) (path : Path) (ava : ℕ) → o ≡ Some path → finite.get d path ≡ None → rdn_value (entry_at d o) ava ≡ None
+rdn_missing d o path ava at none = rw (at, none) refl
+
+pub rdn_found : (d : Entries) (o : Option Path) (path : Path) (e : EntryContent) (ava : ℕ) → o ≡ Some path → finite.get d path ≡ Some e
+    → rdn_value (entry_at d o) ava ≡ slice_get e.rdn ava
+rdn_found d o path e ava at there = rw (at, there) refl
+
+-- ---- reasons
+
+pub no_claim : {P : Type 0} (b : Bool) → b ≡ false → b ≡ true → P
+no_claim true is isnt = cc
+no_claim false is isnt = cc
+
+pub said : {E : Type 0} (c : Case) (reason told : Reason) (old new : List ℕ) (r : Result (Unit {0}) E) → reason ≡ told
+    → OnOk r ((ws : List ℕ) × IsWords c told ws × (new ≡ old ++ ws)) → OnOk r ((ws : List ℕ) × IsWords c reason ws × (new ≡ old ++ ws))
+said c reason told old new r is h = subst (λ (x : Reason). OnOk r ((ws : List ℕ) × IsWords c x ws × (new ≡ old ++ ws))) (sym is) h
+
+pub entry_said : {E : Type 0} (conf : Conf) (why told : EntryReason) (old new : List ℕ) (r : Result (Unit {0}) E) → why ≡ told
+    → OnOk r ((ws : List ℕ) × IsEntryWords conf told ws × (new ≡ old ++ ws)) → OnOk r ((ws : List ℕ) × IsEntryWords conf why ws × (new ≡ old ++ ws))
+entry_said conf why told old new r is h = subst (λ (x : EntryReason). OnOk r ((ws : List ℕ) × IsEntryWords conf x ws × (new ≡ old ++ ws))) (sym is) h
+
+-- a reason that is of no part of a record is of a place
+pub placed : (reason : Reason) → ((x : ℕ) → reason ≡ reasons.CriticalControl x → ⊥) → ((x : ℕ) (y : LineReason) → reason ≡ reasons.Line x y → ⊥)
+    → ((x : ℕ) (y : BlockReason) → reason ≡ reasons.Block x y → ⊥) → ((x y : ℕ) (z : ValueReason) → reason ≡ reasons.Value x y z → ⊥)
+    → ((x : EntryReason) → reason ≡ reasons.Entry x → ⊥) → is_stated reason ≡ true → is_place reason ≡ true
+placed (reasons.CriticalControl x) nc nl nb nv ne h = absurd (nc x refl)
+placed (reasons.Line x y) nc nl nb nv ne h = absurd (nl x y refl)
+placed (reasons.Block x y) nc nl nb nv ne h = absurd (nb x y refl)
+placed (reasons.Value x y z) nc nl nb nv ne h = absurd (nv x y z refl)
+placed (reasons.Entry x) nc nl nb nv ne h = absurd (ne x refl)
+placed (reasons.NoRdnValue x) nc nl nb nv ne h = refl
+placed reasons.IsSuffix nc nl nb nv ne h = refl
+placed reasons.BelowItself nc nl nb nv ne h = refl
+placed reasons.IsTaken nc nl nb nv ne h = refl
+placed reasons.Full nc nl nb nv ne h = refl
+placed (reasons.Name x) nc nl nb nv ne h = h
+placed reasons.IsThere nc nl nb nv ne h = h
+placed reasons.NoParent nc nl nb nv ne h = h
+placed reasons.NoEntry nc nl nb nv ne h = h
+placed reasons.HasChildren nc nl nb nv ne h = h
+placed (reasons.NewRdn x) nc nl nb nv ne h = h
+placed (reasons.Superior x) nc nl nb nv ne h = h
+placed reasons.NoSuperior nc nl nb nv ne h = h
+
+-- those of a place are these
+pub no_place : (reason : Reason) → ((x : ℕ) → reason ≡ reasons.NoRdnValue x → ⊥) → (reason ≡ reasons.IsSuffix → ⊥) → (reason ≡ reasons.BelowItself → ⊥)
+    → (reason ≡ reasons.IsTaken → ⊥) → (reason ≡ reasons.Full → ⊥) → is_place reason ≡ false
+no_place (reasons.NoRdnValue x) nr ns nb nt nf = absurd (nr x refl)
+no_place reasons.IsSuffix nr ns nb nt nf = absurd (ns refl)
+no_place reasons.BelowItself nr ns nb nt nf = absurd (nb refl)
+no_place reasons.IsTaken nr ns nb nt nf = absurd (nt refl)
+no_place reasons.Full nr ns nb nt nf = absurd (nf refl)
+no_place (reasons.CriticalControl x) nr ns nb nt nf = refl
+no_place (reasons.Line x y) nr ns nb nt nf = refl
+no_place (reasons.Block x y) nr ns nb nt nf = refl
+no_place (reasons.Value x y z) nr ns nb nt nf = refl
+no_place (reasons.Entry x) nr ns nb nt nf = refl
+no_place (reasons.Name x) nr ns nb nt nf = refl
+no_place reasons.IsThere nr ns nb nt nf = refl
+no_place reasons.NoParent nr ns nb nt nf = refl
+no_place reasons.NoEntry nr ns nb nt nf = refl
+no_place reasons.HasChildren nr ns nb nt nf = refl
+no_place (reasons.NewRdn x) nr ns nb nt nf = refl
+no_place (reasons.Superior x) nr ns nb nt nf = refl
+no_place reasons.NoSuperior nr ns nb nt nf = refl
+
+pub at_ok : {E : Type 0} (r : Result (Unit {0}) E) (u : Unit {0}) (P : Type 0) → r ≡ Ok u → OnOk r P → P
+at_ok r u P is h = subst (λ (x : Result (Unit {0}) _). OnOk x P) is h
+
+-- ---- the sentence
+
+pub sentence_said : {E : Type 0} (r : Result Sentence E) (c : Case) (reason : Reason) (line : Option ℕ) (empty front whole : List ℕ) → empty ≡ []
+    → front ≡ empty ++ place_words line (name_of_record c.asked) → PartBeginsOn c.raw c.asked (part_of reason) line
+    → (is_stated reason ≡ true → (ws : List ℕ) × IsWords c reason ws × (whole ≡ front ++ ws))
+    → IfOk r (λ made. string_bytes made.text ≡ sentence_of whole)
+    → IfOk r (λ s. is_stated reason ≡ true → IsSentenceOf c reason (string_bytes s.text))
+sentence_said (Ok s) c reason line empty front whole none place begins put made = λ h.
+    let p : (ws : List ℕ) × IsWords c reason ws × (whole ≡ front ++ ws) = put h in
+    let f : front ≡ place_words line (name_of_record c.asked) = place ∙ ap (λ x. x ++ place_words line (name_of_record c.asked)) none in
+    record {
+      number = line;
+      words = p.0;
+      line = begins;
+      why = p.1;
+      is = made ∙ ap sentence_of (p.2 ∙ ap (λ x. x ++ p.0) f);
+    }
+sentence_said (Err e) c reason line empty front whole none place begins put made = tt

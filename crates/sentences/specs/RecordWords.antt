@@ -1,0 +1,209 @@
+-- What is said of a record that is refused.
+use Rattle.std.specs.Prelude.{◌≡◌, ℕ, ◌++◌, Bool, true, false, List, [], Option, Some, None, Ok, codes, slice_get}
+use Rattle.std.specs.FinMap as finite
+use Rattle.std.specs.Fmt.{decimal}
+use Rattle.std.specs.String.{string_bytes}
+use Rattle.ldif_lines.specs.declared.raw_record.RawRecord.{RawRecord}
+use Rattle.ldif.specs.Attrs.{Attr}
+use Rattle.ldif.specs.Parts.{IsPartLine}
+use Rattle.ldif.specs.Reading.{reading}
+use Rattle.ldif.specs.declared.parts.Part.{Part}
+use Rattle.ldif.specs.declared.parts.Part.TheVariants as parts
+use Rattle.ldif.specs.declared.record.Control.{Control}
+use Rattle.ldif.specs.declared.record.Mod.{Mod}
+use Rattle.ldif.specs.declared.record.Mode.{Mode}
+use Rattle.ldif.specs.declared.record.Record.{Record}
+use Rattle.paths.specs.Paths.{Path}
+use Rattle.schema.specs.Conf.{Conf}
+use Rattle.schema.specs.Rdns.{Ava}
+use Rattle.entries.specs.Entries.{EntryContent}
+use Rattle.tree.specs.Directories.{Entries}
+use Rattle.tree.specs.Operations.{controls_of}
+use Rattle.reasons.specs.Asked.{name_of_record, lines_of_record, blocks_of_record}
+use Rattle.reasons.specs.declared.reason.LineReason.{LineReason}
+use Rattle.reasons.specs.declared.reason.LineReason.TheVariants as line_reasons
+use Rattle.reasons.specs.declared.reason.BlockReason.{BlockReason}
+use Rattle.reasons.specs.declared.reason.ValueReason.{ValueReason}
+use Rattle.reasons.specs.declared.reason.EntryReason.{EntryReason}
+use Rattle.reasons.specs.declared.reason.EntryReason.TheVariants as entry_reasons
+use Rattle.reasons.specs.declared.reason.Reason.{Reason}
+use Rattle.reasons.specs.declared.reason.Reason.TheVariants as reasons
+use Rattle.sentences.specs.declared.lines.ShownText.{ShownText}
+use Rattle.sentences.specs.Cuts.{sentence_of}
+use Rattle.sentences.specs.Shown.{shown_name, quoted}
+use Rattle.sentences.specs.PartWords.{type_words, line_words, block_words, value_words}
+
+-- a record that is refused: under a configuration, with these entries, and where its name stands, if that was found
+pub record Case : Type 0 where
+  pub conf : Conf
+  pub entries : Entries
+  pub raw : RawRecord
+  pub asked : Record
+  pub path : Option Path
+
+-- words of which this holds were put behind others
+abbrev pub Puts : ShownText → ShownText → (List ℕ → Type 0) → Type 0
+Puts old new P = (words : List ℕ) × P words × (string_bytes new.text ≡ string_bytes old.text ++ words)
+
+-- ---- lines of the text
+
+abbrev pub number_at : RawRecord → Option ℕ → Option ℕ
+number_at raw None = None
+number_at raw (Some index) = slice_get raw.numbers.items index
+
+-- the number of the text's line on which a part of a record begins, if a line says that part
+abbrev pub BeginsOn : RawRecord → Record → Part → Option ℕ → Type 0
+BeginsOn raw asked part number =
+    (index : Option ℕ) × ((mode : Mode) → reading mode raw.first raw.lines ≡ Ok asked → IsPartLine mode asked part raw.lines index)
+    × (number ≡ number_at raw index)
+
+-- the part of a record in which it is refused, where that is one by itself
+abbrev pub part_of : Reason → Option Part
+part_of (reasons.CriticalControl control) = Some (parts.Control control)
+part_of (reasons.Line line why) = Some (parts.Attribute line)
+part_of (reasons.Block block why) = Some (parts.Block block)
+part_of (reasons.Value block value why) = Some (parts.Value block value)
+part_of (reasons.NewRdn why) = Some parts.NewRdn
+part_of (reasons.Superior why) = Some parts.NewSuperior
+part_of _ = None
+
+abbrev pub PartBeginsOn : RawRecord → Record → Option Part → Option ℕ → Type 0
+PartBeginsOn raw asked None number = number ≡ None
+PartBeginsOn raw asked (Some part) number = BeginsOn raw asked part number
+
+-- ---- what is wrong
+
+abbrev pub shown_control : Option Control → List ℕ
+shown_control None = []
+shown_control (Some control) = shown_name control.oid
+
+-- a control that is critical, by its OID
+unfoldable pub control_words : List Control → ℕ → List ℕ
+control_words controls index = codes "control " ++ shown_control (slice_get controls index) ++ codes " is critical, and no control is known"
+
+-- the number of the text's line on which an earlier line begins that a line equals
+abbrev pub EarlierBeginsOn : RawRecord → Record → LineReason → Option ℕ → Type 0
+EarlierBeginsOn raw asked (line_reasons.EqualTo earlier) number = BeginsOn raw asked (parts.Attribute earlier) number
+EarlierBeginsOn raw asked line_reasons.UnknownType number = number ≡ None
+EarlierBeginsOn raw asked line_reasons.UsersCantChange number = number ≡ None
+EarlierBeginsOn raw asked line_reasons.BadSyntax number = number ≡ None
+
+-- a line of an add
+abbrev pub IsLineWords : Case → LineReason → Option Attr → List ℕ → Type 0
+IsLineWords c why None words = words ≡ []
+IsLineWords c why (Some l) words =
+    (number : Option ℕ) × EarlierBeginsOn c.raw c.asked why number × (words ≡ line_words c.conf (lines_of_record c.asked) number l why)
+
+abbrev pub words_of_block : BlockReason → Option Mod → List ℕ
+words_of_block why None = []
+words_of_block why (Some block) = block_words block why
+
+-- a value of a block; which equal one is there is tested
+abbrev pub IsValueWords : Case → ValueReason → Mod → Option (List ℕ) → List ℕ → Type 0
+IsValueWords c why block None words = words ≡ []
+IsValueWords c why block (Some value) words = (there : Option (List ℕ)) × (words ≡ value_words c.conf there block.attr value why)
+
+abbrev pub IsBlockValueWords : Case → ValueReason → ℕ → Option Mod → List ℕ → Type 0
+IsBlockValueWords c why value None words = words ≡ []
+IsBlockValueWords c why value (Some block) words = IsValueWords c why block (slice_get block.values value) words
+
+abbrev pub entry_at : Entries → Option Path → Option EntryContent
+entry_at d None = None
+entry_at d (Some path) = finite.get d path
+
+abbrev pub rdn_value : Option EntryContent → ℕ → Option Ava
+rdn_value None ava = None
+rdn_value (Some e) ava = slice_get e.rdn ava
+
+-- a value of the entry's RDN that is to go
+abbrev pub rdn_value_words : Conf → Option Ava → List ℕ
+rdn_value_words conf None = codes "a value of its RDN is to go"
+rdn_value_words conf (Some p) = type_words conf p.0 ++ codes ": " ++ quoted p.1 ++ codes " is in its RDN, so it has to stay"
+
+-- a type that none of the entry's classes allows
+unfoldable pub not_allowed : Conf → ℕ → List ℕ
+not_allowed conf found = codes "none of its object classes allows " ++ type_words conf found
+
+-- the entry as it is to be; which class is unknown, and which types it lacks, is tested
+abbrev pub IsEntryWords : Conf → EntryReason → List ℕ → Type 0
+IsEntryWords conf entry_reasons.NoObjectClass words = words ≡ codes "the entry has no objectClass"
+IsEntryWords conf (entry_reasons.TypeNotAllowed found) words = words ≡ not_allowed conf found
+IsEntryWords conf (entry_reasons.ManyValues single count) words = Unit {0}
+IsEntryWords conf (entry_reasons.UnknownClass value) words = Unit {0}
+IsEntryWords conf (entry_reasons.LacksType class needed) words = Unit {0}
+
+abbrev pub is_stated_entry : EntryReason → Bool
+is_stated_entry entry_reasons.NoObjectClass = true
+is_stated_entry (entry_reasons.TypeNotAllowed found) = true
+is_stated_entry (entry_reasons.ManyValues single count) = false
+is_stated_entry (entry_reasons.UnknownClass value) = false
+is_stated_entry (entry_reasons.LacksType class needed) = false
+
+-- a reason; what is said of names, and of entries that are there or aren't, is tested
+abbrev pub IsWords : Case → Reason → List ℕ → Type 0
+IsWords c (reasons.CriticalControl control) words = words ≡ control_words (controls_of c.asked) control
+IsWords c (reasons.Line line why) words = IsLineWords c why (slice_get (lines_of_record c.asked) line) words
+IsWords c (reasons.Block block why) words = words ≡ words_of_block why (slice_get (blocks_of_record c.asked) block)
+IsWords c (reasons.Value block value why) words = IsBlockValueWords c why value (slice_get (blocks_of_record c.asked) block) words
+IsWords c (reasons.NoRdnValue ava) words = words ≡ rdn_value_words c.conf (rdn_value (entry_at c.entries c.path) ava)
+IsWords c reasons.IsSuffix words = words ≡ codes "the entry of the suffix keeps its name and its place"
+IsWords c reasons.BelowItself words = words ≡ codes "it can't be moved below itself"
+IsWords c reasons.IsTaken words = words ≡ codes "another entry has the new name"
+IsWords c reasons.Full words = words ≡ codes "the directory has 4,294,967,295 entries, and takes no more"
+IsWords c (reasons.Entry why) words = IsEntryWords c.conf why words
+IsWords c (reasons.Name why) words = Unit {0}
+IsWords c reasons.IsThere words = Unit {0}
+IsWords c reasons.NoParent words = Unit {0}
+IsWords c reasons.NoEntry words = Unit {0}
+IsWords c reasons.HasChildren words = Unit {0}
+IsWords c (reasons.NewRdn why) words = Unit {0}
+IsWords c (reasons.Superior why) words = Unit {0}
+IsWords c reasons.NoSuperior words = Unit {0}
+
+-- those of them that say what is wrong with the place of an entry
+abbrev pub is_place : Reason → Bool
+is_place (reasons.NoRdnValue ava) = true
+is_place reasons.IsSuffix = true
+is_place reasons.BelowItself = true
+is_place reasons.IsTaken = true
+is_place reasons.Full = true
+is_place _ = false
+
+-- of which reasons the words are stated here; those of the others are tested
+abbrev pub is_stated : Reason → Bool
+is_stated (reasons.CriticalControl control) = true
+is_stated (reasons.Line line why) = true
+is_stated (reasons.Block block why) = true
+is_stated (reasons.Value block value why) = true
+is_stated (reasons.NoRdnValue ava) = true
+is_stated reasons.IsSuffix = true
+is_stated reasons.BelowItself = true
+is_stated reasons.IsTaken = true
+is_stated reasons.Full = true
+is_stated (reasons.Entry why) = is_stated_entry why
+is_stated (reasons.Name why) = false
+is_stated reasons.IsThere = false
+is_stated reasons.NoParent = false
+is_stated reasons.NoEntry = false
+is_stated reasons.HasChildren = false
+is_stated (reasons.NewRdn why) = false
+is_stated (reasons.Superior why) = false
+is_stated reasons.NoSuperior = false
+
+-- ---- the sentence
+
+abbrev pub at_line : Option ℕ → List ℕ
+at_line None = []
+at_line (Some number) = codes "line " ++ decimal number ++ codes ", "
+
+-- where in the text, and of which entry
+unfoldable pub place_words : Option ℕ → List ℕ → List ℕ
+place_words number name = at_line number ++ shown_name name ++ codes ": "
+
+-- the sentence of a reason
+pub record IsSentenceOf (c : Case) (reason : Reason) (sentence : List ℕ) : Type 0 where
+  pub number : Option ℕ
+  pub words : List ℕ
+  pub line : PartBeginsOn c.raw c.asked (part_of reason) number
+  pub why : IsWords c reason words
+  pub is : sentence ≡ sentence_of (place_words number (name_of_record c.asked) ++ words)
