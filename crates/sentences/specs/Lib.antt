@@ -3,7 +3,9 @@ pub mod Cuts
 pub mod Missing
 pub mod Noted
 pub mod PartWords
+pub mod Putting
 pub mod RecordWords
+pub mod Refusals
 pub mod Sentence
 pub mod Shown
 pub mod Telling

@@ -1,8 +1,7 @@
 -- What is said of a record that is refused.
-use Rattle.std.specs.Prelude.{◌≡◌, ℕ, ◌++◌, Bool, true, false, List, [], Option, Some, None, Ok, codes, slice_get}
+use Rattle.std.specs.Prelude.{◌≡◌, ℕ, ◌++◌, Bool, true, false, List, [], Option, Some, None, Ok, IfSome, codes, slice_get}
 use Rattle.std.specs.FinMap as finite
 use Rattle.std.specs.Fmt.{decimal}
-use Rattle.std.specs.String.{string_bytes}
 use Rattle.ldif_lines.specs.declared.raw_record.RawRecord.{RawRecord}
 use Rattle.ldif.specs.Attrs.{Attr}
 use Rattle.ldif.specs.Parts.{IsPartLine}
@@ -19,7 +18,8 @@ use Rattle.schema.specs.Rdns.{Ava}
 use Rattle.entries.specs.Entries.{EntryContent}
 use Rattle.tree.specs.Directories.{Entries}
 use Rattle.tree.specs.Operations.{controls_of}
-use Rattle.reasons.specs.Asked.{name_of_record, lines_of_record, blocks_of_record}
+use Rattle.reasons.specs.Reasons.{Explains}
+use Rattle.reasons.specs.Asked.{IsAt, name_of_record, lines_of_record, blocks_of_record}
 use Rattle.reasons.specs.declared.reason.LineReason.{LineReason}
 use Rattle.reasons.specs.declared.reason.LineReason.TheVariants as line_reasons
 use Rattle.reasons.specs.declared.reason.BlockReason.{BlockReason}
@@ -28,7 +28,6 @@ use Rattle.reasons.specs.declared.reason.EntryReason.{EntryReason}
 use Rattle.reasons.specs.declared.reason.EntryReason.TheVariants as entry_reasons
 use Rattle.reasons.specs.declared.reason.Reason.{Reason}
 use Rattle.reasons.specs.declared.reason.Reason.TheVariants as reasons
-use Rattle.sentences.specs.declared.lines.ShownText.{ShownText}
 use Rattle.sentences.specs.Cuts.{sentence_of}
 use Rattle.sentences.specs.Shown.{shown_name, quoted}
 use Rattle.sentences.specs.PartWords.{type_words, line_words, block_words, value_words}
@@ -40,10 +39,6 @@ pub record Case : Type 0 where
   pub raw : RawRecord
   pub asked : Record
   pub path : Option Path
-
--- words of which this holds were put behind others
-abbrev pub Puts : ShownText → ShownText → (List ℕ → Type 0) → Type 0
-Puts old new P = (words : List ℕ) × P words × (string_bytes new.text ≡ string_bytes old.text ++ words)
 
 -- ---- lines of the text
 
@@ -115,6 +110,10 @@ abbrev pub rdn_value : Option EntryContent → ℕ → Option Ava
 rdn_value None ava = None
 rdn_value (Some e) ava = slice_get e.rdn ava
 
+-- that of the entry as it is there
+abbrev pub rdn_value_at : Case → ℕ → Option Ava
+rdn_value_at c ava = rdn_value (entry_at c.entries c.path) ava
+
 -- a value of the entry's RDN that is to go
 abbrev pub rdn_value_words : Conf → Option Ava → List ℕ
 rdn_value_words conf None = codes "a value of its RDN is to go"
@@ -145,7 +144,7 @@ IsWords c (reasons.CriticalControl control) words = words ≡ control_words (con
 IsWords c (reasons.Line line why) words = IsLineWords c why (slice_get (lines_of_record c.asked) line) words
 IsWords c (reasons.Block block why) words = words ≡ words_of_block why (slice_get (blocks_of_record c.asked) block)
 IsWords c (reasons.Value block value why) words = IsBlockValueWords c why value (slice_get (blocks_of_record c.asked) block) words
-IsWords c (reasons.NoRdnValue ava) words = words ≡ rdn_value_words c.conf (rdn_value (entry_at c.entries c.path) ava)
+IsWords c (reasons.NoRdnValue ava) words = words ≡ rdn_value_words c.conf (rdn_value_at c ava)
 IsWords c reasons.IsSuffix words = words ≡ codes "the entry of the suffix keeps its name and its place"
 IsWords c reasons.BelowItself words = words ≡ codes "it can't be moved below itself"
 IsWords c reasons.IsTaken words = words ≡ codes "another entry has the new name"
@@ -207,3 +206,17 @@ pub record IsSentenceOf (c : Case) (reason : Reason) (sentence : List ℕ) : Typ
   pub line : PartBeginsOn c.raw c.asked (part_of reason) number
   pub why : IsWords c reason words
   pub is : sentence ≡ sentence_of (place_words number (name_of_record c.asked) ++ words)
+
+-- the sentence tells the reason, and where there is none nothing is told
+abbrev pub TellsReason : Case → Option Reason → Option (List ℕ) → Type 0
+TellsReason c None sentence = sentence ≡ None
+TellsReason c (Some reason) None = ⊥
+TellsReason c (Some reason) (Some sentence) = is_stated reason ≡ true → IsSentenceOf c reason sentence
+
+-- what is told of a record: why it is refused
+pub record IsTold (conf : Conf) (mode : Mode) (d : Entries) (raw : RawRecord) (asked : Record) (sentence : Option (List ℕ)) : Type 0 where
+  pub reason : Option Reason
+  pub path : Option Path
+  pub explains : Explains conf mode d asked reason
+  pub at : IfSome path (IsAt conf asked)
+  pub told : TellsReason (record { conf = conf; entries = d; raw = raw; asked = asked; path = path }) reason sentence

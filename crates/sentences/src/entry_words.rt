@@ -1,8 +1,8 @@
 //! Words for entries that aren't as their classes and types ask.
 
-ghost use Rattle.std.specs.Prelude.{◌≡◌, ◌++◌, true, OnOk};
-ghost use Rattle.std.specs.String.{string_bytes};
-ghost use Rattle.sentences.specs.RecordWords.{Puts, IsEntryWords, is_stated_entry, not_allowed};
+ghost use Rattle.std.specs.Prelude.{◌≡◌, true, OnOk};
+ghost use Rattle.sentences.specs.Putting.{IsPut, Puts};
+ghost use Rattle.sentences.specs.RecordWords.{IsEntryWords, is_stated_entry, not_allowed};
 
 use crate::lines::ShownText;
 use crate::names::{push_class, push_type};
@@ -62,7 +62,7 @@ impl Refused<'_> {
 
     #[tactic(auto, unfolding(crate::specs::RecordWords::not_allowed))]
     fn push_not_allowed(&self, words: &mut ShownText, found: TypeId) -> Result<(), AllocError>
-        ensures { OnOk result (string_bytes words.new.text ≡ string_bytes words.old.text ++ not_allowed self.now.conf.now found) }
+        ensures { OnOk result (IsPut words.old words.new (not_allowed self.now.conf.now found)) }
     {
         words.push_str("none of its object classes allows ")?;
         push_type(words, self.conf, found)

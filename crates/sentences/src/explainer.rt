@@ -1,7 +1,8 @@
 //! Tells why records are refused.
 
-ghost use Rattle.std.specs.Prelude.{◌≡◌};
-ghost use Rattle.sentences.specs.Noted.{TellsNoted};
+ghost use Rattle.std.specs.Prelude.{◌≡◌, IfOk, IfSome};
+ghost use Rattle.sentences.specs.RecordWords.{TellsReason};
+ghost use Rattle.sentences.specs.Noted.{TellsNoted, IsNoted};
 ghost use Rattle.sentences.specs.Telling.{TellsLine, TellsSentence};
 
 use crate::conf_words::configuration_sentence;
@@ -185,13 +186,17 @@ fn leaves_place_empty(reason: &Option<Reason>) -> bool {
 }
 
 impl Refusal<'_> {
+    ghost use Rattle.sentences.specs.Refusals.{case_at, text_in, IsToldOf};
+
     /// The sentence of a record that can be read, for why it is refused.
     fn reason_sentence(
         &self,
         asked: &Record<'_>,
         explanation: &Explanation,
         adds: &RefusedAdds,
-    ) -> Result<Option<Sentence>, AllocError> {
+    ) -> Result<Option<Sentence>, AllocError>
+        ensures { IfOk result (λ s. TellsReason (case_at self.now asked.now explanation.now.place) explanation.now.reason (text_in s)) }
+    {
         let Some(reason) = explanation.reason else {
             return Ok(None);
         };
@@ -213,7 +218,9 @@ impl Refusal<'_> {
         &self,
         asked: &Record<'_>,
         adds: &mut RefusedAdds,
-    ) -> Result<Option<Sentence>, AllocError> {
+    ) -> Result<Option<Sentence>, AllocError>
+        ensures { IfOk result (IsToldOf self.now asked.now) }
+    {
         let mode = self.refused.mode;
         let code = code_of(self.refused.refusal);
         let explanation = explain_in_place(self.alloc, self.tree, self.conf, asked, mode, code)?;
@@ -243,7 +250,9 @@ impl Refusal<'_> {
         }
     }
 
-    fn sentence(&self, adds: &mut RefusedAdds) -> Result<Option<Sentence>, AllocError> {
+    fn sentence(&self, adds: &mut RefusedAdds) -> Result<Option<Sentence>, AllocError>
+        ensures { IfOk result (λ s. IfSome self.now.refused.now.asked (λ asked. IsToldOf self.now asked.now s)) }
+    {
         let NotedRecord {
             raw,
             asked,
@@ -265,7 +274,8 @@ impl Refusal<'_> {
 impl<V: Sink, G: Gauge> Teller for Explainer<'_, V, G> {
     fn note(&mut self, alloc: Global, conf: &Conf, tree: &Tree, refused: &NotedRecord<'_>)
         requires { tree.now.conf ≡ conf.now }
-        ensures { V.written self.new.told.now ≡ V.written self.old.told.now }
+        ensures written { V.written self.new.told.now ≡ V.written self.old.told.now }
+        ensures noted { IfSome refused.now.asked (λ asked. IfSome self.new.sentence (IsNoted conf.now tree.now refused.now asked.now)) }
     {
         let _ = self.summary.count(refused.refusal);
         let refusal = Refusal {

@@ -1,9 +1,9 @@
 //! Names of types, classes and entries.
 
-ghost use Rattle.std.specs.Prelude.{◌≡◌, ◌++◌, OnOk};
+ghost use Rattle.std.specs.Prelude.{◌≡◌, OnOk};
 ghost use Rattle.std.specs.FinMap as finite;
-ghost use Rattle.std.specs.String.{string_bytes};
 ghost use Rattle.values.specs.Types.{first_or};
+ghost use Rattle.sentences.specs.Putting.{IsPut};
 ghost use Rattle.sentences.specs.PartWords.{type_words, class_words};
 
 use crate::lines::ShownText;
@@ -18,7 +18,7 @@ const NAME_ROOM: usize = 160;
 /// Puts the name that a type is printed by behind a text.
 #[tactic(auto, unfolding(crate::specs::PartWords::type_words))]
 pub(crate) fn push_type(out: &mut ShownText, conf: &Conf, t: TypeId) -> Result<(), AllocError>
-    ensures { OnOk result (string_bytes out.new.text ≡ string_bytes out.old.text ++ type_words conf.now t) }
+    ensures { OnOk result (IsPut out.old out.new (type_words conf.now t)) }
 {
     match conf.types().get(t.number() as usize) {
         Some(found) => push_type_name(out, found.printed_name()),
@@ -39,7 +39,7 @@ fn name_of_class(class: &ObjectClass) -> &[u8]
 /// Puts the name of the class with this number behind a text.
 #[tactic(auto, unfolding(crate::specs::PartWords::class_words))]
 pub(crate) fn push_class(out: &mut ShownText, conf: &Conf, class: usize) -> Result<(), AllocError>
-    ensures { OnOk result (string_bytes out.new.text ≡ string_bytes out.old.text ++ class_words conf.now class) }
+    ensures { OnOk result (IsPut out.old out.new (class_words conf.now class)) }
 {
     match conf.classes().get(class) {
         Some(found) => push_type_name(out, name_of_class(found)),

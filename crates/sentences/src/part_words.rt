@@ -1,15 +1,15 @@
 //! Words for lines, blocks and values of a record.
 
-ghost use Rattle.std.specs.Prelude.{◌≡◌, ◌++◌, ◌<◌, length, codes, slice_get, OnOk};
-ghost use Rattle.std.specs.Option.{option_map};
+ghost use Rattle.std.specs.Prelude.{◌≡◌, ◌<◌, length, codes, slice_get, OnOk};
+ghost use Rattle.std.specs.Option.{option_map, option_copied};
 ghost use Rattle.std.specs.Str.{str_eq_ignore_ascii_case};
-ghost use Rattle.std.specs.String.{string_bytes};
 ghost use Rattle.ldif.specs.Forms as forms;
 ghost use Rattle.reasons.specs.Asked.{lines_of_record, blocks_of_record};
+ghost use Rattle.sentences.specs.Putting.{IsPut, Puts};
 ghost use Rattle.sentences.specs.Cases.{case_of};
 ghost use Rattle.sentences.specs.Sentence.{IsShown};
 ghost use Rattle.sentences.specs.PartWords.{unknown_type, fixed_type, named_value, bad_value, line_words, equal_to, equal_words, operation_words, block_words, value_words};
-ghost use Rattle.sentences.specs.RecordWords.{words_of_block, rdn_value, rdn_value_words, entry_at, EarlierBeginsOn, Puts, IsLineWords, IsValueWords, IsBlockValueWords};
+ghost use Rattle.sentences.specs.RecordWords.{words_of_block, rdn_value_at, rdn_value_words, EarlierBeginsOn, IsLineWords, IsValueWords, IsBlockValueWords};
 
 use crate::lines::ShownText;
 use crate::names::push_type;
@@ -45,7 +45,7 @@ fn op_word(op: Op) -> &'static str
 /// Puts that a name is none of an attribute type behind words.
 #[tactic(auto, unfolding(crate::specs::PartWords::unknown_type))]
 fn push_unknown_type(words: &mut ShownText, name: &[u8]) -> Result<(), AllocError>
-    ensures { OnOk result (string_bytes words.new.text ≡ string_bytes words.old.text ++ unknown_type name.now) }
+    ensures { OnOk result (IsPut words.old words.new (unknown_type name.now)) }
 {
     if is_dn(name) {
         return words.push_str("a dn: line within a record; an empty line is missing before it");
@@ -61,7 +61,7 @@ fn push_unknown_type(words: &mut ShownText, name: &[u8]) -> Result<(), AllocErro
 /// Puts that users can't change values of the type with this name behind words.
 #[tactic(auto, unfolding(crate::specs::PartWords::fixed_type))]
 fn push_fixed_type(words: &mut ShownText, name: &[u8]) -> Result<(), AllocError>
-    ensures { OnOk result (string_bytes words.new.text ≡ string_bytes words.old.text ++ fixed_type name.now) }
+    ensures { OnOk result (IsPut words.old words.new (fixed_type name.now)) }
 {
     push_type_name(words, name)?;
     words.push_str(": users can't change it (NO-USER-MODIFICATION)")
@@ -70,7 +70,7 @@ fn push_fixed_type(words: &mut ShownText, name: &[u8]) -> Result<(), AllocError>
 /// Puts a value of the type with this name behind words.
 #[tactic(auto, unfolding(crate::specs::PartWords::named_value))]
 fn push_named_value(words: &mut ShownText, name: &[u8], value: &[u8]) -> Result<(), AllocError>
-    ensures { OnOk result (string_bytes words.new.text ≡ string_bytes words.old.text ++ named_value name.now value.now) }
+    ensures { OnOk result (IsPut words.old words.new (named_value name.now value.now)) }
 {
     push_type_name(words, name)?;
     words.push_str(": ")?;
@@ -79,7 +79,7 @@ fn push_named_value(words: &mut ShownText, name: &[u8], value: &[u8]) -> Result<
 
 /// Puts what is wrong with a block behind words.
 fn push_block_fault(words: &mut ShownText, block: &Mod, why: BlockReason) -> Result<(), AllocError>
-    ensures { OnOk result (string_bytes words.new.text ≡ string_bytes words.old.text ++ block_words block.now why) }
+    ensures { OnOk result (IsPut words.old words.new (block_words block.now why)) }
 {
     let attr = block.attr.as_slice();
     match why {
@@ -106,7 +106,7 @@ fn push_operation(
 ) -> Result<(), AllocError>
     requires before { IsShown before.now }
     requires behind { IsShown behind.now }
-    ensures { OnOk result (string_bytes words.new.text ≡ string_bytes words.old.text ++ operation_words block.now before.now behind.now) }
+    ensures { OnOk result (IsPut words.old words.new (operation_words block.now before.now behind.now)) }
 {
     words.push_str(op_word(block.op))?;
     words.push_str(": ")?;
@@ -121,7 +121,7 @@ fn push_equal_to(
     other: Option<&Attr<'_>>,
     number: Option<u64>,
 ) -> Result<(), AllocError>
-    ensures { OnOk result (string_bytes words.new.text ≡ string_bytes words.old.text ++ equal_to (option_map (λ l. l.now) other.entry) number) }
+    ensures { OnOk result (IsPut words.old words.new (equal_to (option_copied other.entry) number)) }
 {
     let Some(other) = other else {
         return words.push_str(" stands twice");
@@ -139,7 +139,7 @@ fn push_equal_to(
 
 /// Puts that a value is to come behind words, and is there, or comes twice.
 fn push_equal_value(words: &mut ShownText, there: Option<&[u8]>) -> Result<(), AllocError>
-    ensures { OnOk result (string_bytes words.new.text ≡ string_bytes words.old.text ++ equal_words (option_map (λ v. v.now) there.entry)) }
+    ensures { OnOk result (IsPut words.old words.new (equal_words (option_copied there.entry))) }
 {
     match there {
         Some(other) => {
@@ -159,7 +159,7 @@ impl Refused<'_> {
         name: &[u8],
         value: &[u8],
     ) -> Result<(), AllocError>
-        ensures { OnOk result (string_bytes words.new.text ≡ string_bytes words.old.text ++ bad_value self.now.conf.now name.now value.now) }
+        ensures { OnOk result (IsPut words.old words.new (bad_value self.now.conf.now name.now value.now)) }
     {
         match self.conf.type_of(name) {
             Some(t) => push_no_such_value(words, self.conf, t, value),
@@ -175,7 +175,7 @@ impl Refused<'_> {
         number: Option<u64>,
         why: LineReason,
     ) -> Result<(), AllocError>
-        ensures { OnOk result (string_bytes words.new.text ≡ string_bytes words.old.text ++ line_words self.now.conf.now (lines_of_record self.now.asked.now) number line.now why) }
+        ensures { OnOk result (IsPut words.old words.new (line_words self.now.conf.now (lines_of_record self.now.asked.now) number line.now why)) }
     {
         match why {
             LineReason::UnknownType => push_unknown_type(words, line.name()),
@@ -222,7 +222,7 @@ impl Refused<'_> {
         index: usize,
         why: BlockReason,
     ) -> Result<(), AllocError>
-        ensures { OnOk result (string_bytes words.new.text ≡ string_bytes words.old.text ++ words_of_block why (slice_get (blocks_of_record self.now.asked.now) index)) }
+        ensures { OnOk result (IsPut words.old words.new (words_of_block why (slice_get (blocks_of_record self.now.asked.now) index))) }
     {
         match self.blocks().get(index) {
             Some(block) => push_block_fault(words, block, why),
@@ -277,7 +277,7 @@ impl Refused<'_> {
         there: Option<&[u8]>,
         why: ValueReason,
     ) -> Result<(), AllocError>
-        ensures { OnOk result (string_bytes words.new.text ≡ string_bytes words.old.text ++ value_words self.now.conf.now (option_map (λ v. v.now) there.entry) name.now value.now why) }
+        ensures { OnOk result (IsPut words.old words.new (value_words self.now.conf.now (option_copied there.entry) name.now value.now why)) }
     {
         match why {
             ValueReason::BadSyntax => self.push_bad_value(words, name, value),
@@ -330,7 +330,7 @@ impl Refused<'_> {
 
     /// A value of the entry's RDN, with its type, if the entry is there.
     fn rdn_value(&self, ava: usize) -> Option<&(TypeId, Bytes)>
-        ensures { option_map (λ p. p.now) result ≡ rdn_value (entry_at self.now.tree.now.entries (case_of self.now).path) ava }
+        ensures { option_map (λ p. p.now) result ≡ rdn_value_at (case_of self.now) ava }
     {
         match self.path() {
             Some(path) => match self.tree.get(path) {
@@ -343,7 +343,7 @@ impl Refused<'_> {
 
     /// Puts which value of the entry's RDN is to go behind words.
     pub(crate) fn push_rdn_value(&self, words: &mut ShownText, ava: usize) -> Result<(), AllocError>
-        ensures { OnOk result (string_bytes words.new.text ≡ string_bytes words.old.text ++ rdn_value_words self.now.conf.now (rdn_value (entry_at self.now.tree.now.entries (case_of self.now).path) ava)) }
+        ensures { OnOk result (IsPut words.old words.new (rdn_value_words self.now.conf.now (rdn_value_at (case_of self.now) ava))) }
     {
         match self.rdn_value(ava) {
             Some((t, value)) => {

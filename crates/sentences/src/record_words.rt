@@ -1,10 +1,11 @@
 //! Sentences for records that are refused with a result code.
 
-ghost use Rattle.std.specs.Prelude.{◌≡◌, ◌++◌, true, OnOk, IfOk, slice_get};
+ghost use Rattle.std.specs.Prelude.{◌≡◌, true, OnOk, IfOk, slice_get};
 ghost use Rattle.std.specs.Option.{option_map, option_copied};
 ghost use Rattle.std.specs.String.{string_bytes};
 ghost use Rattle.tree.specs.Operations.{controls_of};
 ghost use Rattle.reasons.specs.Asked.{name_of_record, blocks_of_record, rdn_of_record, superior_of_record};
+ghost use Rattle.sentences.specs.Putting.{IsPut, Puts};
 ghost use Rattle.sentences.specs.RecordWords as told;
 ghost use Rattle.sentences.specs.Sentence.{IsShown};
 
@@ -60,7 +61,7 @@ fn part_of(reason: &Reason) -> Option<Part>
 
 /// Puts a line of the text behind words, if it is known.
 fn push_line(words: &mut ShownText, line: Option<u64>) -> Result<(), AllocError>
-    ensures { OnOk result (string_bytes words.new.text ≡ string_bytes words.old.text ++ told.at_line line) }
+    ensures { OnOk result (IsPut words.old words.new (told.at_line line)) }
 {
     match line {
         Some(line) => {
@@ -75,7 +76,7 @@ fn push_line(words: &mut ShownText, line: Option<u64>) -> Result<(), AllocError>
 impl Refused<'_> {
     ghost use Rattle.sentences.specs.Cases.{case_of};
     ghost use Rattle.sentences.specs.Cuts.{sentence_of};
-    ghost use Rattle.sentences.specs.RecordWords.{Puts, IsWords, IsSentenceOf, is_stated, is_place, place_words, shown_control, control_words, PartBeginsOn};
+    ghost use Rattle.sentences.specs.RecordWords.{IsWords, IsSentenceOf, is_stated, is_place, place_words, shown_control, control_words, PartBeginsOn};
 
     pub(crate) fn dn(&self) -> &[u8]
         ensures { result.now ≡ name_of_record self.now.asked.now }
@@ -148,7 +149,7 @@ impl Refused<'_> {
     /// Puts the line of the text behind words, if it is known, and the name of the entry.
     #[tactic(auto, unfolding(crate::specs::RecordWords::place_words))]
     fn push_place(&self, words: &mut ShownText, line: Option<u64>) -> Result<(), AllocError>
-        ensures { OnOk result (string_bytes words.new.text ≡ string_bytes words.old.text ++ place_words line (name_of_record self.now.asked.now)) }
+        ensures { OnOk result (IsPut words.old words.new (place_words line (name_of_record self.now.asked.now))) }
     {
         push_line(words, line)?;
         push_name(words, self.dn())?;
@@ -226,7 +227,7 @@ impl Refused<'_> {
 
     /// Puts the OID of a control behind words.
     fn push_oid(&self, words: &mut ShownText, control: usize) -> Result<(), AllocError>
-        ensures { OnOk result (string_bytes words.new.text ≡ string_bytes words.old.text ++ shown_control (slice_get (controls_of self.now.asked.now) control)) }
+        ensures { OnOk result (IsPut words.old words.new (shown_control (slice_get (controls_of self.now.asked.now) control))) }
     {
         match self.controls().get(control) {
             Some(found) => push_name(words, found.oid.as_slice()),
@@ -236,7 +237,7 @@ impl Refused<'_> {
 
     #[tactic(auto, unfolding(crate::specs::RecordWords::control_words))]
     fn push_control(&self, words: &mut ShownText, control: usize) -> Result<(), AllocError>
-        ensures { OnOk result (string_bytes words.new.text ≡ string_bytes words.old.text ++ control_words (controls_of self.now.asked.now) control) }
+        ensures { OnOk result (IsPut words.old words.new (control_words (controls_of self.now.asked.now) control)) }
     {
         words.push_str("control ")?;
         self.push_oid(words, control)?;

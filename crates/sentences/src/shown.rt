@@ -1,10 +1,11 @@
 //! Bytes as they are shown to people.
 
-ghost use Rattle.std.specs.Prelude.{◌≡◌, ◌++◌, ◌<◌, ◌≤◌, not, length, map, if◌then◌else◌, OnOk, IfOk};
+ghost use Rattle.std.specs.Prelude.{◌≡◌, ◌<◌, ◌≤◌, not, length, map, if◌then◌else◌, OnOk, IfOk};
 ghost use Rattle.std.specs.Fmt.{decimal};
 ghost use Rattle.std.specs.List.{list_all};
 ghost use Rattle.std.specs.Str.{chars};
 ghost use Rattle.std.specs.String.{string_bytes};
+ghost use Rattle.sentences.specs.Putting.{IsPut};
 ghost use Rattle.sentences.specs.Sentence.{IsShown};
 ghost use Rattle.sentences.specs.Cuts.{fitting, goes_on, front, end_of};
 ghost use Rattle.sentences.specs.Shown.{is_plain, hex_digit, escape, is_escaped, shown_char, shown_byte, shown, quoted, shown_type, shown_name};
@@ -94,7 +95,7 @@ fn digit(value: u8) -> char
 
 /// Puts a byte behind a text as a backslash and two hexadecimal digits.
 fn push_escape(out: &mut ShownText, byte: u8) -> Result<(), AllocError>
-    ensures { OnOk result (string_bytes out.new.text ≡ string_bytes out.old.text ++ escape byte) }
+    ensures { OnOk result (IsPut out.old out.new (escape byte)) }
 {
     out.push('\\')?;
     out.push(digit(byte / 16))?;
@@ -112,7 +113,7 @@ fn escaped(c: char, form: Form) -> Option<u8>
 }
 
 pub(crate) fn push_char(out: &mut ShownText, c: char, form: Form) -> Result<(), AllocError>
-    ensures { OnOk result (string_bytes out.new.text ≡ string_bytes out.old.text ++ shown_char form c) }
+    ensures { OnOk result (IsPut out.old out.new (shown_char form c)) }
 {
     match escaped(c, form) {
         Some(byte) => push_escape(out, byte),
@@ -139,7 +140,7 @@ fn push_chars(
     end: &str,
 ) -> Result<(), AllocError>
     requires { IsShown end.now }
-    ensures { OnOk result (string_bytes out.new.text ≡ string_bytes out.old.text ++ fitting most (map (shown_char form) (chars text.now)) end.now) }
+    ensures { OnOk result (IsPut out.old out.new (fitting most (map (shown_char form) (chars text.now)) end.now)) }
 {
     let mut room = most;
     for c in text.chars() {
@@ -162,7 +163,7 @@ fn push_text(
     end: &str,
 ) -> Result<(), AllocError>
     requires { IsShown end.now }
-    ensures { OnOk result (string_bytes out.new.text ≡ string_bytes out.old.text ++ fitting most (map (shown_char form) (chars text.now)) end.now) }
+    ensures { OnOk result (IsPut out.old out.new (fitting most (map (shown_char form) (chars text.now)) end.now)) }
 {
     if text.len() <= most && are_plain(text.as_bytes(), form) {
         out.push_str(text)?;
@@ -174,7 +175,7 @@ fn push_text(
 
 /// Puts a byte that is no part of a text behind one.
 fn push_byte(out: &mut ShownText, byte: u8, form: Form) -> Result<(), AllocError>
-    ensures { OnOk result (string_bytes out.new.text ≡ string_bytes out.old.text ++ shown_byte form byte) }
+    ensures { OnOk result (IsPut out.old out.new (shown_byte form byte)) }
 {
     if is_plain(byte, form) {
         out.push(char::from(byte))
@@ -192,7 +193,7 @@ fn push_bytes(
     end: &str,
 ) -> Result<(), AllocError>
     requires { IsShown end.now }
-    ensures { OnOk result (string_bytes out.new.text ≡ string_bytes out.old.text ++ fitting most (map (shown_byte form) bytes.now) end.now) }
+    ensures { OnOk result (IsPut out.old out.new (fitting most (map (shown_byte form) bytes.now) end.now)) }
 {
     let mut room = most;
     for byte in bytes {
@@ -217,7 +218,7 @@ fn end_of(bytes: &[u8], most: usize) -> &'static str
 /// Puts bytes behind a text, on its line: text as it is, and what can't be printed as a backslash and two hexadecimal digits. Of what takes more
 /// than `most` bytes so the first are shown, and two dots behind them.
 fn push_shown(out: &mut ShownText, bytes: &[u8], most: usize, form: Form) -> Result<(), AllocError>
-    ensures { OnOk result (string_bytes out.new.text ≡ string_bytes out.old.text ++ shown form most bytes.now) }
+    ensures { OnOk result (IsPut out.old out.new (shown form most bytes.now)) }
 {
     let front = front(bytes, most);
     let end = end_of(bytes, most);
@@ -230,7 +231,7 @@ fn push_shown(out: &mut ShownText, bytes: &[u8], most: usize, form: Form) -> Res
 /// Puts a value in quotation marks behind a text; such marks and backslashes in it are shown by their digits, too.
 #[tactic(auto, using(std::proofs::lemmas::Str::encode_ascii), unfolding(crate::specs::Shown::quoted))]
 pub(crate) fn push_quoted(out: &mut ShownText, bytes: &[u8]) -> Result<(), AllocError>
-    ensures { OnOk result (string_bytes out.new.text ≡ string_bytes out.old.text ++ quoted bytes.now) }
+    ensures { OnOk result (IsPut out.old out.new (quoted bytes.now)) }
 {
     out.push('"')?;
     push_shown(out, bytes, VALUE_LIMIT, Form::Quoted)?;
@@ -248,14 +249,14 @@ pub(crate) fn quoted(alloc: Global, bytes: &[u8]) -> Result<ShownText, AllocErro
 
 /// Puts the name of an attribute type or a class behind a text, as it is written.
 pub(crate) fn push_type_name(out: &mut ShownText, name: &[u8]) -> Result<(), AllocError>
-    ensures { OnOk result (string_bytes out.new.text ≡ string_bytes out.old.text ++ shown_type name.now) }
+    ensures { OnOk result (IsPut out.old out.new (shown_type name.now)) }
 {
     push_shown(out, name, TYPE_LIMIT, Form::Bare)
 }
 
 /// Puts another name, as of an entry, behind a text, as it is written.
 pub(crate) fn push_name(out: &mut ShownText, name: &[u8]) -> Result<(), AllocError>
-    ensures { OnOk result (string_bytes out.new.text ≡ string_bytes out.old.text ++ shown_name name.now) }
+    ensures { OnOk result (IsPut out.old out.new (shown_name name.now)) }
 {
     push_shown(out, name, NAME_LIMIT, Form::Bare)
 }
@@ -272,7 +273,7 @@ pub(crate) fn named(alloc: Global, name: &[u8]) -> Result<ShownText, AllocError>
 /// Puts a number in decimal behind a text.
 #[tactic(auto, using(crate::proofs::Numbers::decimal_last, std::proofs::lemmas::Fmt::decimal_digit))]
 pub(crate) fn push_number(out: &mut ShownText, number: u64) -> Result<(), AllocError>
-    ensures { OnOk result (string_bytes out.new.text ≡ string_bytes out.old.text ++ decimal number) }
+    ensures { OnOk result (IsPut out.old out.new (decimal number)) }
 {
     if number >= 10 {
         push_number(out, number / 10)?;

@@ -1,7 +1,7 @@
 //! Words for values that a type doesn't have.
 
-ghost use Rattle.std.specs.Prelude.{◌≡◌, ◌++◌, OnOk};
-ghost use Rattle.std.specs.String.{string_bytes};
+ghost use Rattle.std.specs.Prelude.{◌≡◌, OnOk};
+ghost use Rattle.sentences.specs.Putting.{IsPut};
 ghost use Rattle.sentences.specs.Sentence.{IsShown};
 ghost use Rattle.sentences.specs.PartWords.{syntax_words, no_such_value};
 
@@ -38,7 +38,7 @@ pub(crate) fn push_no_such_value(
     t: TypeId,
     value: &[u8],
 ) -> Result<(), AllocError>
-    ensures { OnOk result (string_bytes out.new.text ≡ string_bytes out.old.text ++ no_such_value conf.now t value.now) }
+    ensures { OnOk result (IsPut out.old out.new (no_such_value conf.now t value.now)) }
 {
     push_type(out, conf, t)?;
     out.push_str(": ")?;
