@@ -16,8 +16,10 @@ use Rattle.reasons.specs.declared.reason.LineReason.{LineReason}
 use Rattle.reasons.specs.declared.reason.BlockReason.{BlockReason}
 use Rattle.reasons.specs.declared.reason.ValueReason.{ValueReason}
 use Rattle.reasons.specs.declared.reason.EntryReason.{EntryReason}
+use Rattle.reasons.specs.declared.reason.NameReason.{NameReason}
 use Rattle.reasons.specs.declared.reason.Reason.{Reason}
 use Rattle.reasons.specs.declared.reason.Reason.TheVariants as reasons
+use Rattle.sentences.specs.NameWords.{IsNameWords}
 use Rattle.sentences.specs.RecordWords.{Case, IsWords, IsEntryWords, IsSentenceOf, PartBeginsOn, entry_at, is_place, is_stated, part_of, place_words, rdn_value}
 use Rattle.sentences.specs.Cuts.{sentence_of}
 use Rattle.sentences.specs.declared.lines.Sentence.{Sentence}
@@ -73,28 +75,43 @@ pub entry_said : {E : Type 0} (conf : Conf) (why told : EntryReason) (old new : 
     → OnOk r ((ws : List ℕ) × IsEntryWords conf told ws × (new ≡ old ++ ws)) → OnOk r ((ws : List ℕ) × IsEntryWords conf why ws × (new ≡ old ++ ws))
 entry_said conf why told old new r is h = subst (λ (x : EntryReason). OnOk r ((ws : List ℕ) × IsEntryWords conf x ws × (new ≡ old ++ ws))) (sym is) h
 
+-- the same of a name that is known to be another text
+pub name_said : {E : Type 0} (conf : Conf) (what text other : List ℕ) (why : NameReason) (old new : List ℕ) (r : Result (Unit {0}) E) → text ≡ other
+    → OnOk r ((ws : List ℕ) × IsNameWords conf what text why ws × (new ≡ old ++ ws))
+    → OnOk r ((ws : List ℕ) × IsNameWords conf what other why ws × (new ≡ old ++ ws))
+name_said conf what text other why old new r same h =
+    subst (λ (t : List ℕ). OnOk r ((ws : List ℕ) × IsNameWords conf what t why ws × (new ≡ old ++ ws))) same h
+
+pub why_said : {E : Type 0} (conf : Conf) (what text : List ℕ) (why told : NameReason) (old new : List ℕ) (r : Result (Unit {0}) E) → why ≡ told
+    → OnOk r ((ws : List ℕ) × IsNameWords conf what text told ws × (new ≡ old ++ ws))
+    → OnOk r ((ws : List ℕ) × IsNameWords conf what text why ws × (new ≡ old ++ ws))
+why_said conf what text why told old new r is h =
+    subst (λ (x : NameReason). OnOk r ((ws : List ℕ) × IsNameWords conf what text x ws × (new ≡ old ++ ws))) (sym is) h
+
 -- a reason that is of no part of a record is of a place
 pub placed : (reason : Reason) → ((x : ℕ) → reason ≡ reasons.CriticalControl x → ⊥) → ((x : ℕ) (y : LineReason) → reason ≡ reasons.Line x y → ⊥)
     → ((x : ℕ) (y : BlockReason) → reason ≡ reasons.Block x y → ⊥) → ((x y : ℕ) (z : ValueReason) → reason ≡ reasons.Value x y z → ⊥)
-    → ((x : EntryReason) → reason ≡ reasons.Entry x → ⊥) → is_stated reason ≡ true → is_place reason ≡ true
-placed (reasons.CriticalControl x) nc nl nb nv ne h = absurd (nc x refl)
-placed (reasons.Line x y) nc nl nb nv ne h = absurd (nl x y refl)
-placed (reasons.Block x y) nc nl nb nv ne h = absurd (nb x y refl)
-placed (reasons.Value x y z) nc nl nb nv ne h = absurd (nv x y z refl)
-placed (reasons.Entry x) nc nl nb nv ne h = absurd (ne x refl)
-placed (reasons.NoRdnValue x) nc nl nb nv ne h = refl
-placed reasons.IsSuffix nc nl nb nv ne h = refl
-placed reasons.BelowItself nc nl nb nv ne h = refl
-placed reasons.IsTaken nc nl nb nv ne h = refl
-placed reasons.Full nc nl nb nv ne h = refl
-placed (reasons.Name x) nc nl nb nv ne h = h
-placed reasons.IsThere nc nl nb nv ne h = h
-placed reasons.NoParent nc nl nb nv ne h = h
-placed reasons.NoEntry nc nl nb nv ne h = h
-placed reasons.HasChildren nc nl nb nv ne h = h
-placed (reasons.NewRdn x) nc nl nb nv ne h = h
-placed (reasons.Superior x) nc nl nb nv ne h = h
-placed reasons.NoSuperior nc nl nb nv ne h = h
+    → ((x : EntryReason) → reason ≡ reasons.Entry x → ⊥) → ((x : NameReason) → reason ≡ reasons.Name x → ⊥)
+    → ((x : NameReason) → reason ≡ reasons.NewRdn x → ⊥) → ((x : NameReason) → reason ≡ reasons.Superior x → ⊥)
+    → is_stated reason ≡ true → is_place reason ≡ true
+placed (reasons.CriticalControl x) nc nl nb nv ne nn nr ns h = absurd (nc x refl)
+placed (reasons.Line x y) nc nl nb nv ne nn nr ns h = absurd (nl x y refl)
+placed (reasons.Block x y) nc nl nb nv ne nn nr ns h = absurd (nb x y refl)
+placed (reasons.Value x y z) nc nl nb nv ne nn nr ns h = absurd (nv x y z refl)
+placed (reasons.Entry x) nc nl nb nv ne nn nr ns h = absurd (ne x refl)
+placed (reasons.NoRdnValue x) nc nl nb nv ne nn nr ns h = refl
+placed reasons.IsSuffix nc nl nb nv ne nn nr ns h = refl
+placed reasons.BelowItself nc nl nb nv ne nn nr ns h = refl
+placed reasons.IsTaken nc nl nb nv ne nn nr ns h = refl
+placed reasons.Full nc nl nb nv ne nn nr ns h = refl
+placed (reasons.Name x) nc nl nb nv ne nn nr ns h = absurd (nn x refl)
+placed reasons.IsThere nc nl nb nv ne nn nr ns h = h
+placed reasons.NoParent nc nl nb nv ne nn nr ns h = h
+placed reasons.NoEntry nc nl nb nv ne nn nr ns h = h
+placed reasons.HasChildren nc nl nb nv ne nn nr ns h = h
+placed (reasons.NewRdn x) nc nl nb nv ne nn nr ns h = absurd (nr x refl)
+placed (reasons.Superior x) nc nl nb nv ne nn nr ns h = absurd (ns x refl)
+placed reasons.NoSuperior nc nl nb nv ne nn nr ns h = h
 
 -- those of a place are these
 pub no_place : (reason : Reason) → ((x : ℕ) → reason ≡ reasons.NoRdnValue x → ⊥) → (reason ≡ reasons.IsSuffix → ⊥) → (reason ≡ reasons.BelowItself → ⊥)

@@ -1,6 +1,7 @@
 pub mod Cases
 pub mod Cuts
 pub mod Missing
+pub mod NameWords
 pub mod Noted
 pub mod PartWords
 pub mod Putting

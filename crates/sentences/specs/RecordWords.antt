@@ -2,6 +2,7 @@
 use Rattle.std.specs.Prelude.{◌≡◌, ℕ, ◌++◌, Bool, true, false, List, [], Option, Some, None, Ok, IfSome, codes, slice_get}
 use Rattle.std.specs.FinMap as finite
 use Rattle.std.specs.Fmt.{decimal}
+use Rattle.std.specs.Option.{unwrap_or}
 use Rattle.ldif_lines.specs.declared.raw_record.RawRecord.{RawRecord}
 use Rattle.ldif.specs.Attrs.{Attr}
 use Rattle.ldif.specs.Parts.{IsPartLine}
@@ -19,7 +20,7 @@ use Rattle.entries.specs.Entries.{EntryContent}
 use Rattle.tree.specs.Directories.{Entries}
 use Rattle.tree.specs.Operations.{controls_of}
 use Rattle.reasons.specs.Reasons.{Explains}
-use Rattle.reasons.specs.Asked.{IsAt, name_of_record, lines_of_record, blocks_of_record}
+use Rattle.reasons.specs.Asked.{IsAt, name_of_record, lines_of_record, blocks_of_record, rdn_of_record, superior_of_record}
 use Rattle.reasons.specs.declared.reason.LineReason.{LineReason}
 use Rattle.reasons.specs.declared.reason.LineReason.TheVariants as line_reasons
 use Rattle.reasons.specs.declared.reason.BlockReason.{BlockReason}
@@ -30,6 +31,7 @@ use Rattle.reasons.specs.declared.reason.Reason.{Reason}
 use Rattle.reasons.specs.declared.reason.Reason.TheVariants as reasons
 use Rattle.sentences.specs.Cuts.{sentence_of}
 use Rattle.sentences.specs.Shown.{shown_name, quoted}
+use Rattle.sentences.specs.NameWords.{IsNameWords, is_stated_name}
 use Rattle.sentences.specs.PartWords.{type_words, line_words, block_words, value_words}
 
 -- a record that is refused: under a configuration, with these entries, and where its name stands, if that was found
@@ -138,7 +140,7 @@ is_stated_entry (entry_reasons.ManyValues single count) = false
 is_stated_entry (entry_reasons.UnknownClass value) = false
 is_stated_entry (entry_reasons.LacksType class needed) = false
 
--- a reason; what is said of names, and of entries that are there or aren't, is tested
+-- a reason; what is said of entries that are there or aren't, is tested
 abbrev pub IsWords : Case → Reason → List ℕ → Type 0
 IsWords c (reasons.CriticalControl control) words = words ≡ control_words (controls_of c.asked) control
 IsWords c (reasons.Line line why) words = IsLineWords c why (slice_get (lines_of_record c.asked) line) words
@@ -150,13 +152,13 @@ IsWords c reasons.BelowItself words = words ≡ codes "it can't be moved below i
 IsWords c reasons.IsTaken words = words ≡ codes "another entry has the new name"
 IsWords c reasons.Full words = words ≡ codes "the directory has 4,294,967,295 entries, and takes no more"
 IsWords c (reasons.Entry why) words = IsEntryWords c.conf why words
-IsWords c (reasons.Name why) words = Unit {0}
+IsWords c (reasons.Name why) words = IsNameWords c.conf (codes "the name") (name_of_record c.asked) why words
 IsWords c reasons.IsThere words = Unit {0}
 IsWords c reasons.NoParent words = Unit {0}
 IsWords c reasons.NoEntry words = Unit {0}
 IsWords c reasons.HasChildren words = Unit {0}
-IsWords c (reasons.NewRdn why) words = Unit {0}
-IsWords c (reasons.Superior why) words = Unit {0}
+IsWords c (reasons.NewRdn why) words = IsNameWords c.conf (codes "newrdn") (rdn_of_record c.asked) why words
+IsWords c (reasons.Superior why) words = IsNameWords c.conf (codes "newsuperior") (unwrap_or (superior_of_record c.asked) []) why words
 IsWords c reasons.NoSuperior words = Unit {0}
 
 -- those of them that say what is wrong with the place of an entry
@@ -180,13 +182,13 @@ is_stated reasons.BelowItself = true
 is_stated reasons.IsTaken = true
 is_stated reasons.Full = true
 is_stated (reasons.Entry why) = is_stated_entry why
-is_stated (reasons.Name why) = false
+is_stated (reasons.Name why) = is_stated_name why
 is_stated reasons.IsThere = false
 is_stated reasons.NoParent = false
 is_stated reasons.NoEntry = false
 is_stated reasons.HasChildren = false
-is_stated (reasons.NewRdn why) = false
-is_stated (reasons.Superior why) = false
+is_stated (reasons.NewRdn why) = is_stated_name why
+is_stated (reasons.Superior why) = is_stated_name why
 is_stated reasons.NoSuperior = false
 
 -- ---- the sentence

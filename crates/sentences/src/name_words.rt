@@ -1,5 +1,7 @@
 //! Words for names that no entry has or may have.
 
+ghost use Rattle.std.specs.Prelude.{◌≡◌, true, OnOk};
+ghost use Rattle.sentences.specs.NameWords.{IsNameWords, is_stated_name, not_one_rdn, outside_suffix};
 ghost use Rattle.sentences.specs.Sentence.{IsShown};
 
 use crate::lines::ShownText;
@@ -30,21 +32,20 @@ pub(crate) struct NameText<'a> {
 }
 
 impl NameText<'_> {
+    ghost use Rattle.sentences.specs.Putting.{IsPut, Puts};
+
     /// Puts what is wrong with the name behind words. Where it was read before, it is not read again.
     pub(crate) fn push_words(
         &self,
         words: &mut ShownText,
         name: Option<&Name>,
         why: NameReason,
-    ) -> Result<(), AllocError> {
+    ) -> Result<(), AllocError>
+        ensures { is_stated_name why ≡ true → OnOk result (Puts words.old words.new (IsNameWords self.now.conf.now self.now.what.now self.now.text.now why)) }
+    {
         match why {
             NameReason::Unreadable => self.push_unreadable(words),
-            NameReason::NotOneRdn => {
-                words.push_str(self.what)?;
-                words.push(' ')?;
-                push_quoted(words, self.text)?;
-                words.push_str(" is not one RDN")
-            }
+            NameReason::NotOneRdn => self.push_not_one(words),
             NameReason::Ava { rdn, ava, why } => match name {
                 Some(name) => self.push_ava_fault(words, ava_at(name, rdn, ava), why),
                 None => self.push_ava_words(words, rdn, ava, why),
@@ -53,10 +54,24 @@ impl NameText<'_> {
         }
     }
 
-    /// Puts that it doesn't end with the suffix behind words.
-    fn push_outside(&self, words: &mut ShownText) -> Result<(), AllocError> {
+    /// Puts that it isn't one RDN behind words.
+    #[tactic(auto, unfolding(crate::specs::NameWords::not_one_rdn))]
+    fn push_not_one(&self, words: &mut ShownText) -> Result<(), AllocError>
+        ensures { OnOk result (IsPut words.old words.new (not_one_rdn self.now.what.now self.now.text.now)) }
+    {
         words.push_str(self.what)?;
-        words.push(' ')?;
+        words.push_str(" ")?;
+        push_quoted(words, self.text)?;
+        words.push_str(" is not one RDN")
+    }
+
+    /// Puts that it doesn't end with the suffix behind words.
+    #[tactic(auto, unfolding(crate::specs::NameWords::outside_suffix))]
+    fn push_outside(&self, words: &mut ShownText) -> Result<(), AllocError>
+        ensures { OnOk result (IsPut words.old words.new (outside_suffix self.now.conf.now self.now.what.now self.now.text.now)) }
+    {
+        words.push_str(self.what)?;
+        words.push_str(" ")?;
         push_name(words, self.text)?;
         words.push_str(" doesn't end with the suffix ")?;
         push_name(words, self.conf.suffix_text())

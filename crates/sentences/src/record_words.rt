@@ -1,11 +1,12 @@
 //! Sentences for records that are refused with a result code.
 
-ghost use Rattle.std.specs.Prelude.{◌≡◌, true, OnOk, IfOk, slice_get};
-ghost use Rattle.std.specs.Option.{option_map, option_copied};
+ghost use Rattle.std.specs.Prelude.{◌≡◌, [], true, OnOk, IfOk, slice_get};
+ghost use Rattle.std.specs.Option.{option_map, option_copied, unwrap_or};
 ghost use Rattle.std.specs.String.{string_bytes};
 ghost use Rattle.tree.specs.Operations.{controls_of};
 ghost use Rattle.reasons.specs.Asked.{name_of_record, blocks_of_record, rdn_of_record, superior_of_record};
 ghost use Rattle.sentences.specs.Putting.{IsPut, Puts};
+ghost use Rattle.sentences.specs.NameWords.{IsNameWords, is_stated_name};
 ghost use Rattle.sentences.specs.RecordWords as told;
 ghost use Rattle.sentences.specs.Sentence.{IsShown};
 
@@ -108,6 +109,16 @@ impl Refused<'_> {
         new_superior_in(self.asked)
     }
 
+    /// The name of its new superior, or nothing where it names none.
+    fn superior_text(&self) -> &[u8]
+        ensures { result.now ≡ unwrap_or (superior_of_record self.now.asked.now) [] }
+    {
+        match self.new_superior() {
+            Some(name) => name,
+            None => &[],
+        }
+    }
+
     /// The path of its own name, if it has one.
     pub(crate) fn path(&self) -> Option<&Path>
         ensures { option_copied result ≡ option_map (λ p. p.now.path) self.now.place }
@@ -136,6 +147,7 @@ impl Refused<'_> {
         why: NameReason,
     ) -> Result<(), AllocError>
         requires { IsShown what.now }
+        ensures { is_stated_name why ≡ true → OnOk result (Puts words.old words.new (IsNameWords self.now.conf.now what.now text.now why)) }
     {
         let name_text = NameText {
             alloc: self.alloc,
@@ -194,8 +206,7 @@ impl Refused<'_> {
                 self.push_name_words(words, "newrdn", self.new_rdn(), None, *why)
             }
             Reason::Superior(why) => {
-                let name = self.new_superior().unwrap_or(&[]);
-                self.push_name_words(words, "newsuperior", name, None, *why)
+                self.push_name_words(words, "newsuperior", self.superior_text(), None, *why)
             }
             Reason::Entry(why) => self.push_entry_words(words, *why),
             _ => self.push_place_words(words, reason),
