@@ -15,7 +15,7 @@ AllIn ds es = (d : Definition) → Contains ds d → Contains es d
 
 -- ---- lines that are printed of more definitions
 
-pub printed_of_more : (ds es : List Definition) (line : List ℕ) → AllIn ds es → IsPrinted ds line → IsPrinted es line
+printed_of_more : (ds es : List Definition) (line : List ℕ) → AllIn ds es → IsPrinted ds line → IsPrinted es line
 printed_of_more ds es line all (inl empty) = inl empty
 printed_of_more ds es line all (inr (inl comment)) = inr (inl comment)
 printed_of_more ds es line all (inr (inr (inl same))) = inr (inr (inl (same.0, all same.0 same.1, same.2)))

@@ -82,10 +82,6 @@ fn blanks_in(text: &[u8]) -> usize {
         .unwrap_or(text.len())
 }
 
-fn without_blanks(text: &[u8]) -> &[u8] {
-    part(text, blanks_in(text), text.len())
-}
-
 /// The tokens of a definition.
 pub(crate) fn tokens_of(alloc: Global, text: &[u8]) -> Result<Vec<Token>, AllocError> {
     let mut tokens = Vec::new(alloc);
