@@ -499,7 +499,7 @@ def count_sort(counts, case, wanted):
 def count_schema(counts, wanted):
     counts[f"schema: status {wanted['status']}"] += 1
     for line in wanted["output"].decode(errors="replace").splitlines():
-        found = re.match(r"# (?:left out: )?(?:(C\d+ [a-z ]*|built in)|[^:]*: (the name|EQUALITY|MAY)\b)|(attributetype|objectclass) ", line)
+        found = re.match(r"# (?:left out: )?(?:(C\d+ [a-z ]*|built in|no definition)|[^:]*: (the name|EQUALITY|MAY)\b)|(attributetype|objectclass) ", line)
         counts[f"schemas: {next(filter(None, found.groups())) if found else 'another line'}"] += 1
 
 

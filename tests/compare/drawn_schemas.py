@@ -188,7 +188,9 @@ def broken(rng, text):
 
 def said_already(rng):
     """A text whose definitions a dir.conf has in other words."""
-    lines = [line for line in schemas.printed(text_of(rng), b"")[0].split(b"\n") if line and not line.startswith(b"#")]
+    lines = []
+    while not lines:
+        lines = [line for line in schemas.printed(text_of(rng), b"")[0].split(b"\n") if line and not line.startswith(b"#")]
     definitions = [tuple(line.split(b" ", 1)) for line in lines]
     again = [said_again(rng, it, definitions) for it in definitions]
     return b"".join(spelled(rng, *it) + b"\n" for it in again), b"".join(line + b"\n" for line in lines)
