@@ -142,7 +142,8 @@ class Directory:
         depth = len(steps) - len(suffix)
         if depth < 0 or steps[depth:] != suffix:
             above = sentences.name(self.conf.written_name(self.conf.suffix))
-            raise Refused(32, f"{what} {sentences.name(dn)} doesn't end with the suffix {above}", part)
+            shown = f" {sentences.name(dn)}" if dn else " is empty, and"
+            raise Refused(32, f"{what}{shown} doesn't end with the suffix {above}", part)
         return pairs, tuple(tuple(step) for step in reversed(steps[:depth]))
 
     def ava_words(self, what, code, kind, value, flaw):

@@ -550,4 +550,6 @@ def first_pass(conf, spelled, rest):
         # a line that goes on with none has no first word
         if not word:
             raise Wrong("C2", "a line that begins with a space continues the one before, and here is none")
+        if spelled.startswith(b"\xef\xbb\xbf"):
+            raise Wrong("C1", "the line begins with a byte order mark; take it away")
         raise Wrong("C1", f"{sentences.value(spelled)} is no keyword; suffix, index, attributetype and objectclass are")

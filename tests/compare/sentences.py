@@ -6,7 +6,7 @@ import re
 VALUE, TYPE, NAME, LINE = 40, 64, 160, 400
 MARKS = '"\\'
 SYNTAXES = {
-    "name": "no DN (1.3.6.1.4.1.1466.115.121.1.12) whose types are defined",
+    "name": "no DN (1.3.6.1.4.1.1466.115.121.1.12) by its form or the types of dir.conf",
     "text": "no Directory String (1.3.6.1.4.1.1466.115.121.1.15): UTF-8, not empty",
     "ascii": "no IA5 String (1.3.6.1.4.1.1466.115.121.1.26)", "numeric": "no Numeric String (1.3.6.1.4.1.1466.115.121.1.36)",
     "boolean": "no Boolean (1.3.6.1.4.1.1466.115.121.1.7)", "integer": "no Integer (1.3.6.1.4.1.1466.115.121.1.27)",

@@ -58,7 +58,8 @@ def conf_of(conf, name):
     """The configuration with this suffix, which is looked at as that of a suffix line."""
     rdns = schema.read_name(name)
     if not rdns:
-        raise ended(model.Refused(34, sentences.unreadable("the name", name)))
+        shown = f" {sentences.name(name)}" if name else " is empty, and"
+        raise ended(model.Refused(34, f"the name{shown} doesn't end with the suffix {sentences.name(conf.written_name(conf.suffix))}"))
     try:
         return replace(conf, suffix=conf.pairs_of(rdns))
     except schema.BadName as bad:

@@ -1,5 +1,5 @@
 -- What is said of names.
-use Rattle.std.specs.Prelude.{◌≡◌, ℕ, ◌++◌, Bool, true, false, List, map, codes}
+use Rattle.std.specs.Prelude.{◌≡◌, ℕ, ◌++◌, Bool, true, false, List, [], ◌∷◌, map, codes}
 use Rattle.dn.specs.Writing.{text_of}
 use Rattle.schema.specs.Conf.{Conf}
 use Rattle.schema.specs.Names.{written_rdn}
@@ -11,10 +11,15 @@ use Rattle.sentences.specs.Shown.{shown_name, quoted}
 unfoldable pub not_one_rdn : List ℕ → List ℕ → List ℕ
 not_one_rdn what text = what ++ codes " " ++ quoted text ++ codes " is not one RDN"
 
+-- which one it is; one without a byte can't be shown
+abbrev pub name_or_empty : List ℕ → List ℕ
+name_or_empty [] = codes " is empty, and"
+name_or_empty (b ∷ bs) = codes " " ++ shown_name (b ∷ bs)
+
 -- a name that is to end with the suffix
 unfoldable pub outside_suffix : Conf → List ℕ → List ℕ → List ℕ
 outside_suffix conf what text =
-    what ++ codes " " ++ shown_name text ++ codes " doesn't end with the suffix " ++ shown_name (text_of (map (written_rdn conf.types) conf.suffix))
+    what ++ name_or_empty text ++ codes " doesn't end with the suffix " ++ shown_name (text_of (map (written_rdn conf.types) conf.suffix))
 
 -- what is wrong with a name; why it can't be read, and which AVA has a flaw, is tested
 abbrev pub IsNameWords : Conf → List ℕ → List ℕ → NameReason → List ℕ → Type 0

@@ -58,7 +58,7 @@ named_value name value = shown_type name ++ codes ": " ++ quoted value
 
 -- what a value isn't, with the OID of the syntax (RFC 4517, 3.3)
 abbrev pub syntax_words : TypeSyntax → List ℕ
-syntax_words type_syntaxes.Name = codes "no DN (1.3.6.1.4.1.1466.115.121.1.12) whose types are defined"
+syntax_words type_syntaxes.Name = codes "no DN (1.3.6.1.4.1.1466.115.121.1.12) by its form or the types of dir.conf"
 syntax_words (type_syntaxes.Plain syntaxes.Text) = codes "no Directory String (1.3.6.1.4.1.1466.115.121.1.15): UTF-8, not empty"
 syntax_words (type_syntaxes.Plain syntaxes.Ascii) = codes "no IA5 String (1.3.6.1.4.1.1466.115.121.1.26)"
 syntax_words (type_syntaxes.Plain syntaxes.Numeric) = codes "no Numeric String (1.3.6.1.4.1.1466.115.121.1.36)"

@@ -9,6 +9,9 @@ use dir_conf::{ConfFlaw, ConfReason, NameField, SyntaxRule, UnreadPart, explain}
 use schema::IndexKind;
 use std::alloc::{AllocError, Global};
 
+/// U+FEFF in UTF-8.
+const BYTE_ORDER_MARK: &[u8] = b"\xEF\xBB\xBF";
+
 fn field_word(field: NameField) -> &'static str
     ensures { IsShown result.now }
 {
@@ -128,6 +131,12 @@ fn later_words(alloc: Global, flaw: &ConfFlaw) -> Result<ShownText, AllocError> 
 /// What is wrong with a line.
 fn flaw_words(alloc: Global, flaw: &ConfFlaw) -> Result<ShownText, AllocError> {
     match flaw {
+        ConfFlaw::Keyword { word } if word.as_slice().starts_with(BYTE_ORDER_MARK) => {
+            ShownText::fixed(
+                alloc,
+                "the line begins with a byte order mark; take it away",
+            )
+        }
         ConfFlaw::Keyword { word } => {
             let word = quoted(alloc, word.as_slice())?;
             ShownText::of(format!(in alloc;

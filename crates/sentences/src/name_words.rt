@@ -1,7 +1,7 @@
 //! Words for names that no entry has or may have.
 
 ghost use Rattle.std.specs.Prelude.{◌≡◌, true, OnOk};
-ghost use Rattle.sentences.specs.NameWords.{IsNameWords, is_stated_name, not_one_rdn, outside_suffix};
+ghost use Rattle.sentences.specs.NameWords.{IsNameWords, is_stated_name, not_one_rdn, name_or_empty, outside_suffix};
 ghost use Rattle.sentences.specs.Sentence.{IsShown};
 
 use crate::lines::ShownText;
@@ -65,14 +65,24 @@ impl NameText<'_> {
         words.push_str(" is not one RDN")
     }
 
+    /// Puts it behind words, or that it is empty.
+    fn push_name_or_empty(&self, words: &mut ShownText) -> Result<(), AllocError>
+        ensures { OnOk result (IsPut words.old words.new (name_or_empty self.now.text.now)) }
+    {
+        if self.text.is_empty() {
+            return words.push_str(" is empty, and");
+        }
+        words.push_str(" ")?;
+        push_name(words, self.text)
+    }
+
     /// Puts that it doesn't end with the suffix behind words.
     #[tactic(auto, unfolding(crate::specs::NameWords::outside_suffix))]
     fn push_outside(&self, words: &mut ShownText) -> Result<(), AllocError>
         ensures { OnOk result (IsPut words.old words.new (outside_suffix self.now.conf.now self.now.what.now self.now.text.now)) }
     {
         words.push_str(self.what)?;
-        words.push_str(" ")?;
-        push_name(words, self.text)?;
+        self.push_name_or_empty(words)?;
         words.push_str(" doesn't end with the suffix ")?;
         push_name(words, self.conf.suffix_text())
     }

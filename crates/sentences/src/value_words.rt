@@ -17,7 +17,9 @@ fn syntax_words(syntax: TypeSyntax) -> &'static str
     ensures shown { IsShown result.now }
 {
     match syntax {
-        TypeSyntax::Name => "no DN (1.3.6.1.4.1.1466.115.121.1.12) whose types are defined",
+        TypeSyntax::Name => {
+            "no DN (1.3.6.1.4.1.1466.115.121.1.12) by its form or the types of dir.conf"
+        }
         TypeSyntax::Plain(Syntax::Text) => {
             "no Directory String (1.3.6.1.4.1.1466.115.121.1.15): UTF-8, not empty"
         }
