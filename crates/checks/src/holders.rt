@@ -5,7 +5,7 @@ ghost use Rattle.std.specs.List.{IsDistinct};
 ghost use Rattle.std.specs.Str.{bytes_eq};
 ghost use Rattle.values.specs.Norms.{has_norm};
 ghost use Rattle.checks.specs.Sharing.{begins_sharing};
-ghost use Rattle.checks.specs.inner.Holders.{paths_at, have_same_norm};
+ghost use Rattle.checks.specs.inner.Holders.{paths_at, have_same_norm, are_several, some_share};
 
 use base::{Bytes, Sequence};
 use entries::Values;
@@ -61,6 +61,12 @@ impl<'a> Holders<'a> {
         Ok(())
     }
 
+    fn are_several(&self) -> bool
+        ensures { result ≡ are_several self.now }
+    {
+        !self.others.is_empty()
+    }
+
     /// Whether there are several, of which the first is at this path.
     pub(crate) fn begin_sharing(&self, path: &Path) -> bool
         ensures { result ≡ begins_sharing path.now self.now }
@@ -112,4 +118,11 @@ pub(crate) fn add_holder_of_values<'a>(
         add_holder(alloc, holders, value.norm(), path)?;
     }
     Ok(())
+}
+
+/// Whether several entries have one of the values.
+pub(crate) fn some_share(holders: &HoldersByNorm<'_>) -> bool
+    ensures { result ≡ some_share holders.now }
+{
+    holders.values().any(|equal| equal.are_several())
 }

@@ -7,7 +7,7 @@ ghost use Rattle.schema.specs.Values.{norm_at};
 ghost use Rattle.checks.specs.Sharing.{holders, shared, tell_the_same, EachIsShared, EqualsAreTold};
 ghost use Rattle.checks.specs.inner.Holders.{paths_at, shared_by, shared_from};
 
-use crate::holders::{HoldersByNorm, add_holder_of_values};
+use crate::holders::{HoldersByNorm, add_holder_of_values, some_share};
 use crate::laws::shared_values_are_told;
 use crate::shared_value::SharedValue;
 use base::Bytes;
@@ -82,6 +82,10 @@ fn shared_values(alloc: Global, tree: &Tree, t: TypeId) -> Result<Vec<SharedValu
     let root = Path::root(alloc);
     let holders = holders_of(alloc, tree, &root, t)?;
     let mut found = Vec::new(alloc);
+    // mostly none is, and to look each up once more takes long
+    if !some_share(&holders) {
+        return Ok(found);
+    }
     for (path, entry) in tree.range(&root) {
         if let Some(values) = entry.values(t) {
             push_shared(alloc, &holders, &mut found, path, values)?;
@@ -92,8 +96,8 @@ fn shared_values(alloc: Global, tree: &Tree, t: TypeId) -> Result<Vec<SharedValu
 
 /// The values of a type that several entries have: equal ones by the type's equality rule (RFC 4517, 4.2), or without a rule the same bytes. Values
 /// of its subtypes aren't looked at. Each is told once, as its first entry spells it, with all entries that have it, in the order of the dump; the
-/// values in the order of their first entries, and of one entry in its order. It goes through the entries twice, and looks each value up among
-/// all. The fault is want of memory.
+/// values in the order of their first entries, and of one entry in its order. It looks each value up among all, and where one is shared does so
+/// once more. The fault is want of memory.
 pub fn find_shared(alloc: Global, tree: &Tree, t: TypeId) -> Result<Vec<SharedValue>, AllocError>
     ensures found { IfOk result (λ found. found.items ≡ shared tree.now.conf.types tree.now.entries t) }
     ensures told { IfOk result (λ found. EachIsShared tree.now.conf.types tree.now.entries t found.items) }

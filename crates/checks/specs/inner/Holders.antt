@@ -1,8 +1,8 @@
 -- Entries by the normal forms of their values, in a map.
-use Rattle.std.specs.Prelude.{ℕ, Bool, List, [], Option, Some, None, if◌then◌else◌}
-use Rattle.std.specs.List.{flat_map}
+use Rattle.std.specs.Prelude.{ℕ, Bool, true, false, List, [], ◌∷◌, Option, Some, None, if◌then◌else◌}
+use Rattle.std.specs.List.{flat_map, list_any}
 use Rattle.std.specs.Str.{bytes_eq}
-use Rattle.std.specs.BTreeMap.{BTreeMap, get}
+use Rattle.std.specs.BTreeMap.{BTreeMap, get, values}
 use Rattle.std.specs.Cmp.Lexicographic.{slice_cmp}
 use Rattle.std.specs.Ordering.{nat_cmp}
 use Rattle.std.specs.Option.{option_to_list}
@@ -31,3 +31,12 @@ shared_from m p v = if begins_sharing p (paths_at m v.norm) then Some (record { 
 
 abbrev pub shared_by : HoldersByNorm → Path → List Value → List SharedValue
 shared_by m p vs = flat_map (λ v. option_to_list (shared_from m p v)) vs
+
+abbrev pub are_several : List Path → Bool
+are_several [] = false
+are_several (p ∷ []) = false
+are_several (p ∷ q ∷ more) = true
+
+-- whether several entries have one of the values
+abbrev pub some_share : HoldersByNorm → Bool
+some_share m = list_any are_several (values m)

@@ -9,8 +9,15 @@ use Rattle.tree.specs.Trees.{seen_entries}
 use Rattle.checks.specs.declared.shared_value.SharedValue.{SharedValue}
 use Rattle.checks.specs.Sharing.{shared_at}
 use Rattle.checks.proofs.Kept.{all_seen}
-use Rattle.checks.proofs.Sharings.{entry_told, entry_untold}
+use Rattle.checks.proofs.Sharings.{entry_told, entry_untold, none_shared}
 use Rattle.checks.proofs.sharing.shared_values.Goals as goal
+
+pub returns-then-not-some_share : goal.returns-then-not-some_share
+returns-then-not-some_share c =
+    let tree = c.args.tree.now in
+    let known = c.in_ok-holders.ensures in
+    c.new-found.ensures.items
+    ∙ sym (none_shared tree.conf.types (finite.entries tree.entries) c.args.t c.in_ok-holders.holders known (sym c.some_share.ensures ∙ c.if-not-some_share.true) (finite.entries tree.entries))
 
 pub loop-path-init : goal.loop-path-init
 loop-path-init c =
