@@ -67,7 +67,7 @@ def main(program, bench, people="100000"):
             print(f"{label:30}{took:8.3f} s{beside:8.3f} s{took / beside:7.2f}{bar:7}", flush=True)
             return took / beside > bar
 
-        missed |= compare("one uid", lambda: seconds([*search, one]), lambda: seconds([program, "slapcat", "--db", db]), 1.5)
+        missed |= compare("one uid", lambda: seconds([*search, one]), lambda: seconds([program, "slapcat", "--db", db]), 1.45)
         missed |= compare("one uid, without index.txt", without, lambda: seconds([program, "slapindex", "--db", db]), 1.0)
         missed |= compare("1,000 items", lambda: seconds([*search, many]), lambda: seconds([*search, one]), 1.3)
         lines = work / "lines"
