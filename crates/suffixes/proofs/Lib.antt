@@ -6,4 +6,9 @@ pub mod AddedLines
 pub mod MovedAttributes
 pub mod MovedSteps
 pub mod MovedPlaces
+pub mod LineNumbers
+pub mod SuffixChanged
+pub mod OneLine
+pub mod SuffixReplaced
+pub mod SuffixExamples
 pub mod Examples

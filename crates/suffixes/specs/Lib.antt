@@ -1,4 +1,5 @@
 pub mod Configurations
+pub mod SuffixLines
 pub mod MovedValues
 pub mod MovedDirectories
 pub mod MovedEntries

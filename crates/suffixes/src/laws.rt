@@ -5,7 +5,9 @@ ghost use Rattle.schema.specs.declared.code.Code.{Code};
 ghost use Rattle.schema.specs.Rdns.{TypedRdn};
 ghost use Rattle.schema.specs.Conf.{Conf, IsConf, located, located_at};
 ghost use Rattle.tree.specs.Directories.{Entries, IsDirectory};
-ghost use Rattle.suffixes.specs.Configurations.{suffix_in, with_suffix};
+ghost use Rattle.dir_conf.specs.Configurations.{conf_of};
+ghost use Rattle.suffixes.specs.Configurations.{suffix_in, with_suffix, conf_under};
+ghost use Rattle.suffixes.specs.SuffixLines.{ChangesSuffix, SaysOrIsRefused, BothSay, ReplacesSuffixLine};
 ghost use Rattle.suffixes.specs.MovedDirectories.{move_by, moved_directory};
 ghost use Rattle.suffixes.specs.MovedEntries.{AreMoved};
 ghost use Rattle.suffixes.specs.MovedValues.{moved_value};
@@ -28,4 +30,27 @@ pub fn each_entry_is_moved()
 {
     schema::printed_names_name_their_types();
     schema::written_names_are_located();
+}
+
+/// The text of a `dir.conf` with another name in its suffix line says what `conf_under` makes of the configuration: the same with the suffix that the
+/// name spells. Where the name spells none, the text is refused at that line.
+pub fn suffix_lines_say_the_suffix()
+    ensures { (old new name : List ℕ) (conf : Conf) → ChangesSuffix old new name → conf_of old ≡ Ok conf
+        → SaysOrIsRefused new (conf_under conf name) }
+{}
+
+/// A text has another name in its suffix line where `suffix NAME` stands in place of that line, and the same bytes stand above and below.
+pub fn suffix_lines_are_replaced()
+    ensures { (old new name : List ℕ) → ReplacesSuffixLine old new name → ChangesSuffix old new name }
+{}
+
+/// Where two texts differ in their suffix line alone, and both say configurations, a directory of the first one that can be under the second one has its
+/// entries moved there, as `each_entry_is_moved` says.
+pub fn entries_move_by_suffix_lines()
+    ensures { (old new name : List ℕ) (conf under : Conf) (d moved : Entries) → BothSay old new name conf under → IsDirectory conf d
+        → moved_directory (move_by conf under name d) ≡ Ok moved → AreMoved (move_by conf under name d) moved }
+{
+    definitions::defined_types_have_names();
+    dn::spelled_names_are_read();
+    each_entry_is_moved();
 }

@@ -15,5 +15,8 @@ mod watcher;
 
 pub use configurations::conf_under;
 pub use directories::directory_under;
-pub use laws::{each_entry_is_moved, moved_names_keep_their_places};
+pub use laws::{
+    each_entry_is_moved, entries_move_by_suffix_lines, moved_names_keep_their_places,
+    suffix_lines_are_replaced, suffix_lines_say_the_suffix,
+};
 pub use watcher::{Unwatched, Watcher};
