@@ -1,8 +1,8 @@
 -- Worked examples of texts that differ in their suffix line alone, by computation.
-use Rattle.std.proofs.Common.{ℕ, List, [], ◌∷◌, codes, refl}
+use Rattle.std.proofs.Common.{◌≡◌, ℕ, true, List, [], ◌∷◌, inl, inr, codes, refl}
 use Rattle.std.specs.Prelude.{⊤}
 use Rattle.definitions.specs.Lines.{unfolded, lines_of}
-use Rattle.suffixes.specs.SuffixLines.{ChangesSuffix}
+use Rattle.suffixes.specs.SuffixLines.{ChangesSuffix, SpellsSuffix, needs_quotes, ReplacesSuffixLine}
 
 unfoldable on_texts : ⊤
 unfolding lines_of unfolded
@@ -39,3 +39,31 @@ in_quotes = record {
   new_is_suffix = refl;
   says_name = refl;
 }
+
+-- ---- one line in place of another
+
+replaced : ReplacesSuffixLine old (codes "# a directory\nsuffix o=new\r\nindex cn eq\n") (codes "o=new")
+replaced = record {
+  above = codes "# a directory\n";
+  old_line = codes "suffix o=old";
+  old_end = codes "\n";
+  new_line = codes "suffix o=new";
+  new_end = codes "\r\n";
+  below = codes "index cn eq\n";
+  old_is = refl;
+  new_is = refl;
+  above_ends = inr refl;
+  below_begins = refl;
+  old_one = refl;
+  old_ends = inr (refl, refl);
+  old_is_suffix = refl;
+  name_one = refl;
+  new_spells = inr (refl, refl);
+  new_ends = inl refl;
+}
+
+a_space_behind : needs_quotes (codes "o=new ") ≡ true
+a_space_behind = refl
+
+with_quotes : SpellsSuffix (codes "suffix \"o=new \"") (codes "o=new ")
+with_quotes = inl refl

@@ -1,7 +1,7 @@
 -- Two texts of a dir.conf that differ in their suffix line alone.
-use Rattle.std.specs.Prelude.{◌≡◌, ℕ, Bool, true, false, ◌⊎◌, List, [], ◌∷◌, ◌++◌, map, Result, Ok, Err, codes}
+use Rattle.std.specs.Prelude.{◌≡◌, ℕ, Bool, true, false, ◌||◌, ◌⊎◌, List, [], ◌∷◌, ◌++◌, map, Result, Ok, Err, codes}
 use Rattle.std.specs.List.{list_all}
-use Rattle.base.specs.Ascii.{line_feed}
+use Rattle.base.specs.Ascii.{line_feed, space, quotation_mark}
 use Rattle.base.specs.Ends.{ends_with}
 use Rattle.definitions.specs.declared.lines.Line.{Line}
 use Rattle.definitions.specs.Lines.{begins_blank, lines_of}
@@ -9,7 +9,7 @@ use Rattle.definitions.specs.LineGrammar.{is_in_line, IsEnd}
 use Rattle.schema.specs.declared.code.Code.{Code}
 use Rattle.schema.specs.Conf.{Conf}
 use Rattle.dir_conf.specs.declared.conf_fault.ConfFaultKind.TheVariants.{Suffix}
-use Rattle.dir_conf.specs.Configurations.{is_first, suffix_text, conf_of}
+use Rattle.dir_conf.specs.Configurations.{is_first, is_quoted, suffix_text, conf_of}
 use Rattle.dir_conf.specs.FaultyLines.{has_suffix}
 
 -- whether its first word is `suffix`, in any case
@@ -62,24 +62,36 @@ abbrev pub AreWhole : List ℕ → Type 0
 AreWhole text = (text ≡ []) ⊎ (ends_with line_feed text ≡ true)
 
 -- `suffix NAME`
-abbrev pub suffix_line : List ℕ → List ℕ
-suffix_line name = codes "suffix " ++ name
+abbrev pub plain_line : List ℕ → List ℕ
+plain_line name = codes "suffix " ++ name
 
--- `suffix NAME` stands in place of a suffix line, which goes on on no other, between the same lines. The name reads as itself there: no blank stands at its
--- front, no space at its end, and it isn't in quotes.
+-- `suffix "NAME"`
+abbrev pub quoted_line : List ℕ → List ℕ
+quoted_line name = codes "suffix \"" ++ (name ++ quotation_mark ∷ [])
+
+-- whether a blank stands before a name, a space behind it, or quotes round it
+abbrev pub needs_quotes : List ℕ → Bool
+needs_quotes name = begins_blank name || (ends_with space name || is_quoted name)
+
+-- in quotes, which any name may have; or where it needs none, without
+abbrev pub SpellsSuffix : List ℕ → List ℕ → Type 0
+SpellsSuffix line name = (line ≡ quoted_line name) ⊎ ((line ≡ plain_line name) × (needs_quotes name ≡ false))
+
+-- a line that spells this name stands in place of a suffix line, which goes on on no other, between the same lines
 pub record ReplacesSuffixLine (old new name : List ℕ) : Type 0 where
   pub above : List ℕ
   pub old_line : List ℕ
   pub old_end : List ℕ
+  pub new_line : List ℕ
   pub new_end : List ℕ
   pub below : List ℕ
   pub old_is : old ≡ above ++ (old_line ++ (old_end ++ below))
-  pub new_is : new ≡ above ++ (suffix_line name ++ (new_end ++ below))
+  pub new_is : new ≡ above ++ (new_line ++ (new_end ++ below))
   pub above_ends : AreWhole above
   pub below_begins : begins_blank below ≡ false
   pub old_one : list_all is_in_line old_line ≡ true
-  pub new_one : list_all is_in_line name ≡ true
   pub old_ends : IsEnd old_line old_end
-  pub new_ends : IsEnd (suffix_line name) new_end
   pub old_is_suffix : is_suffix_line old_line ≡ true
-  pub reads_as_itself : suffix_text (suffix_line name) ≡ name
+  pub name_one : list_all is_in_line name ≡ true
+  pub new_spells : SpellsSuffix new_line name
+  pub new_ends : IsEnd new_line new_end

@@ -39,7 +39,8 @@ pub fn suffix_lines_say_the_suffix()
         → SaysOrIsRefused new (conf_under conf name) }
 {}
 
-/// A text has another name in its suffix line where `suffix NAME` stands in place of that line, and the same bytes stand above and below.
+/// A text has another name in its suffix line where `suffix "NAME"` stands in place of that line, and the same bytes stand above and below; or
+/// `suffix NAME`, where the name needs no quotes.
 pub fn suffix_lines_are_replaced()
     ensures { (old new name : List ℕ) → ReplacesSuffixLine old new name → ChangesSuffix old new name }
 {}
