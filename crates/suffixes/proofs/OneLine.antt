@@ -5,7 +5,7 @@ use Rattle.std.specs.Str.Lines.{strip_carriage_return}
 use Rattle.std.proofs.lemmas.Bool.{and_parts, eqb-true}
 use Rattle.std.proofs.lemmas.List.{length_push}
 use Rattle.std.proofs.lemmas.List.Folds.{list_all-append}
-use Rattle.std.proofs.Math.Seq.{take-append_seam}
+use Rattle.std.proofs.Math.Seq.{take-append_seam, get_or-append_seam}
 use Rattle.base.specs.Ends.{ends_with}
 use Rattle.base.proofs.LastByte.{ends_is}
 use Rattle.definitions.specs.declared.lines.Line.{Line}
@@ -138,17 +138,12 @@ return_kept [] h = refl
 return_kept (b ∷ bs) h =
     ap (λ (t : Bool). cond t (take (length (b ∷ bs) - 1) (b ∷ bs)) (b ∷ bs)) (sym (ends_is (b ∷ bs) 13 (length (b ∷ bs) - 1) (omega arith) (omega arith)) ∙ h)
 
-return_ends : (stretch : List ℕ) → ends_with 13 (stretch ++ 13 ∷ []) ≡ true
-return_ends [] = refl
-return_ends (b ∷ []) = refl
-return_ends (b ∷ c ∷ cs) = return_ends (c ∷ cs)
-
 return_lost : (stretch : List ℕ) → strip_carriage_return (stretch ++ 13 ∷ []) ≡ stretch
 return_lost stretch =
     let whole = stretch ++ 13 ∷ [] in
-    let less : length whole - 1 ≡ length stretch = omega (arith, length_push stretch 13) in
-    ap (λ (t : Bool). cond t (take (length whole - 1) whole) whole) (sym (ends_is whole 13 (length whole - 1) (omega (arith, length_push stretch 13)) (omega (arith, length_push stretch 13))) ∙ return_ends stretch)
-    ∙ ap (λ (n : ℕ). take n whole) less
+    let at : length whole - 1 ≡ length stretch = omega (arith, length_push stretch 13) in
+    ap (λ (n : ℕ). cond (eqb (get_or whole n 0) 13) (take n whole) whole) at
+    ∙ ap (λ (b : ℕ). cond (eqb b 13) (take (length stretch) whole) whole) (get_or-append_seam stretch 13 [] 0)
     ∙ take-append_seam stretch (13 ∷ [])
 
 one_stretch : (stretch : List ℕ) (rest : List ℕ) → list_all is_in_line stretch ≡ true → stripped (cut (stretch ++ 10 ∷ rest)) ≡ strip_carriage_return stretch ∷ stripped (cut rest)

@@ -2,7 +2,8 @@
 use Rattle.std.proofs.Common.{◌≡◌, ℕ, true, List, [], ◌∷◌, inl, inr, codes, refl}
 use Rattle.std.specs.Prelude.{⊤}
 use Rattle.definitions.specs.Lines.{unfolded, lines_of}
-use Rattle.suffixes.specs.SuffixLines.{ChangesSuffix, SpellsSuffix, needs_quotes, ReplacesSuffixLine}
+use Rattle.dir_conf.specs.Configurations.{suffix_text}
+use Rattle.suffixes.specs.SuffixLines.{is_suffix_line, texts_of, ChangesSuffix, SpellsSuffix, needs_quotes, ReplacesSuffixLine}
 
 unfoldable on_texts : ⊤
 unfolding lines_of unfolded
@@ -11,34 +12,28 @@ on_texts = tt
 abbrev old : List ℕ
 old = codes "# a directory\nsuffix o=old\nindex cn eq\n"
 
-one_word : ChangesSuffix old (codes "# a directory\nsuffix o=new\nindex cn eq\n") (codes "o=new")
+differs : (new line name : List ℕ) → texts_of (lines_of new) ≡ codes "# a directory" ∷ line ∷ codes "index cn eq" ∷ [] ∷ [] → is_suffix_line line ≡ true → suffix_text line ≡ name → ChangesSuffix old new name
 unfolding on_texts
-one_word = record {
+differs new line name lines suffix text = record {
   above = codes "# a directory" ∷ [];
   old_line = codes "suffix o=old";
-  new_line = codes "suffix o=new";
+  new_line = line;
   below = codes "index cn eq" ∷ [] ∷ [];
   old_lines = refl;
-  new_lines = refl;
+  new_lines = lines;
   old_is_suffix = refl;
-  new_is_suffix = refl;
-  says_name = refl;
+  new_is_suffix = suffix;
+  says_name = text;
 }
+
+one_word : ChangesSuffix old (codes "# a directory\nsuffix o=new\nindex cn eq\n") (codes "o=new")
+unfolding on_texts
+one_word = differs (codes "# a directory\nsuffix o=new\nindex cn eq\n") (codes "suffix o=new") (codes "o=new") refl refl refl
 
 -- on two lines, in quotes, with ends of two kinds; the blanks before the quotes count for nothing, the space before the second one stays
 in_quotes : ChangesSuffix old (codes "# a directory\nSUFFIX\r\n \t\"ou=x, o=new \"  \r\nindex cn eq\n") (codes "ou=x, o=new ")
 unfolding on_texts
-in_quotes = record {
-  above = codes "# a directory" ∷ [];
-  old_line = codes "suffix o=old";
-  new_line = codes "SUFFIX \t\"ou=x, o=new \"  ";
-  below = codes "index cn eq" ∷ [] ∷ [];
-  old_lines = refl;
-  new_lines = refl;
-  old_is_suffix = refl;
-  new_is_suffix = refl;
-  says_name = refl;
-}
+in_quotes = differs (codes "# a directory\nSUFFIX\r\n \t\"ou=x, o=new \"  \r\nindex cn eq\n") (codes "SUFFIX \t\"ou=x, o=new \"  ") (codes "ou=x, o=new ") refl refl refl
 
 -- ---- one line in place of another
 
