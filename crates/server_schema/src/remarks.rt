@@ -1,8 +1,11 @@
 //! Comments on what can't be taken.
 
-ghost use Rattle.std.specs.Prelude.{◌≡◌, [], IfOk, OnOk};
+ghost use Rattle.std.specs.Prelude.{◌≡◌, ◌⊎◌, true, [], IfOk, OnOk};
+ghost use Rattle.dir_conf.specs.inner.Views.{defined_view};
 ghost use Rattle.server_schema.specs.Growth.{comment_of};
-ghost use Rattle.server_schema.specs.Transfers.{AreComments, AddsComments, no_definition};
+ghost use Rattle.server_schema.specs.Stated.{stated_in};
+ghost use Rattle.server_schema.specs.Alike.{meanings_of, is_among};
+ghost use Rattle.server_schema.specs.Transfers.{AreComments, AddsComments, NeedNoRemark, no_definition};
 
 use crate::alike::{Meaning, is_among, meanings_of};
 use crate::definition::{Definition, Sort};
@@ -148,7 +151,9 @@ fn remark_on_candidate(
     candidate: &Candidate<'_>,
     out: &mut Vec<u8>,
 ) -> Result<(), AllocError>
-    ensures { OnOk result (AddsComments out.old.items out.new.items) }
+    ensures adds { OnOk result (AddsComments out.old.items out.new.items) }
+    ensures none { OnOk result (out.new.items ≡ [] → (candidate.now.is_repaired ≡ true)
+        ⊎ (is_among (defined_view defined.now) stated.now candidate.now.definition.now ≡ true)) }
 {
     if candidate.is_repaired || is_among(alloc, defined, stated, candidate.definition)? {
         return Ok(());
@@ -179,7 +184,8 @@ fn put_left(
     left: &[Candidate<'_>],
     out: &mut Vec<u8>,
 ) -> Result<(), AllocError>
-    ensures { OnOk result (AddsComments out.old.items out.new.items) }
+    ensures adds { OnOk result (AddsComments out.old.items out.new.items) }
+    ensures none { OnOk result (out.new.items ≡ [] → NeedNoRemark (defined_view defined.now) (meanings_of (stated_in conf.now)) left.now) }
 {
     let stated = meanings_in(alloc, conf)?;
     for candidate in left {
@@ -204,7 +210,8 @@ fn all_remarks(
     definitions: &[Definition],
     left: &[Candidate<'_>],
 ) -> Result<Vec<u8>, AllocError>
-    ensures { IfOk result (λ v. AreComments v.items) }
+    ensures comments { IfOk result (λ v. AreComments v.items) }
+    ensures none { IfOk result (λ v. v.items ≡ [] → NeedNoRemark (defined_view defined.now) (meanings_of (stated_in conf.now)) left.now) }
 {
     let mut out = Vec::new(alloc);
     put_built_in(alloc, defined, definitions, &mut out)?;
@@ -223,6 +230,7 @@ pub(crate) fn remarks_on(
 ) -> Result<Vec<u8>, AllocError>
     ensures comments { IfOk result (λ v. AreComments v.items) }
     ensures none { IfOk result (λ v. definitions.now ≡ [] → v.items ≡ comment_of no_definition) }
+    ensures whole { IfOk result (λ v. v.items ≡ [] → NeedNoRemark (defined_view defined.now) (meanings_of (stated_in conf.now)) left.now) }
 {
     if definitions.is_empty() {
         none_stands(alloc)

@@ -3,6 +3,6 @@ use Rattle.server_schema.specs.Transfers.{AddsComments}
 use Rattle.server_schema.proofs.Gathering.{more_comments, are_comments}
 use Rattle.server_schema.proofs.remarks.all_remarks.Goals as goal
 
-pub returns : goal.returns
-returns c =
-    are_comments _ (more_comments [] _ _ (subst (λ (t : List ℕ). AddsComments t c.put_built_in.new.out.items) c.new-out.ensures.items c.in_ok-put_built_in.ensures) c.in_ok-put_left.ensures)
+pub returns-clause-comments : goal.returns-clause-comments
+returns-clause-comments c =
+    are_comments _ (more_comments [] _ _ (subst (λ (t : List ℕ). AddsComments t c.put_built_in.new.out.items) c.new-out.ensures.items c.in_ok-put_built_in.ensures) c.in_ok-put_left.ensures.adds)
