@@ -8,8 +8,9 @@ use Rattle.server_schema.specs.declared.definition.Definition.{Definition}
 use Rattle.dir_conf.specs.Configurations.{Defined}
 use Rattle.server_schema.specs.declared.alike.Meaning.{Meaning}
 use Rattle.server_schema.specs.declared.taking.Candidate.{Candidate}
+use Rattle.server_schema.specs.Stated.{is_built_in}
 use Rattle.server_schema.specs.Alike.{is_among}
-use Rattle.server_schema.specs.Growth.{comment_of, IsComment}
+use Rattle.server_schema.specs.Growth.{comment_of}
 use Rattle.server_schema.specs.Transfers.{is_said, Gathers, IsOneMore, IsStepFor, AreComments, AddsComments, NeedNoRemark}
 use Rattle.server_schema.proofs.Members.{in_none, only_one}
 
@@ -133,4 +134,20 @@ module _ (defined : Defined) (stated : List Meaning) where
       (λ d at. elim (Contains-push_cases (take i cs) c d at) [
         | inl before ↦ none d before
         | inr same ↦ subst (λ (e : Candidate). (e.is_repaired ≡ true) ⊎ (is_among defined stated e.definition.now ≡ true)) same this
+      ])
+
+  -- of those of what is built in, each is one of these
+  abbrev pub SayThese : List Definition → Type 0
+  SayThese ds = (d : Definition) → Contains ds d → is_built_in d ≡ true → is_among defined stated d ≡ true
+
+  pub none_say : SayThese []
+  none_say d at = absurd (in_none d at)
+
+  pub next_says : (ds : List Definition) (i : ℕ) (d : Definition) → i < length ds → d ≡ get_or ds i d → SayThese (take i ds)
+      → (is_built_in d ≡ true → is_among defined stated d ≡ true) → SayThese (take (i + 1) ds)
+  next_says ds i d lt is say this =
+      subst SayThese (sym (take_more ds i d lt ∙ ap (λ (e : Definition). take i ds ++ e ∷ []) (sym is)))
+      (λ e at. elim (Contains-push_cases (take i ds) d e at) [
+        | inl before ↦ say e before
+        | inr same ↦ subst (λ (f : Definition). is_built_in f ≡ true → is_among defined stated f ≡ true) same this
       ])

@@ -7,7 +7,7 @@ use Rattle.std.proofs.lemmas.List.Elements.{Contains-append_left, Contains-appen
 use Rattle.server_schema.specs.declared.definition.Definition.{Definition}
 use Rattle.server_schema.specs.Definitions.{line_of, lines_of}
 use Rattle.server_schema.specs.Repairs.{IsRepairOf}
-use Rattle.server_schema.specs.Growth.{is_read, comment_of, IsLineOf, IsRepairedLineOf, HasRepaired, IsPrinted, concat, Grows, AreRefused}
+use Rattle.server_schema.specs.Growth.{is_read, comment_of, IsLineOf, IsRepairedLineOf, IsPrinted, concat, Grows, AreRefused}
 use Rattle.server_schema.proofs.Members.{here, later, in_none, first_or_later, only_one, in_map, from_map}
 
 abbrev AllIn : List Definition → List Definition → Type 0

@@ -1,10 +1,8 @@
 -- The lines of a text with more behind it: those of the text, and those that stand behind.
-use Rattle.std.proofs.Common.{◌≡◌, ◌∙◌, ◌⊎◌, ℕ, suc, ◌+◌, ◌-◌, Bool, true, false, cond, eqb, List, [], ◌∷◌, ◌++◌, length, get_or, take, inl, inr, refl, sym, ap, subst, append_assoc, append-nil, arith}
+use Rattle.std.proofs.Common.{◌≡◌, ◌∙◌, ◌⊎◌, ℕ, suc, ◌+◌, ◌-◌, Bool, true, false, cond, eqb, List, [], ◌∷◌, ◌++◌, length, get_or, take, inl, inr, refl, sym, ap, subst, append_assoc, arith}
 use Rattle.std.specs.List.{slice_split, onto_first}
 use Rattle.std.specs.Str.Lines.{strip_carriage_return}
 use Rattle.std.proofs.lemmas.Bool.{eqb-true}
-use Rattle.std.proofs.lemmas.List.{length_push}
-use Rattle.std.proofs.Math.Seq.{take-append_seam, get_or-append_seam}
 use Rattle.base.specs.Ends.{ends_with}
 use Rattle.definitions.specs.declared.lines.Line.{Line}
 use Rattle.definitions.specs.Lines.{is_line_feed, numbered, begins_blank, goes_on_with, joined, onto, unfolded, lines_of}

@@ -1,5 +1,5 @@
 -- Lines of a dir.conf only add types and classes to those that are defined above them.
-use Rattle.std.proofs.Common.{◌≡◌, ◌∙◌, ℕ, Bool, true, false, cond, ◌||◌, List, [], ◌∷◌, ◌++◌, length, codes, Option, Some, None, Result, Ok, Err, refl, sym, ap, subst, append_assoc, append-nil}
+use Rattle.std.proofs.Common.{◌≡◌, ◌∙◌, ℕ, Bool, true, false, cond, ◌||◌, List, [], ◌∷◌, ◌++◌, codes, Option, Some, None, Result, Ok, Err, refl, sym, ap, subst, append_assoc, append-nil}
 use Rattle.base.specs.Answers.{◌>>=◌, through}
 use Rattle.base.proofs.Bound.{bind_ok, same_ok}
 use Rattle.definitions.specs.declared.lines.Line.{Line}

@@ -1,9 +1,9 @@
 -- What the lines of a suffix and of indexes say stays, with more types behind those that were there.
 use Rattle.std.proofs.Common.{◌≡◌, ◌∙◌, ℕ, zero, suc, ◌+◌, ◌<◌, ◌≤◌, Bool, true, false, cond, not, ◌&&◌, List, [], ◌∷◌, ◌++◌, length, map, codes, Option, Some, None, Result, Ok, Err, refl, sym, ap, subst, append_assoc, append-nil, arith}
 use Rattle.std.specs.Prelude.{is_some}
-use Rattle.std.specs.List.{list_any, list_all, filter, flat_map, range_with_len, AllByRecursion}
+use Rattle.std.specs.List.{list_any, list_all, filter, range_with_len, AllByRecursion}
 use Rattle.std.proofs.Math.ListN.{get_or-append}
-use Rattle.std.proofs.lemmas.Bool.{and_parts, ltb-true}
+use Rattle.std.proofs.lemmas.Bool.{ltb-true}
 use Rattle.std.proofs.lemmas.List.Concat.{flat_map-append}
 use Rattle.std.proofs.lemmas.List.Elements.{filter-append}
 use Rattle.base.specs.Answers.{◌>>=◌, each, through}
@@ -12,7 +12,7 @@ use Rattle.definitions.specs.declared.lines.Line.{Line}
 use Rattle.definitions.specs.Words.{after_word}
 use Rattle.values.specs.declared.types.AttributeType.{AttributeType}
 use Rattle.values.specs.Tables.{or_if}
-use Rattle.values.specs.Types.{type_of, type_at, no_type, is_known, is_named}
+use Rattle.values.specs.Types.{type_of, type_at, no_type, is_named}
 use Rattle.values.proofs.Tables.{type_more}
 use Rattle.values.specs.declared.types.TypeSyntax.TheVariants as type_syntaxes
 use Rattle.schema.specs.declared.code.Code.{Code}

@@ -1,7 +1,7 @@
 -- Each definition in a schema's text is in one line, and so is what a repair makes of it.
 use Rattle.std.proofs.Common.{◌≡◌, ◌∙◌, ℕ, zero, suc, ◌+◌, Bool, true, false, cond, not, ◌||◌, ◌&&◌, eqb, List, [], ◌∷◌, ◌++◌, map, take, drop, Option, Some, None, inl, inr, refl, sym, ap, subst}
 use Rattle.std.specs.Prelude.{position}
-use Rattle.std.specs.List.{list_all, flat_map, find, AllByRecursion, Contains}
+use Rattle.std.specs.List.{find, AllByRecursion, Contains}
 use Rattle.std.specs.Str.{str_eq_ignore_ascii_case}
 use Rattle.std.proofs.lemmas.Bool.{and_parts}
 use Rattle.std.proofs.lemmas.List.Folds.{list_all-append}
@@ -17,9 +17,9 @@ use Rattle.server_schema.specs.declared.statements.Statement.{Statement}
 use Rattle.server_schema.specs.declared.expanding.Due.{Due}
 use Rattle.server_schema.specs.declared.expanding.Due.TheVariants as dues
 use Rattle.server_schema.specs.Sources.{is_colon, is_ldif, source_lines}
-use Rattle.server_schema.specs.Statements.{in_line, said_in, without_number, value_behind, ldif_word, directive, ldif_said, named_to, conf_said, said, all_said, statements_on, statements_in}
+use Rattle.server_schema.specs.Statements.{in_line, without_number, value_behind, ldif_word, directive, ldif_said, named_to, conf_said, said, all_said, statements_on, statements_in}
 use Rattle.server_schema.specs.Macros.{name_end, name_in, suffix_in, macro_named, with_suffix, oid_for, macro_of, with_said, with_macro, macros_from, macros_in}
-use Rattle.server_schema.specs.Expanding.{ends_word, is_due, behind_word, behind_sign, length_start, oid_and_length, put_word, expanded_from, expanded}
+use Rattle.server_schema.specs.Expanding.{ends_word, is_due, behind_word, behind_sign, length_start, oid_and_length, put_word, expanded_from}
 use Rattle.server_schema.specs.Definitions.{of_word, of_statement, of_statements, definitions_in}
 use Rattle.server_schema.specs.Repairs.{is_one_line, IsNameCut, IsStep, IsRepaired, unchanged, changed, IsRepairOf}
 use Rattle.server_schema.proofs.Members.{in_none, first_or_later}

@@ -1,5 +1,5 @@
 -- Each line that is printed is a line of its own: of a definition, or one that says nothing.
-use Rattle.std.proofs.Common.{◌≡◌, ◌∙◌, ◌⊎◌, ℕ, ◌+◌, Bool, true, false, not, ◌||◌, eqb, List, [], ◌∷◌, ◌++◌, map, length, get_or, codes, Result, Ok, inl, inr, refl, sym, ap, subst, append_assoc, append-nil}
+use Rattle.std.proofs.Common.{◌≡◌, ◌∙◌, ◌⊎◌, ℕ, ◌+◌, Bool, true, false, not, ◌||◌, eqb, List, [], ◌∷◌, ◌++◌, map, length, get_or, codes, inl, inr, refl, sym, ap, subst, append_assoc}
 use Rattle.std.specs.List.{list_all, All, AllByRecursion, Contains}
 use Rattle.std.specs.Str.{str_eq_ignore_ascii_case}
 use Rattle.std.specs.Str.Lines.{strip_carriage_return}
@@ -17,10 +17,9 @@ use Rattle.server_schema.specs.declared.definition.Sort.{Sort}
 use Rattle.server_schema.specs.declared.definition.Sort.TheVariants as sorts
 use Rattle.server_schema.specs.Statements.{in_line}
 use Rattle.server_schema.specs.Definitions.{keyword, line_of}
-use Rattle.server_schema.specs.Repairs.{IsRepairOf}
 use Rattle.server_schema.specs.Growth.{comment_of, IsComment, IsPrinted, concat}
 use Rattle.server_schema.proofs.Members.{here, later}
-use Rattle.server_schema.proofs.LineEnds.{line, split, stripped_front, split_some, IsBare, onto_bare, lines_from, nothing_behind}
+use Rattle.server_schema.proofs.LineEnds.{line, stripped_front, split_some, IsBare, onto_bare, lines_from, nothing_behind}
 use Rattle.server_schema.proofs.OneLine.{IsOneLine, joined, in_one_line, repair_one}
 
 -- ---- what a line is for those who look for a suffix and indexes

@@ -1,6 +1,6 @@
 -- What is read of a dir.conf with printed lines behind it.
-use Rattle.std.proofs.Common.{◌≡◌, ◌∙◌, ◌⊎◌, ℕ, ◌+◌, ◌<◌, Bool, true, false, List, [], ◌∷◌, ◌++◌, length, codes, Option, Some, None, Result, Ok, Err, inl, inr, refl, sym, ap, subst, append_assoc, append-nil, length-append, arith}
-use Rattle.std.specs.Prelude.{is_some, is_ok}
+use Rattle.std.proofs.Common.{◌≡◌, ◌∙◌, ℕ, ◌+◌, ◌<◌, Bool, true, List, [], ◌∷◌, ◌++◌, length, codes, Option, Some, None, Result, Ok, Err, inl, inr, refl, sym, ap, subst, append-nil, length-append}
+use Rattle.std.specs.Prelude.{is_some}
 use Rattle.std.specs.List.{AllByRecursion, Contains}
 use Rattle.std.specs.Str.Lines.{strip_carriage_return}
 use Rattle.std.proofs.lemmas.Bool.{cond-true}
@@ -8,8 +8,7 @@ use Rattle.std.proofs.lemmas.List.Elements.{Contains-append_left, Contains-appen
 use Rattle.base.specs.Answers.{◌>>=◌, through}
 use Rattle.base.proofs.Bound.{bind_ok, same_ok}
 use Rattle.definitions.specs.declared.lines.Line.{Line}
-use Rattle.definitions.specs.Lines.{begins_blank, lines_of}
-use Rattle.definitions.specs.Words.{after_word}
+use Rattle.definitions.specs.Lines.{lines_of}
 use Rattle.values.specs.declared.types.AttributeType.{AttributeType}
 use Rattle.schema.specs.declared.slots.Slot.{Slot}
 use Rattle.schema.specs.Rdns.{TypedRdn}
@@ -17,18 +16,17 @@ use Rattle.schema.specs.Conf.{Conf}
 use Rattle.dir_conf.specs.declared.conf_fault.ConfFaultKind.{ConfFaultKind}
 use Rattle.dir_conf.specs.declared.conf_fault.ConfFaultKind.TheVariants.{Suffix}
 use Rattle.dir_conf.specs.IndexLines.{in_order}
-use Rattle.dir_conf.specs.Configurations.{At, Defined, built_in, says_nothing, is_first, definition_line, defined_by, Found, none_found, later_line, found_in, rules_of, conf_on_lines, definitions_of, conf_of}
-use Rattle.dir_conf.specs.FaultyLines.{IsLaterFault}
-use Rattle.dir_conf.proofs.FirstStops.{same_err, bind_err, Stops, stops}
+use Rattle.dir_conf.specs.Configurations.{At, Defined, built_in, says_nothing, is_first, definition_line, defined_by, Found, none_found, later_line, found_in, rules_of, definitions_of, conf_of}
+use Rattle.dir_conf.proofs.FirstStops.{same_err, bind_err, stops}
 use Rattle.dir_conf.proofs.LineWords.{type_word, class_word, says_some, no_other}
-use Rattle.dir_conf.proofs.LaterFaults.{Later, later_by, later_is, later_faulty, sees}
+use Rattle.dir_conf.proofs.LaterFaults.{later_by, later_is, later_faulty, sees}
 use Rattle.dir_conf.proofs.Whole as whole
-use Rattle.server_schema.specs.Growth.{is_read, end_of, concat}
+use Rattle.server_schema.specs.Growth.{end_of, concat}
 use Rattle.server_schema.specs.Grown.{IsGrown, StandsLater, IsFaultOfOwn, IsReadBehind}
 use Rattle.server_schema.proofs.Members.{here, later, in_none}
 use Rattle.server_schema.proofs.LineEnds.{line, lines_from, nothing_behind, Behind, behind}
 use Rattle.server_schema.proofs.PrintedLines.{IsQuiet, ended_next, AreEnded, all_quiet, all_bare, IsSilent}
-use Rattle.server_schema.proofs.MoreDefined.{Begins, Extends, lines_add}
+use Rattle.server_schema.proofs.MoreDefined.{Begins, lines_add}
 use Rattle.server_schema.proofs.MoreTypes.{found_stays, slots_below, order_stays}
 
 -- ---- one step after the other

@@ -1,10 +1,9 @@
 -- What growth from a dir.conf comes to, with comments behind it.
-use Rattle.std.proofs.Common.{◌≡◌, ◌∙◌, ◌⊎◌, ℕ, Bool, true, false, true≢false, not, ◌||◌, ◌&&◌, eqb, List, [], ◌∷◌, ◌++◌, drop, length, inl, inr, refl, sym, ap, subst, append_assoc, arith}
+use Rattle.std.proofs.Common.{◌≡◌, ◌∙◌, ℕ, Bool, true, false, true≢false, not, ◌&&◌, eqb, List, [], ◌∷◌, ◌++◌, drop, length, inl, inr, refl, sym, ap, subst, append_assoc, arith}
 use Rattle.std.specs.List.{Contains}
 use Rattle.std.proofs.Math.Seq.{drop-append_seam}
 use Rattle.std.proofs.lemmas.Bool.{eqb-true}
 use Rattle.std.proofs.lemmas.List.Concat.{flat_map-append}
-use Rattle.std.proofs.lemmas.List.Elements.{Contains-append_left}
 use Rattle.server_schema.specs.declared.definition.Definition.{Definition}
 use Rattle.server_schema.specs.declared.taking.Candidate.{Candidate}
 use Rattle.server_schema.specs.Definitions.{definitions_in, line_of}
@@ -14,9 +13,9 @@ use Rattle.dir_conf.specs.declared.conf_fault.ConfFault.{ConfFault}
 use Rattle.dir_conf.specs.declared.conf_fault.ConfFault.TheVariants as faults
 use Rattle.dir_conf.specs.Configurations.{At, Defined, definitions_of}
 use Rattle.server_schema.specs.Alike.{meanings_of, is_among}
-use Rattle.server_schema.specs.Growth.{is_read, end_of, comment_of, concat, HasRepaired, Grows, AreRefused, AreMarked, definitions_of_all}
+use Rattle.server_schema.specs.Growth.{is_read, end_of, comment_of, concat, Grows, AreRefused, AreMarked, definitions_of_all}
 use Rattle.server_schema.specs.Grown.{IsReadBehind}
-use Rattle.server_schema.specs.Transfers.{Gathers, AreComments, no_definition, with_lines, IsTransferred, IsWhole, IsPartly, IsTold, NeedNoRemark, IsRefusedFor}
+use Rattle.server_schema.specs.Transfers.{Gathers, AreComments, no_definition, with_lines, IsTransferred, IsWhole, IsPartly, IsTold, NeedNoRemark, SayBuiltIn, IsRefusedFor}
 use Rattle.server_schema.proofs.Members.{from_map}
 use Rattle.server_schema.proofs.OneLine.{definition_one}
 use Rattle.server_schema.proofs.PrintedLines.{AreEnded, IsSilent, comment_silent, printed_ended}
@@ -109,8 +108,8 @@ module _ (source conf text last printed : List ℕ) (defined : Defined) (wanted 
     -- ---- what is said of it
 
     module _ (grown : Defined) (grown_is : definitions_of text ≡ Ok grown) (marked : AreMarked is_changed rest)
-        (no_remark : remarks ≡ [] → NeedNoRemark grown (meanings_of (stated_in text)) rest) where
-      nothing_lost : remarks ≡ [] → is_changed ≡ false → IsWhole conf wanted g.lines remarks
+        (no_remark : remarks ≡ [] → NeedNoRemark grown (meanings_of (stated_in text)) rest) (built_in : remarks ≡ [] → SayBuiltIn grown (definitions_in source)) where
+      nothing_lost : remarks ≡ [] → is_changed ≡ false → IsWhole source conf wanted g.lines remarks
       nothing_lost empty same = record {
         no_remark = empty;
         unchanged = g.unchanged same;
@@ -126,10 +125,11 @@ module _ (source conf text last printed : List ℕ) (defined : Defined) (wanted 
               ] in
               subst (λ (t : List ℕ). is_among grown (meanings_of (stated_in t)) d ≡ true) text_is (subst (λ (e : Definition). is_among grown (meanings_of (stated_in text)) e ≡ true) c.2 among))
         ];
+        built_in = built_in empty;
       }
 
       abbrev Tells : Bool → Bool → Type 0
-      Tells empty changed = ((empty && not changed) ≡ true → IsWhole conf wanted g.lines remarks) × ((empty && not changed) ≡ false → IsPartly wanted g.lines remarks)
+      Tells empty changed = ((empty && not changed) ≡ true → IsWhole source conf wanted g.lines remarks) × ((empty && not changed) ≡ false → IsPartly wanted g.lines remarks)
 
       tells : (empty : Bool) → eqb (length remarks) 0 ≡ empty → (changed : Bool) → is_changed ≡ changed → Tells empty changed
       tells true e true changed = (λ h. absurd cc, λ h. inr (g.changed changed))

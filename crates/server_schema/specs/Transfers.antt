@@ -10,7 +10,7 @@ use Rattle.server_schema.specs.declared.taking.Candidate.{Candidate}
 use Rattle.server_schema.specs.Definitions.{definitions_in, line_of}
 use Rattle.server_schema.specs.Growth.{is_read, end_of, comment_of, IsComment, IsLineOf, HasRepaired, IsPrinted, concat}
 use Rattle.server_schema.specs.Grown.{IsReadBehind}
-use Rattle.server_schema.specs.Stated.{is_built_in, stated_in}
+use Rattle.server_schema.specs.Stated.{is_built_in, built_in_definitions, stated_in}
 use Rattle.server_schema.specs.declared.alike.Meaning.{Meaning}
 use Rattle.server_schema.specs.Alike.{meanings_of, is_among}
 
@@ -66,14 +66,19 @@ pub record IsTransferred (source conf printed : List ℕ) : Type 0 where
   pub comments : AreComments remarks
   pub none : definitions_in source ≡ [] → remarks ≡ comment_of no_definition
 
--- Nothing is lost: all lines are of definitions as they stand, and each that is wanted has one, or says the same as one that stands there. There is
--- no remark.
-pub record IsWhole (conf : List ℕ) (wanted : List Definition) (lines : List (List ℕ)) (remarks : List ℕ) : Type 0 where
+-- each of these that is built in says the same as what is
+abbrev pub SayBuiltIn : Defined → List Definition → Type 0
+SayBuiltIn defined ds = (d : Definition) → Contains ds d → is_built_in d ≡ true → is_among defined (meanings_of built_in_definitions) d ≡ true
+
+-- Nothing is lost: all lines are of definitions as they stand, and each that is wanted has one, or says the same as one that stands there. Those of
+-- what is built in say the same as that. There is no remark.
+pub record IsWhole (source conf : List ℕ) (wanted : List Definition) (lines : List (List ℕ)) (remarks : List ℕ) : Type 0 where
   pub no_remark : remarks ≡ []
   pub unchanged : (line : List ℕ) → Contains lines line → IsLineOf wanted line
   pub grown : Defined
   pub grown_is : definitions_of (with_lines conf lines) ≡ Ok grown
   pub all : (d : Definition) → Contains wanted d → Contains lines (line_of d) ⊎ (is_among grown (meanings_of (stated_in (with_lines conf lines))) d ≡ true)
+  pub built_in : SayBuiltIn grown (definitions_in source)
 
 -- something is: a remark is printed, or the line of a definition that was repaired
 abbrev pub IsPartly : List Definition → List (List ℕ) → List ℕ → Type 0
@@ -82,7 +87,7 @@ IsPartly wanted lines remarks = (remarks ≡ [] → ⊥) ⊎ HasRepaired wanted 
 -- what is printed, and what is said of that
 pub record IsTold (source conf printed : List ℕ) (is_whole : Bool) : Type 0 where
   pub transferred : IsTransferred source conf printed
-  pub whole : is_whole ≡ true → IsWhole conf transferred.wanted transferred.lines transferred.remarks
+  pub whole : is_whole ≡ true → IsWhole source conf transferred.wanted transferred.lines transferred.remarks
   pub partly : is_whole ≡ false → IsPartly transferred.wanted transferred.lines transferred.remarks
 
 -- ---- remarks

@@ -1,4 +1,4 @@
-use Rattle.std.proofs.Common.{◌≡◌, ◌⊎◌, true, List, take, sym, subst}
+use Rattle.std.proofs.Common.{◌≡◌, ◌⊎◌, true, List, subst}
 use Rattle.std.proofs.lemmas.List.{take_all}
 use Rattle.dir_conf.specs.inner.Views.{defined_view}
 use Rattle.server_schema.specs.declared.alike.Meaning.{Meaning}

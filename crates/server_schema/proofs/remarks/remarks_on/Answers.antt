@@ -9,3 +9,6 @@ returns-then-is_empty-clause-comments c = IfOk-weaker c.none_stands.result _ _ (
 
 pub returns-then-is_empty-clause-whole : goal.returns-then-is_empty-clause-whole
 returns-then-is_empty-clause-whole c = IfOk-weaker c.none_stands.result _ _ (λ v is none. absurd (some_comment [] no_definition (sym is ∙ none))) c.none_stands.ensures
+
+pub returns-then-is_empty-clause-built_in : goal.returns-then-is_empty-clause-built_in
+returns-then-is_empty-clause-built_in c = IfOk-weaker c.none_stands.result _ _ (λ v is none. absurd (some_comment [] no_definition (sym is ∙ none))) c.none_stands.ensures

@@ -7,10 +7,10 @@ use Rattle.server_schema.specs.declared.definition.Definition.{Definition}
 use Rattle.server_schema.specs.declared.alike.Meaning.{Meaning}
 use Rattle.server_schema.specs.declared.taking.Candidate.{Candidate}
 use Rattle.dir_conf.specs.Configurations.{Defined, definitions_of}
-use Rattle.server_schema.specs.Growth.{end_of, comment_of, Grows, AreMarked, definitions_of_all}
+use Rattle.server_schema.specs.Growth.{end_of, comment_of, Grows, definitions_of_all}
 use Rattle.server_schema.specs.Alike.{meanings_of}
 use Rattle.server_schema.specs.Stated.{stated_in}
-use Rattle.server_schema.specs.Transfers.{Gathers, no_definition, NeedNoRemark, IsRefusedFor}
+use Rattle.server_schema.specs.Transfers.{Gathers, no_definition, NeedNoRemark, SayBuiltIn, IsRefusedFor}
 use Rattle.server_schema.proofs.Transferring.{transferred, told, still_read, never_refused}
 use Rattle.server_schema.proofs.transfer.transfer_schema.Goals as goal
 
@@ -67,9 +67,11 @@ returns-clause-told c =
     let whole = λ (none : c.in_ok-remarks.remarks.items ≡ []).
     subst (λ (t : List ℕ). seen t (rest c)) c.as_slice-2.ensures.value
     (subst (λ (ls : List Candidate). seen c.as_slice-2.result.now ls) c.deref-4.ensures.value (c.in_ok-remarks.ensures.whole none)) in
+    let built_in = λ (none : c.in_ok-remarks.remarks.items ≡ []).
+    subst (λ (ds : List Definition). SayBuiltIn (defined_view c.in_ok-grown_defined.grown_defined) ds) (c.deref-3.ensures.value ∙ c.in_ok-definitions.ensures) (c.in_ok-remarks.ensures.built_in none) in
     told c.args.source.now (conf c) (text c) _ _ (defined c) (wanted c) (rest c) _ _ c.in_ok-defined.ensures (gathers c) (grows c) c.in_ok-rest.ensures.ends
     c.in_ok-remarks.ensures.comments (none c) (put c) (behind c)
     (defined_view c.in_ok-grown_defined.grown_defined)
     (ap definitions_of (sym c.as_slice.ensures.value) ∙ c.in_ok-grown_defined.ensures)
-    (c.in_ok-rest.ensures.marks false c.in_ok-candidates.ensures.fresh) whole _
+    (c.in_ok-rest.ensures.marks false c.in_ok-candidates.ensures.fresh) whole built_in _
     (c.is_whole-is_whole.ensures ∙ ap (λ (bs : List ℕ). eqb (length bs) 0 && not c.in_ok-rest.rest.is_changed) c.deref-6.ensures.value)
