@@ -1,13 +1,17 @@
 -- Which definitions are gathered, and that comments are put one behind the other.
-use Rattle.std.proofs.Common.{◌≡◌, ◌∙◌, ℕ, true, false, List, [], ◌∷◌, ◌++◌, inl, inr, refl, sym, ap, subst, append_assoc, append-nil}
+use Rattle.std.proofs.Common.{◌≡◌, ◌∙◌, ◌⊎◌, ℕ, ◌+◌, ◌<◌, true, false, List, [], ◌∷◌, ◌++◌, length, get_or, take, inl, inr, refl, sym, ap, subst, append_assoc, append-nil}
 use Rattle.std.specs.List.{Contains}
+use Rattle.std.proofs.lemmas.List.{take_more}
 use Rattle.std.proofs.lemmas.List.Concat.{flat_map-append}
 use Rattle.std.proofs.lemmas.List.Elements.{Contains-append_left, Contains-append_right, Contains-append_cases, Contains-push, Contains-push_cases}
 use Rattle.server_schema.specs.declared.definition.Definition.{Definition}
 use Rattle.dir_conf.specs.Configurations.{Defined}
 use Rattle.server_schema.specs.declared.alike.Meaning.{Meaning}
-use Rattle.server_schema.specs.Growth.{comment_of, IsComment}
-use Rattle.server_schema.specs.Transfers.{is_said, Gathers, IsOneMore, IsStepFor, AreComments, AddsComments}
+use Rattle.server_schema.specs.declared.taking.Candidate.{Candidate}
+use Rattle.server_schema.specs.Stated.{is_built_in}
+use Rattle.server_schema.specs.Alike.{is_among}
+use Rattle.server_schema.specs.Growth.{comment_of}
+use Rattle.server_schema.specs.Transfers.{is_said, Gathers, IsOneMore, IsStepFor, AreComments, AddsComments, NeedNoRemark}
 use Rattle.server_schema.proofs.Members.{in_none, only_one}
 
 -- ---- definitions
@@ -106,3 +110,44 @@ are_comments text f = subst AreComments (sym f.2) f.1
 
 pub one_is_comments : (text comment : List ℕ) → text ≡ comment_of comment → AreComments text
 one_is_comments text comment is = (text ∷ [], sym (append-nil text), λ line h. (comment, sym (only_one text line h) ∙ is))
+
+-- ---- remarks
+
+-- a comment is something
+pub some_comment : (before comment : List ℕ) → before ++ comment_of comment ≡ [] → ⊥
+some_comment [] comment h = absurd cc
+some_comment (b ∷ bs) comment h = absurd cc
+
+-- where nothing stands behind comments, nothing stood before them
+pub nothing_before : (before after : List ℕ) → AddsComments before after → after ≡ [] → before ≡ []
+nothing_before [] after adds none = refl
+nothing_before (b ∷ bs) after adds none = absurd (let both = sym adds.2 ∙ none in cc)
+
+module _ (defined : Defined) (stated : List Meaning) where
+  pub none_needs : NeedNoRemark defined stated []
+  none_needs c at = absurd (in_none c at)
+
+  pub next_needs : (cs : List Candidate) (i : ℕ) (c : Candidate) → i < length cs → c ≡ get_or cs i c → NeedNoRemark defined stated (take i cs)
+      → (c.is_repaired ≡ true) ⊎ (is_among defined stated c.definition.now ≡ true) → NeedNoRemark defined stated (take (i + 1) cs)
+  next_needs cs i c lt is none this =
+      subst (NeedNoRemark defined stated) (sym (take_more cs i c lt ∙ ap (λ (d : Candidate). take i cs ++ d ∷ []) (sym is)))
+      (λ d at. elim (Contains-push_cases (take i cs) c d at) [
+        | inl before ↦ none d before
+        | inr same ↦ subst (λ (e : Candidate). (e.is_repaired ≡ true) ⊎ (is_among defined stated e.definition.now ≡ true)) same this
+      ])
+
+  -- of those of what is built in, each is one of these
+  abbrev pub SayThese : List Definition → Type 0
+  SayThese ds = (d : Definition) → Contains ds d → is_built_in d ≡ true → is_among defined stated d ≡ true
+
+  pub none_say : SayThese []
+  none_say d at = absurd (in_none d at)
+
+  pub next_says : (ds : List Definition) (i : ℕ) (d : Definition) → i < length ds → d ≡ get_or ds i d → SayThese (take i ds)
+      → (is_built_in d ≡ true → is_among defined stated d ≡ true) → SayThese (take (i + 1) ds)
+  next_says ds i d lt is say this =
+      subst SayThese (sym (take_more ds i d lt ∙ ap (λ (e : Definition). take i ds ++ e ∷ []) (sym is)))
+      (λ e at. elim (Contains-push_cases (take i ds) d e at) [
+        | inl before ↦ say e before
+        | inr same ↦ subst (λ (f : Definition). is_built_in f ≡ true → is_among defined stated f ≡ true) same this
+      ])

@@ -2,4 +2,11 @@ pub mod Members
 pub mod Growing
 pub mod Passing
 pub mod Gathering
+pub mod Marking
+pub mod LineEnds
+pub mod OneLine
+pub mod PrintedLines
+pub mod MoreDefined
+pub mod MoreTypes
+pub mod ReadBehind
 pub mod Transferring

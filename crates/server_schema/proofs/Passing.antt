@@ -29,16 +29,16 @@ rest_is cs at = ap defs (take_rest cs at)
 
 -- some of the next candidates were taken
 pub some_taken : (a t u : List ℕ) (all : List Definition) (left cs : List Candidate) (at n : ℕ)
-    → Grows a all t (defs left ++ defs (drop at cs)) → u ≡ t ++ lines_of (take n (defs (take (length cs - at) (drop at cs)))) → (is_read t ≡ true → is_read u ≡ true)
-    → Grows a all u (defs left ++ defs (drop (at + n) cs))
+    → Grows a all t (defs left ++ defs (drop at cs)) false → u ≡ t ++ lines_of (take n (defs (take (length cs - at) (drop at cs)))) → (is_read t ≡ true → is_read u ≡ true)
+    → Grows a all u (defs left ++ defs (drop (at + n) cs)) false
 some_taken a t u all left cs at n g is reads =
     let ds : List Definition = defs (drop at cs) in
     let took : u ≡ t ++ lines_of (take n ds) = is ∙ ap (λ (es : List Definition). t ++ lines_of (take n es)) (rest_is cs at) in
     let more : drop n ds ≡ defs (drop (at + n) cs) = drop-map of_candidate n (drop at cs) ∙ ap defs (drop-drop n at cs) in
     let step = take_grows t u (defs left) (take n ds) (drop n ds) took reads in
-    let whole = subst (λ (es : List Definition). Grows t (defs left ++ es) u (defs left ++ drop n ds)) (take-append-drop n ds) step in
-    then_grows a t u all (defs left ++ ds) (defs left ++ defs (drop (at + n) cs)) g
-    (subst (λ (es : List Definition). Grows t (defs left ++ ds) u (defs left ++ es)) more whole)
+    let whole = subst (λ (es : List Definition). Grows t (defs left ++ es) u (defs left ++ drop n ds) false) (take-append-drop n ds) step in
+    then_grows a t u all (defs left ++ ds) (defs left ++ defs (drop (at + n) cs)) false false g
+    (subst (λ (es : List Definition). Grows t (defs left ++ ds) u (defs left ++ es) false) more whole)
 
 pub within : (cs : List Candidate) (at n : ℕ) → at < length cs → n ≤ length (take (length cs - at) (drop at cs)) → at + n ≤ length cs
 within cs at n lt le =

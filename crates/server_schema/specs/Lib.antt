@@ -7,5 +7,6 @@ pub mod Alike
 pub mod Kept
 pub mod Repairs
 pub mod Growth
+pub mod Grown
 pub mod Stated
 pub mod Transfers

@@ -1,9 +1,10 @@
 -- What is done about a definition that dir.conf can't take: names that it can't have go, the equality rule of a type changes, and a class loses some
 -- of what it allows. Nothing else changes.
-use Rattle.std.specs.Prelude.{◌≡◌, ◌⊎◌, ℕ, Bool, false, List, ◌∷◌, ◌++◌, Some}
-use Rattle.std.specs.List.{Contains}
+use Rattle.std.specs.Prelude.{◌≡◌, ◌⊎◌, ℕ, Bool, true, false, List, ◌∷◌, ◌++◌, Some}
+use Rattle.std.specs.List.{list_all, Contains}
 use Rattle.base.specs.Ascii.{apostrophe}
 use Rattle.base.specs.Naming.{is_name, is_type_name}
+use Rattle.definitions.specs.LineGrammar.{is_in_line}
 use Rattle.definitions.specs.declared.type_definition.TypeDefinition.{TypeDefinition}
 use Rattle.definitions.specs.declared.class_definition.ClassDefinition.{ClassDefinition}
 use Rattle.definitions.specs.TypeDefinitions.{type_definition_of}
@@ -18,6 +19,10 @@ abbrev pub is_allowed : Sort → List ℕ → Bool
 is_allowed AttributeType name = is_type_name name
 is_allowed ObjectClass name = is_name name
 
+-- no line feed stands in it
+abbrev pub is_one_line : List ℕ → Bool
+is_one_line text = list_all is_in_line text
+
 -- a name in quotes that isn't allowed was cut out
 pub record IsNameCut (sort : Sort) (old new : List ℕ) : Type 0 where
   pub front : List ℕ
@@ -27,15 +32,16 @@ pub record IsNameCut (sort : Sort) (old new : List ℕ) : Type 0 where
   pub old_is : old ≡ front ++ (apostrophe ∷ (name ++ apostrophe ∷ behind))
   pub new_is : new ≡ front ++ behind
 
--- a type has another equality rule, and else the same fields
+-- a type has another equality rule, and else the same fields, in one line
 pub record IsRuleChanged (old new : List ℕ) : Type 0 where
   pub was : TypeDefinition
   pub is_now : TypeDefinition
   pub old_is : type_definition_of old ≡ Some was
   pub new_is : type_definition_of new ≡ Some is_now
   pub kept : IsTypeKept was is_now
+  pub one_line : is_one_line new ≡ true
 
--- a class allows only some of what it allowed, and has else the same fields
+-- a class allows only some of what it allowed, and has else the same fields, in one line
 pub record IsMayCut (old new : List ℕ) : Type 0 where
   pub was : ClassDefinition
   pub is_now : ClassDefinition
@@ -43,6 +49,7 @@ pub record IsMayCut (old new : List ℕ) : Type 0 where
   pub new_is : class_definition_of new ≡ Some is_now
   pub kept : IsClassKept was is_now
   pub fewer : (name : List ℕ) → Contains is_now.may name → Contains was.may name
+  pub one_line : is_one_line new ≡ true
 
 abbrev pub IsStep : Sort → List ℕ → List ℕ → Type 0
 IsStep AttributeType old new = IsNameCut AttributeType old new ⊎ IsRuleChanged old new
@@ -53,5 +60,8 @@ pub data IsRepaired (sort : Sort) : List ℕ → List ℕ → Type 0 where
   unchanged : (text : List ℕ) → IsRepaired sort text text
   changed : (old mid new : List ℕ) → IsRepaired sort old mid → IsStep sort mid new → IsRepaired sort old new
 
-abbrev pub IsRepairOf : Definition → Definition → Type 0
-IsRepairOf d e = (e.sort ≡ d.sort) × IsRepaired d.sort d.text e.text
+-- it says something else, and no more was done about it
+pub record IsRepairOf (d e : Definition) : Type 0 where
+  pub sort : e.sort ≡ d.sort
+  pub other : d.text ≡ e.text → ⊥
+  pub steps : IsRepaired d.sort d.text e.text

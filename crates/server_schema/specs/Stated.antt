@@ -38,6 +38,27 @@ built_in_text ObjectClass text = is_built_in_class text
 abbrev pub is_built_in : Definition → Bool
 is_built_in d = built_in_text d.sort d.text
 
+-- RFC 4512, 3.3
+abbrev pub object_class : Definition
+object_class =
+    record {
+      sort = AttributeType;
+      text = codes "( 2.5.4.0 NAME 'objectClass' EQUALITY objectIdentifierMatch SYNTAX 1.3.6.1.4.1.1466.115.121.1.38 )";
+    }
+
+-- RFC 4512, 2.4.1
+abbrev pub top : Definition
+top = record { sort = ObjectClass; text = codes "( 2.5.6.0 NAME 'top' ABSTRACT MUST objectClass )" }
+
+-- RFC 4512, 4.3
+abbrev pub extensible_object : Definition
+extensible_object =
+    record { sort = ObjectClass; text = codes "( 1.3.6.1.4.1.1466.101.120.111 NAME 'extensibleObject' SUP top AUXILIARY )" }
+
+-- what is built in, as definitions
+abbrev pub built_in_definitions : List Definition
+built_in_definitions = object_class ∷ top ∷ extensible_object ∷ []
+
 -- ---- said by a dir.conf
 
 abbrev pub sort_on : Line → Option Sort

@@ -1,8 +1,8 @@
 //! Taking definitions into a text of a dir.conf, with repairs where they can't be taken as they stand.
 
-ghost use Rattle.std.specs.Prelude.{◌≡◌, ◌∷◌, [], ◌++◌, IfOk, OnOk};
+ghost use Rattle.std.specs.Prelude.{◌≡◌, ◌||◌, false, ◌∷◌, [], ◌++◌, IfOk, OnOk};
 ghost use Rattle.server_schema.specs.Definitions.{line_of};
-ghost use Rattle.server_schema.specs.Growth.{comment_of, Grows, definitions_of_all};
+ghost use Rattle.server_schema.specs.Growth.{comment_of, Grows, Marks, definitions_of_all};
 
 use crate::definition::{Definition, Sort};
 use crate::lines::put_line;
@@ -10,6 +10,14 @@ use crate::repair::{Repair, repaired};
 use crate::statements::in_line;
 use crate::taking::{Candidate, Passed, settle, try_lines};
 use std::alloc::{AllocError, Global};
+
+/// What growth leaves.
+#[derive(Drop)]
+pub(crate) struct Grown<'a> {
+    pub(crate) left: Vec<Candidate<'a>>,
+    /// Whether something was taken with repairs.
+    pub(crate) is_changed: bool,
+}
 
 /// Puts a comment at the end of a text, in one line.
 pub(crate) fn put_comment(comment: &[u8], out: &mut Vec<u8>) -> Result<(), AllocError>
@@ -39,7 +47,7 @@ fn take_repaired(
     text: &mut Vec<u8>,
     definition: &Definition,
 ) -> Result<bool, AllocError>
-    ensures { IfOk result (λ b. Grows text.old.items (definition.now ∷ []) text.new.items (definition.now ∷ [])) }
+    ensures { IfOk result (λ b. Grows text.old.items (definition.now ∷ []) text.new.items (definition.now ∷ []) b) }
 {
     let Some(repair) = repaired(alloc, text.as_slice(), definition)? else {
         return Ok(false);
@@ -56,7 +64,8 @@ fn take_candidate(
     sort: Sort,
     candidate: Candidate<'_>,
 ) -> Result<bool, AllocError>
-    ensures { IfOk result (λ b. Grows text.old.items (candidate.entry.definition.now ∷ []) text.new.items (candidate.entry.definition.now ∷ [])) }
+    ensures { IfOk result (λ b.
+        Grows text.old.items (candidate.entry.definition.now ∷ []) text.new.items (candidate.entry.definition.now ∷ []) b) }
 {
     match (sort, candidate.definition.sort) {
         (Sort::AttributeType, Sort::AttributeType) | (Sort::ObjectClass, Sort::ObjectClass) => {
@@ -70,6 +79,12 @@ fn take_candidate(
     }
 }
 
+pub(crate) fn is_either(a: bool, b: bool) -> bool
+    ensures { result ≡ (a || b) }
+{
+    a || b
+}
+
 // goes through candidates of a sort, and takes each that can be taken with repairs
 fn repair_pass<'a>(
     alloc: Global,
@@ -77,7 +92,9 @@ fn repair_pass<'a>(
     sort: Sort,
     candidates: &[Candidate<'a>],
 ) -> Result<Passed<'a>, AllocError>
-    ensures { IfOk result (λ p. Grows text.old.items (definitions_of_all candidates.entry.now) text.new.items (definitions_of_all p.left.items)) }
+    ensures grows { IfOk result (λ p.
+        Grows text.old.items (definitions_of_all candidates.entry.now) text.new.items (definitions_of_all p.left.items) p.grew) }
+    ensures marks { IfOk result (λ p. Marks candidates.entry.now p.left.items p.grew) }
 {
     let mut left = Vec::new(alloc);
     let mut grew = false;
@@ -85,9 +102,9 @@ fn repair_pass<'a>(
         let is_taken = take_candidate(alloc, text, sort, *candidate)?;
         left.push(Candidate {
             definition: candidate.definition,
-            is_repaired: candidate.is_repaired || is_taken,
+            is_repaired: is_either(candidate.is_repaired, is_taken),
         })?;
-        grew = grew || is_taken;
+        grew = is_either(grew, is_taken);
     }
     Ok(Passed { left, grew })
 }
@@ -98,18 +115,22 @@ pub(crate) fn grow<'a>(
     text: &mut Vec<u8>,
     sort: Sort,
     candidates: Vec<Candidate<'a>>,
-) -> Result<Vec<Candidate<'a>>, AllocError>
-    ensures { IfOk result (λ v. Grows text.old.items (definitions_of_all candidates.entry.items) text.new.items (definitions_of_all v.items)) }
+) -> Result<Grown<'a>, AllocError>
+    ensures grows { IfOk result (λ g.
+        Grows text.old.items (definitions_of_all candidates.entry.items) text.new.items (definitions_of_all g.left.items) g.is_changed) }
+    ensures marks { IfOk result (λ g. Marks candidates.entry.items g.left.items g.is_changed) }
 {
     let mut left = candidates;
+    let mut is_changed = false;
     for _ in 0..u64::MAX {
         let settled = settle(alloc, text, Some(sort), left)?;
         let passed = repair_pass(alloc, text, sort, &settled)?;
         let Passed { left: rest, grew } = passed;
-        if !grew {
-            return Ok(rest);
-        }
         left = rest;
+        if !grew {
+            return Ok(Grown { left, is_changed });
+        }
+        is_changed = true;
     }
     Err(AllocError)
 }

@@ -1,8 +1,11 @@
 //! Comments on what can't be taken.
 
-ghost use Rattle.std.specs.Prelude.{◌≡◌, [], IfOk, OnOk};
+ghost use Rattle.std.specs.Prelude.{◌≡◌, ◌⊎◌, true, [], IfOk, OnOk};
+ghost use Rattle.dir_conf.specs.inner.Views.{defined_view};
 ghost use Rattle.server_schema.specs.Growth.{comment_of};
-ghost use Rattle.server_schema.specs.Transfers.{AreComments, AddsComments, no_definition};
+ghost use Rattle.server_schema.specs.Stated.{object_class, top, extensible_object, built_in_definitions, is_built_in, stated_in};
+ghost use Rattle.server_schema.specs.Alike.{meanings_of, is_among};
+ghost use Rattle.server_schema.specs.Transfers.{AreComments, AddsComments, NeedNoRemark, SayBuiltIn, no_definition};
 
 use crate::alike::{Meaning, is_among, meanings_of};
 use crate::definition::{Definition, Sort};
@@ -14,22 +17,6 @@ use crate::taking::Candidate;
 use base::Bytes;
 use dir_conf::{ConfFlaw, Defined, NameField, SyntaxRule, UnreadPart, explain};
 use std::alloc::{AllocError, Global};
-
-/// The definitions of what is built in (RFC 4512, 2.4.1, 3.3 and 4.3).
-const BUILT_IN: [(Sort, &[u8]); 3] = [
-    (
-        Sort::AttributeType,
-        b"( 2.5.4.0 NAME 'objectClass' EQUALITY objectIdentifierMatch SYNTAX 1.3.6.1.4.1.1466.115.121.1.38 )",
-    ),
-    (
-        Sort::ObjectClass,
-        b"( 2.5.6.0 NAME 'top' ABSTRACT MUST objectClass )",
-    ),
-    (
-        Sort::ObjectClass,
-        b"( 1.3.6.1.4.1.1466.101.120.111 NAME 'extensibleObject' SUP top AUXILIARY )",
-    ),
-];
 
 fn put_field(field: NameField, out: &mut Vec<u8>) -> Result<(), AllocError> {
     out.extend_from_slice(match field {
@@ -110,14 +97,53 @@ fn left_out(alloc: Global, conf: &[u8], definition: &Definition) -> Result<Vec<u
     Ok(comment)
 }
 
-fn built_in(alloc: Global) -> Result<Vec<Definition>, AllocError> {
+fn defined_as(alloc: Global, sort: Sort, text: &[u8]) -> Result<Definition, AllocError>
+    ensures { IfOk result (λ d. (d.sort ≡ sort) × (d.text ≡ text.now)) }
+{
+    Ok(Definition {
+        sort,
+        text: Bytes::from_slice(alloc, text)?,
+    })
+}
+
+fn object_class(alloc: Global) -> Result<Definition, AllocError>
+    ensures { IfOk result (λ d. d ≡ object_class) }
+{
+    defined_as(
+        alloc,
+        Sort::AttributeType,
+        b"( 2.5.4.0 NAME 'objectClass' EQUALITY objectIdentifierMatch SYNTAX 1.3.6.1.4.1.1466.115.121.1.38 )",
+    )
+}
+
+fn top(alloc: Global) -> Result<Definition, AllocError>
+    ensures { IfOk result (λ d. d ≡ top) }
+{
+    defined_as(
+        alloc,
+        Sort::ObjectClass,
+        b"( 2.5.6.0 NAME 'top' ABSTRACT MUST objectClass )",
+    )
+}
+
+fn extensible_object(alloc: Global) -> Result<Definition, AllocError>
+    ensures { IfOk result (λ d. d ≡ extensible_object) }
+{
+    defined_as(
+        alloc,
+        Sort::ObjectClass,
+        b"( 1.3.6.1.4.1.1466.101.120.111 NAME 'extensibleObject' SUP top AUXILIARY )",
+    )
+}
+
+// the definitions of what is built in
+fn built_in(alloc: Global) -> Result<Vec<Definition>, AllocError>
+    ensures { IfOk result (λ v. v.items ≡ built_in_definitions) }
+{
     let mut definitions = Vec::new(alloc);
-    for (sort, text) in BUILT_IN {
-        definitions.push(Definition {
-            sort,
-            text: Bytes::from_slice(alloc, text)?,
-        })?;
-    }
+    definitions.push(object_class(alloc)?)?;
+    definitions.push(top(alloc)?)?;
+    definitions.push(extensible_object(alloc)?)?;
     Ok(definitions)
 }
 
@@ -129,7 +155,9 @@ fn remark_on_built_in(
     definition: &Definition,
     out: &mut Vec<u8>,
 ) -> Result<(), AllocError>
-    ensures { OnOk result (AddsComments out.old.items out.new.items) }
+    ensures adds { OnOk result (AddsComments out.old.items out.new.items) }
+    ensures none { OnOk result (out.new.items ≡ [] → is_built_in definition.now ≡ true
+        → is_among (defined_view defined.now) built_in.now definition.now ≡ true) }
 {
     if !is_built_in(alloc, definition)? || is_among(alloc, defined, built_in, definition)? {
         return Ok(());
@@ -148,7 +176,9 @@ fn remark_on_candidate(
     candidate: &Candidate<'_>,
     out: &mut Vec<u8>,
 ) -> Result<(), AllocError>
-    ensures { OnOk result (AddsComments out.old.items out.new.items) }
+    ensures adds { OnOk result (AddsComments out.old.items out.new.items) }
+    ensures none { OnOk result (out.new.items ≡ [] → (candidate.now.is_repaired ≡ true)
+        ⊎ (is_among (defined_view defined.now) stated.now candidate.now.definition.now ≡ true)) }
 {
     if candidate.is_repaired || is_among(alloc, defined, stated, candidate.definition)? {
         return Ok(());
@@ -163,11 +193,13 @@ fn put_built_in(
     definitions: &[Definition],
     out: &mut Vec<u8>,
 ) -> Result<(), AllocError>
-    ensures { OnOk result (AddsComments out.old.items out.new.items) }
+    ensures adds { OnOk result (AddsComments out.old.items out.new.items) }
+    ensures none { OnOk result (out.new.items ≡ [] → SayBuiltIn (defined_view defined.now) definitions.now) }
 {
-    let built_in = meanings_of(alloc, &built_in(alloc)?)?;
+    let known = built_in(alloc)?;
+    let meanings = meanings_of(alloc, &known)?;
     for definition in definitions {
-        remark_on_built_in(alloc, defined, &built_in, definition, out)?;
+        remark_on_built_in(alloc, defined, &meanings, definition, out)?;
     }
     Ok(())
 }
@@ -179,7 +211,8 @@ fn put_left(
     left: &[Candidate<'_>],
     out: &mut Vec<u8>,
 ) -> Result<(), AllocError>
-    ensures { OnOk result (AddsComments out.old.items out.new.items) }
+    ensures adds { OnOk result (AddsComments out.old.items out.new.items) }
+    ensures none { OnOk result (out.new.items ≡ [] → NeedNoRemark (defined_view defined.now) (meanings_of (stated_in conf.now)) left.now) }
 {
     let stated = meanings_in(alloc, conf)?;
     for candidate in left {
@@ -204,7 +237,9 @@ fn all_remarks(
     definitions: &[Definition],
     left: &[Candidate<'_>],
 ) -> Result<Vec<u8>, AllocError>
-    ensures { IfOk result (λ v. AreComments v.items) }
+    ensures comments { IfOk result (λ v. AreComments v.items) }
+    ensures none { IfOk result (λ v. v.items ≡ [] → NeedNoRemark (defined_view defined.now) (meanings_of (stated_in conf.now)) left.now) }
+    ensures built_in { IfOk result (λ v. v.items ≡ [] → SayBuiltIn (defined_view defined.now) definitions.now) }
 {
     let mut out = Vec::new(alloc);
     put_built_in(alloc, defined, definitions, &mut out)?;
@@ -223,6 +258,8 @@ pub(crate) fn remarks_on(
 ) -> Result<Vec<u8>, AllocError>
     ensures comments { IfOk result (λ v. AreComments v.items) }
     ensures none { IfOk result (λ v. definitions.now ≡ [] → v.items ≡ comment_of no_definition) }
+    ensures whole { IfOk result (λ v. v.items ≡ [] → NeedNoRemark (defined_view defined.now) (meanings_of (stated_in conf.now)) left.now) }
+    ensures built_in { IfOk result (λ v. v.items ≡ [] → SayBuiltIn (defined_view defined.now) definitions.now) }
 {
     if definitions.is_empty() {
         none_stands(alloc)

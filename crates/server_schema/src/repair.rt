@@ -1,9 +1,9 @@
 //! Repairs of definitions that can't be taken as they stand. Each step that is tried is shown to change nothing else.
 
-ghost use Rattle.std.specs.Prelude.{◌≡◌, ◌∷◌, ◌++◌, ℕ, List, IsTrue, IfOk, IfSome};
+ghost use Rattle.std.specs.Prelude.{◌≡◌, ◌↔◌, ◌∷◌, ◌++◌, ℕ, List, IsTrue, IfOk, IfSome};
 ghost use Rattle.std.specs.List.{Contains};
 ghost use Rattle.server_schema.specs.declared.definition.Sort.TheVariants.{AttributeType, ObjectClass};
-ghost use Rattle.server_schema.specs.Repairs.{is_allowed, IsNameCut, IsRuleChanged, IsMayCut, IsStep, IsRepaired, IsRepairOf};
+ghost use Rattle.server_schema.specs.Repairs.{is_allowed, is_one_line, IsNameCut, IsRuleChanged, IsMayCut, IsStep, IsRepaired, IsRepairOf};
 
 use crate::alike::{class_in, is_readable, type_in};
 use crate::definition::{Definition, Sort};
@@ -43,8 +43,14 @@ fn is_allowed(sort: Sort, name: &[u8]) -> bool
 
 // ---- steps that change no more than they may
 
+fn is_one_line(text: &[u8]) -> bool
+    ensures { result ≡ is_one_line text.now }
+{
+    text.iter().all(|b| *b != b'\n')
+}
+
 fn is_same_text(a: &[u8], b: &[u8]) -> bool
-    ensures { IsTrue result → a.now ≡ b.now }
+    ensures { IsTrue result ↔ (a.now ≡ b.now) }
 {
     a == b
 }
@@ -90,10 +96,13 @@ fn without_name(
     Ok(Some(joined(alloc, front, behind)?))
 }
 
-// whether only the equality rule of a type changes
+// whether only the equality rule of a type changes, in one line
 fn is_rule_changed(alloc: Global, old: &[u8], new: &[u8]) -> Result<bool, AllocError>
     ensures { IfOk result (λ b. IsTrue b → IsRuleChanged old.now new.now) }
 {
+    if !is_one_line(new) {
+        return Ok(false);
+    }
     let Some(was) = type_in(alloc, old)? else {
         return Ok(false);
     };
@@ -120,10 +129,13 @@ fn allows_all(class: &ClassDefinition, names: &[Bytes]) -> bool
     true
 }
 
-// whether a class only loses some of what it allows
+// whether a class only loses some of what it allows, in one line
 fn is_may_cut(alloc: Global, old: &[u8], new: &[u8]) -> Result<bool, AllocError>
     ensures { IfOk result (λ b. IsTrue b → IsMayCut old.now new.now) }
 {
+    if !is_one_line(new) {
+        return Ok(false);
+    }
     let Some(was) = class_in(alloc, old)? else {
         return Ok(false);
     };
@@ -398,11 +410,12 @@ fn put_remark(out: &mut Vec<u8>, remark: &[u8]) -> Result<(), AllocError> {
     out.extend_from_slice(remark)
 }
 
-// a repair with what was done; none where that is nothing
-fn repair_of(definition: Definition, remark: Vec<u8>) -> Option<Repair>
-    ensures { IfSome result (λ r. r.definition ≡ definition) }
+// a repair of a text with what was done; none where that is nothing
+fn repair_of(text: &[u8], definition: Definition, remark: Vec<u8>) -> Option<Repair>
+    ensures is { IfSome result (λ r. r.definition ≡ definition) }
+    ensures other { IfSome result (λ r. text.now ≡ r.definition.text → ⊥) }
 {
-    if remark.is_empty() {
+    if is_same_text(text, definition.text.as_slice()) {
         None
     } else {
         Some(Repair { definition, remark })
@@ -425,7 +438,7 @@ pub(crate) fn repaired(
     let mut remark = Vec::new(alloc);
     for _ in 0..STEPS {
         let Some(kind) = fault_of(alloc, conf, &current)? else {
-            return Ok(repair_of(current, remark));
+            return Ok(repair_of(definition.text.as_slice(), current, remark));
         };
         let Some(step) = next_step(alloc, conf, &current, kind)? else {
             return Ok(None);

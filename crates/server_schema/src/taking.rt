@@ -2,7 +2,7 @@
 
 ghost use Rattle.std.specs.Prelude.{◌≡◌, None, ◌≤◌, ◌<◌, ◌++◌, true, false, IfOk, OnOk, length, take, map, if◌then◌else◌};
 ghost use Rattle.server_schema.specs.Definitions.{lines_of};
-ghost use Rattle.server_schema.specs.Growth.{is_read, Grows, AreRefused, definitions_of_all};
+ghost use Rattle.server_schema.specs.Growth.{is_read, Grows, AreRefused, AreAmong, definitions_of_all};
 
 use crate::alike::is_readable;
 use crate::definition::{Definition, Sort};
@@ -198,7 +198,8 @@ pub(crate) fn pass<'a>(
     candidates: &[Candidate<'a>],
 ) -> Result<Passed<'a>, AllocError>
     ensures grows { IfOk result (λ p.
-        Grows text.old.items (definitions_of_all candidates.entry.now) text.new.items (definitions_of_all p.left.items)) }
+        Grows text.old.items (definitions_of_all candidates.entry.now) text.new.items (definitions_of_all p.left.items) false) }
+    ensures among { IfOk result (λ p. AreAmong p.left.items candidates.entry.now) }
     ensures ends { IfOk result (λ p. only ≡ None → p.grew ≡ false
         → (text.new.items ≡ text.old.items) × AreRefused text.new.items (definitions_of_all p.left.items)) }
 {
@@ -225,7 +226,9 @@ pub(crate) fn settle<'a>(
     only: Option<Sort>,
     candidates: Vec<Candidate<'a>>,
 ) -> Result<Vec<Candidate<'a>>, AllocError>
-    ensures grows { IfOk result (λ v. Grows text.old.items (definitions_of_all candidates.entry.items) text.new.items (definitions_of_all v.items)) }
+    ensures grows { IfOk result (λ v.
+        Grows text.old.items (definitions_of_all candidates.entry.items) text.new.items (definitions_of_all v.items) false) }
+    ensures among { IfOk result (λ v. AreAmong v.items candidates.entry.items) }
     ensures ends { IfOk result (λ v. only ≡ None → AreRefused text.new.items (definitions_of_all v.items)) }
 {
     let mut left = candidates;

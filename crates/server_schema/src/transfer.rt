@@ -1,16 +1,16 @@
 //! What is printed of a schema's text.
 
-ghost use Rattle.std.specs.Prelude.{◌≡◌, ◌++◌, true, drop, length, List, IfOk, OnOk, MatchResult};
-ghost use Rattle.server_schema.specs.Growth.{Grows, AreRefused, definitions_of_all};
-ghost use Rattle.server_schema.specs.Transfers.{is_said, IsTransferred, IsRefusedFor, Gathers, IsOneMore, IsStepFor};
+ghost use Rattle.std.specs.Prelude.{◌≡◌, ◌++◌, ◌&&◌, ◌==◌, not, false, drop, length, IfOk, OnOk, MatchResult};
+ghost use Rattle.server_schema.specs.Growth.{end_of, Grows, AreRefused, AreMarked, Marks, definitions_of_all};
+ghost use Rattle.server_schema.specs.Transfers.{is_said, IsTransferred, IsTold, IsRefusedFor, Gathers, IsOneMore, IsStepFor};
 ghost use Rattle.dir_conf.specs.inner.Views.{defined_view};
 
 use crate::alike::{Meaning, is_among};
 use crate::definition::{Definition, Sort, definitions_in};
-use crate::growth::grow;
+use crate::growth::{Grown, grow, is_either};
 use crate::remarks::remarks_on;
 use crate::stated::{is_built_in, meanings_in};
-use crate::taking::{Candidate, settle, try_lines};
+use crate::taking::{Candidate, settle};
 use base::ends_with;
 use dir_conf::{ConfFault, Defined, read_definitions};
 use std::alloc::{AllocError, Global};
@@ -20,7 +20,7 @@ use std::alloc::{AllocError, Global};
 pub struct Transfer {
     /// Lines of a dir.conf.
     pub lines: Vec<u8>,
-    /// Whether no definition was changed or left out but for what is said already.
+    /// Whether no definition was changed or left out but for what is said already: each line is of a definition as it stands, and there is no remark.
     pub is_whole: bool,
 }
 
@@ -46,8 +46,10 @@ fn put_candidate<'a>(
     types: &mut Vec<Candidate<'a>>,
     classes: &mut Vec<Candidate<'a>>,
 ) -> Result<(), AllocError>
-    ensures { OnOk result (IsOneMore (definitions_of_all types.old.items ++ definitions_of_all classes.old.items) definition.entry.now
+    ensures one { OnOk result (IsOneMore (definitions_of_all types.old.items ++ definitions_of_all classes.old.items) definition.entry.now
         (definitions_of_all types.new.items ++ definitions_of_all classes.new.items)) }
+    ensures fresh { OnOk result (AreMarked false types.old.items → AreMarked false classes.old.items
+        → AreMarked false types.new.items × AreMarked false classes.new.items) }
 {
     let candidate = Candidate {
         definition,
@@ -69,9 +71,11 @@ fn add_candidate<'a>(
     types: &mut Vec<Candidate<'a>>,
     classes: &mut Vec<Candidate<'a>>,
 ) -> Result<(), AllocError>
-    ensures { OnOk result (IsStepFor (is_said (defined_view defined.now) stated.now definition.entry.now)
+    ensures step { OnOk result (IsStepFor (is_said (defined_view defined.now) stated.now definition.entry.now)
         (definitions_of_all types.old.items ++ definitions_of_all classes.old.items) definition.entry.now
         (definitions_of_all types.new.items ++ definitions_of_all classes.new.items)) }
+    ensures fresh { OnOk result (AreMarked false types.old.items → AreMarked false classes.old.items
+        → AreMarked false types.new.items × AreMarked false classes.new.items) }
 {
     if is_said(alloc, defined, stated, definition)? {
         Ok(())
@@ -87,7 +91,8 @@ fn candidates_of<'a>(
     stated: &[Meaning],
     definitions: &'a [Definition],
 ) -> Result<Vec<Candidate<'a>>, AllocError>
-    ensures { IfOk result (λ v. Gathers (defined_view defined.now) stated.now definitions.entry.now (definitions_of_all v.items)) }
+    ensures gathers { IfOk result (λ v. Gathers (defined_view defined.now) stated.now definitions.entry.now (definitions_of_all v.items)) }
+    ensures fresh { IfOk result (λ v. AreMarked false v.items) }
 {
     let mut types = Vec::new(alloc);
     let mut classes = Vec::new(alloc);
@@ -98,14 +103,26 @@ fn candidates_of<'a>(
     Ok(types)
 }
 
-// ends the last line of a text
-fn end_line(alloc: Global, text: &mut Vec<u8>) -> Result<(), AllocError>
-    ensures { OnOk result ((ds : List Definition) → Grows text.old.items ds text.new.items ds) }
+// what ends the last line of a text, where it isn't ended
+fn end_of(text: &[u8]) -> &'static [u8]
+    ensures { result.now ≡ end_of text.now }
 {
-    if !text.is_empty() && !ends_with(text.as_slice(), b'\n') {
-        let _is_read = try_lines(alloc, text, b"\n")?;
+    if text.is_empty() || ends_with(text, b'\n') {
+        b""
+    } else if ends_with(text, b'\r') {
+        b"\r\n"
+    } else {
+        b"\n"
     }
-    Ok(())
+}
+
+// a text with the end of its last line
+fn with_end(alloc: Global, text: &[u8]) -> Result<Vec<u8>, AllocError>
+    ensures { IfOk result (λ v. v.items ≡ text.now ++ end_of text.now) }
+{
+    let mut ended = Vec::from_slice(alloc, text)?;
+    ended.extend_from_slice(end_of(text))?;
+    Ok(ended)
 }
 
 // takes each candidate that can be taken, types first, with repairs where they serve; all that is left can't be taken as it stands
@@ -113,14 +130,25 @@ fn grown<'a>(
     alloc: Global,
     text: &mut Vec<u8>,
     candidates: Vec<Candidate<'a>>,
-) -> Result<Vec<Candidate<'a>>, AllocError>
-    ensures grows { IfOk result (λ v. Grows text.old.items (definitions_of_all candidates.entry.items) text.new.items (definitions_of_all v.items)) }
-    ensures ends { IfOk result (λ v. AreRefused text.new.items (definitions_of_all v.items)) }
+) -> Result<Grown<'a>, AllocError>
+    ensures grows { IfOk result (λ g.
+        Grows text.old.items (definitions_of_all candidates.entry.items) text.new.items (definitions_of_all g.left.items) g.is_changed) }
+    ensures marks { IfOk result (λ g. Marks candidates.entry.items g.left.items g.is_changed) }
+    ensures ends { IfOk result (λ g. AreRefused text.new.items (definitions_of_all g.left.items)) }
 {
-    let behind_types = grow(alloc, text, Sort::AttributeType, candidates)?;
-    let behind_classes = grow(alloc, text, Sort::ObjectClass, behind_types)?;
-    let rest = settle(alloc, text, None, behind_classes)?;
-    Ok(rest)
+    let types = grow(alloc, text, Sort::AttributeType, candidates)?;
+    let Grown {
+        left: behind_types,
+        is_changed: are_types,
+    } = types;
+    let classes = grow(alloc, text, Sort::ObjectClass, behind_types)?;
+    let Grown {
+        left: behind_classes,
+        is_changed: are_classes,
+    } = classes;
+    let left = settle(alloc, text, None, behind_classes)?;
+    let is_changed = is_either(are_types, are_classes);
+    Ok(Grown { left, is_changed })
 }
 
 // what stands behind a beginning of a text
@@ -134,26 +162,35 @@ fn behind(alloc: Global, front: &[u8], text: &[u8]) -> Result<Vec<u8>, AllocErro
 }
 
 // whether nothing was changed or left out
-fn is_whole(remarks: &[u8], rest: &[Candidate<'_>]) -> bool {
-    remarks.is_empty() && !rest.iter().any(|candidate| candidate.is_repaired)
+fn is_whole(remarks: &[u8], is_changed: bool) -> bool
+    ensures { result ≡ (length remarks.now == 0 && not is_changed) }
+{
+    remarks.is_empty() && !is_changed
 }
 
 /// The lines of a `dir.conf` that a schema's text comes to, for the end of `conf`, the text of a `dir.conf`, which may be empty. They begin with an
-/// LF where that doesn't end with one. It is refused where a definition in `conf` is at fault.
+/// LF where that doesn't end with one, or with CR LF where it ends with a CR: so its last line stays as it is. The suffix and the indexes that `conf`
+/// says stay, too, and nothing that is printed is at fault. It is refused where a definition in `conf` is at fault.
 pub fn transfer_schema(alloc: Global, source: &[u8], conf: &[u8]) -> Result<Transfer, ConfFault>
-    ensures { MatchResult result (λ t. IsTransferred source.now conf.now t.lines.items) (IsRefusedFor conf.now) }
+    ensures transferred { MatchResult result (λ t. IsTransferred source.now conf.now t.lines.items) (IsRefusedFor conf.now) }
+    ensures told { IfOk result (λ t. IsTold source.now conf.now t.lines.items t.is_whole) }
 {
     let defined = read_definitions(alloc, conf)?;
     let definitions = definitions_in(alloc, source)?;
     let stated = meanings_in(alloc, conf)?;
     let candidates = candidates_of(alloc, &defined, &stated, &definitions)?;
-    let mut text = Vec::from_slice(alloc, conf)?;
-    end_line(alloc, &mut text)?;
+    let mut text = with_end(alloc, conf)?;
     let rest = grown(alloc, &mut text, candidates)?;
     let grown_defined = read_definitions(alloc, text.as_slice())?;
-    let remarks = remarks_on(alloc, &grown_defined, text.as_slice(), &definitions, &rest)?;
-    let _is_read = try_lines(alloc, &mut text, &remarks)?;
+    let remarks = remarks_on(
+        alloc,
+        &grown_defined,
+        text.as_slice(),
+        &definitions,
+        &rest.left,
+    )?;
+    text.extend_from_slice(&remarks)?;
     let lines = behind(alloc, conf, text.as_slice())?;
-    let is_whole = is_whole(&remarks, &rest);
+    let is_whole = is_whole(&remarks, rest.is_changed);
     Ok(Transfer { lines, is_whole })
 }
