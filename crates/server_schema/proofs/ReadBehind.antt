@@ -270,16 +270,19 @@ module _ (conf : List ℕ) where
           record { suffix = refl; slots = slots_same s f.slots more.types below; types = more.types; classes = more.classes },
         )
 
+    grows_by : (was : Conf) (s : Defined) (f : Found) → defined_by built_in (lines_of conf) ≡ Ok s → found_in s.types none_found (lines_of conf) ≡ Ok f → rules_of s f.slots f.suffix ≡ Ok was
+        → (grown : Conf) × (conf_of text ≡ Ok grown) × IsGrown was grown
+    grows_by was s f defined_is found_is rules =
+        let made = was_made s f.slots f.suffix was rules in
+        let k = grown_from s f made.0 (sym (own_defined built_in) ∙ defined_is) (sym (own_found s.types none_found) ∙ found_is) made.1 in
+        (k.0, k.1, subst (λ (c : Conf). IsGrown c k.0) (sym made.2) k.2)
+
     grows : (was : Conf) → conf_of conf ≡ Ok was → (grown : Conf) × (conf_of text ≡ Ok grown) × IsGrown was grown
     unfolding conf_of
     grows was e =
         let first = bind_ok (defined_by built_in (lines_of conf)) (λ s. found_in s.types none_found (lines_of conf) >>= λ f. rules_of s f.slots f.suffix) was e in
         let second = bind_ok (found_in first.0.types none_found (lines_of conf)) (λ f. rules_of first.0 f.slots f.suffix) was first.2 in
-        let made = was_made first.0 second.0.slots second.0.suffix was second.2 in
-        let own : defined_by built_in b.front ≡ Ok first.0 = sym (own_defined built_in) ∙ first.1 in
-        let found : found_in first.0.types none_found b.front ≡ Ok second.0 = sym (own_found first.0.types none_found) ∙ second.1 in
-        let k = grown_from first.0 second.0 made.0 own found made.1 in
-        (k.0, k.1, subst (λ (c : Conf). IsGrown c k.0) (sym made.2) k.2)
+        grows_by was first.0 second.0 first.1 second.1 second.2
 
     pub is_read_behind : IsReadBehind conf text
     is_read_behind = record { faults = fault_is; grows = grows }
