@@ -3,9 +3,9 @@
 ghost use Rattle.std.specs.Prelude.{◌≡◌};
 ghost use Rattle.checks.specs.Passwords.{has_type, has_passwords};
 
-use schema::{Conf, Path, TypeId};
+use schema::{Path, TypeId};
 use std::alloc::Global;
-use tree::Tree;
+use tree::{LentTree, Tree};
 
 /// The OID of userPassword (RFC 4519, 2.41).
 const USER_PASSWORD: &[u8] = b"2.5.4.35";
@@ -23,11 +23,11 @@ fn has_type(alloc: Global, tree: &Tree, t: TypeId) -> bool
 }
 
 /// Whether an entry has values of userPassword (RFC 4519, 2.41), by whatever name its `dir.conf` has it.
-pub fn has_passwords(alloc: Global, conf: &Conf, tree: &Tree) -> bool
-    ensures { result ≡ has_passwords conf.now.types tree.now.entries }
+pub fn has_passwords(alloc: Global, lent: LentTree<'_>) -> bool
+    ensures { result ≡ has_passwords lent.entry.conf.now.types lent.entry.tree.now.entries }
 {
-    match conf.type_of(USER_PASSWORD) {
-        Some(t) => has_type(alloc, tree, t),
+    match lent.conf.type_of(USER_PASSWORD) {
+        Some(t) => has_type(alloc, lent.tree, t),
         None => false,
     }
 }

@@ -15,7 +15,7 @@ use base::Bytes;
 use entries::{Entry, Values};
 use schema::{Conf, Path, PathFault, TypeId, TypeSyntax, is_syntax};
 use std::alloc::{AllocError, Global};
-use tree::Tree;
+use tree::LentTree;
 
 /// Whether the values of a type are names.
 fn has_name_syntax(conf: &Conf, t: TypeId) -> bool
@@ -154,16 +154,15 @@ impl Finder<'_> {
 /// entries once. The fault is want of memory.
 pub fn find_dangling(
     alloc: Global,
-    conf: &Conf,
-    tree: &Tree,
+    lent: LentTree<'_>,
     named: &[TypeId],
 ) -> Result<Vec<EntryValue>, AllocError>
-    requires { tree.now.conf ≡ conf.now }
-    ensures found { IfOk result (λ found. found.items ≡ dangling conf.now tree.now.entries named.now) }
-    ensures told { IfOk result (λ found. EachDangles conf.now tree.now.entries named.now found.items) }
-    ensures all { IfOk result (λ found. EachIsTold conf.now tree.now.entries named.now found.items) }
+    ensures found { IfOk result (λ found. found.items ≡ dangling lent.entry.conf.now lent.entry.tree.now.entries named.now) }
+    ensures told { IfOk result (λ found. EachDangles lent.entry.conf.now lent.entry.tree.now.entries named.now found.items) }
+    ensures all { IfOk result (λ found. EachIsTold lent.entry.conf.now lent.entry.tree.now.entries named.now found.items) }
     ensures once { IfOk result (λ found. IsDistinct is_same_value found.items) }
 {
+    let LentTree { tree, conf } = lent;
     dangling_values_are_told();
     tree.entries_are_a_directory();
     let finder = Finder {

@@ -18,7 +18,7 @@ use crate::type_names::each_once;
 use ldif::{LineWidth, put_line_to};
 use schema::{Conf, Path, TypeId};
 use std::alloc::{AllocError, Global};
-use tree::Tree;
+use tree::{LentTree, Tree};
 
 /// Puts a word for what is wrong and where it is at the end of a text, each with a tab behind it.
 fn put_place(out: &mut Vec<u8>, kind: &str, place: &[u8]) -> Result<(), AllocError>
@@ -217,15 +217,15 @@ impl Reporter<'_> {
 /// the value as a line of LDIF. The fault is want of memory.
 pub fn report_dangling(
     alloc: Global,
-    conf: &Conf,
-    tree: &Tree,
+    lent: LentTree<'_>,
     named: &[TypeId],
     out: &mut Vec<u8>,
 ) -> Result<(), AllocError>
-    requires { tree.now.conf ≡ conf.now }
-    ensures { OnOk result (out.new.items ≡ out.old.items ++ dangling_reports conf.now tree.now.entries named.now) }
+    ensures { OnOk result (out.new.items ≡ out.old.items
+        ++ dangling_reports lent.entry.conf.now lent.entry.tree.now.entries named.now) }
 {
-    let found = find_dangling(alloc, conf, tree, named)?;
+    let LentTree { tree, conf } = lent;
+    let found = find_dangling(alloc, lent, named)?;
     let reporter = Reporter { alloc, conf, tree };
     reporter.put_dangling(out, found.as_slice())
 }
@@ -235,15 +235,15 @@ pub fn report_dangling(
 /// fault is want of memory.
 pub fn report_shared(
     alloc: Global,
-    conf: &Conf,
-    tree: &Tree,
+    lent: LentTree<'_>,
     types: &[TypeId],
     out: &mut Vec<u8>,
 ) -> Result<(), AllocError>
-    requires same_conf { tree.now.conf ≡ conf.now }
-    requires known { AllByRecursion (λ t. t < length conf.now.types) types.now }
-    ensures { OnOk result (out.new.items ≡ out.old.items ++ shared_reports conf.now tree.now.entries types.now) }
+    requires { AllByRecursion (λ t. t < length lent.conf.now.types) types.now }
+    ensures { OnOk result (out.new.items ≡ out.old.items
+        ++ shared_reports lent.entry.conf.now lent.entry.tree.now.entries types.now) }
 {
+    let LentTree { tree, conf } = lent;
     let types = each_once(alloc, types)?;
     let reporter = Reporter { alloc, conf, tree };
     reporter.put_types(out, types.as_slice())

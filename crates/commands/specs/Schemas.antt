@@ -6,7 +6,7 @@ use Rattle.folders.specs.Folders.{Files, Finds}
 use Rattle.dir_conf.specs.Configurations.{definitions_of}
 use Rattle.command_line.specs.declared.request.SchemaOptions.{SchemaOptions}
 use Rattle.server_schema.specs.declared.transfer.Transfer.{Transfer}
-use Rattle.server_schema.specs.Transfers.{IsTransferred}
+use Rattle.server_schema.specs.Transfers.{IsTold}
 use Rattle.commands.specs.DirectoryFiles.{conf_name}
 use Rattle.commands.specs.Endings.{StoppedAt, HasOnlyPrinted, IsAtOnce, IsFault}
 use Rattle.commands.specs.Failures.{IsMemory, FailsToRead, FailsToWrite}
@@ -26,8 +26,9 @@ abbrev pub ConfTextFails : Option (List ℕ) → CommandFault → Type 0
 ConfTextFails None fault = IsMemory fault
 ConfTextFails (Some db) fault = FailsToRead (conf_name db) fault
 
+-- what is printed of a schema's text, and whether nothing is lost
 abbrev pub IsTransferredFor : List ℕ → List ℕ → Transfer → Type 0
-IsTransferredFor source conf t = IsTransferred source conf t.lines.items
+IsTransferredFor source conf t = IsTold source conf t.lines.items t.is_whole
 
 -- a definition of the dir.conf is at fault, or memory ran out
 abbrev pub FailsToTransfer : List ℕ → CommandFault → Type 0

@@ -266,9 +266,9 @@ fn put_values(
     ensures { OnOk result (text.new.items ≡ text.old.items
         ++ value_reports database.now.conf database.now.entries types.now.references.items types.now.unique.items) }
 {
-    let (conf, tree) = (database.conf(), database.tree());
-    report_dangling(alloc, conf, tree, types.references.as_slice(), text)?;
-    report_shared(alloc, conf, tree, types.unique.as_slice(), text)?;
+    let lent = database.lent();
+    report_dangling(alloc, lent, types.references.as_slice(), text)?;
+    report_shared(alloc, lent, types.unique.as_slice(), text)?;
     Ok(())
 }
 
@@ -352,7 +352,7 @@ fn check_under<F: Folder, S: Source, T: CommandTeller>(
     let mut database = Database::new(alloc, conf);
     let told = gather(alloc, asked, folder, input, &mut database, teller)?;
     let reports = reports(alloc, asked.file, types, &database, &told);
-    let has_passwords = has_passwords(alloc, database.conf(), database.tree());
+    let has_passwords = has_passwords(alloc, database.lent());
     // The program ends with its command, and that frees the entries at once.
     mem::forget(database);
     match reports {

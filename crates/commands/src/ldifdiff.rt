@@ -271,7 +271,7 @@ fn compare<O: Sink, E: Sink, T: CommandTeller>(
         (reported_world w O.written E.written out.new err.new) result }
     ensures can_report { IfErr result (λ why. CanReport why (E.written err.new).failed) }
 {
-    teller.note_base(alloc, database.conf(), database.tree(), asked.base);
+    teller.note_base(alloc, database.lent(), asked.base);
     let base = match base_of(alloc, asked, database, other) {
         Ok(base) => base,
         Err(stop) => return Err(stop),

@@ -371,7 +371,7 @@ pub fn search_list<F: Folder, S: Source, O: Sink, E: Sink, T: CommandTeller>(
     ensures can_report { IfErr result (λ why. CanReport why (E.written err.new).failed) }
 {
     let database = load_database(alloc, folder, asked.db, teller)?;
-    teller.note_base(alloc, database.conf(), database.tree(), asked.base);
+    teller.note_base(alloc, database.lent(), asked.base);
     let ended = search_loaded(
         alloc, asked, name, &database, folder, input, out, err, teller,
     );

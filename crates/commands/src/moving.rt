@@ -14,7 +14,7 @@ use ldif::{Mode, RawRecord, Record};
 use schema::{Code, Conf, PathFault};
 use std::alloc::Global;
 use suffixes::{Watcher, conf_under, directory_under};
-use tree::Tree;
+use tree::{LentTree, Tree};
 
 /// The name that its result codes are printed with.
 const NAME: &str = "slapcat";
@@ -26,7 +26,7 @@ struct Noting<'a, T> {
 }
 
 impl<T: CommandTeller> Watcher for Noting<'_, T> {
-    fn note(&mut self, alloc: Global, conf: &Conf, tree: &Tree, asked: &Record<'_>, code: Code) {
+    fn note(&mut self, alloc: Global, lent: LentTree<'_>, asked: &Record<'_>, code: Code) {
         let raw = RawRecord::new(alloc, false);
         let refused = NotedRecord {
             raw: &raw,
@@ -34,7 +34,7 @@ impl<T: CommandTeller> Watcher for Noting<'_, T> {
             mode: Mode::Content,
             refusal: RecordRefusal::Code(code),
         };
-        self.teller.note(alloc, conf, tree, &refused);
+        self.teller.note(alloc, lent, &refused);
     }
 }
 
@@ -52,7 +52,7 @@ fn conf_of<T: CommandTeller>(
     match conf_under(alloc, database.conf(), name.as_bytes()) {
         Ok(conf) => Ok(conf),
         Err(PathFault::Code(code)) => {
-            teller.note_base(alloc, database.conf(), database.tree(), Some(name));
+            teller.note_base(alloc, database.lent(), Some(name));
             Err(CommandFault::Code {
                 command: NAME,
                 code,
@@ -78,14 +78,7 @@ fn entries_under<T: CommandTeller>(
         (λ code. moved_directory (move_by database.now.conf new.now name.now database.now.entries) ≡ Err code)) }
 {
     let mut watcher = Noting { teller };
-    let moved = directory_under(
-        alloc,
-        database.tree(),
-        database.conf(),
-        new,
-        name.as_bytes(),
-        &mut watcher,
-    );
+    let moved = directory_under(alloc, database.lent(), new, name.as_bytes(), &mut watcher);
     match moved {
         Ok(tree) => Ok(tree),
         Err(refusal) => Err(refused(refusal, NAME)),

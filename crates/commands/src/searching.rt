@@ -323,7 +323,7 @@ pub fn search<F: Folder, O: Sink, E: Sink, T: CommandTeller>(
     teller.note_filter(alloc, asked.filter);
     let filter = filter_of(alloc, asked.filter)?;
     let database = load_database(alloc, folder, asked.db, teller)?;
-    teller.note_base(alloc, database.conf(), database.tree(), asked.base);
+    teller.note_base(alloc, database.lent(), asked.base);
     let ended = search_directory(alloc, asked, &filter, &database, folder, out, err, teller);
     // The program ends with its command, and that frees the entries at once.
     mem::forget(database);

@@ -278,7 +278,7 @@ fn put_text<F: Folder, O: Sink, T: CommandTeller>(
     match asked.suffix {
         Some(name) => put_moved(alloc, asked, name, database, folder, out, teller),
         None => {
-            teller.note_base(alloc, database.conf(), database.tree(), asked.base);
+            teller.note_base(alloc, database.lent(), asked.base);
             put_entries(alloc, asked, filter, database, folder, out)
         }
     }

@@ -1,6 +1,6 @@
 //! What is told behind the lines that a command reports.
 
-ghost use Rattle.std.specs.Prelude.{◌≡◌, ◌<◌, ◌-◌, ◌^◌};
+ghost use Rattle.std.specs.Prelude.{◌<◌, ◌-◌, ◌^◌};
 
 use crate::messages::{CommandFault, Stop};
 use databases::{Gauge, Silent, Tally, Teller};
@@ -13,7 +13,7 @@ use sentences::Explainer;
 use std::alloc::Global;
 use std::io::ErrorKind;
 use stored_index::fault_line;
-use tree::Tree;
+use tree::LentTree;
 
 /// Tells why a command refuses or stops, behind the lines that report it. Nothing else that the command does depends on it.
 pub trait CommandTeller: Teller {
@@ -23,9 +23,8 @@ pub trait CommandTeller: Teller {
     /// Tells what is wrong with this text, which is no filter.
     fn tell_line(&mut self, alloc: Global, text: &[u8], fault: &FilterFault);
 
-    /// Takes note of the name of a base, at which no entry may be; the entries are those of this configuration.
-    fn note_base(&mut self, alloc: Global, conf: &Conf, tree: &Tree, name: Option<&str>)
-        requires { tree.now.conf ≡ conf.now };
+    /// Takes note of the name of a base, at which no entry may be.
+    fn note_base(&mut self, alloc: Global, lent: LentTree<'_>, name: Option<&str>);
 
     /// Whether what it tells goes anywhere.
     fn is_heard(&self) -> bool;
@@ -62,7 +61,7 @@ impl CommandTeller for Silent {
 
     fn tell_line(&mut self, _alloc: Global, _text: &[u8], _fault: &FilterFault) {}
 
-    fn note_base(&mut self, _alloc: Global, _conf: &Conf, _tree: &Tree, _name: Option<&str>) {}
+    fn note_base(&mut self, _alloc: Global, _lent: LentTree<'_>, _name: Option<&str>) {}
 
     fn is_heard(&self) -> bool {
         false
@@ -105,8 +104,8 @@ impl<V: Sink, G: Gauge> CommandTeller for Explainer<'_, V, G> {
         self.tell_filter_text(alloc, text, fault);
     }
 
-    fn note_base(&mut self, alloc: Global, conf: &Conf, tree: &Tree, name: Option<&str>) {
-        Explainer::note_base(self, alloc, conf, tree, name);
+    fn note_base(&mut self, alloc: Global, lent: LentTree<'_>, name: Option<&str>) {
+        Explainer::note_base(self, alloc, lent, name);
     }
 
     fn is_heard(&self) -> bool {

@@ -61,7 +61,7 @@ fn outcome_of<T: Target, L: Teller>(
                 mode,
                 refusal,
             };
-            teller.note(alloc, target.conf(), target.tree(), &refused);
+            teller.note(alloc, target.lent(), &refused);
             Ok(Outcome::Refused(refusal))
         }
         Err(Refusal::OutOfMemory) => Err(AllocError),
@@ -96,7 +96,7 @@ pub(crate) fn carry_out<T: Target, L: Teller>(
                 mode,
                 refusal,
             };
-            teller.note(alloc, target.conf(), target.tree(), &refused);
+            teller.note(alloc, target.lent(), &refused);
             Ok(Outcome::Refused(refusal))
         }
         Err(LdifFault::OutOfMemory) => Err(AllocError),

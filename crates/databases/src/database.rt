@@ -23,7 +23,7 @@ use ldif::{Mode, Record};
 use schema::Conf;
 use std::alloc::{AllocError, Global};
 use std::marker::Model;
-use tree::{Plan, Tree, plan};
+use tree::{LentTree, Plan, Tree, plan};
 
 /// The entries of a directory, and the configuration that they were made with. It keeps no index. A contract sees it as its tree.
 #[derive(Drop)]
@@ -112,6 +112,14 @@ impl Database {
         &self.tree
     }
 
+    /// Both.
+    pub fn lent(&self) -> LentTree<'_>
+        ensures conf { result.conf.now ≡ self.now.conf }
+        ensures tree { result.tree.now ≡ self.now }
+    {
+        LentTree::new(&self.tree, &self.conf)
+    }
+
     /// Works out what a record does, and changes nothing. A refusal has the code of the first check that fails (RFC 4511, 4.6 to 4.9).
     pub fn plan(&self, alloc: Global, asked: &Record<'_>, mode: Mode) -> Result<Plan, Refusal>
         ensures of { IfOk result (λ p. p.tree ≡ self.now) }
@@ -142,12 +150,8 @@ impl Target for Database {
 
     ghost count_edits = { λ _ _ _ _. 0 };
 
-    fn conf(&self) -> &Conf {
-        &self.conf
-    }
-
-    fn tree(&self) -> &Tree {
-        &self.tree
+    fn lent(&self) -> LentTree<'_> {
+        Database::lent(self)
     }
 
     fn carry_out(&mut self, alloc: Global, asked: &Record<'_>, mode: Mode) -> Result<(), Refusal> {

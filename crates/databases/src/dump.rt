@@ -17,7 +17,7 @@ use entries::{Entry, Values};
 use ldif::{LineWidth, WriteFault, put_line_to};
 use schema::{Conf, Path, TypeId};
 use std::alloc::{AllocError, Global};
-use tree::{Names, Tree};
+use tree::{LentTree, Names, Tree};
 
 // so many bytes are handed on at once
 const PIECE: usize = 65536;
@@ -160,16 +160,11 @@ pub(crate) struct Printer<'a> {
 }
 
 impl<'a> Printer<'a> {
-    pub(crate) fn new(
-        alloc: Global,
-        tree: &'a Tree,
-        conf: &'a Conf,
-        width: LineWidth,
-    ) -> Printer<'a>
-        requires { tree.now.conf ≡ conf.now }
-        ensures tree { result.tree.now ≡ tree.now }
+    pub(crate) fn new(alloc: Global, lent: LentTree<'a>, width: LineWidth) -> Printer<'a>
+        ensures tree { result.tree.now ≡ lent.entry.tree.now }
         ensures width { result.width ≡ width }
     {
+        let LentTree { tree, conf } = lent;
         Printer {
             alloc,
             tree,
@@ -182,7 +177,7 @@ impl<'a> Printer<'a> {
     pub(crate) fn names(&self) -> Names<'a>
         ensures { result ≡ self.now.tree.now }
     {
-        Names::new(self.alloc, self.tree, self.conf)
+        Names::new(self.alloc, LentTree::new(self.tree, self.conf))
     }
 
     // the content record of the entry at a path, behind what `out` holds
@@ -276,7 +271,7 @@ impl Database {
         self.tree().entries_are_a_directory();
         self.conf().rules_are_kept();
         loading_a_dump();
-        let printer = Printer::new(alloc, self.tree(), self.conf(), LineWidth::STANDARD);
+        let printer = Printer::new(alloc, self.lent(), LineWidth::STANDARD);
         printer.write_dump(sink, &mut Nobody)
     }
 
@@ -295,7 +290,7 @@ impl Database {
         self.tree().entries_are_a_directory();
         self.conf().rules_are_kept();
         loading_a_folded_dump();
-        let printer = Printer::new(alloc, self.tree(), self.conf(), width);
+        let printer = Printer::new(alloc, self.lent(), width);
         printer.write_dump(sink, &mut Nobody)
     }
 }

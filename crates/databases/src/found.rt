@@ -123,7 +123,7 @@ impl Database {
         ensures { WritesFound result (goes_past limit hits.entry.to_come) (W.written sink.old) (W.written sink.new)
             (front.now ++ limited_text width self.now.conf self.now.entries selection.now limit (map seen hits.entry.to_come)) }
     {
-        let printer = Printer::new(alloc, self.tree(), self.conf(), width);
+        let printer = Printer::new(alloc, self.lent(), width);
         write_all_found(alloc, &printer, sink, front, hits, limit, selection)
     }
 }

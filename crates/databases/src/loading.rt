@@ -22,7 +22,7 @@ use ldif::{Mode, Record};
 use schema::Conf;
 use std::alloc::{AllocError, Global};
 use thiserror::Error;
-use tree::Tree;
+use tree::{LentTree, Tree};
 
 /// Why nothing was loaded.
 #[derive(Clone, Copy, Debug, Error)]
@@ -64,12 +64,8 @@ impl Target for LoadedTree<'_> {
 
     ghost count_edits = { λ _ _ _ _. 0 };
 
-    fn conf(&self) -> &Conf {
-        self.conf
-    }
-
-    fn tree(&self) -> &Tree {
-        &self.tree
+    fn lent(&self) -> LentTree<'_> {
+        LentTree::new(&self.tree, self.conf)
     }
 
     fn carry_out(&mut self, alloc: Global, asked: &Record<'_>, mode: Mode) -> Result<(), Refusal> {
@@ -84,8 +80,8 @@ struct NotesAlone<'a, T> {
 }
 
 impl<T: Teller> Teller for NotesAlone<'_, T> {
-    fn note(&mut self, alloc: Global, conf: &Conf, tree: &Tree, refused: &NotedRecord<'_>) {
-        self.teller.note(alloc, conf, tree, refused);
+    fn note(&mut self, alloc: Global, lent: LentTree<'_>, refused: &NotedRecord<'_>) {
+        self.teller.note(alloc, lent, refused);
     }
 
     fn tell(&mut self) {}

@@ -13,7 +13,7 @@ use ldif::{LineWidth, WriteFault};
 use schema::Conf;
 use sha2::{Digest, Sha256};
 use std::alloc::{AllocError, Global};
-use tree::Tree;
+use tree::{LentTree, Tree};
 
 /// The stamp of a directory: the SHA-256 (FIPS 180-4) of its dump.
 pub type Stamp = [u8; 32];
@@ -35,7 +35,7 @@ pub fn stamp_of(alloc: Global, tree: &Tree, conf: &Conf) -> Result<Stamp, AllocE
     requires { tree.now.conf ≡ conf.now }
     ensures { IfOk result (λ s. s ≡ stamp tree.now.conf tree.now.entries) }
 {
-    let printer = Printer::new(alloc, tree, conf, LineWidth::STANDARD);
+    let printer = Printer::new(alloc, LentTree::new(tree, conf), LineWidth::STANDARD);
     match write_stamped(&printer, &mut Nowhere::new()) {
         Ok(stamp) => Ok(stamp),
         Err(WriteFault::OutOfMemory) => Err(AllocError),
@@ -50,7 +50,7 @@ impl Database {
         ensures writes { Writes (end_of result) (W.written sink.old) (W.written sink.new) (dump self.now.conf self.now.entries) }
         ensures stamp { IfOk result (λ s. s ≡ stamp self.now.conf self.now.entries) }
     {
-        let printer = Printer::new(alloc, self.tree(), self.conf(), LineWidth::STANDARD);
+        let printer = Printer::new(alloc, self.lent(), LineWidth::STANDARD);
         write_stamped(&printer, sink)
     }
 

@@ -9,9 +9,8 @@ ghost use Rattle.databases.specs.RunEdits.{CountEdits, RiseBy};
 
 use entries::Refusal;
 use ldif::{Mode, Record};
-use schema::Conf;
 use std::alloc::Global;
-use tree::Tree;
+use tree::LentTree;
 
 /// What the records of a run are carried out on: a `Database`, or a directory, which keeps an index with its entries.
 ///
@@ -25,13 +24,9 @@ pub trait Target {
 
     ghost count_edits: { CountEdits };
 
-    /// The configuration.
-    fn conf(&self) -> &Conf
-        ensures { result.now ≡ conf self.now };
-
-    /// The entries.
-    fn tree(&self) -> &Tree
-        ensures { result.now.conf ≡ conf self.now };
+    /// The entries, and their configuration.
+    fn lent(&self) -> LentTree<'_>
+        ensures { result.conf.now ≡ conf self.now };
 
     /// Carries out a record, or refuses it with the code of the first check that fails (RFC 4511, 4.6 to 4.9). A refusal, also for want of
     /// memory, changes no entry. Edits that came before memory ran out are taken back, an edit each again.

@@ -5,9 +5,8 @@ ghost use Rattle.std.specs.Prelude.{◌≡◌};
 use crate::refusal::RecordRefusal;
 use crate::runs::Tally;
 use ldif::{Mode, RawRecord, Record};
-use schema::Conf;
 use std::alloc::Global;
-use tree::Tree;
+use tree::LentTree;
 
 /// A record that is refused: its lines, what it asks for where they can be read, and why.
 #[derive(Drop)]
@@ -21,8 +20,7 @@ pub struct NotedRecord<'a> {
 /// Tells why records are refused, beside the lines that report it. What it tells is no part of a run.
 pub trait Teller {
     /// Takes note of a record that is refused, with the entries as they are, under the configuration that they were made with.
-    fn note(&mut self, alloc: Global, conf: &Conf, tree: &Tree, refused: &NotedRecord<'_>)
-        requires { tree.now.conf ≡ conf.now };
+    fn note(&mut self, alloc: Global, lent: LentTree<'_>, refused: &NotedRecord<'_>);
 
     /// Tells of the refusal that it took note of last, now that its line is reported.
     fn tell(&mut self);
@@ -36,7 +34,7 @@ pub trait Teller {
 pub struct Silent;
 
 impl Teller for Silent {
-    fn note(&mut self, _alloc: Global, _conf: &Conf, _tree: &Tree, _refused: &NotedRecord<'_>) {}
+    fn note(&mut self, _alloc: Global, _lent: LentTree<'_>, _refused: &NotedRecord<'_>) {}
 
     fn tell(&mut self) {}
 

@@ -4,6 +4,7 @@ ghost use Rattle.std.specs.Prelude.{◌≡◌};
 ghost use Rattle.std.specs.Option.{ForSome};
 
 use crate::comparison::Comparison;
+use databases::Database;
 use schema::Conf;
 use std::alloc::Global;
 use tree::Tree;
@@ -24,23 +25,21 @@ pub(crate) struct Differ<'a> {
 impl<'a> Differ<'a> {
     pub(crate) fn new(
         alloc: Global,
-        conf: &'a Conf,
-        before: &'a Tree,
+        before: &'a Database,
         after: &'a Tree,
         comparison: &'a Comparison<'a>,
     ) -> Differ<'a>
-        requires before { before.now.conf ≡ conf.now }
-        requires after { after.now.conf ≡ conf.now }
-        requires filter { ForSome comparison.now.filter (λ f. f.now.conf ≡ conf.now) }
-        ensures conf { result.conf.now ≡ conf.now }
+        requires after { after.now.conf ≡ before.now.conf }
+        requires filter { ForSome comparison.now.filter (λ f. f.now.conf ≡ before.now.conf) }
+        ensures conf { result.conf.now ≡ before.now.conf }
         ensures before { result.before.now ≡ before.now }
         ensures after { result.after.now ≡ after.now }
         ensures comparison { result.comparison.now ≡ comparison.now }
     {
         Differ {
             alloc,
-            conf,
-            before,
+            conf: before.conf(),
+            before: before.tree(),
             after,
             comparison,
         }

@@ -20,7 +20,7 @@ use base::Bytes;
 use entries::{Attributes, Entry, has_its_classes};
 use schema::{Conf, Path, TypeId};
 use std::alloc::AllocError;
-use tree::Names;
+use tree::{LentTree, Names};
 
 /// Why the change of an entry can't be carried out.
 #[derive(Clone, Copy)]
@@ -233,7 +233,8 @@ impl Differ<'_> {
             (finite.entries self.now.after.now.entries)) }
     {
         let root = Path::root(self.alloc);
-        let mut names = Names::new(self.alloc, self.after, self.conf);
+        let lent = LentTree::new(self.after, self.conf);
+        let mut names = Names::new(self.alloc, lent);
         for (path, entry) in self.after.range(&root) {
             if let Some(obstacle) = self.obstacle(path, entry)? {
                 let name = names.name_of(self.alloc, path, entry)?;

@@ -31,7 +31,7 @@ use filter::{Meter, Truth};
 use ldif::WriteFault;
 use schema::Path;
 use std::alloc::AllocError;
-use tree::Names;
+use tree::{LentTree, Names};
 
 impl Differ<'_> {
     /// Whether the filter is True of what stands at a path. Without a filter it is, be there an entry or not.
@@ -275,7 +275,8 @@ impl Differ<'_> {
         self.after.entries_are_a_directory();
         schema::order_of_paths();
         let root = Path::root(self.alloc);
-        let mut names = Names::new(self.alloc, self.after, self.conf);
+        let lent = LentTree::new(self.after, self.conf);
+        let mut names = Names::new(self.alloc, lent);
         let mut some = false;
         for found in self.after.range(&root) {
             some |= self.write_changes(sink, &mut names, found, counts, text)?;

@@ -46,7 +46,7 @@ pub fn write_difference<W: Sink>(
     before.conf().rules_are_kept();
     before.tree().entries_are_a_directory();
     after.entries_are_a_directory();
-    Differ::new(alloc, before.conf(), before.tree(), after, comparison).write(sink)
+    Differ::new(alloc, before, after, comparison).write(sink)
 }
 
 /// The entries of which the changes between two directories, as far as they are compared, can't be carried out: first those that go, and then the
@@ -68,5 +68,5 @@ pub fn find_obstacles(
     before.conf().rules_are_kept();
     before.tree().entries_are_a_directory();
     after.entries_are_a_directory();
-    Differ::new(alloc, before.conf(), before.tree(), after, comparison).obstacles()
+    Differ::new(alloc, before, after, comparison).obstacles()
 }

@@ -27,7 +27,7 @@ use ldif::{Mode, Record, WriteFault};
 use schema::{Conf, Path};
 use std::alloc::{AllocError, Global};
 use std::marker::Model;
-use tree::Tree;
+use tree::{LentTree, Tree};
 
 /// A directory under a configuration, with its index. A contract sees its rules, its entries by their paths, their numbers, and how many
 /// edits of the index were made; the index is that of the entries at all times.
@@ -165,12 +165,8 @@ impl Target for Directory {
 
     ghost count_edits = { record_edits };
 
-    fn conf(&self) -> &Conf {
-        self.database.conf()
-    }
-
-    fn tree(&self) -> &Tree {
-        self.database.tree()
+    fn lent(&self) -> LentTree<'_> {
+        self.database.lent()
     }
 
     fn carry_out(&mut self, _alloc: Global, asked: &Record<'_>, mode: Mode) -> Result<(), Refusal> {

@@ -77,7 +77,7 @@ fn are_dangling(
     wanted: &[&str],
 ) -> Result<bool, Fail> {
     let types = types_of(alloc, dir, names)?;
-    let found = find_dangling(alloc, dir.conf(), dir.tree(), types.as_slice())?;
+    let found = find_dangling(alloc, dir.database().lent(), types.as_slice())?;
     Ok(are_values(found.as_slice(), wanted))
 }
 

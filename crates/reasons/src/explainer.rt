@@ -22,7 +22,7 @@ use crate::reason::{NameReason, Reason};
 use ldif::{Control, Mode, Record};
 use schema::{Code, Conf, Located, Name, Path, PathFault};
 use std::alloc::{AllocError, Global};
-use tree::Tree;
+use tree::{LentTree, Tree};
 
 /// A record, what its records are, the tree that it is asked of, and the configuration of that.
 #[derive(Drop)]
@@ -211,19 +211,16 @@ impl Explainer<'_> {
 }
 
 /// Why a record is refused: its first flaw (RFC 4511, 4.6 to 4.9), and what that is of; None where it isn't refused. With it comes what was found of
-/// the record's name. `conf` is the configuration that the tree was made with. The code that the record is refused with may be left out: no answer
-/// depends on it, but with it names at fault are read once.
+/// the record's name. The code that the record is refused with may be left out: no answer depends on it, but with it names at fault are read once.
 pub fn explain_in_place(
     alloc: Global,
-    tree: &Tree,
-    conf: &Conf,
+    lent: LentTree<'_>,
     asked: &Record<'_>,
     mode: Mode,
     code: Option<Code>,
 ) -> Result<Explanation, AllocError>
-    requires made { tree.now.conf ≡ conf.now }
-    ensures explains { IfOk result (λ e. Explains conf.now mode tree.now.entries asked.now e.reason) }
-    ensures place { IfOk result (λ e. IfSome e.place (λ place. IsAt conf.now asked.now place.path)) }
+    ensures explains { IfOk result (λ e. Explains lent.entry.conf.now mode lent.entry.tree.now.entries asked.now e.reason) }
+    ensures place { IfOk result (λ e. IfSome e.place (λ place. IsAt lent.entry.conf.now asked.now place.path)) }
     ensures name { IfOk result (λ e. IfSome e.name (λ n. name_in (name_of_record asked.now) ≡ Ok n)) }
 {
     a_refusal_is_of_the_first_flaw();
@@ -234,6 +231,7 @@ pub fn explain_in_place(
             name: None,
         });
     }
+    let LentTree { tree, conf } = lent;
     let explainer = Explainer {
         alloc,
         tree,
@@ -248,14 +246,12 @@ pub fn explain_in_place(
 /// The reason alone.
 pub fn explain(
     alloc: Global,
-    tree: &Tree,
-    conf: &Conf,
+    lent: LentTree<'_>,
     asked: &Record<'_>,
     mode: Mode,
 ) -> Result<Option<Reason>, AllocError>
-    requires made { tree.now.conf ≡ conf.now }
-    ensures { IfOk result (Explains conf.now mode tree.now.entries asked.now) }
+    ensures { IfOk result (Explains lent.entry.conf.now mode lent.entry.tree.now.entries asked.now) }
 {
-    let explanation = explain_in_place(alloc, tree, conf, asked, mode, None)?;
+    let explanation = explain_in_place(alloc, lent, asked, mode, None)?;
     Ok(explanation.reason)
 }

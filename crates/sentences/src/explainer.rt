@@ -27,7 +27,7 @@ use schema::{Code, Conf, Located, PathFault};
 use std::alloc::{AllocError, Global};
 use std::io::ErrorKind;
 use stored_index::FaultLine;
-use tree::Tree;
+use tree::{LentTree, Tree};
 
 /// Tells why records are refused, a sentence each, to a sink of its own. Where memory runs out it tells nothing of that record, and where the sink
 /// fails nothing more. A gauge shows how far a run is.
@@ -87,12 +87,11 @@ impl<'a, V: Sink, G: Gauge> Explainer<'a, V, G> {
     }
 
     /// Takes note of the name of a base, at which no entry may be.
-    pub fn note_base(&mut self, alloc: Global, conf: &Conf, tree: &Tree, name: Option<&str>)
-        requires { tree.now.conf ≡ conf.now }
+    pub fn note_base(&mut self, alloc: Global, lent: LentTree<'_>, name: Option<&str>)
         ensures { V.written self.new.told.now ≡ V.written self.old.told.now }
     {
         self.base = match name {
-            Some(name) => base_sentence(alloc, conf, tree, name.as_bytes()).ok(),
+            Some(name) => base_sentence(alloc, lent, name.as_bytes()).ok(),
             None => Sentence::fixed(alloc, "the directory has no entry").ok(),
         };
     }
@@ -188,6 +187,14 @@ fn leaves_place_empty(reason: &Option<Reason>) -> bool {
 impl Refusal<'_> {
     ghost use Rattle.sentences.specs.Refusals.{case_at, text_in, IsToldOf};
 
+    /// The entries and the configuration.
+    fn lent(&self) -> LentTree<'_>
+        ensures tree { result.tree.now ≡ self.now.tree.now }
+        ensures conf { result.conf.now ≡ self.now.conf.now }
+    {
+        LentTree::new(self.tree, self.conf)
+    }
+
     /// The sentence of a record that can be read, for why it is refused.
     fn reason_sentence(
         &self,
@@ -223,7 +230,7 @@ impl Refusal<'_> {
     {
         let mode = self.refused.mode;
         let code = code_of(self.refused.refusal);
-        let explanation = explain_in_place(self.alloc, self.tree, self.conf, asked, mode, code)?;
+        let explanation = explain_in_place(self.alloc, self.lent(), asked, mode, code)?;
         let sentence = self.reason_sentence(asked, &explanation, adds)?;
         let leaves_place = leaves_place_empty(&explanation.reason);
         if is_add(asked) && leaves_place {
@@ -272,12 +279,12 @@ impl Refusal<'_> {
 }
 
 impl<V: Sink, G: Gauge> Teller for Explainer<'_, V, G> {
-    fn note(&mut self, alloc: Global, conf: &Conf, tree: &Tree, refused: &NotedRecord<'_>)
-        requires { tree.now.conf ≡ conf.now }
+    fn note(&mut self, alloc: Global, lent: LentTree<'_>, refused: &NotedRecord<'_>)
         ensures written { V.written self.new.told.now ≡ V.written self.old.told.now }
-        ensures noted { IfSome refused.now.asked (λ asked. IfSome self.new.sentence (IsNoted conf.now tree.now refused.now asked.now)) }
+        ensures noted { IfSome refused.now.asked (λ asked. IfSome self.new.sentence (IsNoted lent.entry.conf.now lent.entry.tree.now refused.now asked.now)) }
     {
         let _ = self.summary.count(refused.refusal);
+        let LentTree { tree, conf } = lent;
         let refusal = Refusal {
             alloc,
             conf,

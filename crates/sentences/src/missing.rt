@@ -10,9 +10,9 @@ use crate::names::{is_there, kept_name};
 use crate::shown::push_name;
 use base::Bytes;
 use indexmap::IndexMap;
-use schema::{Conf, Path};
+use schema::Path;
 use std::alloc::{AllocError, Global};
-use tree::Tree;
+use tree::{LentTree, Tree};
 
 /// The entries that were to be added by records that are refused.
 #[derive(Drop)]
@@ -62,18 +62,15 @@ impl RefusedAdds {
         &self,
         alloc: Global,
         words: &mut ShownText,
-        conf: &Conf,
-        tree: &Tree,
+        lent: LentTree<'_>,
         name: &[u8],
         path: &Path,
-    ) -> Result<(), AllocError>
-        requires { tree.now.conf ≡ conf.now }
-    {
-        if is_there(tree, path) {
+    ) -> Result<(), AllocError> {
+        if is_there(lent.tree, path) {
             push_name(words, name)?;
             return words.push_str(" is there");
         }
-        self.push_no_entry(alloc, words, conf, tree, name, path)
+        self.push_no_entry(alloc, words, lent, name, path)
     }
 
     /// Puts behind words that there is no entry with this name, which leads to this path: whether a record that was to make it is refused, and
@@ -82,18 +79,16 @@ impl RefusedAdds {
         &self,
         alloc: Global,
         words: &mut ShownText,
-        conf: &Conf,
-        tree: &Tree,
+        lent: LentTree<'_>,
         name: &[u8],
         path: &Path,
     ) -> Result<(), AllocError>
-        requires same_conf { tree.now.conf ≡ conf.now }
-        requires missing { finite.contains_key tree.now.entries path.now ≡ false }
+        requires { finite.contains_key lent.tree.now.entries path.now ≡ false }
     {
         words.push_str("no entry ")?;
         push_name(words, name)?;
         self.push_refused(alloc, words, path)?;
-        push_nearest(alloc, words, conf, tree, path)
+        push_nearest(alloc, words, lent, path)
     }
 }
 
@@ -117,19 +112,16 @@ fn nearest_above(alloc: Global, tree: &Tree, path: &Path) -> Result<Option<Path>
 fn push_nearest(
     alloc: Global,
     words: &mut ShownText,
-    conf: &Conf,
-    tree: &Tree,
+    lent: LentTree<'_>,
     path: &Path,
-) -> Result<(), AllocError>
-    requires { tree.now.conf ≡ conf.now }
-{
-    let Some(above) = nearest_above(alloc, tree, path)? else {
+) -> Result<(), AllocError> {
+    let Some(above) = nearest_above(alloc, lent.tree, path)? else {
         return Ok(());
     };
     if above.is_parent_of(path) {
         return Ok(());
     }
-    let Some(name) = kept_name(alloc, conf, tree, &above)? else {
+    let Some(name) = kept_name(alloc, lent, &above)? else {
         return Ok(());
     };
     words.push_str("; the nearest above it is ")?;

@@ -10,7 +10,7 @@ use crate::lines::ShownText;
 use crate::shown::push_type_name;
 use schema::{Conf, ObjectClass, Path, TypeId};
 use std::alloc::{AllocError, Global};
-use tree::Tree;
+use tree::{LentTree, Tree};
 
 /// As many bytes as most names take at most.
 const NAME_ROOM: usize = 160;
@@ -50,24 +50,21 @@ pub(crate) fn push_class(out: &mut ShownText, conf: &Conf, class: usize) -> Resu
 /// The name of the entry at a path, as it is spelled there; none where no entry is there.
 pub(crate) fn kept_name(
     alloc: Global,
-    conf: &Conf,
-    tree: &Tree,
+    lent: LentTree<'_>,
     path: &Path,
-) -> Result<Option<Vec<u8>>, AllocError>
-    requires { tree.now.conf ≡ conf.now }
-{
-    tree.entries_are_a_directory();
+) -> Result<Option<Vec<u8>>, AllocError> {
+    lent.tree.entries_are_a_directory();
     let mut name = Vec::with_capacity(alloc, NAME_ROOM)?;
     let mut at = path.copy(alloc)?;
     for _step in 0..path.len() {
-        let Some(entry) = tree.get(&at) else {
+        let Some(entry) = lent.tree.get(&at) else {
             return Ok(None);
         };
-        conf.put_rdn(&mut name, entry.rdn())?;
+        lent.conf.put_rdn(&mut name, entry.rdn())?;
         name.push(b',')?;
         at = at.parent(alloc)?;
     }
-    name.extend_from_slice(conf.suffix_text())?;
+    name.extend_from_slice(lent.conf.suffix_text())?;
     Ok(Some(name))
 }
 

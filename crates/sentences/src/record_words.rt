@@ -23,7 +23,7 @@ use ldif::{Control, Mod, Part, RawRecord, Record};
 use reasons::{NameReason, Reason};
 use schema::{Conf, Located, Path, PathFault};
 use std::alloc::{AllocError, Global};
-use tree::Tree;
+use tree::{LentTree, Tree};
 
 /// A refused record, with the entries and the configuration that it was refused under.
 #[derive(Drop)]
@@ -83,6 +83,14 @@ impl Refused<'_> {
         ensures { result.now ≡ name_of_record self.now.asked.now }
     {
         name_in(self.asked)
+    }
+
+    /// The entries and the configuration.
+    fn lent(&self) -> LentTree<'_>
+        ensures tree { result.tree.now ≡ self.now.tree.now }
+        ensures conf { result.conf.now ≡ self.now.conf.now }
+    {
+        LentTree::new(self.tree, self.conf)
     }
 
     fn controls(&self) -> &[Control]
@@ -261,7 +269,7 @@ impl Refused<'_> {
         let Some(path) = self.path() else {
             return Ok(());
         };
-        match kept_name(self.alloc, self.conf, self.tree, path)? {
+        match kept_name(self.alloc, self.lent(), path)? {
             Some(name) => {
                 words.push_str(", as ")?;
                 push_name(words, name.as_slice())
@@ -279,7 +287,7 @@ impl Refused<'_> {
         match path {
             Some(path) => {
                 self.adds
-                    .push_looked_up(self.alloc, words, self.conf, self.tree, name, path)
+                    .push_looked_up(self.alloc, words, self.lent(), name, path)
             }
             None => {
                 words.push_str("no entry ")?;

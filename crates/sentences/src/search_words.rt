@@ -1,7 +1,5 @@
 //! Sentences for searches that find nothing, or too much.
 
-ghost use Rattle.std.specs.Prelude.{◌≡◌};
-
 use crate::lines::{Sentence, ShownText};
 use crate::missing::RefusedAdds;
 use crate::name_words::NameText;
@@ -12,7 +10,7 @@ use ldif::{Mode, Record};
 use reasons::{NameReason, Reason, explain};
 use schema::{Conf, PathFault};
 use std::alloc::{AllocError, Global};
-use tree::Tree;
+use tree::LentTree;
 
 /// What stands in a filter where it can't be read (RFC 4515).
 fn filter_words(alloc: Global, text: &[u8], fault: &FilterFault) -> Result<ShownText, AllocError> {
@@ -45,13 +43,11 @@ pub(crate) fn filter_sentence(
 }
 
 /// That no entry has this name.
-fn no_entry(alloc: Global, conf: &Conf, tree: &Tree, text: &[u8]) -> Result<ShownText, AllocError>
-    requires { tree.now.conf ≡ conf.now }
-{
-    match conf.path_of_text(alloc, text) {
+fn no_entry(alloc: Global, lent: LentTree<'_>, text: &[u8]) -> Result<ShownText, AllocError> {
+    match lent.conf.path_of_text(alloc, text) {
         Ok(path) => {
             let mut words = ShownText::new(alloc);
-            RefusedAdds::new(alloc).push_looked_up(alloc, &mut words, conf, tree, text, &path)?;
+            RefusedAdds::new(alloc).push_looked_up(alloc, &mut words, lent, text, &path)?;
             Ok(words)
         }
         Err(PathFault::Code(_)) => {
@@ -81,16 +77,14 @@ fn name_words(
 }
 
 /// What is wrong with the name of a base, or that no entry has it: what a delete of that entry would be refused for.
-fn base_words(alloc: Global, conf: &Conf, tree: &Tree, text: &[u8]) -> Result<ShownText, AllocError>
-    requires { tree.now.conf ≡ conf.now }
-{
+fn base_words(alloc: Global, lent: LentTree<'_>, text: &[u8]) -> Result<ShownText, AllocError> {
     let asked = Record::Delete {
         dn: Bytes::from_slice(alloc, text)?,
         controls: Sequence::new(alloc),
     };
-    match explain(alloc, tree, conf, &asked, Mode::Content) {
-        Ok(Some(Reason::Name(why))) => name_words(alloc, conf, text, why),
-        Ok(_) => no_entry(alloc, conf, tree, text),
+    match explain(alloc, lent, &asked, Mode::Content) {
+        Ok(Some(Reason::Name(why))) => name_words(alloc, lent.conf, text, why),
+        Ok(_) => no_entry(alloc, lent, text),
         Err(_) => Err(AllocError),
     }
 }
@@ -98,13 +92,10 @@ fn base_words(alloc: Global, conf: &Conf, tree: &Tree, text: &[u8]) -> Result<Sh
 /// The same as a sentence.
 pub(crate) fn base_sentence(
     alloc: Global,
-    conf: &Conf,
-    tree: &Tree,
+    lent: LentTree<'_>,
     text: &[u8],
-) -> Result<Sentence, AllocError>
-    requires { tree.now.conf ≡ conf.now }
-{
-    let words = base_words(alloc, conf, tree, text)?;
+) -> Result<Sentence, AllocError> {
+    let words = base_words(alloc, lent, text)?;
     Sentence::of(words)
 }
 

@@ -40,7 +40,7 @@ stays text ds = record {
   unchanged = λ h line at. absurd (in_none line at);
 }
 
-one_of : (p q : Bool) → (p || q) ≡ true → (p ≡ true) ⊎ (q ≡ true)
+pub one_of : (p q : Bool) → (p || q) ≡ true → (p ≡ true) ⊎ (q ≡ true)
 one_of true q h = inl refl
 one_of false q h = inr h
 

@@ -1,17 +1,14 @@
 -- Which candidates stand with repairs: those that something was repaired of.
-use Rattle.std.proofs.Common.{◌≡◌, ◌∙◌, ◌⊎◌, ℕ, ◌<◌, Bool, true, false, ◌||◌, List, [], ◌∷◌, ◌++◌, length, get_or, inl, inr, refl, sym, ap, subst}
+use Rattle.std.proofs.Common.{◌≡◌, ◌∙◌, ℕ, ◌<◌, Bool, true, false, ◌||◌, List, [], ◌∷◌, ◌++◌, length, get_or, inl, inr, refl, sym, ap, subst}
 use Rattle.std.specs.List.{Contains}
 use Rattle.std.proofs.lemmas.List.Elements.{Contains-append_cases, Contains-push_cases}
 use Rattle.server_schema.specs.declared.taking.Candidate.{Candidate}
 use Rattle.server_schema.specs.Growth.{AreAmong, AreMarked, Marks}
 use Rattle.server_schema.proofs.Members.{in_none}
+use Rattle.server_schema.proofs.Growing.{one_of}
 
 pub none_marked : (is_changed : Bool) → AreMarked is_changed []
 none_marked is_changed c at = absurd (in_none c at)
-
-one_of : (a b : Bool) → (a || b) ≡ true → (a ≡ true) ⊎ (b ≡ true)
-one_of true b h = inl refl
-one_of false b h = inr h
 
 or_left : (a b : Bool) → a ≡ true → (a || b) ≡ true
 or_left a b h = ap (λ (c : Bool). c || b) h

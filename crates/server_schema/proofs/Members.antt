@@ -1,6 +1,6 @@
 -- What stands in lists that are made of others.
-use Rattle.std.proofs.Common.{◌≡◌, ◌⊎◌, List, [], ◌∷◌, inl, inr, map, refl, ap, sym, subst, arith}
-use Rattle.std.specs.List.{Contains}
+use Rattle.std.proofs.Common.{◌≡◌, ◌⊎◌, List, [], ◌∷◌, ◌++◌, inl, inr, map, refl, ap, sym, subst, arith}
+use Rattle.std.specs.List.{Contains, AllByRecursion}
 use Rattle.std.proofs.lemmas.List.Elements.{Contains-append_right, Contains-append_cases, Contains-push_cases}
 
 module _ {X : Type 0} where
@@ -39,3 +39,13 @@ module _ {X Y : Type 0} where
     | inl is ↦ (x, here x xs, is)
     | inr more ↦ let rest = from_map f y xs more in (rest.0, later x rest.0 xs rest.1, rest.2)
   ]
+
+-- ---- what holds of each
+
+pub all_more : {X : Type 0} (P : X → Type 0) (xs ys : List X) → AllByRecursion P xs → AllByRecursion P ys → AllByRecursion P (xs ++ ys)
+all_more P [] ys h k = k
+all_more P (x ∷ xs) ys h k = (h.0, all_more P xs ys h.1 k)
+
+pub one_of_all : {X : Type 0} (P : X → Type 0) (xs : List X) (x : X) → AllByRecursion P xs → Contains xs x → P x
+one_of_all P [] x h at = absurd (in_none x at)
+one_of_all P (y ∷ ys) x h at = elim (first_or_later y x ys at) [ inl is ↦ subst P is h.0 | inr more ↦ one_of_all P ys x h.1 more ]

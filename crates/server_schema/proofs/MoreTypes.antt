@@ -27,8 +27,9 @@ use Rattle.schema.specs.Values.{rdns_in}
 use Rattle.schema.proofs.Found.{found_is_known}
 use Rattle.dir_conf.specs.declared.conf_fault.ConfFaultKind.TheVariants.{Index}
 use Rattle.dir_conf.specs.NamesInLines.{or_unknown, type_named}
-use Rattle.dir_conf.specs.IndexLines.{every_kind, slots_with, every_slot, in_order, words, two_words, members, kind_named, each_once, if_kept, slots_of, slots_in}
+use Rattle.dir_conf.specs.IndexLines.{every_kind, slots_with, every_slot, in_order, words, two_words, members, kind_named, each_once, if_kept, slots_in}
 use Rattle.dir_conf.specs.Configurations.{At, is_first, says_nothing, some_rdns, suffix_at, suffix_text, Found, with_suffix, with_slots, later_line, found_in}
+use Rattle.server_schema.proofs.Members.{all_more}
 use Rattle.dir_conf.proofs.SlotLines.{slots_good, slots_are, known_bounds}
 use Rattle.dir_conf.proofs.SlotsInOrder.{said_is}
 use Rattle.dir_conf.proofs.LaterFaults.{Later, later_by, later_is}
@@ -39,6 +40,10 @@ WrittenAva = List ℕ × List ℕ
 
 bind_is : {A B F : Type 0} (r : Result A F) (f : A → Result B F) (x : A) → r ≡ Ok x → (r >>= f) ≡ f x
 bind_is {A} {B} {F} r f x e = ap (λ (s : Result A F). s >>= f) e
+
+-- two steps, the first of which gives the same
+bound_more : {A B F : Type 0} (r s : Result A F) (f g : A → Result B F) (out : B) → ((x : A) → r ≡ Ok x → s ≡ Ok x) → ((x : A) → f x ≡ Ok out → g x ≡ Ok out) → (r >>= f) ≡ Ok out → (s >>= g) ≡ Ok out
+bound_more r s f g out first second e = let k = bind_ok r f out e in bind_is s g k.0 (first k.0 k.1) ∙ second k.0 k.2
 
 -- what each step gives by one rule, it gives by another
 abbrev Follows : {X Y F : Type 0} → (X → Result Y F) → (X → Result Y F) → Type 0
@@ -61,10 +66,6 @@ through_more step again follows [] s out e = e
 through_more step again follows (l ∷ ls) s out e =
     let k = bind_ok (step s l) (λ next. through step next ls) out e in
     bind_is (again s l) (λ next. through again next ls) k.0 (follows s l k.0 k.1) ∙ through_more step again follows ls k.0 out k.2
-
-pub all_more : {X : Type 0} (P : X → Type 0) (xs ys : List X) → AllByRecursion P xs → AllByRecursion P ys → AllByRecursion P (xs ++ ys)
-all_more P [] ys h k = k
-all_more P (x ∷ xs) ys h k = (h.0, all_more P xs ys h.1 k)
 
 -- ---- types by their names and numbers
 
@@ -164,18 +165,12 @@ module _ (types more : List AttributeType) where
   index_stays : (line : ℕ) (text : List ℕ) (out : List Slot) → slots_in types line text ≡ Ok out → slots_in all line text ≡ Ok out
   unfolding slots_in
   index_stays line text out e =
-      let a = bind_ok (two_words line (words text)) _ out e in
-      let b = bind_ok (members line a.0.0) _ out a.2 in
-      let c = bind_ok (members line a.0.1) _ out b.2 in
-      let d = bind_ok (each (type_named types line) b.0) _ out c.2 in
-      let f = bind_ok (each (kind_named line) c.0) _ out d.2 in
-      bind_is (two_words line (words text)) (λ lists. members line lists.0 >>= λ names. (members line lists.1 >>= λ kinds. slots_of all line names kinds)) a.0 a.1
-      ∙ bind_is (members line a.0.0) (λ names. members line a.0.1 >>= λ kinds. slots_of all line names kinds) b.0 b.1
-      ∙ bind_is (members line a.0.1) (λ kinds. slots_of all line b.0 kinds) c.0 c.1
-      ∙ bind_is (each (type_named all line) b.0) (λ ts. each (kind_named line) c.0 >>= λ listed. if_kept all line (slots_with ts (each_once listed))) d.0
-      (each_more (type_named types line) (type_named all line) (named_stays line) b.0 d.0 d.1)
-      ∙ bind_is (each (kind_named line) c.0) (λ listed. if_kept all line (slots_with d.0 (each_once listed))) f.0 f.1
-      ∙ kept_stay line (slots_with d.0 (each_once f.0)) out (slots_are types line text out e) f.2
+      let good = slots_are types line text out e in
+      bound_more (two_words line (words text)) (two_words line (words text)) _ _ out (λ x is. is) (λ lists.
+      bound_more (members line lists.0) (members line lists.0) _ _ out (λ x is. is) (λ names.
+      bound_more (members line lists.1) (members line lists.1) _ _ out (λ x is. is) (λ kinds.
+      bound_more (each (type_named types line) names) (each (type_named all line) names) _ _ out (each_more (type_named types line) (type_named all line) (named_stays line) names) (λ ts.
+      bound_more (each (kind_named line) kinds) (each (kind_named line) kinds) _ _ out (λ x is. is) (λ listed. kept_stay line (slots_with ts (each_once listed)) out good))))) e
 
   -- ---- lines
 

@@ -1,9 +1,10 @@
 -- Each definition in a schema's text is in one line, and so is what a repair makes of it.
-use Rattle.std.proofs.Common.{◌≡◌, ◌∙◌, ℕ, zero, suc, ◌+◌, Bool, true, false, cond, not, ◌||◌, ◌&&◌, eqb, List, [], ◌∷◌, ◌++◌, map, take, drop, Option, Some, None, inl, inr, refl, sym, ap, subst}
+use Rattle.std.proofs.Common.{◌≡◌, ◌∙◌, ℕ, zero, suc, ◌+◌, Bool, true, false, cond, not, ◌||◌, ◌&&◌, eqb, List, [], ◌∷◌, ◌++◌, map, take, drop, Option, Some, None, inl, inr, refl, sym, ap, subst, arith}
 use Rattle.std.specs.Prelude.{position}
 use Rattle.std.specs.List.{find, AllByRecursion, Contains}
 use Rattle.std.specs.Str.{str_eq_ignore_ascii_case}
 use Rattle.std.proofs.lemmas.Bool.{and_parts}
+use Rattle.std.proofs.lemmas.List.{take_all, drop_all}
 use Rattle.std.proofs.lemmas.List.Folds.{list_all-append}
 use Rattle.definitions.specs.LineGrammar.{is_in_line}
 use Rattle.definitions.specs.Words.{is_blank, is_no_blank, skip, first_word, after_word, end_of}
@@ -22,7 +23,7 @@ use Rattle.server_schema.specs.Macros.{name_end, name_in, suffix_in, macro_named
 use Rattle.server_schema.specs.Expanding.{ends_word, is_due, behind_word, behind_sign, length_start, oid_and_length, put_word, expanded_from}
 use Rattle.server_schema.specs.Definitions.{of_word, of_statement, of_statements, definitions_in}
 use Rattle.server_schema.specs.Repairs.{is_one_line, IsNameCut, IsStep, IsRepaired, unchanged, changed, IsRepairOf}
-use Rattle.server_schema.proofs.Members.{in_none, first_or_later}
+use Rattle.server_schema.proofs.Members.{all_more, one_of_all}
 
 abbrev pub IsOneLine : List ℕ → Type 0
 IsOneLine text = is_one_line text ≡ true
@@ -39,20 +40,12 @@ parts : (xs ys : List ℕ) → IsOneLine (xs ++ ys) → IsOneLine xs × IsOneLin
 parts xs ys h = and_parts (is_one_line xs) (is_one_line ys) (sym (list_all-append is_in_line xs ys) ∙ h)
 
 taken : (n : ℕ) (xs : List ℕ) → IsOneLine xs → IsOneLine (take n xs)
-taken n [] h = none n
-  where
-    none : (m : ℕ) → IsOneLine (take m [])
-    none zero = refl
-    none (suc m) = refl
+taken n [] h = subst IsOneLine (sym (take_all n [] (omega arith))) refl
 taken zero (x ∷ xs) h = refl
 taken (suc n) (x ∷ xs) h = let k = and_parts (is_in_line x) (is_one_line xs) h in both (is_in_line x) (is_one_line (take n xs)) k.0 (taken n xs k.1)
 
 dropped : (n : ℕ) (xs : List ℕ) → IsOneLine xs → IsOneLine (drop n xs)
-dropped n [] h = none n
-  where
-    none : (m : ℕ) → IsOneLine (drop m [])
-    none zero = refl
-    none (suc m) = refl
+dropped n [] h = subst IsOneLine (sym (drop_all n [] (omega arith))) refl
 dropped zero (x ∷ xs) h = h
 dropped (suc n) (x ∷ xs) h = dropped n xs (and_parts (is_in_line x) (is_one_line xs) h).1
 
@@ -72,10 +65,6 @@ in_one_line (b ∷ bs) = both (is_in_line (in_line b)) (is_one_line (map in_line
 
 abbrev SaysOne : Statement → Type 0
 SaysOne s = IsOneLine s.text
-
-all_more : {X : Type 0} (P : X → Type 0) (xs ys : List X) → AllByRecursion P xs → AllByRecursion P ys → AllByRecursion P (xs ++ ys)
-all_more P [] ys h k = k
-all_more P (x ∷ xs) ys h k = (h.0, all_more P xs ys h.1 k)
 
 ldif_says : (line : List ℕ) (at : ℕ) (word : Option Word) → AllByRecursion SaysOne (all_said (ldif_said line at word))
 ldif_says line at None = tt
@@ -196,10 +185,6 @@ module _ (macros : List Macro) (named : AllByRecursion NamesOne macros) where
   statements_one : (statements : List Statement) → AllByRecursion SaysOne statements → AllByRecursion DefinesOne (of_statements macros statements)
   statements_one [] say = tt
   statements_one (s ∷ statements) say = all_more DefinesOne (of_statement macros s) (of_statements macros statements) (statement_one s say.0) (statements_one statements say.1)
-
-one_of_all : {X : Type 0} (P : X → Type 0) (xs : List X) (x : X) → AllByRecursion P xs → Contains xs x → P x
-one_of_all P [] x h at = absurd (in_none x at)
-one_of_all P (y ∷ ys) x h at = elim (first_or_later y x ys at) [ inl is ↦ subst P is h.0 | inr more ↦ one_of_all P ys x h.1 more ]
 
 pub definition_one : (source : List ℕ) (d : Definition) → Contains (definitions_in source) d → IsOneLine d.text
 definition_one source d at =

@@ -108,29 +108,22 @@ comment_silent text (comment, is) =
 first_is : (word rest : List ℕ) → list_all (λ b. not (is_blank b)) word ≡ true → str_eq_ignore_ascii_case word word ≡ true → is_first word (word ++ 32 ∷ rest) ≡ true
 first_is word rest whole same = ap (λ (w : List ℕ). str_eq_ignore_ascii_case w word) (run_front is_blank word (32 ∷ rest) whole refl) ∙ same
 
-type_quiet : (text rest : List ℕ) (n : ℕ) → text ≡ codes "attributetype" ++ 32 ∷ rest → IsQuiet (line n text)
-type_quiet text rest n is = subst (λ (t : List ℕ). IsQuiet (line n t)) (sym is) (record { bare = refl; passed = inr (inl (first_is (codes "attributetype") rest refl refl)) })
-
-class_quiet : (text rest : List ℕ) (n : ℕ) → text ≡ codes "objectclass" ++ 32 ∷ rest → IsQuiet (line n text)
-class_quiet text rest n is = subst (λ (t : List ℕ). IsQuiet (line n t)) (sym is) (record { bare = refl; passed = inr (inr (first_is (codes "objectclass") rest refl refl)) })
+-- a word, a space and a text
+worded : (word text : List ℕ) → IsOneLine word → IsOneLine text → ((rest : List ℕ) (n : ℕ) → IsQuiet (line n (word ++ 32 ∷ rest))) → IsEnded (word ++ 32 ∷ (text ++ 10 ∷ []))
+worded word text whole one quiet =
+    let cut = stripped_front word 32 text refl in
+    record {
+      body = word ++ 32 ∷ text;
+      is = sym (append_assoc word (32 ∷ text) (10 ∷ []));
+      one = joined word (32 ∷ text) whole one;
+      quiet = λ n. subst (λ (t : List ℕ). IsQuiet (line n t)) (sym cut.1) (quiet cut.0 n);
+    }
 
 defined_ended : (sort : Sort) (text : List ℕ) → IsOneLine text → IsEnded (keyword sort ++ (text ++ 10 ∷ []))
 defined_ended sorts.AttributeType text one =
-    let cut = stripped_front (codes "attributetype") 32 text refl in
-    record {
-      body = codes "attributetype" ++ 32 ∷ text;
-      is = refl;
-      one = joined (codes "attributetype ") text refl one;
-      quiet = λ n. type_quiet (strip_carriage_return (codes "attributetype" ++ 32 ∷ text)) cut.0 n cut.1;
-    }
+    let word = codes "attributetype" in worded word text refl one (λ rest n. record { bare = refl; passed = inr (inl (first_is word rest refl refl)) })
 defined_ended sorts.ObjectClass text one =
-    let cut = stripped_front (codes "objectclass") 32 text refl in
-    record {
-      body = codes "objectclass" ++ 32 ∷ text;
-      is = refl;
-      one = joined (codes "objectclass ") text refl one;
-      quiet = λ n. class_quiet (strip_carriage_return (codes "objectclass" ++ 32 ∷ text)) cut.0 n cut.1;
-    }
+    let word = codes "objectclass" in worded word text refl one (λ rest n. record { bare = refl; passed = inr (inr (first_is word rest refl refl)) })
 
 line_ended : (d : Definition) → IsOneLine d.text → IsEnded (line_of d)
 line_ended d one = defined_ended d.sort d.text one

@@ -1,9 +1,10 @@
 -- What is read of a dir.conf with printed lines behind it.
-use Rattle.std.proofs.Common.{◌≡◌, ◌∙◌, ℕ, ◌+◌, ◌<◌, Bool, true, List, [], ◌∷◌, ◌++◌, length, codes, Option, Some, None, Result, Ok, Err, inl, inr, refl, sym, ap, subst, append-nil, length-append}
+use Rattle.std.proofs.Common.{◌≡◌, ◌∙◌, ℕ, ◌+◌, ◌<◌, Bool, true, List, [], ◌∷◌, ◌++◌, length, codes, Option, Some, None, Result, Ok, Err, inl, inr, refl, sym, ap, subst, append-nil, length-append, ◌||◌, false}
 use Rattle.std.specs.Prelude.{is_some}
 use Rattle.std.specs.List.{AllByRecursion, Contains}
 use Rattle.std.specs.Str.Lines.{strip_carriage_return}
 use Rattle.std.proofs.lemmas.Bool.{cond-true}
+use Rattle.std.proofs.lemmas.List.Folds.{list_any-append}
 use Rattle.std.proofs.lemmas.List.Elements.{Contains-append_left, Contains-append_right, Contains-append_cases}
 use Rattle.base.specs.Answers.{◌>>=◌, through}
 use Rattle.base.proofs.Bound.{bind_ok, same_ok}
@@ -17,6 +18,7 @@ use Rattle.dir_conf.specs.declared.conf_fault.ConfFaultKind.{ConfFaultKind}
 use Rattle.dir_conf.specs.declared.conf_fault.ConfFaultKind.TheVariants.{Suffix}
 use Rattle.dir_conf.specs.IndexLines.{in_order}
 use Rattle.dir_conf.specs.Configurations.{At, Defined, built_in, says_nothing, is_first, definition_line, defined_by, Found, none_found, later_line, found_in, rules_of, definitions_of, conf_of}
+use Rattle.dir_conf.specs.FaultyLines.{has_suffix}
 use Rattle.dir_conf.proofs.FirstStops.{same_err, bind_err, stops}
 use Rattle.dir_conf.proofs.LineWords.{type_word, class_word, says_some, no_other}
 use Rattle.dir_conf.proofs.LaterFaults.{later_by, later_is, later_faulty, sees}
@@ -211,11 +213,26 @@ module _ (conf : List ℕ) where
       | inr (n, is) ↦ subst (λ (ls : List Line). Contains ls l) (sym is) (Contains-append_left b.front (line n [] ∷ []) l at)
     ]
 
-    no_suffix : (s : Defined) (f : Found) (o : Option (List TypedRdn)) (number : ℕ) (kind : ConfFaultKind) → rules_of s f.slots o ≡ Err (number, kind) → IsFaultOfOwn conf number kind
-    no_suffix s f (Some suffix) number kind e = absurd cc
-    no_suffix s f None number kind e =
+    or_false : (a : Bool) → (a || false) ≡ a
+    or_false true = refl
+    or_false false = refl
+
+    own_suffix : has_suffix (lines_of conf) ≡ has_suffix b.front
+    own_suffix = elim b.own [
+      | inl is ↦ ap has_suffix is
+      | inr (n, is) ↦ ap has_suffix is ∙ list_any-append (λ (l : Line). is_first (codes "suffix") l.text) b.front (line n [] ∷ []) ∙ or_false (has_suffix b.front)
+    ]
+
+    no_suffix : (s : Defined) (f : Found) (o : Option (List TypedRdn)) (number : ℕ) (kind : ConfFaultKind) → found_in s.types none_found b.front ≡ Ok f → f.suffix ≡ o
+        → rules_of s f.slots o ≡ Err (number, kind) → IsFaultOfOwn conf number kind
+    no_suffix s f (Some suffix) number kind found is e = absurd cc
+    no_suffix s f None number kind found is e =
         let same = same_err {A = Conf} (0, Suffix) (number, kind) e in
-        inl (sym (ap (λ (p : At). p.0) same), sym (ap (λ (p : At). p.1) same))
+        inl (record {
+          no_suffix = own_suffix ∙ sym (sees s.types b.front f found) ∙ ap (λ (o : Option (List TypedRdn)). is_some o) is;
+          number_is = sym (ap (λ (p : At). p.0) same);
+          kind_is = sym (ap (λ (p : At). p.1) same);
+        })
 
     later_fault : (types : List AttributeType) (number : ℕ) (kind : ConfFaultKind) → found_in types none_found b.front ≡ Err (number, kind) → StandsLater conf number
     later_fault types number kind e =
@@ -235,7 +252,7 @@ module _ (conf : List ℕ) where
       | inl first ↦ absurd (let both : ◌≡◌ {A = Outcome} (Ok defined) (Err (number, kind)) = sym all_defined ∙ first in cc)
       | inr (s, is, rest) ↦ elim (bind_err (found_in s.types none_found (lines_of text)) (λ f. rules_of s f.slots f.suffix) (number, kind) rest) [
         | inl second ↦ inr (later_fault s.types number kind (sym (text_found s.types none_found) ∙ second))
-        | inr (f, found, last) ↦ no_suffix s f f.suffix number kind last
+        | inr (f, found, last) ↦ no_suffix s f f.suffix number kind (sym (text_found s.types none_found) ∙ found) refl last
       ]
     ]
 
@@ -270,16 +287,23 @@ module _ (conf : List ℕ) where
           record { suffix = refl; slots = slots_same s f.slots more.types below; types = more.types; classes = more.classes },
         )
 
+    grows_by : (was : Conf) (s : Defined) (f : Found) → defined_by built_in (lines_of conf) ≡ Ok s → found_in s.types none_found (lines_of conf) ≡ Ok f → rules_of s f.slots f.suffix ≡ Ok was
+        → (grown : Conf) × (conf_of text ≡ Ok grown) × IsGrown was grown
+    grows_by was s f defined_is found_is rules =
+        let made = was_made s f.slots f.suffix was rules in
+        let k = grown_from s f made.0 (sym (own_defined built_in) ∙ defined_is) (sym (own_found s.types none_found) ∙ found_is) made.1 in
+        (k.0, k.1, subst (λ (c : Conf). IsGrown c k.0) (sym made.2) k.2)
+
     grows : (was : Conf) → conf_of conf ≡ Ok was → (grown : Conf) × (conf_of text ≡ Ok grown) × IsGrown was grown
     unfolding conf_of
     grows was e =
         let first = bind_ok (defined_by built_in (lines_of conf)) (λ s. found_in s.types none_found (lines_of conf) >>= λ f. rules_of s f.slots f.suffix) was e in
         let second = bind_ok (found_in first.0.types none_found (lines_of conf)) (λ f. rules_of first.0 f.slots f.suffix) was first.2 in
-        let made = was_made first.0 second.0.slots second.0.suffix was second.2 in
-        let own : defined_by built_in b.front ≡ Ok first.0 = sym (own_defined built_in) ∙ first.1 in
-        let found : found_in first.0.types none_found b.front ≡ Ok second.0 = sym (own_found first.0.types none_found) ∙ second.1 in
-        let k = grown_from first.0 second.0 made.0 own found made.1 in
-        (k.0, k.1, subst (λ (c : Conf). IsGrown c k.0) (sym made.2) k.2)
+        grows_by was first.0 second.0 first.1 second.1 second.2
 
     pub is_read_behind : IsReadBehind conf text
-    is_read_behind = record { faults = fault_is; grows = grows }
+    is_read_behind = record {
+      lines = record { front = b.front; more = lines_behind texts; own = b.own; all = b.all (concat texts) (all_bare texts ended) };
+      faults = fault_is;
+      grows = grows;
+    }

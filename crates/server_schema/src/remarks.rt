@@ -3,7 +3,7 @@
 ghost use Rattle.std.specs.Prelude.{◌≡◌, ◌⊎◌, true, [], IfOk, OnOk};
 ghost use Rattle.dir_conf.specs.inner.Views.{defined_view};
 ghost use Rattle.server_schema.specs.Growth.{comment_of};
-ghost use Rattle.server_schema.specs.Stated.{object_class, top, extensible_object, built_in_definitions, is_built_in, stated_in};
+ghost use Rattle.server_schema.specs.Stated.{built_in_definitions, is_built_in, stated_in};
 ghost use Rattle.server_schema.specs.Alike.{meanings_of, is_among};
 ghost use Rattle.server_schema.specs.Transfers.{AreComments, AddsComments, NeedNoRemark, SayBuiltIn, no_definition};
 
@@ -98,7 +98,7 @@ fn left_out(alloc: Global, conf: &[u8], definition: &Definition) -> Result<Vec<u
 }
 
 fn defined_as(alloc: Global, sort: Sort, text: &[u8]) -> Result<Definition, AllocError>
-    ensures { IfOk result (λ d. (d.sort ≡ sort) × (d.text ≡ text.now)) }
+    ensures { IfOk result (λ d. d ≡ record { sort = sort; text = text.now }) }
 {
     Ok(Definition {
         sort,
@@ -106,44 +106,19 @@ fn defined_as(alloc: Global, sort: Sort, text: &[u8]) -> Result<Definition, Allo
     })
 }
 
-fn object_class(alloc: Global) -> Result<Definition, AllocError>
-    ensures { IfOk result (λ d. d ≡ object_class) }
-{
-    defined_as(
-        alloc,
-        Sort::AttributeType,
-        b"( 2.5.4.0 NAME 'objectClass' EQUALITY objectIdentifierMatch SYNTAX 1.3.6.1.4.1.1466.115.121.1.38 )",
-    )
-}
-
-fn top(alloc: Global) -> Result<Definition, AllocError>
-    ensures { IfOk result (λ d. d ≡ top) }
-{
-    defined_as(
-        alloc,
-        Sort::ObjectClass,
-        b"( 2.5.6.0 NAME 'top' ABSTRACT MUST objectClass )",
-    )
-}
-
-fn extensible_object(alloc: Global) -> Result<Definition, AllocError>
-    ensures { IfOk result (λ d. d ≡ extensible_object) }
-{
-    defined_as(
-        alloc,
-        Sort::ObjectClass,
-        b"( 1.3.6.1.4.1.1466.101.120.111 NAME 'extensibleObject' SUP top AUXILIARY )",
-    )
-}
-
 // the definitions of what is built in
 fn built_in(alloc: Global) -> Result<Vec<Definition>, AllocError>
     ensures { IfOk result (λ v. v.items ≡ built_in_definitions) }
 {
+    let object_class =
+        b"( 2.5.4.0 NAME 'objectClass' EQUALITY objectIdentifierMatch SYNTAX 1.3.6.1.4.1.1466.115.121.1.38 )";
+    let top = b"( 2.5.6.0 NAME 'top' ABSTRACT MUST objectClass )";
+    let extensible_object =
+        b"( 1.3.6.1.4.1.1466.101.120.111 NAME 'extensibleObject' SUP top AUXILIARY )";
     let mut definitions = Vec::new(alloc);
-    definitions.push(object_class(alloc)?)?;
-    definitions.push(top(alloc)?)?;
-    definitions.push(extensible_object(alloc)?)?;
+    definitions.push(defined_as(alloc, Sort::AttributeType, object_class)?)?;
+    definitions.push(defined_as(alloc, Sort::ObjectClass, top)?)?;
+    definitions.push(defined_as(alloc, Sort::ObjectClass, extensible_object)?)?;
     Ok(definitions)
 }
 

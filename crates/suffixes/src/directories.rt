@@ -20,7 +20,7 @@ use entries::{Entry, Refusal, attributes_of_lines, renamed};
 use ldif::{Mode, Record};
 use schema::{Code, Conf, Path, TypedRdn};
 use std::alloc::{AllocError, Global};
-use tree::{Names, Tree, plan};
+use tree::{LentTree, Names, Tree, plan};
 
 /// A directory, the configuration that it moves to, and how its values move.
 #[derive(Clone, Copy, Drop)]
@@ -56,7 +56,7 @@ impl Mover<'_> {
         match plan(self.alloc, out, self.new, &asked, Mode::Content) {
             Ok(plan) => Ok(out.commit(plan)?),
             Err(Refusal::Code(code)) => {
-                watcher.note(self.alloc, self.new, out, &asked, code);
+                watcher.note(self.alloc, LentTree::new(out, self.new), &asked, code);
                 Err(Refusal::Code(code))
             }
             Err(Refusal::OutOfMemory) => Err(Refusal::OutOfMemory),
@@ -99,7 +99,7 @@ impl Mover<'_> {
             dn,
             attrs: Sequence::from_vec(lines),
         };
-        watcher.note(self.alloc, self.new, out, &asked, code);
+        watcher.note(self.alloc, LentTree::new(out, self.new), &asked, code);
         Ok(())
     }
 
@@ -208,7 +208,8 @@ impl Mover<'_> {
         self.tree.entries_are_a_directory();
         schema::order_of_paths();
         let root = Path::root(self.alloc);
-        let mut names = Names::new(self.alloc, self.tree, self.values.conf);
+        let lent = LentTree::new(self.tree, self.values.conf);
+        let mut names = Names::new(self.alloc, lent);
         let mut out = Tree::new(self.alloc, self.new);
         for found in self.tree.range(&root) {
             self.add_moved(&mut out, &mut names, found, watcher)?;
@@ -217,23 +218,23 @@ impl Mover<'_> {
     }
 }
 
-/// The entries of a tree, which was made with `conf`, under `new`, which has the same types, and the suffix that `name` spells. The values of DN
+/// The entries of a tree under `new`, a configuration with the same types and with the suffix that `name` spells. The values of DN
 /// syntax that name something at the old suffix or below it have `name` in its place, and the suffix's entry has the new suffix's RDN, as by a
 /// rename that doesn't keep the old one's values (RFC 4511, 4.9). The entries are added in the order of the dump, as they are loaded (RFC 4511, 4.7).
 /// The first that can't be added answers with its code, and a watcher takes note of it.
 pub fn directory_under<W: Watcher>(
     alloc: Global,
-    tree: &Tree,
-    conf: &Conf,
+    lent: LentTree<'_>,
     new: &Conf,
     name: &[u8],
     watcher: &mut W,
 ) -> Result<Tree, Refusal>
-    requires made { tree.now.conf ≡ conf.now }
-    requires same_types { new.now.types ≡ conf.now.types }
+    requires { new.now.types ≡ lent.conf.now.types }
     ensures same_conf { IfOk result (λ t. t.conf ≡ new.now) }
-    ensures gives { Gives (λ t. t.entries) result (moved_directory (move_by conf.now new.now name.now tree.now.entries)) }
+    ensures gives { Gives (λ t. t.entries) result
+        (moved_directory (move_by lent.entry.conf.now new.now name.now lent.entry.tree.now.entries)) }
 {
+    let LentTree { tree, conf } = lent;
     let values = NameMover { alloc, conf, name };
     let mover = Mover {
         alloc,

@@ -1,18 +1,15 @@
 //! Who takes note of an entry that can't be added.
 
-ghost use Rattle.std.specs.Prelude.{◌≡◌};
-
 use ldif::Record;
-use schema::{Code, Conf};
+use schema::Code;
 use std::alloc::Global;
-use tree::Tree;
+use tree::LentTree;
 
 /// Takes note of an entry that can't be added under another suffix. What becomes of the entries doesn't depend on it.
 pub trait Watcher {
     /// Takes note of the record that an entry would be added by, and of its code. The entries are those that were added before it, under the
     /// configuration that they were added under.
-    fn note(&mut self, alloc: Global, conf: &Conf, tree: &Tree, asked: &Record<'_>, code: Code)
-        requires { tree.now.conf ≡ conf.now };
+    fn note(&mut self, alloc: Global, lent: LentTree<'_>, asked: &Record<'_>, code: Code);
 }
 
 /// Takes note of nothing.
@@ -20,12 +17,5 @@ pub trait Watcher {
 pub struct Unwatched;
 
 impl Watcher for Unwatched {
-    fn note(
-        &mut self,
-        _alloc: Global,
-        _conf: &Conf,
-        _tree: &Tree,
-        _asked: &Record<'_>,
-        _code: Code,
-    ) {}
+    fn note(&mut self, _alloc: Global, _lent: LentTree<'_>, _asked: &Record<'_>, _code: Code) {}
 }

@@ -6,6 +6,7 @@
 
 mod cells;
 mod laws;
+mod lent;
 mod moves;
 mod names;
 mod naming;
@@ -24,6 +25,7 @@ pub use laws::{
     moving_takes_all_along, own_content_is_written, removing_keeps_a_directory,
     replacing_keeps_a_directory,
 };
+pub use lent::LentTree;
 pub use names::Names;
 pub use planner::plan;
 pub use plans::Plan;

@@ -19,7 +19,7 @@ returns-in-Ok-print_changes-clause-ends g c = λ w.
     let start : World = record w { output = g.O.Sink.written c.args.out.now; messages = g.E.Sink.written c.args.err.now } in
     let compared : Comparison = c.comparison_of-comparison.result in
     let extent : Extent = extent_of compared conf a b in
-    let prepared = subst (λ (k : Conf). PreparedFor k (option_map view c.args.filter.now) c.in-Ok-prepared_filter.prepared) c.conf-2.ensures c.in-Ok-prepared_filter.ensures in
+    let prepared = subst (λ (k : Conf). PreparedFor k (option_map view c.args.filter.now) c.in-Ok-prepared_filter.prepared) c.conf.ensures c.in-Ok-prepared_filter.ensures in
     let extent_is = wanted_extent asked conf a b compared c.in-Ok.base (option_map view c.args.filter.now) c.in-Ok-prepared_filter.prepared
     c.comparison_of-comparison.ensures.unordered c.comparison_of-comparison.ensures.base c.comparison_of-comparison.ensures.filter prepared c.in-Ok.ensures.found c.in-Ok.ensures.there c.requires.filter in
     let heard = c.in-Ok-warn.ensures.heard in
@@ -45,7 +45,7 @@ returns-in-Ok-warn-clause-ends g c = λ w.
     let start : World = record w { output = g.O.Sink.written c.args.out.now; messages = g.E.Sink.written c.args.err.now } in
     let compared : Comparison = c.comparison_of-comparison.result in
     let extent : Extent = extent_of compared conf a b in
-    let prepared = subst (λ (k : Conf). PreparedFor k (option_map view c.args.filter.now) c.in-Ok-prepared_filter.prepared) c.conf-2.ensures c.in-Ok-prepared_filter.ensures in
+    let prepared = subst (λ (k : Conf). PreparedFor k (option_map view c.args.filter.now) c.in-Ok-prepared_filter.prepared) c.conf.ensures c.in-Ok-prepared_filter.ensures in
     let extent_is = wanted_extent asked conf a b compared c.in-Ok.base (option_map view c.args.filter.now) c.in-Ok-prepared_filter.prepared
     c.comparison_of-comparison.ensures.unordered c.comparison_of-comparison.ensures.base c.comparison_of-comparison.ensures.filter prepared c.in-Ok.ensures.found c.in-Ok.ensures.there c.requires.filter in
     let heard = c.in-Ok-warn.ensures.heard in

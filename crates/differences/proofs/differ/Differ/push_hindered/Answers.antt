@@ -22,7 +22,7 @@ loop-path-init c =
     let seen = c.range-path-items.ensures.entries in
     let all : seen_entries c.into_iter-path-iterator.result ≡ finite.entries d = ap seen_entries gives ∙ all_seen d items c.root-root.result c.root-root.ensures seen in
     record {
-      names = c.new-names.ensures;
+      names = c.new-names.ensures ∙ c.new-lent.ensures.tree;
       made = subst (AllByRecursion (λ (e : Path × Entry). IsMade conf.types e.1.attrs)) (sym gives)
           (subst (λ (k : Conf). AllByRecursion (λ (e : Path × Entry). IsMade k.types e.1.attrs) items) self.after_conf c.range-path-items.ensures.made);
       there = subst (AllByRecursion (IsThere d)) (sym gives) (lent_there d items c.root-root.result c.root-root.ensures seen);

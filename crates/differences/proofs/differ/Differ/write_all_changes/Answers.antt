@@ -29,7 +29,7 @@ loop-found-init g c =
     let whole : all_changes_in c.args.self.now c.into_iter-found-iterator.result ≡ ahead_in c.args.self.now = ap (all_changes_in c.args.self.now) gives ∙ sym (ahead_is conf extent a b items are) in
     record {
       failures = refl;
-      names = c.new-names.ensures;
+      names = c.new-names.ensures ∙ c.new-lent.ensures.tree;
       made = subst (AllByRecursion (λ (e : Path × Entry). IsMade conf.types e.1.attrs)) (sym gives) (subst (λ (k : Conf). AllByRecursion (λ (e : Path × Entry). IsMade k.types e.1.attrs) items) c.args.self.now.after_conf c.range-found-items.ensures.made);
       there = subst (AllByRecursion (IsThere b)) (sym gives) (lent_there b items c.root-root.result c.root-root.ensures c.range-found-items.ensures.entries);
       some = ap is_some_change whole;

@@ -20,7 +20,7 @@ loop-found-init g c =
     let root : Path = c.root-root.result in
     let gives = c.into_iter-found-iterator.ensures.into_iter_gives in
     record {
-      names = c.new-names.ensures;
+      names = c.new-names.ensures ∙ c.new-lent.ensures.tree;
       conf = c.new-out.ensures.same_conf;
       there = subst (AllByRecursion (IsThere d)) (sym gives) (walked_there d items root c.root-root.ensures c.range-found-items.ensures.entries);
       made = subst (AllByRecursion (λ (e : Path × Entry). IsMade self.values.conf.now.types e.1.attrs)) (sym gives)
