@@ -10,7 +10,7 @@ use ldif::{Mode, Record};
 use schema::{Conf, Path};
 use std::alloc::Global;
 use std::test::Fail;
-use tree::Tree;
+use tree::{LentTree, Tree};
 use try_device::TrySource;
 
 // the records on lines 1, 4 and 9 are refused
@@ -79,9 +79,8 @@ fn loaded_tree(alloc: Global, conf: &Conf) -> Result<Tree, Fail>
 }
 
 // whether the suffix's entry stands in a tree, with the suffix as its name
-fn has_suffix(alloc: Global, conf: &Conf, tree: &Tree) -> Result<bool, Fail>
-    requires { tree.now.conf ≡ conf.now }
-{
+fn has_suffix(alloc: Global, lent: LentTree<'_>) -> Result<bool, Fail> {
+    let LentTree { tree, conf } = lent;
     let root = Path::root(alloc);
     if tree.get(&root).is_none() {
         return Ok(false);
@@ -91,7 +90,7 @@ fn has_suffix(alloc: Global, conf: &Conf, tree: &Tree) -> Result<bool, Fail>
 
 fn tree_has_suffix(alloc: Global, conf: &Conf) -> Result<bool, Fail> {
     let tree = loaded_tree(alloc, conf)?;
-    has_suffix(alloc, conf, &tree)
+    has_suffix(alloc, LentTree::new(&tree, conf))
 }
 
 fn loaded_tree_has_suffix(alloc: Global) -> Result<bool, Fail> {
