@@ -20,7 +20,7 @@ use Rattle.reasons.specs.declared.reason.NameReason.{NameReason}
 use Rattle.reasons.specs.declared.reason.Reason.{Reason}
 use Rattle.reasons.specs.declared.reason.Reason.TheVariants as reasons
 use Rattle.sentences.specs.NameWords.{IsNameWords}
-use Rattle.sentences.specs.RecordWords.{Case, IsWords, IsEntryWords, IsSentenceOf, PartBeginsOn, entry_at, is_place, is_stated, part_of, place_words, rdn_value}
+use Rattle.sentences.specs.RecordWords.{Case, IsWords, IsEntryWords, IsMissing, IsSentenceOf, PartBeginsOn, entry_at, is_place, part_of, place_words, rdn_value}
 use Rattle.sentences.specs.Cuts.{sentence_of}
 use Rattle.sentences.specs.declared.lines.Sentence.{Sentence}
 
@@ -49,6 +49,11 @@ pub put_three : {E : Type 0} (r : Result (Unit {0}) E) (new old one two a b c : 
 put_three r new old one two a b c first second last =
     put_two r new old two (a ++ b) c (second ∙ ap (λ m. m ++ b) first ∙ append_assoc old a b) last
 
+pub put_four : {E : Type 0} (r : Result (Unit {0}) E) (new old one two three a b c d : List ℕ) → one ≡ old ++ a → two ≡ one ++ b → three ≡ two ++ c
+    → OnOk r (new ≡ three ++ d) → OnOk r (new ≡ old ++ (((a ++ b) ++ c) ++ d))
+put_four r new old one two three a b c d first second third last =
+    put_three r new old two three (a ++ b) c d (second ∙ ap (λ m. m ++ b) first ∙ append_assoc old a b) third last
+
 -- ---- the value of an RDN
 
 pub rdn_none : (d : Entries) (o : Option Path) (ava : ℕ) → o ≡ None → rdn_value (entry_at d o) ava ≡ None
@@ -63,17 +68,19 @@ rdn_found d o path e ava at there = rw (at, there) refl
 
 -- ---- reasons
 
-pub no_claim : {P : Type 0} (b : Bool) → b ≡ false → b ≡ true → P
-no_claim true is isnt = cc
-no_claim false is isnt = cc
-
 pub said : {E : Type 0} (c : Case) (reason told : Reason) (old new : List ℕ) (r : Result (Unit {0}) E) → reason ≡ told
     → OnOk r ((ws : List ℕ) × IsWords c told ws × (new ≡ old ++ ws)) → OnOk r ((ws : List ℕ) × IsWords c reason ws × (new ≡ old ++ ws))
 said c reason told old new r is h = subst (λ (x : Reason). OnOk r ((ws : List ℕ) × IsWords c x ws × (new ≡ old ++ ws))) (sym is) h
 
-pub entry_said : {E : Type 0} (conf : Conf) (why told : EntryReason) (old new : List ℕ) (r : Result (Unit {0}) E) → why ≡ told
-    → OnOk r ((ws : List ℕ) × IsEntryWords conf told ws × (new ≡ old ++ ws)) → OnOk r ((ws : List ℕ) × IsEntryWords conf why ws × (new ≡ old ++ ws))
-entry_said conf why told old new r is h = subst (λ (x : EntryReason). OnOk r ((ws : List ℕ) × IsEntryWords conf x ws × (new ≡ old ++ ws))) (sym is) h
+pub missing_said : {E : Type 0} (c : Case) (name told : List ℕ) (o p : Option Path) (old new : List ℕ) (r : Result (Unit {0}) E) → name ≡ told → o ≡ p
+    → OnOk r ((ws : List ℕ) × IsMissing c name o ws × (new ≡ old ++ ws)) → OnOk r ((ws : List ℕ) × IsMissing c told p ws × (new ≡ old ++ ws))
+missing_said c name told o p old new r is at h =
+    subst (λ (q : Option Path). OnOk r ((ws : List ℕ) × IsMissing c told q ws × (new ≡ old ++ ws))) at
+    (subst (λ (n : List ℕ). OnOk r ((ws : List ℕ) × IsMissing c n o ws × (new ≡ old ++ ws))) is h)
+
+pub entry_said : {E : Type 0} (c : Case) (why told : EntryReason) (old new : List ℕ) (r : Result (Unit {0}) E) → why ≡ told
+    → OnOk r ((ws : List ℕ) × IsEntryWords c told ws × (new ≡ old ++ ws)) → OnOk r ((ws : List ℕ) × IsEntryWords c why ws × (new ≡ old ++ ws))
+entry_said c why told old new r is h = subst (λ (x : EntryReason). OnOk r ((ws : List ℕ) × IsEntryWords c x ws × (new ≡ old ++ ws))) (sym is) h
 
 -- the same of a name that is known to be another text
 pub name_said : {E : Type 0} (conf : Conf) (what text other : List ℕ) (why : NameReason) (old new : List ℕ) (r : Result (Unit {0}) E) → text ≡ other
@@ -93,47 +100,39 @@ pub placed : (reason : Reason) → ((x : ℕ) → reason ≡ reasons.CriticalCon
     → ((x : ℕ) (y : BlockReason) → reason ≡ reasons.Block x y → ⊥) → ((x y : ℕ) (z : ValueReason) → reason ≡ reasons.Value x y z → ⊥)
     → ((x : EntryReason) → reason ≡ reasons.Entry x → ⊥) → ((x : NameReason) → reason ≡ reasons.Name x → ⊥)
     → ((x : NameReason) → reason ≡ reasons.NewRdn x → ⊥) → ((x : NameReason) → reason ≡ reasons.Superior x → ⊥)
-    → is_stated reason ≡ true → is_place reason ≡ true
-placed (reasons.CriticalControl x) nc nl nb nv ne nn nr ns h = absurd (nc x refl)
-placed (reasons.Line x y) nc nl nb nv ne nn nr ns h = absurd (nl x y refl)
-placed (reasons.Block x y) nc nl nb nv ne nn nr ns h = absurd (nb x y refl)
-placed (reasons.Value x y z) nc nl nb nv ne nn nr ns h = absurd (nv x y z refl)
-placed (reasons.Entry x) nc nl nb nv ne nn nr ns h = absurd (ne x refl)
-placed (reasons.NoRdnValue x) nc nl nb nv ne nn nr ns h = refl
-placed reasons.IsSuffix nc nl nb nv ne nn nr ns h = refl
-placed reasons.BelowItself nc nl nb nv ne nn nr ns h = refl
-placed reasons.IsTaken nc nl nb nv ne nn nr ns h = refl
-placed reasons.Full nc nl nb nv ne nn nr ns h = refl
-placed (reasons.Name x) nc nl nb nv ne nn nr ns h = absurd (nn x refl)
-placed reasons.IsThere nc nl nb nv ne nn nr ns h = h
-placed reasons.NoParent nc nl nb nv ne nn nr ns h = h
-placed reasons.NoEntry nc nl nb nv ne nn nr ns h = h
-placed reasons.HasChildren nc nl nb nv ne nn nr ns h = h
-placed (reasons.NewRdn x) nc nl nb nv ne nn nr ns h = absurd (nr x refl)
-placed (reasons.Superior x) nc nl nb nv ne nn nr ns h = absurd (ns x refl)
-placed reasons.NoSuperior nc nl nb nv ne nn nr ns h = h
+    → is_place reason ≡ true
+placed (reasons.CriticalControl x) nc nl nb nv ne nn nr ns = absurd (nc x refl)
+placed (reasons.Line x y) nc nl nb nv ne nn nr ns = absurd (nl x y refl)
+placed (reasons.Block x y) nc nl nb nv ne nn nr ns = absurd (nb x y refl)
+placed (reasons.Value x y z) nc nl nb nv ne nn nr ns = absurd (nv x y z refl)
+placed (reasons.Entry x) nc nl nb nv ne nn nr ns = absurd (ne x refl)
+placed (reasons.Name x) nc nl nb nv ne nn nr ns = absurd (nn x refl)
+placed (reasons.NewRdn x) nc nl nb nv ne nn nr ns = absurd (nr x refl)
+placed (reasons.Superior x) nc nl nb nv ne nn nr ns = absurd (ns x refl)
+placed _ nc nl nb nv ne nn nr ns = refl
 
 -- those of a place are these
 pub no_place : (reason : Reason) → ((x : ℕ) → reason ≡ reasons.NoRdnValue x → ⊥) → (reason ≡ reasons.IsSuffix → ⊥) → (reason ≡ reasons.BelowItself → ⊥)
-    → (reason ≡ reasons.IsTaken → ⊥) → (reason ≡ reasons.Full → ⊥) → is_place reason ≡ false
-no_place (reasons.NoRdnValue x) nr ns nb nt nf = absurd (nr x refl)
-no_place reasons.IsSuffix nr ns nb nt nf = absurd (ns refl)
-no_place reasons.BelowItself nr ns nb nt nf = absurd (nb refl)
-no_place reasons.IsTaken nr ns nb nt nf = absurd (nt refl)
-no_place reasons.Full nr ns nb nt nf = absurd (nf refl)
-no_place (reasons.CriticalControl x) nr ns nb nt nf = refl
-no_place (reasons.Line x y) nr ns nb nt nf = refl
-no_place (reasons.Block x y) nr ns nb nt nf = refl
-no_place (reasons.Value x y z) nr ns nb nt nf = refl
-no_place (reasons.Entry x) nr ns nb nt nf = refl
-no_place (reasons.Name x) nr ns nb nt nf = refl
-no_place reasons.IsThere nr ns nb nt nf = refl
-no_place reasons.NoParent nr ns nb nt nf = refl
-no_place reasons.NoEntry nr ns nb nt nf = refl
-no_place reasons.HasChildren nr ns nb nt nf = refl
-no_place (reasons.NewRdn x) nr ns nb nt nf = refl
-no_place (reasons.Superior x) nr ns nb nt nf = refl
-no_place reasons.NoSuperior nr ns nb nt nf = refl
+    → (reason ≡ reasons.IsTaken → ⊥) → (reason ≡ reasons.Full → ⊥) → (reason ≡ reasons.IsThere → ⊥) → (reason ≡ reasons.NoParent → ⊥)
+    → (reason ≡ reasons.NoEntry → ⊥) → (reason ≡ reasons.HasChildren → ⊥) → (reason ≡ reasons.NoSuperior → ⊥) → is_place reason ≡ true → ⊥
+no_place (reasons.NoRdnValue x) nr ns nb nt nf ni np ne nc nu h = nr x refl
+no_place reasons.IsSuffix nr ns nb nt nf ni np ne nc nu h = ns refl
+no_place reasons.BelowItself nr ns nb nt nf ni np ne nc nu h = nb refl
+no_place reasons.IsTaken nr ns nb nt nf ni np ne nc nu h = nt refl
+no_place reasons.Full nr ns nb nt nf ni np ne nc nu h = nf refl
+no_place reasons.IsThere nr ns nb nt nf ni np ne nc nu h = ni refl
+no_place reasons.NoParent nr ns nb nt nf ni np ne nc nu h = np refl
+no_place reasons.NoEntry nr ns nb nt nf ni np ne nc nu h = ne refl
+no_place reasons.HasChildren nr ns nb nt nf ni np ne nc nu h = nc refl
+no_place reasons.NoSuperior nr ns nb nt nf ni np ne nc nu h = nu refl
+no_place (reasons.CriticalControl x) nr ns nb nt nf ni np ne nc nu h = cc
+no_place (reasons.Line x y) nr ns nb nt nf ni np ne nc nu h = cc
+no_place (reasons.Block x y) nr ns nb nt nf ni np ne nc nu h = cc
+no_place (reasons.Value x y z) nr ns nb nt nf ni np ne nc nu h = cc
+no_place (reasons.Entry x) nr ns nb nt nf ni np ne nc nu h = cc
+no_place (reasons.Name x) nr ns nb nt nf ni np ne nc nu h = cc
+no_place (reasons.NewRdn x) nr ns nb nt nf ni np ne nc nu h = cc
+no_place (reasons.Superior x) nr ns nb nt nf ni np ne nc nu h = cc
 
 pub at_ok : {E : Type 0} (r : Result (Unit {0}) E) (u : Unit {0}) (P : Type 0) → r ≡ Ok u → OnOk r P → P
 at_ok r u P is h = subst (λ (x : Result (Unit {0}) _). OnOk x P) is h
@@ -142,11 +141,10 @@ at_ok r u P is h = subst (λ (x : Result (Unit {0}) _). OnOk x P) is h
 
 pub sentence_said : {E : Type 0} (r : Result Sentence E) (c : Case) (reason : Reason) (line : Option ℕ) (empty front whole : List ℕ) → empty ≡ []
     → front ≡ empty ++ place_words line (name_of_record c.asked) → PartBeginsOn c.raw c.asked (part_of reason) line
-    → (is_stated reason ≡ true → (ws : List ℕ) × IsWords c reason ws × (whole ≡ front ++ ws))
+    → (ws : List ℕ) × IsWords c reason ws × (whole ≡ front ++ ws)
     → IfOk r (λ made. string_bytes made.text ≡ sentence_of whole)
-    → IfOk r (λ s. is_stated reason ≡ true → IsSentenceOf c reason (string_bytes s.text))
-sentence_said (Ok s) c reason line empty front whole none place begins put made = λ h.
-    let p : (ws : List ℕ) × IsWords c reason ws × (whole ≡ front ++ ws) = put h in
+    → IfOk r (λ s. IsSentenceOf c reason (string_bytes s.text))
+sentence_said (Ok s) c reason line empty front whole none place begins p made =
     let f : front ≡ place_words line (name_of_record c.asked) = place ∙ ap (λ x. x ++ place_words line (name_of_record c.asked)) none in
     record {
       number = line;
@@ -155,4 +153,4 @@ sentence_said (Ok s) c reason line empty front whole none place begins put made 
       why = p.1;
       is = made ∙ ap sentence_of (p.2 ∙ ap (λ x. x ++ p.0) f);
     }
-sentence_said (Err e) c reason line empty front whole none place begins put made = tt
+sentence_said (Err e) c reason line empty front whole none place begins p made = tt

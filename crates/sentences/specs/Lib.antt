@@ -1,11 +1,16 @@
+pub mod inner
 pub mod Cases
+pub mod ClassWords
+pub mod Counts
 pub mod Cuts
 pub mod Missing
+pub mod NamePlaces
 pub mod NameWords
 pub mod Noted
 pub mod PartWords
 pub mod Putting
 pub mod RecordWords
+pub mod RefusedAdds
 pub mod Refusals
 pub mod Sentence
 pub mod Shown

@@ -2,7 +2,7 @@
 use Rattle.std.specs.Prelude.{◌≡◌, ℕ, ◌++◌, Bool, true, false, List, [], Option, Some, None, Ok, IfSome, codes, slice_get}
 use Rattle.std.specs.FinMap as finite
 use Rattle.std.specs.Fmt.{decimal}
-use Rattle.std.specs.Option.{unwrap_or}
+use Rattle.std.specs.Option.{option_map, unwrap_or}
 use Rattle.ldif_lines.specs.declared.raw_record.RawRecord.{RawRecord}
 use Rattle.ldif.specs.Attrs.{Attr}
 use Rattle.ldif.specs.Parts.{IsPartLine}
@@ -13,7 +13,7 @@ use Rattle.ldif.specs.declared.record.Control.{Control}
 use Rattle.ldif.specs.declared.record.Mod.{Mod}
 use Rattle.ldif.specs.declared.record.Mode.{Mode}
 use Rattle.ldif.specs.declared.record.Record.{Record}
-use Rattle.paths.specs.Paths.{Path}
+use Rattle.paths.specs.Paths.{Path, parent_of}
 use Rattle.schema.specs.Conf.{Conf}
 use Rattle.schema.specs.Rdns.{Ava}
 use Rattle.entries.specs.Entries.{EntryContent}
@@ -31,7 +31,9 @@ use Rattle.reasons.specs.declared.reason.Reason.{Reason}
 use Rattle.reasons.specs.declared.reason.Reason.TheVariants as reasons
 use Rattle.sentences.specs.Cuts.{sentence_of}
 use Rattle.sentences.specs.Shown.{shown_name, quoted}
-use Rattle.sentences.specs.NameWords.{IsNameWords, is_stated_name}
+use Rattle.sentences.specs.ClassWords.{many_values, not_allowed, unknown_class_words, IsLackedWords}
+use Rattle.sentences.specs.Missing.{RefusedLines, there_words, below_words, parent_text, path_named, IsMissingWords}
+use Rattle.sentences.specs.NameWords.{IsNameWords}
 use Rattle.sentences.specs.PartWords.{type_words, line_words, block_words, value_words}
 
 -- a record that is refused: under a configuration, with these entries, and where its name stands, if that was found
@@ -41,6 +43,8 @@ pub record Case : Type 0 where
   pub raw : RawRecord
   pub asked : Record
   pub path : Option Path
+  -- the lines of records that were refused before it, and were to add entries
+  pub refused : RefusedLines
 
 -- ---- lines of the text
 
@@ -121,26 +125,28 @@ abbrev pub rdn_value_words : Conf → Option Ava → List ℕ
 rdn_value_words conf None = codes "a value of its RDN is to go"
 rdn_value_words conf (Some p) = type_words conf p.0 ++ codes ": " ++ quoted p.1 ++ codes " is in its RDN, so it has to stay"
 
--- a type that none of the entry's classes allows
-unfoldable pub not_allowed : Conf → ℕ → List ℕ
-not_allowed conf found = codes "none of its object classes allows " ++ type_words conf found
+-- the entry as it is to be
+abbrev pub IsEntryWords : Case → EntryReason → List ℕ → Type 0
+IsEntryWords c entry_reasons.NoObjectClass words = words ≡ codes "the entry has no objectClass"
+IsEntryWords c (entry_reasons.TypeNotAllowed found) words = words ≡ not_allowed c.conf found
+IsEntryWords c (entry_reasons.ManyValues single count) words = words ≡ many_values c.conf single count
+IsEntryWords c (entry_reasons.UnknownClass value) words = words ≡ unknown_class_words c.conf c.asked
+IsEntryWords c (entry_reasons.LacksType class needed) words = IsLackedWords c.conf class needed words
 
--- the entry as it is to be; which class is unknown, and which types it lacks, is tested
-abbrev pub IsEntryWords : Conf → EntryReason → List ℕ → Type 0
-IsEntryWords conf entry_reasons.NoObjectClass words = words ≡ codes "the entry has no objectClass"
-IsEntryWords conf (entry_reasons.TypeNotAllowed found) words = words ≡ not_allowed conf found
-IsEntryWords conf (entry_reasons.ManyValues single count) words = Unit {0}
-IsEntryWords conf (entry_reasons.UnknownClass value) words = Unit {0}
-IsEntryWords conf (entry_reasons.LacksType class needed) words = Unit {0}
+-- a name that no entry has, and where it leads to
+abbrev pub IsMissing : Case → List ℕ → Option Path → List ℕ → Type 0
+IsMissing c name path words = IsMissingWords c.conf c.entries c.refused name path words
 
-abbrev pub is_stated_entry : EntryReason → Bool
-is_stated_entry entry_reasons.NoObjectClass = true
-is_stated_entry (entry_reasons.TypeNotAllowed found) = true
-is_stated_entry (entry_reasons.ManyValues single count) = false
-is_stated_entry (entry_reasons.UnknownClass value) = false
-is_stated_entry (entry_reasons.LacksType class needed) = false
+-- the name above that of the record
+abbrev pub IsParentMissing : Case → List ℕ → Type 0
+IsParentMissing c words = IsMissing c (parent_text (name_of_record c.asked)) (option_map parent_of c.path) words
 
--- a reason; what is said of entries that are there or aren't, is tested
+-- the new superior, or where none is named the one above
+abbrev pub IsSuperiorMissing : Case → Option (List ℕ) → List ℕ → Type 0
+IsSuperiorMissing c None words = IsParentMissing c words
+IsSuperiorMissing c (Some name) words = IsMissing c name (path_named c.conf name) words
+
+-- a reason
 abbrev pub IsWords : Case → Reason → List ℕ → Type 0
 IsWords c (reasons.CriticalControl control) words = words ≡ control_words (controls_of c.asked) control
 IsWords c (reasons.Line line why) words = IsLineWords c why (slice_get (lines_of_record c.asked) line) words
@@ -151,45 +157,27 @@ IsWords c reasons.IsSuffix words = words ≡ codes "the entry of the suffix keep
 IsWords c reasons.BelowItself words = words ≡ codes "it can't be moved below itself"
 IsWords c reasons.IsTaken words = words ≡ codes "another entry has the new name"
 IsWords c reasons.Full words = words ≡ codes "the directory has 4,294,967,295 entries, and takes no more"
-IsWords c (reasons.Entry why) words = IsEntryWords c.conf why words
+IsWords c (reasons.Entry why) words = IsEntryWords c why words
 IsWords c (reasons.Name why) words = IsNameWords c.conf (codes "the name") (name_of_record c.asked) why words
-IsWords c reasons.IsThere words = Unit {0}
-IsWords c reasons.NoParent words = Unit {0}
-IsWords c reasons.NoEntry words = Unit {0}
-IsWords c reasons.HasChildren words = Unit {0}
+IsWords c reasons.IsThere words = words ≡ there_words c.conf c.entries c.path
+IsWords c reasons.NoParent words = IsParentMissing c words
+IsWords c reasons.NoEntry words = IsMissing c (name_of_record c.asked) c.path words
+IsWords c reasons.HasChildren words = words ≡ below_words c.entries c.path
 IsWords c (reasons.NewRdn why) words = IsNameWords c.conf (codes "newrdn") (rdn_of_record c.asked) why words
 IsWords c (reasons.Superior why) words = IsNameWords c.conf (codes "newsuperior") (unwrap_or (superior_of_record c.asked) []) why words
-IsWords c reasons.NoSuperior words = Unit {0}
+IsWords c reasons.NoSuperior words = IsSuperiorMissing c (superior_of_record c.asked) words
 
--- those of them that say what is wrong with the place of an entry
+-- those that say what is wrong with the place of an entry
 abbrev pub is_place : Reason → Bool
-is_place (reasons.NoRdnValue ava) = true
-is_place reasons.IsSuffix = true
-is_place reasons.BelowItself = true
-is_place reasons.IsTaken = true
-is_place reasons.Full = true
-is_place _ = false
-
--- of which reasons the words are stated here; those of the others are tested
-abbrev pub is_stated : Reason → Bool
-is_stated (reasons.CriticalControl control) = true
-is_stated (reasons.Line line why) = true
-is_stated (reasons.Block block why) = true
-is_stated (reasons.Value block value why) = true
-is_stated (reasons.NoRdnValue ava) = true
-is_stated reasons.IsSuffix = true
-is_stated reasons.BelowItself = true
-is_stated reasons.IsTaken = true
-is_stated reasons.Full = true
-is_stated (reasons.Entry why) = is_stated_entry why
-is_stated (reasons.Name why) = is_stated_name why
-is_stated reasons.IsThere = false
-is_stated reasons.NoParent = false
-is_stated reasons.NoEntry = false
-is_stated reasons.HasChildren = false
-is_stated (reasons.NewRdn why) = is_stated_name why
-is_stated (reasons.Superior why) = is_stated_name why
-is_stated reasons.NoSuperior = false
+is_place (reasons.CriticalControl control) = false
+is_place (reasons.Line line why) = false
+is_place (reasons.Block block why) = false
+is_place (reasons.Value block value why) = false
+is_place (reasons.Entry why) = false
+is_place (reasons.Name why) = false
+is_place (reasons.NewRdn why) = false
+is_place (reasons.Superior why) = false
+is_place _ = true
 
 -- ---- the sentence
 
@@ -213,12 +201,12 @@ pub record IsSentenceOf (c : Case) (reason : Reason) (sentence : List ℕ) : Typ
 abbrev pub TellsReason : Case → Option Reason → Option (List ℕ) → Type 0
 TellsReason c None sentence = sentence ≡ None
 TellsReason c (Some reason) None = ⊥
-TellsReason c (Some reason) (Some sentence) = is_stated reason ≡ true → IsSentenceOf c reason sentence
+TellsReason c (Some reason) (Some sentence) = IsSentenceOf c reason sentence
 
 -- what is told of a record: why it is refused
-pub record IsTold (conf : Conf) (mode : Mode) (d : Entries) (raw : RawRecord) (asked : Record) (sentence : Option (List ℕ)) : Type 0 where
+pub record IsTold (conf : Conf) (mode : Mode) (d : Entries) (refused : RefusedLines) (raw : RawRecord) (asked : Record) (sentence : Option (List ℕ)) : Type 0 where
   pub reason : Option Reason
   pub path : Option Path
   pub explains : Explains conf mode d asked reason
   pub at : IfSome path (IsAt conf asked)
-  pub told : TellsReason (record { conf = conf; entries = d; raw = raw; asked = asked; path = path }) reason sentence
+  pub told : TellsReason (record { conf = conf; entries = d; raw = raw; asked = asked; path = path; refused = refused }) reason sentence

@@ -3,7 +3,7 @@
 ghost use Rattle.sentences.specs.Sentence.{IsShown};
 
 use crate::lines::{Line, ShownText};
-use crate::summary::grouped;
+use crate::counts::grouped;
 use differences::Counts;
 use std::alloc::{AllocError, Global};
 

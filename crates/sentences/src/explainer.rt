@@ -1,6 +1,8 @@
 //! Tells why records are refused.
 
-ghost use Rattle.std.specs.Prelude.{◌≡◌, IfOk, IfSome};
+ghost use Rattle.std.specs.Prelude.{◌≡◌, Ok, IfOk, IfSome};
+ghost use Rattle.schema.specs.Names.{name_in};
+ghost use Rattle.reasons.specs.Asked.{name_of_record};
 ghost use Rattle.sentences.specs.RecordWords.{TellsReason};
 ghost use Rattle.sentences.specs.Noted.{TellsNoted, IsNoted};
 ghost use Rattle.sentences.specs.Telling.{TellsLine, TellsSentence};
@@ -202,7 +204,8 @@ impl Refusal<'_> {
         explanation: &Explanation,
         adds: &RefusedAdds,
     ) -> Result<Option<Sentence>, AllocError>
-        ensures { IfOk result (λ s. TellsReason (case_at self.now asked.now explanation.now.place) explanation.now.reason (text_in s)) }
+        requires { IfSome explanation.now.name (λ n. name_in (name_of_record asked.now) ≡ Ok n) }
+        ensures { IfOk result (λ s. TellsReason (case_at self.now adds.now asked.now explanation.now.place) explanation.now.reason (text_in s)) }
     {
         let Some(reason) = explanation.reason else {
             return Ok(None);
@@ -226,7 +229,7 @@ impl Refusal<'_> {
         asked: &Record<'_>,
         adds: &mut RefusedAdds,
     ) -> Result<Option<Sentence>, AllocError>
-        ensures { IfOk result (IsToldOf self.now asked.now) }
+        ensures { IfOk result (IsToldOf self.now adds.old asked.now) }
     {
         let mode = self.refused.mode;
         let code = code_of(self.refused.refusal);
@@ -258,7 +261,7 @@ impl Refusal<'_> {
     }
 
     fn sentence(&self, adds: &mut RefusedAdds) -> Result<Option<Sentence>, AllocError>
-        ensures { IfOk result (λ s. IfSome self.now.refused.now.asked (λ asked. IsToldOf self.now asked.now s)) }
+        ensures { IfOk result (λ s. IfSome self.now.refused.now.asked (λ asked. IsToldOf self.now adds.old asked.now s)) }
     {
         let NotedRecord {
             raw,
@@ -281,7 +284,8 @@ impl Refusal<'_> {
 impl<V: Sink, G: Gauge> Teller for Explainer<'_, V, G> {
     fn note(&mut self, alloc: Global, lent: LentTree<'_>, refused: &NotedRecord<'_>)
         ensures written { V.written self.new.told.now ≡ V.written self.old.told.now }
-        ensures noted { IfSome refused.now.asked (λ asked. IfSome self.new.sentence (IsNoted lent.entry.conf.now lent.entry.tree.now refused.now asked.now)) }
+        ensures noted { IfSome refused.now.asked (λ asked. IfSome self.new.sentence
+            (IsNoted lent.entry.conf.now lent.entry.tree.now self.old.refused_adds refused.now asked.now)) }
     {
         let _ = self.summary.count(refused.refusal);
         let LentTree { tree, conf } = lent;

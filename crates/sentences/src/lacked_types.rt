@@ -1,6 +1,10 @@
 //! Which types the entry lacks that a record is to make or to change.
 
-use crate::entry_words::first_avas;
+ghost use Rattle.std.specs.Prelude.{◌≡◌, not, true, IfOk};
+ghost use Rattle.std.specs.List.{AllByRecursion, filter};
+ghost use Rattle.schema.specs.Superclasses.{has_number, is_required};
+
+use crate::class_values::first_avas;
 use crate::record_parts::lines_in;
 use crate::record_words::Refused;
 use entries::Values;
@@ -35,11 +39,20 @@ fn count_behind(block: &Mod, before: usize) -> usize {
     }
 }
 
+/// Whether a type is among others.
+pub(crate) fn is_among(types: &[TypeId], t: TypeId) -> bool
+    ensures { result ≡ has_number types.now t }
+{
+    types.contains(&t)
+}
+
 /// Those types that aren't among others.
-fn left(alloc: Global, types: &[TypeId], others: &[TypeId]) -> Result<Vec<TypeId>, AllocError> {
+fn left(alloc: Global, types: &[TypeId], others: &[TypeId]) -> Result<Vec<TypeId>, AllocError>
+    ensures { IfOk result (λ some. some.items ≡ filter (λ t. not (has_number others.now t)) types.now) }
+{
     let mut some = Vec::new(alloc);
     for t in types {
-        if !others.contains(t) {
+        if !is_among(others, *t) {
             some.push(*t)?;
         }
     }
@@ -139,7 +152,9 @@ impl Refused<'_> {
     }
 
     /// The types that a class requires, and of which the entry is to have no value, in the order in which the class requires them.
-    pub(crate) fn lacked_types(&self, class: usize) -> Result<Vec<TypeId>, AllocError> {
+    pub(crate) fn lacked_types(&self, class: usize) -> Result<Vec<TypeId>, AllocError>
+        ensures { IfOk result (λ types. AllByRecursion (λ t. is_required self.now.conf.now.classes class t ≡ true) types.items) }
+    {
         if class >= self.conf.classes().len() {
             return Ok(Vec::new(self.alloc));
         }

@@ -5,7 +5,9 @@
 //! feed ends it, is kept by the types of `lines`.
 #![tactic(auto, using(crate::proofs::Pieces::shown_both, crate::proofs::Pieces::shown_decimal))]
 
+mod class_values;
 mod conf_words;
+mod counts;
 mod difference_words;
 mod entry_words;
 mod explainer;

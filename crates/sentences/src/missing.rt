@@ -1,60 +1,67 @@
 //! Entries that aren't there, and the records that were to make them.
 
-ghost use Rattle.std.specs.Prelude.{◌≡◌, false, IfOk};
+ghost use Rattle.std.specs.Prelude.{◌≡◌, ℕ, false, Some, None, IfOk, OnOk};
 ghost use Rattle.std.specs.Option.{IfNone, IfSome};
 ghost use Rattle.std.specs.FinMap as finite;
-ghost use Rattle.sentences.specs.Missing.{IsNearestAbove, NoneAbove};
+ghost use Rattle.paths.specs.Paths as paths;
+ghost use Rattle.sentences.specs.Missing.{IsNearestAbove, NoneAbove, IsNearestWords, IsNoEntryWords, IsLookedUp, above_words, refused_at, no_entry};
+ghost use Rattle.sentences.specs.Putting.{IsPut, Puts};
+ghost use Rattle.sentences.specs.RefusedAdds.{refused_lines, with_line};
 
 use crate::lines::ShownText;
-use crate::names::{is_there, kept_name};
-use crate::shown::push_name;
-use base::Bytes;
-use indexmap::IndexMap;
+use crate::names::is_there;
+use crate::shown::{push_name, push_number};
 use schema::Path;
 use std::alloc::{AllocError, Global};
+use std::collections::BTreeMap;
 use tree::{LentTree, Tree};
 
 /// The entries that were to be added by records that are refused.
 #[derive(Drop)]
 pub(crate) struct RefusedAdds {
-    /// By the bytes of its path, on which line the first record begins that was to add an entry.
-    lines: IndexMap<Bytes, u64>,
+    /// By its path, on which line the first record begins that was to add an entry.
+    lines: BTreeMap<Path, u64>,
+}
+
+/// Puts where the record stands that was to make an entry behind words, if one was.
+fn push_refused(words: &mut ShownText, line: Option<u64>) -> Result<(), AllocError>
+    ensures { OnOk result (IsPut words.old words.new (refused_at line)) }
+{
+    match line {
+        Some(line) => {
+            words.push_str(" (refused at line ")?;
+            push_number(words, line)?;
+            words.push_str(")")
+        }
+        None => Ok(()),
+    }
 }
 
 impl RefusedAdds {
-    pub(crate) fn new(alloc: Global) -> RefusedAdds {
+    pub(crate) fn new(alloc: Global) -> RefusedAdds
+        ensures { (path : paths.Path) → refused_lines result path ≡ None }
+    {
         RefusedAdds {
-            lines: IndexMap::new(alloc),
+            lines: BTreeMap::new(alloc),
         }
     }
 
     /// Keeps that a record, which begins on this line, was to add an entry with this path.
-    pub(crate) fn keep(&mut self, alloc: Global, path: &Path, line: u64) -> Result<(), AllocError> {
-        let path = Bytes::from_slice(alloc, path.bytes())?;
-        self.lines.entry(path)?.or_insert(line);
+    pub(crate) fn keep(&mut self, alloc: Global, path: &Path, line: u64) -> Result<(), AllocError>
+        ensures { OnOk result ((other : paths.Path) → refused_lines self.new other ≡ with_line (refused_lines self.old) path.now line other) }
+    {
+        if self.line_of(path).is_some() {
+            return Ok(());
+        }
+        self.lines.insert(path.copy(alloc)?, line)?;
         Ok(())
     }
 
     /// On which line a record begins that was to add an entry with this path.
-    fn line_of(&self, alloc: Global, path: &Path) -> Result<Option<u64>, AllocError> {
-        let path = Bytes::from_slice(alloc, path.bytes())?;
-        Ok(self.lines.get(&path).copied())
-    }
-
-    /// Puts where the record stands that was to make an entry behind words.
-    fn push_refused(
-        &self,
-        alloc: Global,
-        words: &mut ShownText,
-        path: &Path,
-    ) -> Result<(), AllocError> {
-        match self.line_of(alloc, path)? {
-            Some(line) => {
-                let at = ShownText::of(format!(in alloc; " (refused at line {line})"))?;
-                words.push_str(at.as_str())
-            }
-            None => Ok(()),
-        }
+    fn line_of(&self, path: &Path) -> Option<u64>
+        ensures { result ≡ refused_lines self.now path.now }
+    {
+        self.lines.get(path).copied()
     }
 
     /// Puts what there is to say of a name that leads to this path behind words: that no entry has it, or that one has it.
@@ -65,7 +72,10 @@ impl RefusedAdds {
         lent: LentTree<'_>,
         name: &[u8],
         path: &Path,
-    ) -> Result<(), AllocError> {
+    ) -> Result<(), AllocError>
+        ensures { OnOk result (Puts words.old words.new
+            (IsLookedUp lent.entry.conf.now lent.entry.tree.now.entries (refused_lines self.now) name.now path.now)) }
+    {
         if is_there(lent.tree, path) {
             push_name(words, name)?;
             return words.push_str(" is there");
@@ -84,11 +94,25 @@ impl RefusedAdds {
         path: &Path,
     ) -> Result<(), AllocError>
         requires { finite.contains_key lent.tree.now.entries path.now ≡ false }
+        ensures { OnOk result (Puts words.old words.new
+            (IsNoEntryWords lent.entry.conf.now lent.entry.tree.now.entries (refused_lines self.now) name.now path.now)) }
+    {
+        self.push_refused_name(words, name, path)?;
+        push_nearest(alloc, words, lent, path)
+    }
+
+    /// Puts behind words that there is no entry with this name, and where a record is refused that was to make it.
+    fn push_refused_name(
+        &self,
+        words: &mut ShownText,
+        name: &[u8],
+        path: &Path,
+    ) -> Result<(), AllocError>
+        ensures { OnOk result (IsPut words.old words.new (no_entry name.now (refused_lines self.now path.now))) }
     {
         words.push_str("no entry ")?;
         push_name(words, name)?;
-        self.push_refused(alloc, words, path)?;
-        push_nearest(alloc, words, lent, path)
+        push_refused(words, self.line_of(path))
     }
 }
 
@@ -107,6 +131,26 @@ fn nearest_above(alloc: Global, tree: &Tree, path: &Path) -> Result<Option<Path>
     Ok(None)
 }
 
+/// Puts the nearest entry above a path behind words, where it isn't the one right above.
+#[tactic(auto, unfolding(crate::specs::Missing::above_words))]
+fn push_above(
+    alloc: Global,
+    words: &mut ShownText,
+    lent: LentTree<'_>,
+    path: &Path,
+    above: &Path,
+) -> Result<(), AllocError>
+    requires { IsNearestAbove lent.tree.now.entries path.now above.now }
+    ensures { OnOk result (IsPut words.old words.new (above_words lent.entry.conf.now lent.entry.tree.now.entries path.now above.now)) }
+{
+    if path.len() == above.len() + 1 {
+        return Ok(());
+    }
+    let name = lent.tree.name_of(alloc, lent.conf, above)?;
+    words.push_str("; the nearest above it is ")?;
+    push_name(words, name.as_slice())
+}
+
 /// Puts the nearest entry above a path that is there behind words; nothing where that is the one right above, or none is
 /// there.
 fn push_nearest(
@@ -114,16 +158,11 @@ fn push_nearest(
     words: &mut ShownText,
     lent: LentTree<'_>,
     path: &Path,
-) -> Result<(), AllocError> {
-    let Some(above) = nearest_above(alloc, lent.tree, path)? else {
-        return Ok(());
-    };
-    if above.is_parent_of(path) {
-        return Ok(());
+) -> Result<(), AllocError>
+    ensures { OnOk result (Puts words.old words.new (IsNearestWords lent.entry.conf.now lent.entry.tree.now.entries path.now)) }
+{
+    match nearest_above(alloc, lent.tree, path)? {
+        Some(above) => push_above(alloc, words, lent, path, &above),
+        None => Ok(()),
     }
-    let Some(name) = kept_name(alloc, lent, &above)? else {
-        return Ok(());
-    };
-    words.push_str("; the nearest above it is ")?;
-    push_name(words, name.as_slice())
 }

@@ -1,5 +1,11 @@
 //! Where a text that spells no name is at fault.
 
+ghost use Rattle.std.specs.Prelude.{◌≡◌};
+ghost use Rattle.dn.specs.Names.{is_type_byte};
+ghost use Rattle.dn.specs.Spelling.{may_follow};
+ghost use Rattle.sentences.specs.NamePlaces.{IsNameLike};
+ghost use Rattle.sentences.specs.inner.Dues as dues;
+
 /// What may come next in a text that is read as a name, from the left (RFC 4514, section 3).
 #[derive(Clone, Copy)]
 enum Due {
@@ -19,12 +25,16 @@ enum Due {
     Digit,
 }
 
-fn is_type_byte(byte: u8) -> bool {
+fn is_type_byte(byte: u8) -> bool
+    ensures { result ≡ is_type_byte byte }
+{
     byte.is_ascii_alphanumeric() || matches!(byte, b'-' | b'_' | b'.')
 }
 
 /// Whether a backslash takes this byte as it is.
-fn may_follow(byte: u8) -> bool {
+fn may_follow(byte: u8) -> bool
+    ensures { result ≡ may_follow byte }
+{
     matches!(
         byte,
         b' ' | b'"' | b'#' | b'+' | b',' | b';' | b'<' | b'=' | b'>' | b'\\'
@@ -32,7 +42,9 @@ fn may_follow(byte: u8) -> bool {
 }
 
 /// What may come behind a byte where a type or an equals sign is due; none where the byte can't stand there.
-fn behind_type(byte: u8) -> Option<Due> {
+fn behind_type(byte: u8) -> Option<Due>
+    ensures { result ≡ dues.behind_type byte }
+{
     match byte {
         b' ' => Some(Due::Equals),
         b'=' => Some(Due::Value),
@@ -42,7 +54,9 @@ fn behind_type(byte: u8) -> Option<Due> {
 }
 
 /// The same within a value.
-fn within_value(byte: u8) -> Option<Due> {
+fn within_value(byte: u8) -> Option<Due>
+    ensures { result ≡ dues.within_value byte }
+{
     match byte {
         b'\\' => Some(Due::Escaped),
         b',' | b'+' => Some(Due::Type),
@@ -52,7 +66,9 @@ fn within_value(byte: u8) -> Option<Due> {
 }
 
 /// The same behind a backslash.
-fn escaped(byte: u8) -> Option<Due> {
+fn escaped(byte: u8) -> Option<Due>
+    ensures { result ≡ dues.escaped byte }
+{
     if may_follow(byte) {
         Some(Due::RestOfValue)
     } else if byte.is_ascii_hexdigit() {
@@ -64,7 +80,9 @@ fn escaped(byte: u8) -> Option<Due> {
 
 impl Due {
     /// What may come behind a byte; none where the byte can't come now.
-    fn behind(self, byte: u8) -> Option<Due> {
+    fn behind(self, byte: u8) -> Option<Due>
+        ensures { result ≡ dues.next_due self byte }
+    {
         match self {
             Due::Type if byte == b' ' => Some(Due::Type),
             Due::Type if byte == b'=' => None,
@@ -82,7 +100,9 @@ impl Due {
 }
 
 /// How many bytes the longest beginning of a text takes that begins some name.
-pub(crate) fn name_like_len(text: &[u8]) -> usize {
+pub(crate) fn name_like_len(text: &[u8]) -> usize
+    ensures { IsNameLike text.now result }
+{
     let mut due = Due::Type;
     for (at, byte) in text.iter().enumerate() {
         match due.behind(*byte) {

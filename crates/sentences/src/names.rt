@@ -4,16 +4,14 @@ ghost use Rattle.std.specs.Prelude.{◌≡◌, OnOk};
 ghost use Rattle.std.specs.FinMap as finite;
 ghost use Rattle.values.specs.Types.{first_or};
 ghost use Rattle.sentences.specs.Putting.{IsPut};
+ghost use Rattle.sentences.specs.Missing.{parent_text};
 ghost use Rattle.sentences.specs.PartWords.{type_words, class_words};
 
 use crate::lines::ShownText;
 use crate::shown::push_type_name;
 use schema::{Conf, ObjectClass, Path, TypeId};
-use std::alloc::{AllocError, Global};
-use tree::{LentTree, Tree};
-
-/// As many bytes as most names take at most.
-const NAME_ROOM: usize = 160;
+use std::alloc::AllocError;
+use tree::Tree;
 
 /// Puts the name that a type is printed by behind a text.
 #[tactic(auto, unfolding(crate::specs::PartWords::type_words))]
@@ -47,27 +45,6 @@ pub(crate) fn push_class(out: &mut ShownText, conf: &Conf, class: usize) -> Resu
     }
 }
 
-/// The name of the entry at a path, as it is spelled there; none where no entry is there.
-pub(crate) fn kept_name(
-    alloc: Global,
-    lent: LentTree<'_>,
-    path: &Path,
-) -> Result<Option<Vec<u8>>, AllocError> {
-    lent.tree.entries_are_a_directory();
-    let mut name = Vec::with_capacity(alloc, NAME_ROOM)?;
-    let mut at = path.copy(alloc)?;
-    for _step in 0..path.len() {
-        let Some(entry) = lent.tree.get(&at) else {
-            return Ok(None);
-        };
-        lent.conf.put_rdn(&mut name, entry.rdn())?;
-        name.push(b',')?;
-        at = at.parent(alloc)?;
-    }
-    name.extend_from_slice(lent.conf.suffix_text())?;
-    Ok(Some(name))
-}
-
 /// Whether an entry is at a path.
 pub(crate) fn is_there(tree: &Tree, path: &Path) -> bool
     ensures { result ≡ finite.contains_key tree.now.entries path.now }
@@ -76,7 +53,9 @@ pub(crate) fn is_there(tree: &Tree, path: &Path) -> bool
 }
 
 /// What stands behind the first RDN of a name (RFC 4514): the name of the entry above.
-pub(crate) fn parent_text(name: &[u8]) -> &[u8] {
+pub(crate) fn parent_text(name: &[u8]) -> &[u8]
+    ensures { result.now ≡ parent_text name.now }
+{
     let mut escaped = false;
     for (at, byte) in name.iter().enumerate() {
         if *byte == b',' && !escaped {

@@ -4,6 +4,7 @@ ghost use Rattle.std.specs.Prelude.{◌≡◌};
 ghost use Rattle.std.specs.Option.{option_map};
 ghost use Rattle.tree.specs.Operations.{controls_of};
 ghost use Rattle.reasons.specs.Asked.{name_of_record, lines_of_record, blocks_of_record, rdn_of_record, superior_of_record};
+ghost use Rattle.sentences.specs.ClassWords.{naming_text};
 
 use ldif::{Attr, Control, Mod, Record};
 
@@ -70,11 +71,14 @@ pub(crate) fn new_rdn_in<'a>(asked: &'a Record<'_>) -> &'a [u8]
 }
 
 /// The text whose first RDN gives the entry values: the name of an add, or the new RDN of a modify DN.
-pub(crate) fn naming_text_in<'a>(asked: &'a Record<'_>) -> &'a [u8] {
+pub(crate) fn naming_text_in<'a>(asked: &'a Record<'_>) -> &'a [u8]
+    ensures { result.now ≡ naming_text asked.now }
+{
     match asked {
         Record::Content { dn, .. } => dn.as_slice(),
         Record::Add { dn, .. } => dn.as_slice(),
-        _ => new_rdn_in(asked),
+        Record::ModRdn { newrdn, .. } => newrdn.as_slice(),
+        _ => &[],
     }
 }
 

@@ -1,23 +1,28 @@
 //! Sentences for records that are refused with a result code.
 
-ghost use Rattle.std.specs.Prelude.{◌≡◌, [], true, OnOk, IfOk, slice_get};
-ghost use Rattle.std.specs.Option.{option_map, option_copied, unwrap_or};
+ghost use Rattle.std.specs.Prelude.{◌≡◌, [], true, Ok, OnOk, IfOk, IfSome, slice_get};
+ghost use Rattle.std.specs.FinMap as finite;
+ghost use Rattle.std.specs.Option.{option_map, option_copied, unwrap_or, ForSome};
 ghost use Rattle.std.specs.String.{string_bytes};
+ghost use Rattle.paths.specs.Paths.{parent_of};
+ghost use Rattle.schema.specs.Names.{name_in};
+ghost use Rattle.tree.specs.Directories.{name_of_entry};
 ghost use Rattle.tree.specs.Operations.{controls_of};
 ghost use Rattle.reasons.specs.Asked.{name_of_record, blocks_of_record, rdn_of_record, superior_of_record};
 ghost use Rattle.sentences.specs.Putting.{IsPut, Puts};
-ghost use Rattle.sentences.specs.NameWords.{IsNameWords, is_stated_name};
+ghost use Rattle.sentences.specs.Missing.{as_name, there_words, count_below, some_below, below_words, parent_text, path_named};
+ghost use Rattle.sentences.specs.NameWords.{IsNameWords};
 ghost use Rattle.sentences.specs.RecordWords as told;
 ghost use Rattle.sentences.specs.Sentence.{IsShown};
 
+use crate::counts::push_grouped;
 use crate::lines::{Sentence, ShownText};
 use crate::missing::RefusedAdds;
 use crate::name_words::NameText;
-use crate::names::{kept_name, parent_text};
+use crate::names::{is_there, parent_text};
 use crate::places::line_of;
 use crate::record_parts::{blocks_in, controls_in, name_in, new_rdn_in, new_superior_in};
 use crate::shown::{push_name, push_number};
-use crate::summary::grouped;
 use dn::Name;
 use ldif::{Control, Mod, Part, RawRecord, Record};
 use reasons::{NameReason, Reason};
@@ -40,6 +45,7 @@ pub(crate) struct Refused<'a> {
     /// The adds that were refused before it.
     pub(crate) adds: &'a RefusedAdds,
     ghost same_conf: { tree.now.conf ≡ conf.now },
+    ghost named: { ForSome name (λ n. name_in (name_of_record asked.now) ≡ Ok n.now) },
 }
 
 /// In which part of a record it is refused, if in one by itself.
@@ -74,10 +80,22 @@ fn push_line(words: &mut ShownText, line: Option<u64>) -> Result<(), AllocError>
     }
 }
 
+/// Puts that so many entries are below another behind words.
+#[tactic(auto, unfolding(crate::specs::Missing::some_below))]
+fn push_below(words: &mut ShownText, count: u64) -> Result<(), AllocError>
+    ensures { OnOk result (IsPut words.old words.new (some_below count)) }
+{
+    if count == 1 {
+        return words.push_str("an entry is below it: delete that first");
+    }
+    push_grouped(words, count)?;
+    words.push_str(" entries are below it: delete those first")
+}
+
 impl Refused<'_> {
     ghost use Rattle.sentences.specs.Cases.{case_of};
     ghost use Rattle.sentences.specs.Cuts.{sentence_of};
-    ghost use Rattle.sentences.specs.RecordWords.{IsWords, IsSentenceOf, is_stated, is_place, place_words, shown_control, control_words, PartBeginsOn};
+    ghost use Rattle.sentences.specs.RecordWords.{IsWords, IsMissing, IsParentMissing, IsSuperiorMissing, IsSentenceOf, is_place, place_words, shown_control, control_words, PartBeginsOn};
 
     pub(crate) fn dn(&self) -> &[u8]
         ensures { result.now ≡ name_of_record self.now.asked.now }
@@ -138,7 +156,9 @@ impl Refused<'_> {
     }
 
     /// The path of a name, if it has one.
-    fn path_of(&self, name: &[u8]) -> Result<Option<Path>, AllocError> {
+    fn path_of(&self, name: &[u8]) -> Result<Option<Path>, AllocError>
+        ensures { IfOk result (λ path. path ≡ path_named self.now.conf.now name.now) }
+    {
         match self.conf.path_of_text(self.alloc, name) {
             Ok(path) => Ok(Some(path)),
             Err(PathFault::Code(_)) => Ok(None),
@@ -154,8 +174,9 @@ impl Refused<'_> {
         name: Option<&Name>,
         why: NameReason,
     ) -> Result<(), AllocError>
-        requires { IsShown what.now }
-        ensures { is_stated_name why ≡ true → OnOk result (Puts words.old words.new (IsNameWords self.now.conf.now what.now text.now why)) }
+        requires shown { IsShown what.now }
+        requires named { IfSome name (λ n. name_in text.now ≡ Ok n.now) }
+        ensures { OnOk result (Puts words.old words.new (IsNameWords self.now.conf.now what.now text.now why)) }
     {
         let name_text = NameText {
             alloc: self.alloc,
@@ -178,7 +199,7 @@ impl Refused<'_> {
 
     /// Where in the text, of which entry, and what is wrong.
     pub(crate) fn sentence(&self, reason: &Reason) -> Result<Sentence, AllocError>
-        ensures { IfOk result (λ s. is_stated reason.now ≡ true → IsSentenceOf (case_of self.now) reason.now (string_bytes s.text)) }
+        ensures { IfOk result (λ s. IsSentenceOf (case_of self.now) reason.now (string_bytes s.text)) }
     {
         let mut words = ShownText::roomy(self.alloc)?;
         self.push_place(&mut words, self.line_of(reason))?;
@@ -198,7 +219,7 @@ impl Refused<'_> {
 
     /// Puts what is wrong behind words.
     fn push_words(&self, words: &mut ShownText, reason: &Reason) -> Result<(), AllocError>
-        ensures { is_stated reason.now ≡ true → OnOk result (Puts words.old words.new (IsWords (case_of self.now) reason.now)) }
+        ensures { OnOk result (Puts words.old words.new (IsWords (case_of self.now) reason.now)) }
     {
         match reason {
             Reason::CriticalControl { control } => self.push_control(words, *control),
@@ -264,26 +285,37 @@ impl Refused<'_> {
     }
 
     /// Puts that the name is there, as it is spelled there, behind words.
-    fn push_there(&self, words: &mut ShownText) -> Result<(), AllocError> {
+    fn push_there(&self, words: &mut ShownText) -> Result<(), AllocError>
+        ensures { OnOk result (IsPut words.old words.new (there_words self.now.conf.now self.now.tree.now.entries (option_map (λ p. p.now.path) self.now.place))) }
+    {
         words.push_str("there already")?;
-        let Some(path) = self.path() else {
-            return Ok(());
-        };
-        match kept_name(self.alloc, self.lent(), path)? {
-            Some(name) => {
-                words.push_str(", as ")?;
-                push_name(words, name.as_slice())
-            }
+        match self.path() {
+            Some(path) => self.push_as_name(words, path),
             None => Ok(()),
         }
     }
 
+    /// Puts how the name of the entry at a path is spelled there behind words.
+    fn push_as_name(&self, words: &mut ShownText, path: &Path) -> Result<(), AllocError>
+        ensures { OnOk result (IsPut words.old words.new (as_name (finite.contains_key self.now.tree.now.entries path.now) (name_of_entry self.now.conf.now self.now.tree.now.entries path.now))) }
+    {
+        if !is_there(self.tree, path) {
+            return Ok(());
+        }
+        let name = self.tree.name_of(self.alloc, self.conf, path)?;
+        words.push_str(", as ")?;
+        push_name(words, name.as_slice())
+    }
+
+    /// Puts that no entry has a name behind words, if it leads to this path.
     fn push_missing(
         &self,
         words: &mut ShownText,
         name: &[u8],
         path: Option<&Path>,
-    ) -> Result<(), AllocError> {
+    ) -> Result<(), AllocError>
+        ensures { OnOk result (Puts words.old words.new (IsMissing (case_of self.now) name.now (option_copied path.entry))) }
+    {
         match path {
             Some(path) => {
                 self.adds
@@ -296,36 +328,63 @@ impl Refused<'_> {
         }
     }
 
-    fn push_no_parent(&self, words: &mut ShownText) -> Result<(), AllocError> {
-        let above = match self.path() {
-            Some(path) => Some(path.parent(self.alloc)?),
-            None => None,
-        };
+    /// The path above its own, if it has one.
+    fn path_above(&self) -> Result<Option<Path>, AllocError>
+        ensures { IfOk result (λ above. above ≡ option_map parent_of (case_of self.now).path) }
+    {
+        match self.path() {
+            Some(path) => Ok(Some(path.parent(self.alloc)?)),
+            None => Ok(None),
+        }
+    }
+
+    /// Puts that no entry is above it behind words.
+    fn push_no_parent(&self, words: &mut ShownText) -> Result<(), AllocError>
+        ensures { OnOk result (Puts words.old words.new (IsParentMissing (case_of self.now))) }
+    {
+        let above = self.path_above()?;
         self.push_missing(words, parent_text(self.dn()), above.as_ref())
     }
 
-    fn push_no_superior(&self, words: &mut ShownText) -> Result<(), AllocError> {
+    /// Puts that no entry has the name of its new superior behind words.
+    fn push_no_superior(&self, words: &mut ShownText) -> Result<(), AllocError>
+        ensures { OnOk result (Puts words.old words.new (IsSuperiorMissing (case_of self.now) (superior_of_record self.now.asked.now))) }
+    {
         match self.new_superior() {
-            Some(name) => self.push_missing(words, name, self.path_of(name)?.as_ref()),
+            Some(name) => self.push_named_missing(words, name),
             None => self.push_no_parent(words),
         }
     }
 
-    /// Puts how many entries are below it behind words.
-    fn push_children(&self, words: &mut ShownText) -> Result<(), AllocError> {
-        let Some(path) = self.path() else {
-            return words.push_str("entries are below it");
-        };
+    /// Puts that no entry has a name behind words.
+    fn push_named_missing(&self, words: &mut ShownText, name: &[u8]) -> Result<(), AllocError>
+        ensures { OnOk result (Puts words.old words.new (IsMissing (case_of self.now) name.now (path_named self.now.conf.now name.now))) }
+    {
+        let path = self.path_of(name)?;
+        self.push_missing(words, name, path.as_ref())
+    }
+
+    /// How many entries are below a path.
+    fn count_below(&self, path: &Path) -> u64
+        ensures { result ≡ count_below self.now.tree.now.entries path.now }
+    {
+        self.tree.entries_are_a_directory();
         let mut below: u64 = 0;
-        for _ in self.tree.range(path) {
-            below = below.saturating_add(1);
+        for (found, _) in self.tree.range(path) {
+            if path.is_above(found) {
+                below += 1;
+            }
         }
-        let below = below.saturating_sub(1);
-        if below == 1 {
-            return words.push_str("an entry is below it: delete that first");
+        below
+    }
+
+    /// Puts how many entries are below it behind words.
+    fn push_children(&self, words: &mut ShownText) -> Result<(), AllocError>
+        ensures { OnOk result (IsPut words.old words.new (below_words self.now.tree.now.entries (option_map (λ p. p.now.path) self.now.place))) }
+    {
+        match self.path() {
+            Some(path) => push_below(words, self.count_below(path)),
+            None => words.push_str("entries are below it"),
         }
-        let below = grouped(self.alloc, below)?;
-        words.push_str(below.as_str())?;
-        words.push_str(" entries are below it: delete those first")
     }
 }

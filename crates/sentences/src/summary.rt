@@ -1,25 +1,10 @@
 //! What became of the records of a run, in one line.
 
+use crate::counts::grouped;
 use crate::lines::{Line, ShownText};
-use crate::shown::{Form, named, push_char};
+use crate::shown::named;
 use databases::{RecordRefusal, Tally};
 use std::alloc::{AllocError, Global};
-
-/// A number in decimal, its digits in groups of three: `5,000`.
-pub(crate) fn grouped(alloc: Global, number: u64) -> Result<ShownText, AllocError> {
-    let digits = ShownText::of(format!(in alloc; "{number}"))?;
-    let digits = digits.as_str();
-    let mut out = ShownText::new(alloc);
-    let mut left = digits.len();
-    for digit in digits.chars() {
-        if left < digits.len() && left % 3 == 0 {
-            out.push(',')?;
-        }
-        push_char(&mut out, digit, Form::Bare)?;
-        left = left.saturating_sub(1);
-    }
-    Ok(out)
-}
 
 /// A refusal, and how many records had it.
 #[derive(Clone, Copy)]

@@ -1,4 +1,4 @@
-use Rattle.sentences.specs.RecordWords.{not_allowed}
+use Rattle.sentences.specs.ClassWords.{not_allowed}
 use Rattle.sentences.proofs.Items.{put_two}
 use Rattle.sentences.proofs.record_words.Refused.push_not_allowed.Goals as goal
 

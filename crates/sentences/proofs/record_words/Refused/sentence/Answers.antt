@@ -5,4 +5,4 @@ use Rattle.sentences.proofs.record_words.Refused.sentence.Goals as goal
 pub returns : goal.returns
 returns c =
     sentence_said c.of.result (case_of c.args.self.now) c.args.reason.now _ _ _ _ c.in_ok-words.ensures c.in_ok-push_place.ensures c.line_of.ensures
-    (λ h. at_ok _ _ _ c.in_ok-push_words.was (c.push_words.ensures h)) c.of.ensures
+    (at_ok _ _ _ c.in_ok-push_words.was c.push_words.ensures) c.of.ensures
