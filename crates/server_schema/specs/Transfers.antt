@@ -70,6 +70,10 @@ pub record IsTransferred (source conf printed : List ℕ) : Type 0 where
 abbrev pub SayBuiltIn : Defined → List Definition → Type 0
 SayBuiltIn defined ds = (d : Definition) → Contains ds d → is_built_in d ≡ true → is_among defined (meanings_of built_in_definitions) d ≡ true
 
+-- it says the same as a definition on the lines of this text
+abbrev pub says_same : Defined → List ℕ → Definition → Bool
+says_same defined text d = is_among defined (meanings_of (stated_in text)) d
+
 -- Nothing is lost: all lines are of definitions as they stand, and each that is wanted has one, or says the same as one that stands there. Those of
 -- what is built in say the same as that. There is no remark.
 pub record IsWhole (source conf : List ℕ) (wanted : List Definition) (lines : List (List ℕ)) (remarks : List ℕ) : Type 0 where
@@ -77,7 +81,7 @@ pub record IsWhole (source conf : List ℕ) (wanted : List Definition) (lines : 
   pub unchanged : (line : List ℕ) → Contains lines line → IsLineOf wanted line
   pub grown : Defined
   pub grown_is : definitions_of (with_lines conf lines) ≡ Ok grown
-  pub all : (d : Definition) → Contains wanted d → Contains lines (line_of d) ⊎ (is_among grown (meanings_of (stated_in (with_lines conf lines))) d ≡ true)
+  pub all : (d : Definition) → Contains wanted d → Contains lines (line_of d) ⊎ (says_same grown (with_lines conf lines) d ≡ true)
   pub built_in : SayBuiltIn grown (definitions_in source)
 
 -- something is: a remark is printed, or the line of a definition that was repaired
