@@ -2,8 +2,8 @@
 
 ghost use Rattle.sentences.specs.Sentence.{IsShown};
 
-use crate::lines::{Line, ShownText};
 use crate::counts::grouped;
+use crate::lines::{Line, ShownText};
 use differences::Counts;
 use std::alloc::{AllocError, Global};
 
