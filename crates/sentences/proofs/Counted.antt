@@ -1,5 +1,5 @@
 -- Entries below one are counted.
-use Rattle.std.proofs.Common.{◌≡◌, ℕ, suc, ◌+◌, ◌≤◌, ◌∙◌, ap, sym, refl, true, false, Bool, ◌&&◌, cond, List, [], ◌∷◌, length, count_by, nat_lt, arith}
+use Rattle.std.proofs.Common.{◌≡◌, ℕ, suc, ◌≤◌, ◌∙◌, ap, sym, refl, true, false, Bool, ◌&&◌, cond, List, [], ◌∷◌, length, count_by, nat_lt, arith}
 use Rattle.std.specs.FinMap as finite
 use Rattle.std.specs.List.{filter}
 use Rattle.std.proofs.lemmas.List.Sums.{count_by-le-length, length-filter}

@@ -1,5 +1,5 @@
 -- Elements of lists, and what is put behind a text.
-use Rattle.std.proofs.Common.{◌≡◌, ℕ, ◌++◌, Bool, true, false, List, length, Option, Some, None, Result, Ok, Err, OnOk, IfOk, Bor, [], sym, ap, refl, subst, ◌∙◌}
+use Rattle.std.proofs.Common.{◌≡◌, ℕ, ◌++◌, true, List, length, Option, Some, None, Result, Ok, Err, OnOk, IfOk, Bor, [], sym, ap, refl, subst, ◌∙◌}
 use Rattle.std.specs.FinMap as finite
 use Rattle.std.specs.Slice.{IsItemAt}
 use Rattle.std.specs.Option.{option_copied}

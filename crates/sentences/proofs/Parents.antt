@@ -1,5 +1,5 @@
 -- What stands behind the first RDN of a name.
-use Rattle.std.proofs.Common.{◌≡◌, ℕ, ◌+◌, ◌<◌, ◌≤◌, ◌∙◌, ap, sym, refl, true, false, Bool, not, ◌&&◌, cond, ◌==◌, if◌then◌else◌, List, [], ◌∷◌, length, drop, get_or, arith}
+use Rattle.std.proofs.Common.{◌≡◌, ℕ, ◌+◌, ◌<◌, ◌≤◌, ◌∙◌, ap, sym, refl, true, false, Bool, not, ◌&&◌, cond, ◌==◌, if◌then◌else◌, List, [], ◌∷◌, length, drop, get_or}
 use Rattle.std.proofs.lemmas.List.{at_drop_more, at_drop_all}
 use Rattle.std.specs.List.{join_with_byte, onto_first}
 use Rattle.base.specs.Ascii.{comma}

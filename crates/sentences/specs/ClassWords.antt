@@ -15,7 +15,7 @@ use Rattle.schema.specs.Conf.{Conf}
 use Rattle.schema.specs.Names.{name_in}
 use Rattle.schema.specs.Superclasses.{has_number, is_required}
 use Rattle.schema.specs.declared.code.Code.{Code}
-use Rattle.reasons.specs.Asked.{lines_of_record, blocks_of_record, rdn_of_record}
+use Rattle.reasons.specs.Asked.{lines_of_record, blocks_of_record}
 use Rattle.sentences.specs.Counts.{grouped}
 use Rattle.sentences.specs.PartWords.{type_words, class_words}
 use Rattle.sentences.specs.Shown.{quoted}

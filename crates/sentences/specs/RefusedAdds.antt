@@ -1,5 +1,5 @@
 -- The records that are refused, and that were to add entries.
-use Rattle.std.specs.Prelude.{◌≡◌, ℕ, ◌==◌, if◌then◌else◌, ◌&&◌, not, Option, Some, None, is_some, MatchBool}
+use Rattle.std.specs.Prelude.{ℕ, if◌then◌else◌, ◌&&◌, not, Some, is_some}
 use Rattle.std.specs.BTreeMap.{get}
 use Rattle.std.specs.Ordering.{eq_by_cmp}
 use Rattle.paths.specs.Paths.{Path, path_cmp}

@@ -1,5 +1,5 @@
 -- What may come next in a text that is read as a name, from the left (RFC 4514, section 3).
-use Rattle.std.specs.Prelude.{ℕ, if◌then◌else◌, ◌==◌, List, [], ◌∷◌, Option, Some, None, codes}
+use Rattle.std.specs.Prelude.{ℕ, if◌then◌else◌, ◌==◌, List, [], ◌∷◌, Option, Some, None}
 use Rattle.base.specs.Ascii.{space, number_sign, equals_sign, backslash}
 use Rattle.dn.specs.Names.{is_type_byte}
 use Rattle.dn.specs.NameFaults.{is_separator}

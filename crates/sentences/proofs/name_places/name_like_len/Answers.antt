@@ -1,4 +1,4 @@
-use Rattle.std.proofs.Common.{sym, refl, ◌∙◌, arith}
+use Rattle.std.proofs.Common.{sym, refl, arith}
 use Rattle.sentences.proofs.Dues.{due_next, like_so_far, like_to_the_end}
 use Rattle.sentences.proofs.name_places.name_like_len.Goals as goal
 

@@ -1,4 +1,4 @@
-use Rattle.std.proofs.Common.{◌≡◌, List, ap, ◌∙◌, arith}
+use Rattle.std.proofs.Common.{List, ap, ◌∙◌, arith}
 use Rattle.ldif.specs.declared.record.Mod.{Mod}
 use Rattle.sentences.proofs.Blocks.{first_from, block_found, block_passed}
 use Rattle.sentences.proofs.record_words.Refused.class_in_blocks.Goals as goal

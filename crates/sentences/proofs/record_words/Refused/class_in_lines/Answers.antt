@@ -1,4 +1,4 @@
-use Rattle.std.proofs.Common.{◌≡◌, List, true, ap, sym, ◌∙◌, None, Some, Option, ℕ, arith}
+use Rattle.std.proofs.Common.{◌≡◌, List, true, ap, sym, ◌∙◌, None, Some, arith}
 use Rattle.std.specs.List.{filter, slice_get}
 use Rattle.ldif.specs.Attrs.{Attr}
 use Rattle.sentences.specs.ClassWords.{names_no_class, line_classes}

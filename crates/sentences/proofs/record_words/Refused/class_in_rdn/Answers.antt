@@ -1,4 +1,4 @@
-use Rattle.std.proofs.Common.{◌≡◌, List, true, ap, sym, ◌∙◌, None, Some, arith}
+use Rattle.std.proofs.Common.{◌≡◌, true, ap, sym, ◌∙◌, None, Some, arith}
 use Rattle.std.specs.List.{filter}
 use Rattle.dn.specs.Names.{Ava, Rdn}
 use Rattle.sentences.specs.ClassWords.{names_no_class}

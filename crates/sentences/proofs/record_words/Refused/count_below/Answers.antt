@@ -1,4 +1,4 @@
-use Rattle.std.proofs.Common.{◌≡◌, ◌+◌, ◌≤◌, ap, ◌∙◌, zero-add, arith}
+use Rattle.std.proofs.Common.{◌≤◌, ap, ◌∙◌, zero-add, arith}
 use Rattle.sentences.specs.Missing.{count_below}
 use Rattle.sentences.proofs.Counted.{below_in, counted, few_below}
 use Rattle.sentences.proofs.record_words.Refused.count_below.Goals as goal

@@ -1,4 +1,4 @@
-use Rattle.std.proofs.Common.{ap, codes, refl, sym, ◌∙◌}
+use Rattle.std.proofs.Common.{codes, refl}
 use Rattle.sentences.specs.Cases.{case_of}
 use Rattle.sentences.proofs.Items.{said, name_said, puts, placed}
 use Rattle.sentences.proofs.record_words.Refused.push_words.Goals as goal
