@@ -11,16 +11,17 @@ ghost use Rattle.sentences.specs.RefusedAdds.{refused_lines, with_line};
 use crate::lines::ShownText;
 use crate::names::is_there;
 use crate::shown::{push_name, push_number};
+use base::Bytes;
+use indexmap::IndexMap;
 use schema::Path;
 use std::alloc::{AllocError, Global};
-use std::collections::BTreeMap;
 use tree::{LentTree, Tree};
 
 /// The entries that were to be added by records that are refused.
 #[derive(Drop)]
 pub(crate) struct RefusedAdds {
-    /// By its path, on which line the first record begins that was to add an entry.
-    lines: BTreeMap<Path, u64>,
+    /// By the bytes of its path, on which line the first record begins that was to add an entry.
+    lines: IndexMap<Bytes, u64>,
 }
 
 /// Puts where the record stands that was to make an entry behind words, if one was.
@@ -42,7 +43,7 @@ impl RefusedAdds {
         ensures { (path : paths.Path) → refused_lines result path ≡ None }
     {
         RefusedAdds {
-            lines: BTreeMap::new(alloc),
+            lines: IndexMap::new(alloc),
         }
     }
 
@@ -50,18 +51,20 @@ impl RefusedAdds {
     pub(crate) fn keep(&mut self, alloc: Global, path: &Path, line: u64) -> Result<(), AllocError>
         ensures { OnOk result ((other : paths.Path) → refused_lines self.new other ≡ with_line (refused_lines self.old) path.now line other) }
     {
-        if self.line_of(path).is_some() {
+        let bytes = Bytes::from_slice(alloc, path.bytes())?;
+        if self.lines.contains_key(&bytes) {
             return Ok(());
         }
-        self.lines.insert(path.copy(alloc)?, line)?;
+        self.lines.insert(bytes, line)?;
         Ok(())
     }
 
     /// On which line a record begins that was to add an entry with this path.
-    fn line_of(&self, path: &Path) -> Option<u64>
-        ensures { result ≡ refused_lines self.now path.now }
+    fn line_of(&self, alloc: Global, path: &Path) -> Result<Option<u64>, AllocError>
+        ensures { IfOk result (λ line. line ≡ refused_lines self.now path.now) }
     {
-        self.lines.get(path).copied()
+        let bytes = Bytes::from_slice(alloc, path.bytes())?;
+        Ok(self.lines.get(&bytes).copied())
     }
 
     /// Puts what there is to say of a name that leads to this path behind words: that no entry has it, or that one has it.
@@ -97,22 +100,24 @@ impl RefusedAdds {
         ensures { OnOk result (Puts words.old words.new
             (IsNoEntryWords lent.entry.conf.now lent.entry.tree.now.entries (refused_lines self.now) name.now path.now)) }
     {
-        self.push_refused_name(words, name, path)?;
+        self.push_refused_name(alloc, words, name, path)?;
         push_nearest(alloc, words, lent, path)
     }
 
     /// Puts behind words that there is no entry with this name, and where a record is refused that was to make it.
     fn push_refused_name(
         &self,
+        alloc: Global,
         words: &mut ShownText,
         name: &[u8],
         path: &Path,
     ) -> Result<(), AllocError>
         ensures { OnOk result (IsPut words.old words.new (no_entry name.now (refused_lines self.now path.now))) }
     {
+        let line = self.line_of(alloc, path)?;
         words.push_str("no entry ")?;
         push_name(words, name)?;
-        push_refused(words, self.line_of(path))
+        push_refused(words, line)
     }
 }
 
