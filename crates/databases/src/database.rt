@@ -112,7 +112,7 @@ impl Database {
         &self.tree
     }
 
-    /// Both.
+    /// The entries, with the configuration.
     pub fn lent(&self) -> LentTree<'_>
         ensures conf { result.conf.now ≡ self.now.conf }
         ensures tree { result.tree.now ≡ self.now }
